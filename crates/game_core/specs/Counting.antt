@@ -1,0 +1,25 @@
+-- What a counted stream shows.
+use Rattle.std.specs.Prelude.{ℕ, ◌+◌, ◌-◌, ◌^◌, min, List, length, Result, Ok, Err, if◌then◌else◌, ◌&&◌, ◌==◌, nat_lt}
+
+-- a stream, and how many of its reads and writes have failed
+pub record Counting (S : Type 0) : Type 0 where
+  pub stream : S
+  pub faults : ℕ
+
+-- the last number that a count reaches
+abbrev pub last_count : ℕ
+last_count = 2 ^ 64 - 1
+
+-- one more fault, up to the last number
+abbrev pub one_more : ℕ → ℕ
+one_more n = min (n + 1) last_count
+
+-- the faults after a read
+abbrev pub after_read : {E : Type 0} → Result ℕ E → ℕ → ℕ
+after_read (Ok n) faults = faults
+after_read (Err e) faults = one_more faults
+
+-- the faults after a write of these bytes: one that takes none of some bytes has failed too
+abbrev pub after_write : {E : Type 0} → Result ℕ E → List ℕ → ℕ → ℕ
+after_write (Ok n) bytes faults = if n == 0 && nat_lt 0 (length bytes) then one_more faults else faults
+after_write (Err e) bytes faults = one_more faults

@@ -1,0 +1,58 @@
+-- The plain expression: what a KIF expression is, apart from where it lies in memory.
+use Rattle.std.specs.Prelude.{ℕ, suc, ◌≡◌, ◌<◌, ◌≤◌, max, map, length, List, [], ◌∷◌, true}
+use Rattle.game_core.specs.Bytes.{is_atom_byte, lower}
+
+mutual
+  pub data Expression : Type 0 where
+    atom : List ℕ → Expression
+    list : Expressions → Expression
+
+  pub data Expressions : Type 0 where
+    none : Expressions
+    more : Expression → Expressions → Expressions
+
+-- how many lists nest
+abbrev mutual
+  pub depth : Expression → ℕ
+  depth (atom w) = 0
+  depth (list xs) = suc (depth_all xs)
+
+  pub depth_all : Expressions → ℕ
+  depth_all none = 0
+  depth_all (more x xs) = max (depth x) (depth_all xs)
+
+-- ASCII capitals in atoms turned to small letters
+abbrev mutual
+  pub folded : Expression → Expression
+  folded (atom w) = atom (map lower w)
+  folded (list xs) = list (all_folded xs)
+
+  pub all_folded : Expressions → Expressions
+  all_folded none = none
+  all_folded (more x xs) = more (folded x) (all_folded xs)
+
+abbrev pub AreAtomBytes : List ℕ → Type 0
+AreAtomBytes [] = Unit {0}
+AreAtomBytes (b ∷ bs) = (is_atom_byte b ≡ true) × AreAtomBytes bs
+
+-- a run of at least one atom byte
+abbrev pub IsAtom : List ℕ → Type 0
+IsAtom w = (0 < length w) × AreAtomBytes w
+
+-- the atoms are runs of atom bytes
+abbrev mutual
+  pub HasAtoms : Expression → Type 0
+  HasAtoms (atom w) = IsAtom w
+  HasAtoms (list xs) = AllHaveAtoms xs
+
+  pub AllHaveAtoms : Expressions → Type 0
+  AllHaveAtoms none = Unit {0}
+  AllHaveAtoms (more x xs) = HasAtoms x × AllHaveAtoms xs
+
+-- how many lists a proper expression nests at most
+abbrev pub max_depth : ℕ
+max_depth = 64
+
+-- an expression that some text spells, and that is read back from its text
+abbrev pub IsProper : Expression → Type 0
+IsProper x = HasAtoms x × (depth x ≤ max_depth)

@@ -1,0 +1,9 @@
+pub mod Bytes
+pub mod Expression
+pub mod Canonical
+pub mod Texts
+pub mod Play
+pub mod PlayAnswer
+pub mod Countdown
+pub mod Counting
+pub mod CountdownLaws

@@ -1,0 +1,203 @@
+//! Countdown: a small game for two roles.
+ghost use Rattle.std.specs.Prelude.{◌≡◌, ◌≤◌, ◌↔◌, IsSome, IfSome};
+
+use crate::game::Game;
+use crate::text::Text;
+use std::alloc::{AllocError, Global};
+
+/// Two roles, `red` and `blue`, in turn take one or two from a heap, red first. Who finds it empty
+/// has goal 0, the other 100.
+#[derive(Drop)]
+pub struct Countdown {
+    pub size: u8,
+    pub ghost some: { 1 ≤ size },
+    pub ghost few: { size ≤ 100 },
+}
+
+/// A move: to take none, one or two.
+#[derive(Clone, Copy, Debug, PartialEq, Eq)]
+pub enum Take {
+    Noop,
+    One,
+    Two,
+}
+
+/// The two roles: red is role 0, blue role 1.
+#[derive(Clone, Copy, Debug, PartialEq, Eq)]
+pub enum Side {
+    Red,
+    Blue,
+}
+
+/// What is left of the heap, and whose turn it is.
+#[derive(Clone, Copy, Debug, PartialEq, Eq)]
+pub struct Position {
+    pub heap: u8,
+    pub on_turn: Side,
+}
+
+impl Countdown {
+    /// The game that begins with a heap of `size`: `Some` for 1 to 100.
+    pub fn new(size: u8) -> Option<Countdown>
+        ensures some { IsSome result ↔ ((1 ≤ size) × (size ≤ 100)) }
+        ensures value { IfSome result (λ g. g.size ≡ size) }
+    {
+        if size >= 1 && size <= 100 {
+            Some(Countdown { size })
+        } else {
+            None
+        }
+    }
+}
+
+impl Take {
+    ghost use Rattle.game_core.specs.Countdown.{count_of};
+
+    fn count(self) -> u8
+        ensures { result ≡ count_of self }
+    {
+        match self {
+            Take::Noop => 0,
+            Take::One => 1,
+            Take::Two => 2,
+        }
+    }
+}
+
+impl Side {
+    ghost use Rattle.game_core.specs.Countdown.{side_of, role_of, other_side, side_name};
+
+    fn of_role(role: usize) -> Side
+        ensures { result ≡ side_of role }
+    {
+        match role {
+            0 => Side::Red,
+            _ => Side::Blue,
+        }
+    }
+
+    fn role(self) -> usize
+        ensures { result ≡ role_of self }
+    {
+        match self {
+            Side::Red => 0,
+            Side::Blue => 1,
+        }
+    }
+
+    fn other(self) -> Side
+        ensures { result ≡ other_side self }
+    {
+        match self {
+            Side::Red => Side::Blue,
+            Side::Blue => Side::Red,
+        }
+    }
+
+    fn name(self) -> &'static str
+        ensures { result.now ≡ side_name self }
+    {
+        match self {
+            Side::Red => "red",
+            Side::Blue => "blue",
+        }
+    }
+}
+
+impl Game for Countdown {
+    ghost use Rattle.game_core.specs.Countdown.{countdown};
+    ghost use Rattle.game_core.specs.CountdownLaws.{countdown_laws};
+
+    type State = Position;
+
+    type Move = Take;
+
+    ghost rules = { λ g. countdown g.size };
+
+    ghost laws = { λ g. countdown_laws g.size g.few };
+
+    fn roles(&self) -> usize {
+        2
+    }
+
+    fn role_name(&self, role: usize) -> &[u8] {
+        Side::of_role(role).name().as_bytes()
+    }
+
+    fn initial(&self, alloc: Global) -> Result<Position, AllocError> {
+        Ok(Position {
+            heap: self.size,
+            on_turn: Side::Red,
+        })
+    }
+
+    fn legal(&self, alloc: Global, state: &Position, role: usize) -> Result<Vec<Take>, AllocError> {
+        let mut moves = Vec::new(alloc);
+        if state.heap == 0 {
+            return Ok(moves);
+        }
+        if state.on_turn.role() == role {
+            moves.push(Take::One)?;
+            if state.heap >= 2 {
+                moves.push(Take::Two)?;
+            }
+        } else {
+            moves.push(Take::Noop)?;
+        }
+        Ok(moves)
+    }
+
+    fn next(
+        &self,
+        alloc: Global,
+        state: &Position,
+        joint: &[Take],
+    ) -> Result<Position, AllocError> {
+        let taken = joint[state.on_turn.role()];
+        Ok(Position {
+            heap: state.heap - taken.count(),
+            on_turn: state.on_turn.other(),
+        })
+    }
+
+    fn terminal(&self, alloc: Global, state: &Position) -> Result<bool, AllocError> {
+        Ok(state.heap == 0)
+    }
+
+    fn goal(&self, alloc: Global, state: &Position, role: usize) -> Result<Option<u8>, AllocError> {
+        if state.heap != 0 {
+            return Ok(None);
+        }
+        if state.on_turn.role() == role {
+            Ok(Some(0))
+        } else {
+            Ok(Some(100))
+        }
+    }
+
+    fn move_text(&self, alloc: Global, taken: &Take) -> Result<Text, AllocError> {
+        match taken {
+            Take::Noop => Text::from_slice(alloc, b"noop"),
+            Take::One => Text::from_slice(alloc, b"(take 1)"),
+            Take::Two => Text::from_slice(alloc, b"(take 2)"),
+        }
+    }
+
+    fn state_text(&self, alloc: Global, state: &Position) -> Result<Vec<Text>, AllocError> {
+        let heap = format!(in alloc; "(heap {})", state.heap)?;
+        let side = state.on_turn.name();
+        let turn = format!(in alloc; "(turn {side})")?;
+        let mut texts = Vec::new(alloc);
+        texts.push(Text::from_string(heap))?;
+        texts.push(Text::from_string(turn))?;
+        Ok(texts)
+    }
+
+    fn copy_state(&self, alloc: Global, state: &Position) -> Result<Position, AllocError> {
+        Ok(*state)
+    }
+
+    fn copy_move(&self, alloc: Global, taken: &Take) -> Result<Take, AllocError> {
+        Ok(*taken)
+    }
+}

@@ -1,0 +1,91 @@
+//! Streams whose failures are counted.
+ghost use Rattle.std.specs.Prelude.{◌≡◌, ◌≤◌};
+ghost use Rattle.std.specs.Io.{ReadsAtMost, WritesAtMost};
+ghost use Rattle.std.specs.Io.KnownBytes.{ReadConsumes, WriteAppends};
+ghost use Rattle.game_core.specs.Counting.{after_read, after_write};
+
+use std::io;
+use std::io::{Read, Write};
+use std::marker::Model;
+
+/// A stream, and how many of its reads and writes have failed: each `Err`, interruptions included,
+/// and each write that takes 0 of some bytes. The count stops at 2^64 - 1.
+///
+/// It does not implement `Read` and `Write`: their provided methods would not keep the count.
+#[derive(Drop)]
+pub struct Counted<S> {
+    inner: S,
+    failed: u64,
+}
+
+impl<S> Model for Counted<S> {
+    ghost use Rattle.game_core.specs.Counting.{Counting};
+
+    ghost Value = { Counting S };
+
+    ghost view = { λ c. record { stream = c.inner; faults = c.failed } };
+}
+
+impl<S> Counted<S> {
+    /// The stream, with no failure counted yet.
+    pub fn new(stream: S) -> Counted<S>
+        ensures stream { result.stream ≡ stream }
+        ensures none_yet { result.faults ≡ 0 }
+    {
+        Counted {
+            inner: stream,
+            failed: 0,
+        }
+    }
+
+    /// The failures since `new`.
+    pub fn faults(&self) -> u64
+        ensures { result ≡ self.now.faults }
+    {
+        self.failed
+    }
+
+    /// The stream, given back.
+    pub fn end(self) -> S
+        ensures { result ≡ self.stream }
+    {
+        let Counted { inner, failed: _ } = self;
+        inner
+    }
+}
+
+impl<S: Read> Counted<S> {
+    /// One `read` of the stream, passed on.
+    pub fn read(&mut self, buffer: &mut [u8]) -> io::Result<usize>
+        ensures bound { ReadsAtMost result buffer.new }
+        ensures bytes { ReadConsumes (S.remaining self.old.stream) (S.remaining self.new.stream) result buffer.new }
+        ensures counted { self.new.faults ≡ after_read result self.old.faults }
+        ensures kept { self.old.faults ≤ self.new.faults }
+    {
+        let given = self.inner.read(buffer);
+        if given.is_err() {
+            self.failed = self.failed.saturating_add(1);
+        }
+        given
+    }
+}
+
+impl<S: Write> Counted<S> {
+    /// One `write` of the stream, passed on.
+    pub fn write(&mut self, bytes: &[u8]) -> io::Result<usize>
+        ensures bound { WritesAtMost result bytes.now }
+        ensures bytes { WriteAppends (S.contents self.old.stream) (S.contents self.new.stream) result bytes.now }
+        ensures counted { self.new.faults ≡ after_write result bytes.now self.old.faults }
+        ensures kept { self.old.faults ≤ self.new.faults }
+    {
+        let taken = self.inner.write(bytes);
+        let failed = match &taken {
+            Ok(count) => *count == 0 && !bytes.is_empty(),
+            Err(_) => true,
+        };
+        if failed {
+            self.failed = self.failed.saturating_add(1);
+        }
+        taken
+    }
+}

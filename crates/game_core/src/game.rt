@@ -1,0 +1,94 @@
+//! The trait of all games.
+ghost use Rattle.std.specs.Prelude.{◌≡◌, ◌<◌, IfOk};
+ghost use Rattle.game_core.specs.Play.{Rules, IsJoint, IsLawful};
+
+use crate::text::Text;
+use std::alloc::{AllocError, Global};
+
+/// A game with simultaneous moves and full information, as GDL describes them: in each state that is
+/// not terminal each role makes one move, and all of them together lead to the next state.
+///
+/// What the calls answer are the functions of `rules`, so each answer depends on the values of the
+/// arguments alone. Roles are numbered from 0. A call that may need memory answers `AllocError`
+/// where a growth was refused, and nothing else then.
+pub trait Game {
+    type State: Drop;
+
+    type Move: Drop;
+
+    ghost rules: { Self → Rules Self.State Self.Move };
+
+    /// How many roles play: 1 to 16.
+    fn roles(&self) -> usize
+        ensures { result ≡ (rules self.now).roles };
+
+    /// The role's name in canonical text, without capitals.
+    fn role_name(&self, role: usize) -> &[u8]
+        requires { role < (rules self.now).roles }
+        ensures { result.now ≡ (rules self.now).role_name role };
+
+    /// The state in which the game begins.
+    fn initial(&self, alloc: Global) -> Result<Self::State, AllocError>
+        ensures { IfOk result (λ s. s ≡ (rules self.now).initial) };
+
+    /// The role's legal moves, each once. The first is played for a role that makes no legal move.
+    fn legal(
+        &self,
+        alloc: Global,
+        state: &Self::State,
+        role: usize,
+    ) -> Result<Vec<Self::Move>, AllocError>
+        requires state { (rules self.now).IsState state.now }
+        requires role { role < (rules self.now).roles }
+        ensures { IfOk result (λ v. v.items ≡ (rules self.now).legal state.now role) };
+
+    /// The state after a joint move: one legal move for each role, in the order of the roles.
+    fn next(
+        &self,
+        alloc: Global,
+        state: &Self::State,
+        joint: &[Self::Move],
+    ) -> Result<Self::State, AllocError>
+        requires state { (rules self.now).IsState state.now }
+        requires joint { IsJoint (rules self.now) state.now joint.now }
+        ensures { IfOk result (λ t. t ≡ (rules self.now).next state.now joint.now) };
+
+    /// Whether the game has ended.
+    fn terminal(&self, alloc: Global, state: &Self::State) -> Result<bool, AllocError>
+        requires { (rules self.now).IsState state.now }
+        ensures { IfOk result (λ b. b ≡ (rules self.now).terminal state.now) };
+
+    /// The role's goal value, 0 to 100: `Some` exactly where it has one and only one.
+    fn goal(
+        &self,
+        alloc: Global,
+        state: &Self::State,
+        role: usize,
+    ) -> Result<Option<u8>, AllocError>
+        requires state { (rules self.now).IsState state.now }
+        requires role { role < (rules self.now).roles }
+        ensures { IfOk result (λ o. o ≡ (rules self.now).goal state.now role) };
+
+    /// The move in canonical text, without capitals. Moves with equal texts are equal.
+    fn move_text(&self, alloc: Global, taken: &Self::Move) -> Result<Text, AllocError>
+        requires { (rules self.now).IsMove taken.now }
+        ensures { IfOk result (λ t. t ≡ (rules self.now).move_text taken.now) };
+
+    /// The state's terms in canonical text, each once, in byte order.
+    fn state_text(&self, alloc: Global, state: &Self::State) -> Result<Vec<Text>, AllocError>
+        requires { (rules self.now).IsState state.now }
+        ensures { IfOk result (λ v. v.items ≡ (rules self.now).state_text state.now) };
+
+    /// An equal state.
+    fn copy_state(&self, alloc: Global, state: &Self::State) -> Result<Self::State, AllocError>
+        requires { (rules self.now).IsState state.now }
+        ensures { IfOk result (λ t. t ≡ state.now) };
+
+    /// An equal move.
+    fn copy_move(&self, alloc: Global, taken: &Self::Move) -> Result<Self::Move, AllocError>
+        requires { (rules self.now).IsMove taken.now }
+        ensures { IfOk result (λ m. m ≡ taken.now) };
+
+    /// What every game keeps.
+    ghost laws: { (g : Self) → IsLawful (rules g) };
+}

@@ -1,0 +1,20 @@
+//! What a game is, and what all other crates speak in: texts, joint moves, counted streams.
+//!
+//! Free functions take the allocator first, methods take it after `self`.
+#![tactic(auto)]
+
+mod countdown;
+mod counted;
+mod game;
+mod joint;
+mod play;
+mod text;
+mod texts;
+
+pub use countdown::{Countdown, Position, Side, Take};
+pub use counted::Counted;
+pub use game::Game;
+pub use joint::Joint;
+pub use play::{PlayFault, play_list};
+pub use text::Text;
+pub use texts::Texts;

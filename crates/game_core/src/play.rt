@@ -1,0 +1,106 @@
+//! Replays of joint moves.
+ghost use Rattle.std.specs.Prelude.{◌≡◌, ◌<◌, ◌↔◌, All, Contains, IfOk, IsTrue, MatchOption, length};
+ghost use Rattle.game_core.specs.Play.{IsJoint};
+ghost use Rattle.game_core.specs.PlayAnswer.{IsPlayAnswer, IsFirstIllegal};
+ghost use Rattle.game_core.specs.declared.play.PlayFault.TheVariants.{Memory};
+
+use crate::game::Game;
+use crate::joint::Joint;
+use std::alloc::{AllocError, Global};
+use thiserror::Error;
+
+/// Why a list of joint moves is no play of a game: the first turn at fault, with the first of its
+/// faults in the order of this list. Turns and roles are numbered from 0.
+#[derive(Clone, Copy, Debug, PartialEq, Eq, Error)]
+pub enum PlayFault {
+    /// The state before this turn is terminal.
+    #[error("turn {turn} comes after the end of the game")]
+    AfterEnd { turn: usize },
+    /// The turn has not one move for each role.
+    #[error("turn {turn} has not one move for each role")]
+    WrongWidth { turn: usize },
+    /// The move of this role, the lowest such, is not legal.
+    #[error("the move of role {role} in turn {turn} is not legal")]
+    Illegal { turn: usize, role: usize },
+    /// Want of memory.
+    #[error("want of memory")]
+    Memory,
+}
+
+impl From<AllocError> for PlayFault {
+    ghost from_gives = { λ _ fault. fault ≡ Memory };
+
+    fn from(_: AllocError) -> PlayFault {
+        PlayFault::Memory
+    }
+}
+
+fn is_legal<G: Game>(
+    alloc: Global,
+    game: &G,
+    state: &G::State,
+    role: usize,
+    taken: &G::Move,
+) -> Result<bool, AllocError>
+    requires state { (G.rules game.now).IsState state.now }
+    requires role { role < (G.rules game.now).roles }
+    requires taken { (G.rules game.now).IsMove taken.now }
+    ensures { IfOk result (λ b. IsTrue b ↔ Contains ((G.rules game.now).legal state.now role) taken.now) }
+{
+    let text = game.move_text(alloc, taken)?;
+    let wanted = text.as_slice();
+    let legal = game.legal(alloc, state, role)?;
+    for other in &legal {
+        let other = game.move_text(alloc, other)?;
+        if other.as_slice() == wanted {
+            return Ok(true);
+        }
+    }
+    Ok(false)
+}
+
+/// The lowest role whose move is not legal in the state, if there is one.
+fn first_illegal<G: Game>(
+    alloc: Global,
+    game: &G,
+    state: &G::State,
+    joint: &[G::Move],
+) -> Result<Option<usize>, AllocError>
+    requires state { (G.rules game.now).IsState state.now }
+    requires width { length joint.now ≡ (G.rules game.now).roles }
+    requires moves { All (λ m. (G.rules game.now).IsMove m) joint.now }
+    ensures { IfOk result (λ o. MatchOption o (IsJoint (G.rules game.now) state.now joint.now) (IsFirstIllegal (G.rules game.now) state.now joint.now)) }
+{
+    for (role, taken) in joint.iter().enumerate() {
+        if !is_legal(alloc, game, state, role, taken)? {
+            return Ok(Some(role));
+        }
+    }
+    Ok(None)
+}
+
+/// Replays joint moves of the game from its initial state: the state after them, or the first fault.
+pub fn play_list<G: Game>(
+    alloc: Global,
+    game: &G,
+    turns: &[Joint<G::Move>],
+) -> Result<G::State, PlayFault>
+    requires { All (λ joint. All (λ m. (G.rules game.now).IsMove m) joint) turns.now }
+    ensures { IsPlayAnswer (G.rules game.now) turns.now result }
+{
+    let mut state = game.initial(alloc)?;
+    for (turn, joint) in turns.iter().enumerate() {
+        if game.terminal(alloc, &state)? {
+            return Err(PlayFault::AfterEnd { turn });
+        }
+        let moves = joint.as_slice();
+        if moves.len() != game.roles() {
+            return Err(PlayFault::WrongWidth { turn });
+        }
+        if let Some(role) = first_illegal(alloc, game, &state, moves)? {
+            return Err(PlayFault::Illegal { turn, role });
+        }
+        state = game.next(alloc, &state, moves)?;
+    }
+    Ok(state)
+}
