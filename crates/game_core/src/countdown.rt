@@ -5,6 +5,8 @@ use crate::game::Game;
 use crate::text::Text;
 use std::alloc::{AllocError, Global};
 
+const ROLES: usize = 2;
+
 /// Two roles, `red` and `blue`, in turn take one or two from a heap, red first. Who finds it empty
 /// has goal 0, the other 100.
 #[derive(Drop)]
@@ -117,7 +119,7 @@ impl Game for Countdown {
     ghost laws = { λ g. countdown_laws g.size g.few };
 
     fn roles(&self) -> usize {
-        2
+        ROLES
     }
 
     fn role_name(&self, role: usize) -> &[u8] {

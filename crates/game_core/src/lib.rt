@@ -18,3 +18,6 @@ pub use joint::Joint;
 pub use play::{PlayFault, play_list};
 pub use text::Text;
 pub use texts::Texts;
+
+#[cfg(test)]
+mod tests;
