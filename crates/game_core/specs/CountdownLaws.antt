@@ -1,13 +1,13 @@
 -- Countdown is a lawful game.
-use Rattle.std.specs.Prelude.{ℕ, zero, suc, ◌<◌, ◌≤◌, ◌+◌, ◌-◌, ◌^◌, ◌≡◌, ◌≢◌, ◌==◌, Bool, true, false, nat_le, if◌then◌else◌, List, [], ◌∷◌, ◌++◌, length, map, ◌%◌, codes, All, AllPairs, Some, None, refl, slice_index_or}
-use Rattle.std.proofs.Common.{lit<, lit≤, length-append, append_assoc, append-nil, arith, ap, sym, ◌∙◌, inl, inr, subst}
+use Rattle.std.specs.Prelude.{ℕ, zero, suc, ◌<◌, ◌≤◌, ◌+◌, ◌≡◌, ◌≢◌, ◌==◌, Bool, true, false, nat_le, if◌then◌else◌, List, [], ◌∷◌, ◌++◌, length, map, ◌%◌, codes, All, AllPairs, Some, None, refl, slice_index_or}
+use Rattle.std.proofs.Common.{lit<, lit≤, length-append, append_assoc, append-nil, arith, ap, sym, ◌∙◌, inl, inr}
 use Rattle.std.specs.Fmt.{decimal}
 use Rattle.std.proofs.lemmas.Fmt.{decimal_by_steps}
 use Rattle.std.proofs.lemmas.Bool.Decides.{nat_tests}
 use Rattle.game_core.specs.Bytes.{lower, is_atom_byte, space, left_parenthesis, right_parenthesis}
-use Rattle.game_core.specs.Expression.{Expression, atom, list, none, more, AreAtomBytes, IsAtom}
+use Rattle.game_core.specs.Expression.{atom, list, none, more, AreAtomBytes}
 use Rattle.game_core.specs.Canonical.{canonical, IsCanonicalText, IsFoldedText}
-use Rattle.game_core.specs.Texts.{AreInByteOrder, IsBefore}
+use Rattle.game_core.specs.Texts.{AreInByteOrder}
 use Rattle.game_core.specs.declared.countdown.Position.{Position}
 use Rattle.game_core.specs.declared.countdown.Side.{Side}
 use Rattle.game_core.specs.declared.countdown.Side.TheVariants.{Red, Blue}

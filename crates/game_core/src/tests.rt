@@ -178,19 +178,24 @@ fn failures_are_counted_and_passed_on(rt: HostRuntime) {
     ];
     let mut stream = Counted::new(Script { answers: &answers });
     let mut buffer = [0; 4];
-    let reads = [(Some(2), 0), (None, 1), (Some(0), 1), (None, 2)];
+    let reads = [
+        (Ok(2), 0),
+        (Err(ErrorKind::Interrupted), 1),
+        (Ok(0), 1),
+        (Err(ErrorKind::TimedOut), 2),
+    ];
     for (wanted, faults) in reads {
-        assert_eq!(rt; stream.read(&mut buffer).ok(), wanted);
+        assert_eq!(rt; stream.read(&mut buffer).map_err(|e| e.kind()), wanted);
         assert_eq!(rt; stream.faults(), faults);
     }
-    let writes: [(&[u8], Option<usize>, u64); 4] = [
-        (b"", Some(0), 2),
-        (b"ab", Some(1), 2),
-        (b"ab", Some(0), 3),
-        (b"ab", None, 4),
+    let writes: [(&[u8], Result<usize, ErrorKind>, u64); 4] = [
+        (b"", Ok(0), 2),
+        (b"ab", Ok(1), 2),
+        (b"ab", Ok(0), 3),
+        (b"ab", Err(ErrorKind::BrokenPipe), 4),
     ];
     for (bytes, wanted, faults) in writes {
-        assert_eq!(rt; stream.write(bytes).ok(), wanted);
+        assert_eq!(rt; stream.write(bytes).map_err(|e| e.kind()), wanted);
         assert_eq!(rt; stream.faults(), faults);
     }
     assert_eq!(rt; stream.end().answers.len(), 0);
