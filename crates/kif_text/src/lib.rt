@@ -1,0 +1,25 @@
+//! KIF text: expressions, and their texts read and printed.
+//!
+//! A text is a sequence of expressions with white space and comments between them. White space is
+//! space, tab, carriage return and line feed. A comment runs from a semicolon to the next line feed
+//! or to the end of the text, and holds any bytes. An atom is a longest run of the bytes 0x21 to
+//! 0x7E other than the parentheses and the semicolon; a list stands in parentheses. This is the
+//! prefix syntax of KIF that the Game Description Language uses, without strings.
+//!
+//! Free functions take the allocator first.
+#![tactic(auto)]
+
+mod expr;
+mod fault;
+pub mod laws;
+mod printing;
+mod reader;
+mod reading;
+
+pub use expr::{Expr, copy, fold};
+pub use fault::KifFault;
+pub use printing::print;
+pub use reading::{read_all, read_one};
+
+#[cfg(test)]
+mod tests;

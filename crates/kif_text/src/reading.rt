@@ -1,0 +1,69 @@
+//! Texts read as expressions.
+ghost use Rattle.std.specs.Prelude.{◌≡◌, ◌≢◌, IfOk, IfErr, Some, None};
+ghost use Rattle.game_core.specs.Expression.{Expressions, max_depth};
+ghost use Rattle.kif_text.specs.declared.fault.KifFault.TheVariants.{Memory};
+ghost use Rattle.kif_text.specs.View.{view, views};
+ghost use Rattle.kif_text.specs.Spelling.{SpellsAll, SpellsOne};
+ghost use Rattle.kif_text.specs.Faults.{IsFault, one_expression, any_number};
+ghost use Rattle.kif_text.specs.Machine.{read, read_single, Gives};
+ghost use Rattle.kif_text.specs.Reading.{reading};
+
+use crate::expr::Expr;
+use crate::fault::KifFault;
+use crate::reader::Reader;
+use std::alloc::Global;
+
+/// How many bytes a text has at most.
+const MAX_LENGTH: usize = 1_048_576;
+
+/// Reads all expressions of the text, of at most 1,048,576 bytes, with at most 64 nested lists.
+pub fn read_all(alloc: Global, text: &[u8]) -> Result<Vec<Expr>, KifFault>
+    ensures spelled { IfOk result (λ v. SpellsAll text.now (views v.items)) }
+    ensures fault { IfErr result (IsFault any_number text.now) }
+    // What is spelled within the limits is refused for want of memory alone.
+    ensures refused { IfErr result (λ e. e ≢ Memory
+        → (xs : Expressions) → ¬ (SpellsAll text.now xs)) }
+{
+    if text.len() > MAX_LENGTH {
+        return Err(KifFault::TooLong);
+    }
+    read(alloc, text)
+}
+
+/// Reads the one expression of the text, of at most 1,048,576 bytes, with at most 64 nested lists.
+pub fn read_one(alloc: Global, text: &[u8]) -> Result<Expr, KifFault>
+    ensures spelled { IfOk result (λ x. SpellsOne text.now (view x)) }
+    ensures fault { IfErr result (IsFault one_expression text.now) }
+    ensures found { IfOk result (λ x. reading text.now ≡ Some (view x)) }
+    // What is spelled within the limits is refused for want of memory alone.
+    ensures refused { IfErr result (λ e. e ≢ Memory → reading text.now ≡ None) }
+{
+    if text.len() > MAX_LENGTH {
+        return Err(KifFault::TooLong);
+    }
+    read_single(alloc, text)
+}
+
+fn read(alloc: Global, text: &[u8]) -> Result<Vec<Expr>, KifFault>
+    ensures { Gives (λ v. views v.items) result (read max_depth text.now) }
+{
+    let mut reader = Reader::new(alloc);
+    for (at, byte) in text.iter().enumerate() {
+        reader.step(alloc, at, *byte)?;
+    }
+    reader.finish(alloc)
+}
+
+fn read_single(alloc: Global, text: &[u8]) -> Result<Expr, KifFault>
+    ensures { Gives view result (read_single text.now) }
+{
+    let mut reader = Reader::new(alloc);
+    for (at, byte) in text.iter().enumerate() {
+        reader.single_step(alloc, at, *byte)?;
+    }
+    let mut found = reader.finish(alloc)?;
+    match found.pop() {
+        Some(expr) => Ok(expr),
+        None => Err(KifFault::Nothing),
+    }
+}
