@@ -1,0 +1,71 @@
+//! Lines that come back to their desk: which numbers are there, and what they made.
+//!
+//! The tables `found`, `awaited` and `made_by_line` have one place for each number, and never grow.
+ghost use Rattle.std.specs.Prelude.{◌≡◌, ◌<◌, ◌^◌, IfSome, IfNone, ℕ, true, false, length, replicate, slice_index, slice_index_or, sum, Contains};
+ghost use Rattle.call_history.specs.Lines.{has_number, HasAll, IsLowestMissing};
+
+use crate::line::LockLine;
+use std::sync::ledger::{Ledger, Share};
+
+/// Notes for each number whether a line with it is among these.
+fn note_numbers<L: Ledger>(lines: &[LockLine<L>], found: &mut [bool])
+    ensures { (k : ℕ) → k < length found.old → slice_index_or found.new k false ≡ has_number k lines.now }
+{
+    found.fill(false);
+    for line in lines {
+        let place = line.number as usize;
+        if place < found.len() {
+            found[place] = true;
+        }
+    }
+}
+
+/// The lowest number, of those that `found` has a place for, of which no line is among these. Where
+/// there is none, each place of `found` is left true.
+pub(crate) fn lowest_missing<L: Ledger>(lines: &[LockLine<L>], found: &mut [bool]) -> Option<u32>
+    requires { length found.old < 2 ^ 32 }
+    ensures some { IfSome result (λ n. IsLowestMissing lines.now (length found.old) n) }
+    ensures none { IfNone result (HasAll lines.now (length found.old)) }
+    ensures all_found { IfNone result ((k : ℕ) → k < length found.old → slice_index_or found.new k false ≡ true) }
+{
+    note_numbers(lines, found);
+    for (number, is_found) in found.iter().enumerate() {
+        if !*is_found {
+            return Some(number as u32);
+        }
+    }
+    None
+}
+
+/// Puts the shares of the lines together, and notes for each number what its line made. A place of
+/// `awaited` is true until a line of its number has come; a further one is let go, and so is a line
+/// of a number without a place.
+pub(crate) fn gather<L: Ledger>(
+    lines: Vec<LockLine<L>>,
+    awaited: &mut [bool],
+    made_by_line: &mut [u64],
+    gathered: &mut Share<L>,
+)
+    requires all { HasAll lines.items (length awaited.old) }
+    requires awaited { (k : ℕ) → k < length awaited.old → slice_index_or awaited.old k false ≡ true }
+    requires zeros { made_by_line.old ≡ replicate (length awaited.old) 0 }
+    requires no_parts { gathered.old.parts ≡ 0 }
+    requires no_amount { gathered.old.amount ≡ 0 }
+    ensures parts { gathered.new.parts ≡ length awaited.old }
+    ensures amount { gathered.new.amount ≡ sum made_by_line.new }
+    ensures made { (k : ℕ) → k < length awaited.old → Contains lines.items (record { number = k; made = slice_index made_by_line.new k }) }
+{
+    for line in lines {
+        let LockLine {
+            number,
+            made,
+            share,
+        } = line;
+        let place = number as usize;
+        if place < awaited.len() && awaited[place] {
+            awaited[place] = false;
+            made_by_line[place] = made;
+            gathered.merge(share);
+        }
+    }
+}

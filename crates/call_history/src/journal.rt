@@ -1,0 +1,145 @@
+//! An object with the history of its calls.
+ghost use Rattle.std.specs.Prelude.{◌≡◌, ◌≤◌, ◌↔◌, [], ◌∷◌, ◌++◌, length, IfOk, OnOk, OnErr, IsErrOf};
+ghost use Rattle.call_history.specs.declared.journal.CallFault.TheVariants.{Memory};
+ghost use Rattle.call_history.specs.History.{IsReplay};
+
+use crate::object::Object;
+use std::alloc::{AllocError, Global};
+use std::marker::Model;
+use thiserror::Error;
+
+/// The most entries that a history may be opened for.
+pub const MAX_ENTRIES: u64 = 1_000_000;
+
+/// Why a call was not made. It stands in no history then, and nothing has changed.
+#[derive(Clone, Copy, Debug, PartialEq, Eq, Error)]
+pub enum CallFault {
+    /// The history holds as many entries as it was opened for.
+    #[error("the history is full")]
+    Full,
+    /// Want of memory.
+    #[error("want of memory")]
+    Memory,
+}
+
+impl From<AllocError> for CallFault {
+    ghost from_gives = { λ _ fault. fault ≡ Memory };
+
+    fn from(_: AllocError) -> CallFault {
+        CallFault::Memory
+    }
+}
+
+/// One call of a history: the number of the line that made it, the call and its reply.
+#[derive(Drop)]
+pub struct Entry<C, R> {
+    pub line: u32,
+    pub call: C,
+    pub reply: R,
+}
+
+/// An object, and the history of the calls that it was given, in their order.
+#[derive(Drop)]
+pub struct Journal<O: Object> {
+    alloc: Global,
+    most: u64,
+    object: O,
+    entries: Vec<Entry<O::Call, O::Reply>>,
+}
+
+impl<O: Object> Model for Journal<O> {
+    ghost use Rattle.std.specs.Prelude.{◌≡◌, ◌≤◌, length};
+    ghost use Rattle.call_history.specs.declared.journal.TheConstants.{MAX_ENTRIES};
+    ghost use Rattle.call_history.specs.History.{Recorded, IsReplay};
+
+    ghost Value = { Recorded O O.Call O.Reply };
+
+    ghost view = { λ j. record { object = j.object; history = j.entries.items; most = j.most } };
+
+    ghost invariant = { λ j. IsReplay O.reply O.after O.opening j.object j.entries.items
+        × (length j.entries.items ≤ j.most)
+        × (j.most ≤ MAX_ENTRIES) };
+}
+
+impl<O: Object> Journal<O> {
+    /// A journal without entries, of at most `most`.
+    pub fn new(alloc: Global, object: O, most: u64) -> Journal<O>
+        requires most { (1 ≤ most) × (most ≤ MAX_ENTRIES) }
+        requires opening { O.opening object ≡ object }
+        ensures object { result.object ≡ object }
+        ensures history { result.history ≡ [] }
+        ensures most { result.most ≡ most }
+    {
+        Journal {
+            alloc,
+            most,
+            object,
+            entries: Vec::new(alloc),
+        }
+    }
+
+    /// Makes a call of a line, and keeps it with its reply.
+    pub fn call(&mut self, line: u32, call: &O::Call) -> Result<O::Reply, CallFault>
+        ensures reply { IfOk result (λ r. r ≡ O.reply self.old.object call.now) }
+        ensures history { IfOk result (λ r. self.new.history ≡ self.old.history ++ record { line = line; call = call.now; reply = r } ∷ []) }
+        ensures object { OnOk result (self.new.object ≡ O.after self.old.object call.now) }
+        ensures most { self.new.most ≡ self.old.most }
+
+        ensures full { IsErrOf result CallFault.Full ↔ (self.old.most ≤ length self.old.history) }
+        ensures err { OnErr result (self.new ≡ self.old) }
+
+        // What the type keeps.
+        ensures kept { IsReplay O.reply O.after O.opening self.new.object self.new.history }
+        ensures within { length self.new.history ≤ self.new.most }
+        ensures bound { self.new.most ≤ MAX_ENTRIES }
+    {
+        if self.entries.len() as u64 >= self.most {
+            return Err(CallFault::Full);
+        }
+        self.entries.reserve(1)?;
+        let kept = self.object.answer(self.alloc, call)?;
+        let reply = self.object.answer(self.alloc, call)?;
+        let copy = O::copy_call(self.alloc, call)?;
+        // The change comes last: whatever can be refused stands before it.
+        self.object.apply(self.alloc, call)?;
+        self.entries.push_reserved(Entry {
+            line,
+            call: copy,
+            reply: kept,
+        });
+        Ok(reply)
+    }
+
+    /// The history: the entries in the order of their calls.
+    pub fn entries(&self) -> &[Entry<O::Call, O::Reply>]
+        ensures entries { result.now ≡ self.now.history }
+
+        // What the type keeps.
+        ensures kept { IsReplay O.reply O.after O.opening self.now.object self.now.history }
+        ensures within { length self.now.history ≤ self.now.most }
+    {
+        self.entries.as_slice()
+    }
+
+    /// The object as the calls have left it.
+    pub fn object(&self) -> &O
+        ensures { result.now ≡ self.now.object }
+    {
+        &self.object
+    }
+
+    /// The object and its history.
+    pub(crate) fn into_parts(self) -> (O, Vec<Entry<O::Call, O::Reply>>)
+        ensures object { result.0 ≡ self.object }
+        ensures history { result.1.items ≡ self.history }
+        ensures kept { IsReplay O.reply O.after O.opening result.0 result.1.items }
+    {
+        let Journal {
+            alloc: _,
+            most: _,
+            object,
+            entries,
+        } = self;
+        (object, entries)
+    }
+}

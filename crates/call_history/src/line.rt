@@ -1,0 +1,43 @@
+//! The lines of a desk.
+ghost use Rattle.std.specs.Prelude.{◌≡◌};
+
+use std::marker::Model;
+use std::sync::ledger::{Ledger, Share};
+
+/// One line of a desk: a caller's way to it. It can be sent to a thread of its own.
+///
+/// `L` is the ledger of its desk, so lines of two desks have two types.
+#[derive(Drop)]
+pub struct LockLine<L: Ledger> {
+    pub(crate) number: u32,
+    pub(crate) made: u64,
+    pub(crate) share: Share<L>,
+}
+
+impl<L: Ledger> Model for LockLine<L> {
+    ghost use Rattle.std.specs.Prelude.{◌≡◌};
+    ghost use Rattle.call_history.specs.Lines.{Line};
+
+    ghost Value = { Line };
+
+    ghost view = { λ l. record { number = l.number; made = l.made } };
+
+    // A line has one part of the desk's ledger, and its calls are its share of the total.
+    ghost invariant = { λ l. (l.share.parts ≡ 1) × (l.share.amount ≡ l.made) };
+}
+
+impl<L: Ledger> LockLine<L> {
+    /// The line's number. The lines of a desk are numbered from 0.
+    pub fn number(&self) -> u32
+        ensures { result ≡ self.now.number }
+    {
+        self.number
+    }
+
+    /// How many of its calls were answered with a reply.
+    pub fn made(&self) -> u64
+        ensures { result ≡ self.now.made }
+    {
+        self.made
+    }
+}
