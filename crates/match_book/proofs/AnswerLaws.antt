@@ -1,0 +1,172 @@
+-- What an answer and an abort make of a lawful match.
+use Rattle.std.proofs.Common.{◌≡◌, ◌≢◌, ℕ, zero, suc, ◌<◌, ◌≤◌, Bool, true, false, Option, Some, None, List, [], ◌∷◌, ◌++◌, length, take, slice_index_or, set, refl, arith, ap, sym, ◌∙◌, subst, inl, inr, add-one}
+use Rattle.std.proofs.lemmas.List.{map-append, take_all, take_more}
+use Rattle.std.proofs.lemmas.Bool.Decides.{nat_tests}
+use Rattle.std.specs.Prelude.{is_none, nat_lt, ◌==◌, if◌then◌else◌, ◌↔◌}
+use Rattle.game_core.specs.Play.{Rules, IsLawful, AreLegal}
+use Rattle.game_core.proofs.Plays.{AreLegal-push}
+use Rattle.match_book.specs.Roles.{every_role, is_there, blank}
+use Rattle.match_book.specs.Marks.{mark_of}
+use Rattle.match_book.specs.AnswerReading.{answer_reading}
+use Rattle.match_book.specs.Judgement.{judgement, substitute, error_text, move_named, taken_or_substituted, judged_reading}
+use Rattle.match_book.specs.MatchValue.{MatchValue, state_after, joint_moves}
+use Rattle.match_book.specs.Phase.{stage, is_over, has_answered, round, is_live}
+use Rattle.match_book.specs.Lawful.{AreLawful, IsLawfulMatch}
+use Rattle.match_book.specs.Steps.{refusal, turn_of, with_answer_in, with_answer, with_open_answer, with_abort, after_answer}
+use Rattle.match_book.specs.Laws.{NewMatchIsLawful, AnswersKeepLawful, AbortKeepsLawful, RecordedMovesAreLegal, NoErrorMeansNamed, IsPlayed, AnswersInPlay, AnswersOutOfPlay, TakenForTheRound}
+use Rattle.match_book.specs.declared.answer.Answer.{Answer}
+use Rattle.match_book.specs.declared.answer.Answer.TheVariants.{Text, Silent, Broken}
+use Rattle.match_book.specs.declared.answer.AnswerFault.{AnswerFault}
+use Rattle.match_book.specs.declared.answer.AnswerFault.TheVariants.{NoRole, Over, Stale, Twice}
+use Rattle.match_book.specs.declared.judgement.Judgement.{Judgement}
+use Rattle.match_book.specs.declared.judgement.Substitution.{Substitution}
+use Rattle.match_book.specs.declared.judgement.Substitution.TheVariants.{TimeOut, ConnectionError, Unreadable, Illegal}
+use Rattle.match_book.specs.declared.turn.Turn.{Turn}
+use Rattle.match_book.specs.declared.phase.Stage.{Stage}
+use Rattle.match_book.specs.declared.phase.Stage.TheVariants.{Starting, Playing, Stopping, Aborting}
+use Rattle.match_book.proofs.Judgements.{judgement-judged, substitute-is, first-contains, move_named-none, move_named-text}
+use Rattle.match_book.proofs.TurnParts.{some_of}
+use Rattle.match_book.proofs.LawfulMatches.{lawful-new_match, lawful-with_start_mark, lawful-with_end_mark, lawful-with_abort, answer-judged, lawful-open_answer, lawful-recorded}
+
+pub new_match_is_lawful : {S M : Type 0} (g : Rules S M) → IsLawful g → NewMatchIsLawful g
+new_match_is_lawful g laws setup players = lawful-new_match g laws setup players
+
+pub abort_keeps_lawful : {S M : Type 0} (g : Rules S M) → IsLawful g → AbortKeepsLawful g
+abort_keeps_lawful {S} {M} g laws m lawful = step (is_live (stage g m)) refl
+  where
+    step : (b : Bool) → is_live (stage g m) ≡ b → IsLawfulMatch g (if b then with_abort g m else m)
+    step true live = lawful-with_abort g laws m lawful live
+    step false ended = lawful
+
+-- what refuses nothing
+not_refused : (role roles n present : ℕ) (over answered : Bool) → (if nat_lt role roles then (if over then Some Over else (if n == present then (if answered then Some Twice else None) else Some (Stale present))) else Some NoRole) ≡ None
+    → (role < roles) × (n ≡ present) × (over ≡ false) × (answered ≡ false)
+not_refused role roles n present over answered e = step (nat_lt role roles) refl over (n == present) refl answered e
+  where
+    less : nat_lt role roles ≡ true → role < roles
+    less is = grind (arith, nat_tests)
+
+    same : (n == present) ≡ true → n ≡ present
+    same is = grind (arith, nat_tests)
+
+    step : (within : Bool) → nat_lt role roles ≡ within → (o here : Bool) → (n == present) ≡ here → (a : Bool) → (if within then (if o then Some Over else (if here then (if a then Some Twice else None) else Some (Stale present))) else Some NoRole) ≡ None
+        → (role < roles) × (n ≡ present) × (o ≡ false) × (a ≡ false)
+    step false is o here same' a e = absurd cc
+    step true is true here same' a e = absurd cc
+    step true is false false same' a e = absurd cc
+    step true is false true same' true e = absurd cc
+    step true is false true same' false e = (less is, same same', refl, refl)
+
+taken : {S M : Type 0} (g : Rules S M) (m : MatchValue M) (role n : ℕ) → refusal g m role n ≡ None → (role < g.roles) × (n ≡ round g m) × (is_over g m ≡ false) × (has_answered g m role ≡ false)
+taken g m role n e = not_refused role g.roles n (round g m) (is_over g m) (has_answered g m role) e
+
+pub taken_for_the_round : {S M : Type 0} (g : Rules S M) → TakenForTheRound g
+taken_for_the_round g m role n e = let parts = taken g m role n e in (parts.0, parts.1)
+
+module _ {S M : Type 0} (g : Rules S M) (laws : IsLawful g) (m : MatchValue M) (lawful : IsLawfulMatch g m) (role : ℕ) (lt : role < g.roles) (answer : Answer) where
+  module _ (playing : stage g m ≡ Playing) where
+    played_as : (j : Judgement M) → judgement g (state_after g m.turns) role answer ≡ Some j → (all : Bool) → every_role g.roles (is_there (set m.open_answers role (Some j))) ≡ all → (n : MatchValue M)
+        → n ≡ (if all then record m { turns = m.turns ++ turn_of (set m.open_answers role (Some j)) ∷ []; open_answers = blank g.roles } else record m { open_answers = set m.open_answers role (Some j) })
+        → IsPlayed g m n role answer × IsLawfulMatch g n
+    played_as j is true all n e =
+        let judged = judgement-judged g (state_after g m.turns) role answer j is in
+        (record { judged = j; is_judgement = is; opened_or_recorded = inr e }, subst (λ (x : MatchValue M). IsLawfulMatch g x) (sym e) (lawful-recorded g laws m lawful playing role lt j judged all))
+    played_as j is false missing n e =
+        let judged = judgement-judged g (state_after g m.turns) role answer j is in
+        (record { judged = j; is_judgement = is; opened_or_recorded = inl e }, subst (λ (x : MatchValue M). IsLawfulMatch g x) (sym e) (lawful-open_answer g laws m lawful playing role lt j judged missing))
+
+    played : (n : MatchValue M) → n ≡ with_open_answer g m role (judgement g (state_after g m.turns) role answer) → IsPlayed g m n role answer × IsLawfulMatch g n
+    played n e =
+        let found = some_of (judgement g (state_after g m.turns) role answer) (answer-judged g laws m lawful playing role lt answer) in
+        played_as found.0 found.1 (every_role g.roles (is_there (set m.open_answers role (Some found.0)))) refl n (e ∙ ap (λ o. with_open_answer g m role o) found.1)
+
+  with_answer_in-lawful : (at : Stage) → stage g m ≡ at → IsLawfulMatch g (with_answer_in at g m role answer)
+  with_answer_in-lawful Starting e = lawful-with_start_mark g laws m lawful role (mark_of answer) e
+  with_answer_in-lawful Playing e = (played e (with_open_answer g m role (judgement g (state_after g m.turns) role answer)) refl).1
+  with_answer_in-lawful Stopping e = lawful-with_end_mark g laws m lawful role (mark_of answer) (rw e refl)
+  with_answer_in-lawful (Aborting c) e = lawful-with_end_mark g laws m lawful role (mark_of answer) (rw e refl)
+
+  with_answer-lawful : IsLawfulMatch g (with_answer g m role answer)
+  with_answer-lawful = with_answer_in-lawful (stage g m) refl
+
+pub answers_keep_lawful : {S M : Type 0} (g : Rules S M) → IsLawful g → AnswersKeepLawful g
+answers_keep_lawful {S} {M} g laws m role n answer lawful = step (refusal g m role n) refl
+  where
+    step : (o : Option AnswerFault) → refusal g m role n ≡ o → IsLawfulMatch g (if is_none o then with_answer g m role answer else m)
+    step None e = with_answer-lawful g laws m lawful role (taken g m role n e).0 answer
+    step (Some f) e = lawful
+
+taken_or_same : {M : Type 0} (o : Option AnswerFault) (m n : MatchValue M) → o ≡ None → (if is_none o then n else m) ≡ n
+taken_or_same None m n e = refl
+taken_or_same (Some f) m n e = absurd cc
+
+pub answers_in_play : {S M : Type 0} (g : Rules S M) → IsLawful g → AnswersInPlay g
+answers_in_play {S} {M} g laws m role n answer lawful playing none =
+    let now : after_answer g m role n answer ≡ with_open_answer g m role (judgement g (state_after g m.turns) role answer) =
+    taken_or_same (refusal g m role n) m (with_answer g m role answer) none ∙ ap (λ (x : Stage). with_answer_in x g m role answer) playing
+    in
+    (played g laws m lawful role (taken g m role n none).0 answer playing (after_answer g m role n answer) now).0
+
+pub answers_out_of_play : {S M : Type 0} (g : Rules S M) → AnswersOutOfPlay g
+answers_out_of_play {S} {M} g m role n answer out = step (refusal g m role n) (stage g m) out
+  where
+    step : (o : Option AnswerFault) (at : Stage) → at ≢ Playing
+        → ((if is_none o then with_answer_in at g m role answer else m).turns ≡ m.turns) × ((if is_none o then with_answer_in at g m role answer else m).open_answers ≡ m.open_answers)
+    step (Some f) at out = (refl, refl)
+    step None Starting out = (refl, refl)
+    step None Playing out = absurd (out refl)
+    step None Stopping out = (refl, refl)
+    step None (Aborting c) out = (refl, refl)
+
+prefix_is_legal : {S M : Type 0} (g : Rules S M) (turns : List (Turn M)) → AreLawful g turns → (k : ℕ) (d : Turn M) → k ≤ length turns → AreLegal g (joint_moves (take k turns))
+prefix_is_legal g turns lawful zero d le = tt
+prefix_is_legal {S} {M} g turns lawful (suc k) d le =
+    let t = slice_index_or turns k d in
+    let turn = lawful k d (omega arith) in
+    let more : take (suc k) turns ≡ take k turns ++ t ∷ [] = subst (λ (n : ℕ). take n turns ≡ take k turns ++ t ∷ []) (add-one k) (take_more turns k d (omega arith)) in
+    let moves : joint_moves (take (suc k) turns) ≡ joint_moves (take k turns) ++ t.moves ∷ [] = ap joint_moves more ∙ map-append (λ u. u.moves) (take k turns) (t ∷ []) in
+    subst (λ (x : List (List M)). AreLegal g x) (sym moves) (AreLegal-push g (joint_moves (take k turns)) t.moves (prefix_is_legal g turns lawful k d (omega arith)) turn.goes_on turn.joint)
+
+AreLawful-legal : {S M : Type 0} (g : Rules S M) (turns : List (Turn M)) → AreLawful g turns → AreLegal g (joint_moves turns)
+AreLawful-legal g [] lawful = tt
+AreLawful-legal {S} {M} g (t ∷ ts) lawful =
+    subst (λ (x : List (Turn M)). AreLegal g (joint_moves x)) (take_all (length (t ∷ ts)) (t ∷ ts) (omega arith)) (prefix_is_legal g (t ∷ ts) lawful (length (t ∷ ts)) t (omega arith))
+
+pub recorded_moves_are_legal : {S M : Type 0} (g : Rules S M) → RecordedMovesAreLegal g
+recorded_moves_are_legal g m lawful = AreLawful-legal g m.turns lawful.turns
+
+error_text-some : (why : Substitution) → error_text why ≢ []
+error_text-some TimeOut e = absurd cc
+error_text-some ConnectionError e = absurd cc
+error_text-some Unreadable e = absurd cc
+error_text-some (Illegal x) e = absurd cc
+
+-- a substituted move has an error, and is not the one that the answer names
+substituted : {S M : Type 0} (g : Rules S M) (moves : List M) (why : Substitution) (j : Judgement M) (N : Type 0) → substitute moves why ≡ Some j → (N → ⊥) → (j.error ≡ []) ↔ N
+substituted g moves why j N is not_named = (λ e. absurd (error_text-some why (sym (substitute-is moves why j is).1 ∙ e)), λ named. absurd (not_named named))
+
+named_or_not : {S M : Type 0} (g : Rules S M) (moves : List M) (t x : List ℕ) (n : Option M) (j : Judgement M) → answer_reading t ≡ Some x → move_named g moves x ≡ n → taken_or_substituted moves x n ≡ Some j
+    → (j.error ≡ []) ↔ (answer_reading t ≡ Some (g.move_text j.taken))
+named_or_not {S} {M} g moves t x None j read none is =
+    substituted g moves (Illegal x) j (answer_reading t ≡ Some (g.move_text j.taken)) is
+    (λ named.
+    let first = first-contains moves j.taken (substitute-is moves (Illegal x) j is).0 in
+    let both : Some x ≡ Some (g.move_text j.taken) = sym read ∙ named in
+    let same : g.move_text j.taken ≡ x = cc in
+    move_named-none g moves x none first.0 j.taken first.1 (ap g.move_text first.2 ∙ same))
+named_or_not {S} {M} g moves t x (Some m) j read found is =
+    let w : ◌≡◌ {A = Judgement M} (record { taken = m; error = [] }) j = cc in
+    let text : g.move_text m ≡ x = move_named-text g moves x m found in
+    (λ _. read ∙ ap Some (sym text ∙ ap (λ (y : Judgement M). g.move_text y.taken) w), λ _. sym (ap (λ (y : Judgement M). y.error) w))
+
+read_or_not : {S M : Type 0} (g : Rules S M) (moves : List M) (t : List ℕ) (o : Option (List ℕ)) (j : Judgement M) → answer_reading t ≡ o → judged_reading g moves o ≡ Some j
+    → (j.error ≡ []) ↔ (answer_reading t ≡ Some (g.move_text j.taken))
+read_or_not g moves t None j read is =
+    substituted g moves Unreadable j (answer_reading t ≡ Some (g.move_text j.taken)) is (λ named. let w : None ≡ Some (g.move_text j.taken) = sym read ∙ named in absurd cc)
+read_or_not g moves t (Some x) j read is = named_or_not g moves t x (move_named g moves x) j read refl is
+
+pub no_error_means_named : {S M : Type 0} (g : Rules S M) → NoErrorMeansNamed g
+unfolding judgement
+no_error_means_named g s role (Text t) j is = read_or_not g (g.legal s role) t (answer_reading t) j refl is
+no_error_means_named g s role Silent j is = substituted g (g.legal s role) TimeOut j ⊥ is (λ named. named)
+no_error_means_named g s role Broken j is = substituted g (g.legal s role) ConnectionError j ⊥ is (λ named. named)

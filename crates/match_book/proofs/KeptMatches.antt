@@ -1,0 +1,227 @@
+-- Each step of a match keeps what the match keeps.
+use Rattle.std.proofs.Common.{◌≡◌, ◌≢◌, ℕ, ◌+◌, ◌*◌, ◌<◌, ◌≤◌, true, false, eqb, Option, Some, None, List, [], ◌∷◌, ◌++◌, length, set, refl, arith, ap, sym, ◌∙◌, subst, length-append}
+use Rattle.std.proofs.lemmas.List.Sums.{sum_by_push}
+use Rattle.std.proofs.lemmas.Bool.Decides.{nat_tests}
+use Rattle.std.specs.Prelude.{IsSome, IfSome, slice_index_or, count_by}
+use Rattle.game_core.specs.Play.{Rules, IsLawful, IsJoint, max_roles}
+use Rattle.match_book.specs.Roles.{every_role, count_roles, at_role, is_there, blank}
+use Rattle.match_book.specs.Judgement.{judgement, IsJudged}
+use Rattle.match_book.specs.MatchValue.{MatchValue, GameMatch, state_after, substitutions, is_error}
+use Rattle.match_book.specs.Phase.{stage, settled, answered_in, goal_in, is_live, max_turns}
+use Rattle.match_book.specs.Lawful.{IsLawfulTurn, IsLawfulMatch}
+use Rattle.match_book.specs.Searches.{AreMoves}
+use Rattle.match_book.specs.Steps.{new_match, with_abort, with_start_mark, with_end_mark, with_open_answer, turn_of}
+use Rattle.match_book.specs.Kept.{IsKept}
+use Rattle.match_book.specs.declared.setup.Setup.{Setup}
+use Rattle.match_book.specs.declared.answer.Answer.{Answer}
+use Rattle.match_book.specs.declared.answer.Mark.{Mark}
+use Rattle.match_book.specs.declared.judgement.Judgement.{Judgement}
+use Rattle.match_book.specs.declared.turn.Turn.{Turn}
+use Rattle.match_book.specs.declared.phase.Cause.TheVariants.{Asked}
+use Rattle.match_book.specs.declared.phase.Stage.{Stage}
+use Rattle.match_book.specs.declared.phase.Stage.TheVariants.{Starting, Playing, Stopping, Aborting}
+use Rattle.match_book.proofs.RoleTests.{every_role-but, every_role-count, count-blank, count-set, count_roles-none, count_roles-le, is_there-blank}
+use Rattle.match_book.proofs.Stages.{stage-by, stage-asked, stage-starting, stage-settled, live-not_asked, settled-not_starting, goal_in-live, answered_in-none, playing-settled}
+use Rattle.match_book.proofs.Judgements.{Contains-move}
+use Rattle.match_book.proofs.TurnParts.{at_role-read}
+use Rattle.match_book.proofs.LawfulTurns.{state_after-push, state_after-is_state, substitutions-few, turn_errors-few}
+use Rattle.match_book.proofs.LawfulMatches.{lawful-new_match, lawful-with_start_mark, lawful-with_end_mark, lawful-with_abort, lawful-open_answer, lawful-turn, lawful-recorded, answer-judged}
+
+not_all : (c n : ℕ) → c < n → eqb c n ≡ false
+not_all c n lt = grind (arith, nat_tests)
+
+all_there : (c n : ℕ) → c ≤ n → n ≤ c → eqb c n ≡ true
+all_there c n le ge = grind (arith, nat_tests)
+
+pub game_match : {G M : Type 0} (x : G) (b c : MatchValue M) → b ≡ c → ◌≡◌ {A = GameMatch G M} (record { game = x; value = b }) (record { game = x; value = c })
+game_match {G} {M} x b c e = let f : MatchValue M → GameMatch G M = λ y. record { game = x; value = y } in ap f e
+
+pub kept-new_match : {S M : Type 0} (g : Rules S M) → IsLawful g → (setup : Setup) → length setup.players ≡ g.roles → IsKept g (new_match {M = M} g setup) g.initial Starting 0 0 []
+kept-new_match {S} {M} g laws setup players =
+    let missing : every_role g.roles (is_there {A = Mark} (blank g.roles)) ≡ false = every_role-but g.roles 0 (is_there (blank g.roles)) laws.some_role (is_there-blank Mark g.roles 0) in
+    record {
+      lawful = lawful-new_match g laws setup players;
+      state_is = refl;
+      is_state = laws.initial_is_state;
+      stage_is = sym (stage-starting g (new_match g setup) refl missing);
+      answered_is = sym (count-blank Mark g.roles);
+      substituted_is = refl;
+      goals_are = λ r lt. refl;
+    }
+
+-- a round that the settling rule begins
+kept-settled : {S M : Type 0} (g : Rules S M) (laws : IsLawful g) (m : MatchValue M) (s : S) (at : Stage) (substituted : ℕ) (goals : List (Option ℕ)) → IsLawfulMatch g m
+    → m.abort_asked ≡ false → every_role g.roles (is_there m.start_marks) ≡ true → m.open_answers ≡ blank g.roles → m.end_marks ≡ blank g.roles
+    → s ≡ state_after g m.turns → at ≡ settled g (length m.turns) s → substituted ≡ substitutions m.turns → ((r : ℕ) → r < g.roles → at_role goals r ≡ goal_in at g s r)
+    → IsKept g m s at 0 substituted goals
+kept-settled {S} {M} g laws m s at substituted goals lawful asked all answers ends state settles total are =
+    let now : stage g m ≡ at = stage-settled g m asked all ∙ ap (settled g (length m.turns)) (sym state) ∙ sym settles in
+    let not_start : at ≢ Starting = λ e. settled-not_starting g (length m.turns) s (sym settles ∙ e) in
+    record {
+      lawful = lawful;
+      state_is = state;
+      is_state = subst (λ (x : S). g.IsState x) (sym state) (state_after-is_state g laws m.turns lawful.turns);
+      stage_is = sym now;
+      answered_is = sym (count_roles-none g.roles (answered_in at m) (λ k lt. answered_in-none at m g.roles k not_start answers ends));
+      substituted_is = total;
+      goals_are = are;
+    }
+
+module _ {S M : Type 0} (g : Rules S M) (laws : IsLawful g) {m : MatchValue M} {s : S} {at : Stage} {answered substituted : ℕ} {goals : List (Option ℕ)} (kept : IsKept g m s at answered substituted goals) where
+  -- there are few roles to answer
+  pub answered-few : answered ≤ max_roles
+  answered-few = let few = count_roles-le g.roles (answered_in at m) in let e = kept.answered_is in let roles = laws.few_roles in omega arith
+
+  pub substituted-few : substituted ≤ max_turns * max_roles
+  substituted-few = let few = substitutions-few g laws m.turns kept.lawful.turns in let long = kept.lawful.few_turns in let e = kept.substituted_is in omega arith
+
+  pub kept-with_abort : is_live at ≡ true → IsKept g (with_abort g m) s (Aborting Asked) 0 substituted goals
+  kept-with_abort live =
+      let live_now : is_live (stage g m) ≡ true = rw (← kept.stage_is) live in
+      record {
+        lawful = lawful-with_abort g laws m kept.lawful live_now;
+        state_is = kept.state_is;
+        is_state = kept.is_state;
+        stage_is = sym (stage-asked g (with_abort g m) refl);
+        answered_is = rw (kept.lawful.ends_at_end live_now) (sym (count-blank Mark g.roles));
+        substituted_is = kept.substituted_is;
+        goals_are = λ r lt. kept.goals_are r lt ∙ goal_in-live g at s r live;
+      }
+
+  module _ (r : ℕ) (lt : r < g.roles) (mark : Mark) where
+    ended_count : (x : Stage) → is_live x ≡ false → is_there m.end_marks r ≡ false → count_roles g.roles (answered_in x (with_end_mark m r mark)) ≡ count_roles g.roles (answered_in x m) + 1
+    ended_count Starting e free = absurd cc
+    ended_count Playing e free = absurd cc
+    ended_count Stopping e free = count-set m.end_marks g.roles r mark kept.lawful.one_end_mark lt free
+    ended_count (Aborting c) e free = count-set m.end_marks g.roles r mark kept.lawful.one_end_mark lt free
+
+    pub kept-with_end_mark : is_live at ≡ false → is_there m.end_marks r ≡ false → IsKept g (with_end_mark m r mark) s at (answered + 1) substituted goals
+    kept-with_end_mark ended free =
+        let ended_now : is_live (stage g m) ≡ false = rw (← kept.stage_is) ended in
+        let same : stage g (with_end_mark m r mark) ≡ stage g m = stage-by g m (with_end_mark m r mark) refl refl refl in
+        record {
+          lawful = lawful-with_end_mark g laws m kept.lawful r mark ended_now;
+          state_is = kept.state_is;
+          is_state = kept.is_state;
+          stage_is = kept.stage_is ∙ sym same;
+          answered_is = sym (ended_count at ended free ∙ ap (λ n. n + 1) (sym kept.answered_is));
+          substituted_is = kept.substituted_is;
+          goals_are = kept.goals_are;
+        }
+
+    module _ (starting : at ≡ Starting) (free : is_there m.start_marks r ≡ false) where
+      starting_now : stage g m ≡ Starting
+      starting_now = sym kept.stage_is ∙ starting
+
+      asked : m.abort_asked ≡ false
+      asked = live-not_asked g m (rw starting_now refl)
+
+      start_count : count_roles g.roles (is_there (with_start_mark m r mark).start_marks) ≡ answered + 1
+      start_count =
+          count-set m.start_marks g.roles r mark kept.lawful.one_start_mark lt free
+          ∙ ap (λ n. n + 1) (sym (kept.answered_is ∙ ap (λ (x : Stage). count_roles g.roles (answered_in x m)) starting))
+
+      -- a START mark that is not the last
+      pub kept-with_start_mark : answered + 1 < g.roles → IsKept g (with_start_mark m r mark) s at (answered + 1) substituted goals
+      kept-with_start_mark not_last =
+          let missing : every_role g.roles (is_there (with_start_mark m r mark).start_marks) ≡ false = every_role-count g.roles (is_there (with_start_mark m r mark).start_marks) ∙ rw start_count (not_all (answered + 1) g.roles not_last) in
+          record {
+            lawful = lawful-with_start_mark g laws m kept.lawful r mark starting_now;
+            state_is = kept.state_is;
+            is_state = kept.is_state;
+            stage_is = starting ∙ sym (stage-starting g (with_start_mark m r mark) asked missing);
+            answered_is = subst (λ (x : Stage). answered + 1 ≡ count_roles g.roles (answered_in x (with_start_mark m r mark))) (sym starting) (sym start_count);
+            substituted_is = kept.substituted_is;
+            goals_are = kept.goals_are;
+          }
+
+      -- the last START mark
+      pub kept-with_last_start_mark : (to : Stage) (are : List (Option ℕ)) → g.roles ≤ answered + 1 → to ≡ settled g (length m.turns) s → ((k : ℕ) → k < g.roles → at_role are k ≡ goal_in to g s k)
+          → IsKept g (with_start_mark m r mark) s to 0 substituted are
+      kept-with_last_start_mark to are last settles goals_are =
+          let few = count_roles-le g.roles (is_there (with_start_mark m r mark).start_marks) in
+          let all : every_role g.roles (is_there (with_start_mark m r mark).start_marks) ≡ true =
+          every_role-count g.roles (is_there (with_start_mark m r mark).start_marks) ∙ rw start_count (all_there (answered + 1) g.roles (rw start_count at few) last)
+          in
+          kept-settled g laws (with_start_mark m r mark) s to substituted are (lawful-with_start_mark g laws m kept.lawful r mark starting_now) asked all
+          (kept.lawful.answers_in_play (rw starting_now refl)) (kept.lawful.ends_at_end (rw starting_now refl)) kept.state_is settles kept.substituted_is goals_are
+
+  module _ (playing : at ≡ Playing) where
+    playing_now : stage g m ≡ Playing
+    playing_now = sym kept.stage_is ∙ playing
+
+    pub open_answers-moves : AreMoves g m.open_answers
+    open_answers-moves k d within = step (at_role m.open_answers k) refl
+      where
+        step : (o : Option (Judgement M)) → at_role m.open_answers k ≡ o → IfSome (slice_index_or m.open_answers k d) (λ j. g.IsMove j.taken)
+        step None e = rw (at_role-read m.open_answers k d within, e) tt
+        step (Some j) e =
+            let lt : k < g.roles = omega (arith, kept.lawful.one_open_answer) in
+            let among = (kept.lawful.judged k j lt e).0 in
+            rw (at_role-read m.open_answers k d within, e) (Contains-move g laws (state_after g m.turns) k j.taken (state_after-is_state g laws m.turns kept.lawful.turns) lt among)
+
+    module _ (r : ℕ) (lt : r < g.roles) where
+      -- each answer is judged
+      pub judged-some : (a : Answer) → IsSome (judgement g s r a)
+      judged-some a = subst (λ (x : S). IsSome (judgement g x r a)) (sym kept.state_is) (answer-judged g laws m kept.lawful playing_now r lt a)
+
+      module _ (j : Judgement M) (judged : IsJudged g (g.legal (state_after g m.turns) r) j.taken j.error) where
+        module _ (free : is_there m.open_answers r ≡ false) where
+          answer_count : count_roles g.roles (is_there (set m.open_answers r (Some j))) ≡ answered + 1
+          answer_count =
+              count-set m.open_answers g.roles r j kept.lawful.one_open_answer lt free
+              ∙ ap (λ n. n + 1) (sym (kept.answered_is ∙ ap (λ (x : Stage). count_roles g.roles (answered_in x m)) playing))
+
+          not_every : answered + 1 < g.roles → every_role g.roles (is_there (set m.open_answers r (Some j))) ≡ false
+          not_every not_last = every_role-count g.roles (is_there (set m.open_answers r (Some j))) ∙ rw answer_count (not_all (answered + 1) g.roles not_last)
+
+          pub last-answer : g.roles ≤ answered + 1 → every_role g.roles (is_there (set m.open_answers r (Some j))) ≡ true
+          last-answer last =
+              every_role-count g.roles (is_there (set m.open_answers r (Some j)))
+              ∙ rw answer_count (all_there (answered + 1) g.roles (rw answer_count at (count_roles-le g.roles (is_there (set m.open_answers r (Some j))))) last)
+
+          -- an answer that is not the last
+          pub kept-open_answer : answered + 1 < g.roles → IsKept g (record m { open_answers = set m.open_answers r (Some j) }) s at (answered + 1) substituted goals
+          kept-open_answer not_last =
+              let same : stage g (record m { open_answers = set m.open_answers r (Some j) }) ≡ stage g m = stage-by g m (record m { open_answers = set m.open_answers r (Some j) }) refl refl refl in
+              record {
+                lawful = lawful-open_answer g laws m kept.lawful playing_now r lt j judged (not_every not_last);
+                state_is = kept.state_is;
+                is_state = kept.is_state;
+                stage_is = kept.stage_is ∙ sym same;
+                answered_is = subst (λ (x : Stage). answered + 1 ≡ count_roles g.roles (answered_in x (record m { open_answers = set m.open_answers r (Some j) }))) (sym playing) (sym answer_count);
+                substituted_is = kept.substituted_is;
+                goals_are = kept.goals_are;
+              }
+
+          pub value-open_answer : answered + 1 < g.roles → record m { open_answers = set m.open_answers r (Some j) } ≡ with_open_answer g m r (Some j)
+          value-open_answer not_last = rw (not_every not_last) refl
+
+        module _ (all : every_role g.roles (is_there (set m.open_answers r (Some j))) ≡ true) where
+          turn-lawful : IsLawfulTurn g m.turns (turn_of (set m.open_answers r (Some j)))
+          turn-lawful = lawful-turn g laws m kept.lawful playing_now r lt j judged all
+
+          pub turn-joint : (t : Turn M) → t ≡ turn_of (set m.open_answers r (Some j)) → IsJoint g s t.moves
+          turn-joint t turn = subst (λ (x : Turn M). IsJoint g s x.moves) (sym turn) (subst (λ (x : S). IsJoint g x (turn_of (set m.open_answers r (Some j))).moves) (sym kept.state_is) turn-lawful.joint)
+
+          pub next-is_state : (t : Turn M) → t ≡ turn_of (set m.open_answers r (Some j)) → g.IsState (g.next s t.moves)
+          next-is_state t turn = laws.next_is_state s t.moves kept.is_state (turn-joint t turn)
+
+          pub value-recorded : record m { turns = m.turns ++ turn_of (set m.open_answers r (Some j)) ∷ []; open_answers = blank g.roles } ≡ with_open_answer g m r (Some j)
+          value-recorded = rw all refl
+
+          pub recorded_errors-few : (t : Turn M) → t ≡ turn_of (set m.open_answers r (Some j)) → count_by is_error t.errors ≤ max_roles
+          recorded_errors-few t turn = turn_errors-few g laws m.turns t (subst (λ (x : Turn M). IsLawfulTurn g m.turns x) (sym turn) turn-lawful)
+
+          -- the last answer: a turn, and the settling rule
+          pub kept-recorded : (t : Turn M) (next : S) (to : Stage) (total : ℕ) (are : List (Option ℕ)) → t ≡ turn_of (set m.open_answers r (Some j)) → next ≡ g.next s t.moves
+              → to ≡ settled g (length m.turns + 1) next → total ≡ substituted + count_by is_error t.errors → ((k : ℕ) → k < g.roles → at_role are k ≡ goal_in to g next k)
+              → IsKept g (record m { turns = m.turns ++ t ∷ []; open_answers = blank g.roles }) next to 0 total are
+          kept-recorded t next to total are turn is_next is_to is_total goals_are =
+              let lawful : IsLawfulMatch g (record m { turns = m.turns ++ t ∷ []; open_answers = blank g.roles }) =
+              subst (λ (x : Turn M). IsLawfulMatch g (record m { turns = m.turns ++ x ∷ []; open_answers = blank g.roles })) (sym turn) (lawful-recorded g laws m kept.lawful playing_now r lt j judged all)
+              in
+              let wide : length (m.turns ++ t ∷ []) ≡ length m.turns + 1 = length-append m.turns (t ∷ []) in
+              kept-settled g laws (record m { turns = m.turns ++ t ∷ []; open_answers = blank g.roles }) next to total are lawful (live-not_asked g m (rw playing_now refl)) (playing-settled g m playing_now).0 refl
+              (kept.lawful.ends_at_end (rw playing_now refl)) (is_next ∙ (ap (λ x. g.next x t.moves) kept.state_is ∙ sym (state_after-push g m.turns t))) (is_to ∙ ap (λ n. settled g n next) (sym wide))
+              (is_total ∙ (ap (λ n. n + count_by is_error t.errors) kept.substituted_is ∙ sym (sum_by_push (λ u. count_by is_error u.errors) m.turns t))) goals_are

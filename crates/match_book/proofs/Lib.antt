@@ -1,0 +1,10 @@
+pub mod RoleTests
+pub mod NamedMoves
+pub mod AnswerReadings
+pub mod Judgements
+pub mod TurnParts
+pub mod Stages
+pub mod LawfulTurns
+pub mod LawfulMatches
+pub mod KeptMatches
+pub mod AnswerLaws

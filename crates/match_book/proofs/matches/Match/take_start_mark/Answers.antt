@@ -1,0 +1,22 @@
+use Rattle.std.proofs.Common.{arith, length, ap, ◌∙◌, subst, ◌≡◌, ◌<◌}
+use Rattle.match_book.proofs.KeptMatches.{kept-with_start_mark, kept-with_last_start_mark, answered-few}
+use Rattle.match_book.proofs.matches.Match.take_start_mark.Goals as goal
+
+pub overflow_add-self-inside : goal.overflow_add-self-inside
+overflow_add-self-inside g c =
+    let few = answered-few (g.G.Game.rules c.self.inside.game.value) (g.met.G.Game.laws c.self.inside.game.value) c.self.invariant in
+    omega (arith, few)
+
+pub invariant_of-self : goal.invariant_of-self
+invariant_of-self g c =
+    kept-with_start_mark (g.G.Game.rules c.self.inside.game.value) (g.met.G.Game.laws c.self.inside.game.value) c.self.invariant c.args.role (rw (← c.self.view_is) at c.requires.role) c.args.mark
+    (c.self.invariant.stage_is ∙ (rw (← c.self.view_is) at c.requires.stage)) (rw (← c.self.view_is) at c.requires.free) (omega (arith, c.self.invariant.lawful.one_start_mark, c.self.inside.start_marks.ok.0))
+
+pub invariant_of-self-2 : goal.invariant_of-self-2
+invariant_of-self-2 g c =
+    let same = ap (λ p. p.game) c.self.view_is ∙ c.requires.game in
+    let turns : length c.self.inside.turns.items ≡ c.len-2.result = omega (arith, c.len-2.ensures, c.self.inside.turns.ok.0) in
+    kept-with_last_start_mark (g.G.Game.rules c.self.inside.game.value) (g.met.G.Game.laws c.self.inside.game.value) c.self.invariant c.args.role (rw (← c.self.view_is) at c.requires.role) c.args.mark
+    (c.self.invariant.stage_is ∙ (rw (← c.self.view_is) at c.requires.stage)) (rw (← c.self.view_is) at c.requires.free) c.in_ok-settlement.settlement.stage c.in_ok-settlement.settlement.goals.items
+    (omega (arith, c.self.invariant.lawful.one_start_mark, c.self.inside.start_marks.ok.0)) (cc (c.in_ok-settlement.ensures.stage, same, turns))
+    (λ k lt. cc (c.in_ok-settlement.ensures.stage, c.in_ok-settlement.ensures.goals k (subst (λ x. k < (g.G.Game.rules x).roles) same lt), same))

@@ -1,0 +1,65 @@
+-- What an answer counts as while the match is played.
+use Rattle.std.specs.Prelude.{◌≡◌, ◌≢◌, ℕ, ◌≤◌, ◌==◌, Bool, true, false, if◌then◌else◌, List, [], ◌∷◌, ◌++◌, length, Option, Some, None, option_map, find, slice_get, codes, Contains, All, ◌⊎◌}
+use Rattle.game_core.specs.Canonical.{IsFoldedText}
+use Rattle.game_core.specs.Play.{Rules}
+use Rattle.match_book.specs.AnswerReading.{answer_reading, max_reading}
+use Rattle.match_book.specs.Marks.{time_out_text, connection_error_text}
+use Rattle.match_book.specs.declared.judgement.Judgement.{Judgement}
+use Rattle.match_book.specs.declared.judgement.Substitution.{Substitution}
+use Rattle.match_book.specs.declared.judgement.Substitution.TheVariants.{TimeOut, ConnectionError, Unreadable, Illegal}
+use Rattle.match_book.specs.declared.answer.Answer.{Answer}
+use Rattle.match_book.specs.declared.answer.Answer.TheVariants.{Text, Silent, Broken}
+
+-- the error that stands beside the first legal move
+abbrev pub error_text : Substitution → List ℕ
+error_text TimeOut = time_out_text
+error_text ConnectionError = connection_error_text
+error_text Unreadable = codes "IL ?"
+error_text (Illegal x) = codes "IL " ++ x
+
+-- the first of these moves in place of the one answered, with the error: none where there is no move
+abbrev pub substitute : {M : Type 0} → List M → Substitution → Option (Judgement M)
+substitute moves why = option_map (λ m. record { taken = m; error = error_text why }) (slice_get moves 0)
+
+abbrev pub is_same_text : List ℕ → List ℕ → Bool
+is_same_text [] [] = true
+is_same_text [] (y ∷ ys) = false
+is_same_text (x ∷ xs) [] = false
+is_same_text (x ∷ xs) (y ∷ ys) = if x == y then is_same_text xs ys else false
+
+-- the one of these moves that has this text
+abbrev pub move_named : {S M : Type 0} → Rules S M → List M → List ℕ → Option M
+move_named g moves x = find (λ m. is_same_text (g.move_text m) x) moves
+
+-- a move that is named is taken as it is
+abbrev pub taken_or_substituted : {M : Type 0} → List M → List ℕ → Option M → Option (Judgement M)
+taken_or_substituted moves x (Some m) = Some (record { taken = m; error = [] })
+taken_or_substituted moves x None = substitute moves (Illegal x)
+
+abbrev pub judged_reading : {S M : Type 0} → Rules S M → List M → Option (List ℕ) → Option (Judgement M)
+judged_reading g moves (Some x) = taken_or_substituted moves x (move_named g moves x)
+judged_reading g moves None = substitute moves Unreadable
+
+abbrev pub judged_answer : {S M : Type 0} → Rules S M → List M → Answer → Option (Judgement M)
+judged_answer g moves (Text t) = judged_reading g moves (answer_reading t)
+judged_answer g moves Silent = substitute moves TimeOut
+judged_answer g moves Broken = substitute moves ConnectionError
+
+-- the judgement of an answer of the role r in the state s: none where the role has no legal move
+unfoldable pub judgement : {S M : Type 0} → Rules S M → S → ℕ → Answer → Option (Judgement M)
+judgement g s r answer = judged_answer g (g.legal s r) answer
+
+-- the reason may stand where these moves are legal
+abbrev pub MayStand : {S M : Type 0} → Rules S M → List M → Substitution → Type 0
+MayStand g moves TimeOut = Unit {0}
+MayStand g moves ConnectionError = Unit {0}
+MayStand g moves Unreadable = Unit {0}
+MayStand g moves (Illegal x) = IsFoldedText x × (length x ≤ max_reading) × All (λ m. g.move_text m ≢ x) moves
+
+-- an error that stands beside the first of these moves
+abbrev pub IsSubstitution : {S M : Type 0} → Rules S M → List M → List ℕ → Type 0
+IsSubstitution g moves e = (why : Substitution) × (e ≡ error_text why) × MayStand g moves why
+
+-- a legal move without an error, or the first legal one with an error
+abbrev pub IsJudged : {S M : Type 0} → Rules S M → List M → M → List ℕ → Type 0
+IsJudged g moves m e = Contains moves m × ((e ≡ []) ⊎ ((slice_get moves 0 ≡ Some m) × IsSubstitution g moves e))

@@ -1,0 +1,12 @@
+pub mod Roles
+pub mod Marks
+pub mod AnswerReading
+pub mod Judgement
+pub mod MatchValue
+pub mod Phase
+pub mod Due
+pub mod Lawful
+pub mod Steps
+pub mod Kept
+pub mod Laws
+pub mod Searches

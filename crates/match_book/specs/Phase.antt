@@ -1,0 +1,126 @@
+-- The phase of a match, its round, and why it is aborted.
+use Rattle.std.specs.Prelude.{ℕ, ◌+◌, ◌==◌, nat_le, Bool, true, false, if◌then◌else◌, length, Option, Some, None, is_none}
+use Rattle.game_core.specs.Play.{Rules}
+use Rattle.match_book.specs.Roles.{every_role, lowest_role, is_there}
+use Rattle.match_book.specs.MatchValue.{MatchValue, state_after, substitutions}
+use Rattle.match_book.specs.declared.phase.Cause.{Cause}
+use Rattle.match_book.specs.declared.phase.Cause.TheVariants.{Asked, NoLegal, NoGoal, TooLong}
+use Rattle.match_book.specs.declared.phase.Stage.{Stage}
+use Rattle.match_book.specs.declared.phase.Stage.TheVariants.{Starting, Playing, Stopping, Aborting}
+use Rattle.match_book.specs.declared.phase.Phase.{Phase}
+use Rattle.match_book.specs.declared.phase.Phase.TheVariants.{Starting as InStarting, Playing as InPlaying, Stopping as InStopping, Finished, Aborting as InAborting, Aborted}
+use Rattle.match_book.specs.declared.phase.Status.{Status}
+
+-- how many turns a match has at most
+abbrev pub max_turns : ℕ
+max_turns = 10000
+
+-- in a terminal state, by the lowest role without a goal
+abbrev pub after_the_end : Option ℕ → Stage
+after_the_end None = Stopping
+after_the_end (Some r) = Aborting (NoGoal r)
+
+-- before it, by the lowest role without a legal move
+abbrev pub before_the_end : Option ℕ → Stage
+before_the_end None = Playing
+before_the_end (Some r) = Aborting (NoLegal r)
+
+abbrev pub has_no_goal : {S M : Type 0} → Rules S M → S → ℕ → Bool
+has_no_goal g s r = is_none (g.goal s r)
+
+abbrev pub has_no_move : {S M : Type 0} → Rules S M → S → ℕ → Bool
+has_no_move g s r = length (g.legal s r) == 0
+
+-- the settling rule, in the state s after t turns
+unfoldable pub settled : {S M : Type 0} → Rules S M → ℕ → S → Stage
+settled g t s = if g.terminal s then after_the_end (lowest_role g.roles (has_no_goal g s))
+    else (if nat_le max_turns t then Aborting TooLong else before_the_end (lowest_role g.roles (has_no_move g s)))
+
+-- what a match is doing: an asked abort comes first, then missing START marks, then the settling rule
+unfoldable pub stage : {S M : Type 0} → Rules S M → MatchValue M → Stage
+stage g m = if m.abort_asked then Aborting Asked else (if every_role g.roles (is_there m.start_marks) then settled g (length m.turns) (state_after g m.turns) else Starting)
+
+-- the role has answered this round, where the match is at this stage
+abbrev pub answered_in : {M : Type 0} → Stage → MatchValue M → ℕ → Bool
+answered_in Starting m r = is_there m.start_marks r
+answered_in Playing m r = is_there m.open_answers r
+answered_in Stopping m r = is_there m.end_marks r
+answered_in (Aborting c) m r = is_there m.end_marks r
+
+-- the role has answered this round
+abbrev pub has_answered : {S M : Type 0} → Rules S M → MatchValue M → ℕ → Bool
+has_answered g m r = answered_in (stage g m) m r
+
+abbrev pub phase_in : Stage → Bool → Phase
+phase_in Starting all_ended = InStarting
+phase_in Playing all_ended = InPlaying
+phase_in Stopping all_ended = if all_ended then Finished else InStopping
+phase_in (Aborting c) all_ended = if all_ended then Aborted else InAborting
+
+-- a match has stopped or is aborted once all end marks are there
+abbrev pub phase : {S M : Type 0} → Rules S M → MatchValue M → Phase
+phase g m = phase_in (stage g m) (every_role g.roles (is_there m.end_marks))
+
+abbrev pub is_last : Phase → Bool
+is_last InStarting = false
+is_last InPlaying = false
+is_last InStopping = false
+is_last Finished = true
+is_last InAborting = false
+is_last Aborted = true
+
+-- nothing more can come
+abbrev pub is_over : {S M : Type 0} → Rules S M → MatchValue M → Bool
+is_over g m = is_last (phase g m)
+
+abbrev pub is_playing : Stage → Bool
+is_playing Starting = false
+is_playing Playing = true
+is_playing Stopping = false
+is_playing (Aborting c) = false
+
+-- neither stopping nor aborting
+abbrev pub is_live : Stage → Bool
+is_live Starting = true
+is_live Playing = true
+is_live Stopping = false
+is_live (Aborting c) = false
+
+-- an asked abort skips the round that was open
+abbrev pub aborting_round : Cause → Bool → ℕ → ℕ
+aborting_round Asked all_started t = if all_started then t + 2 else 1
+aborting_round (NoLegal r) all_started t = t + 1
+aborting_round (NoGoal r) all_started t = t + 1
+aborting_round TooLong all_started t = t + 1
+
+-- by whether all START marks are there, and the number of turns
+abbrev pub round_in : Stage → Bool → ℕ → ℕ
+round_in Starting all_started t = 0
+round_in Playing all_started t = t + 1
+round_in Stopping all_started t = t + 1
+round_in (Aborting c) all_started t = aborting_round c all_started t
+
+abbrev pub round : {S M : Type 0} → Rules S M → MatchValue M → ℕ
+round g m = round_in (stage g m) (every_role g.roles (is_there m.start_marks)) (length m.turns)
+
+abbrev pub cause_in : Stage → Option Cause
+cause_in Starting = None
+cause_in Playing = None
+cause_in Stopping = None
+cause_in (Aborting c) = Some c
+
+abbrev pub cause : {S M : Type 0} → Rules S M → MatchValue M → Option Cause
+cause g m = cause_in (stage g m)
+
+-- goals are given once the match stops
+abbrev pub goal_in : {S M : Type 0} → Stage → Rules S M → S → ℕ → Option ℕ
+goal_in Starting g s r = None
+goal_in Playing g s r = None
+goal_in Stopping g s r = g.goal s r
+goal_in (Aborting c) g s r = None
+
+abbrev pub goal_of : {S M : Type 0} → Rules S M → MatchValue M → ℕ → Option ℕ
+goal_of g m r = goal_in (stage g m) g (state_after g m.turns) r
+
+abbrev pub status : {S M : Type 0} → Rules S M → MatchValue M → Status
+status g m = record { phase = phase g m; round = round g m; turns = length m.turns; substitutions = substitutions m.turns }

@@ -1,0 +1,35 @@
+-- Tests over the roles of a game, which are numbered from 0, and lists with one place for each role.
+use Rattle.std.specs.Prelude.{ℕ, zero, suc, ◌+◌, Bool, true, false, if◌then◌else◌, List, [], ◌∷◌, Option, Some, None, is_some, slice_index_or, replicate}
+use Rattle.std.specs.Option.{option_or}
+
+-- the test passes at each role of n
+abbrev pub every_role : ℕ → (ℕ → Bool) → Bool
+every_role zero p = true
+every_role (suc n) p = if p n then every_role n p else false
+
+-- at how many roles of n the test passes
+abbrev pub count_roles : ℕ → (ℕ → Bool) → ℕ
+count_roles zero p = 0
+count_roles (suc n) p = if p n then count_roles n p + 1 else count_roles n p
+
+-- the lowest role of n at which the test passes
+abbrev pub lowest_role : ℕ → (ℕ → Bool) → Option ℕ
+lowest_role zero p = None
+lowest_role (suc n) p = option_or (lowest_role n p) (if p n then Some n else None)
+
+-- what stands in the role's place
+abbrev pub at_role : {A : Type 0} → List (Option A) → ℕ → Option A
+at_role xs r = slice_index_or xs r None
+
+abbrev pub is_there : {A : Type 0} → List (Option A) → ℕ → Bool
+is_there xs r = is_some (at_role xs r)
+
+-- n empty places
+abbrev pub blank : {A : Type 0} → ℕ → List (Option A)
+blank n = replicate n None
+
+-- what stands in the places, in order, without the empty ones
+abbrev pub present : {A : Type 0} → List (Option A) → List A
+present [] = []
+present (None ∷ xs) = present xs
+present (Some x ∷ xs) = x ∷ present xs

@@ -1,0 +1,73 @@
+-- What an answer and an abort make of a match.
+use Rattle.std.specs.Prelude.{◌≡◌, ℕ, nat_lt, ◌==◌, true, false, if◌then◌else◌, List, [], ◌∷◌, ◌++◌, map, Option, Some, None, is_none, slice_set, Result, Ok, Err}
+use Rattle.game_core.specs.Play.{Rules}
+use Rattle.match_book.specs.Roles.{every_role, blank, present}
+use Rattle.match_book.specs.Marks.{mark_of}
+use Rattle.match_book.specs.Judgement.{judgement}
+use Rattle.match_book.specs.MatchValue.{MatchValue, state_after}
+use Rattle.match_book.specs.Phase.{stage, answered_in, has_answered, is_over, is_live, round}
+use Rattle.match_book.specs.declared.setup.Setup.{Setup}
+use Rattle.match_book.specs.declared.judgement.Judgement.{Judgement}
+use Rattle.match_book.specs.declared.turn.Turn.{Turn}
+use Rattle.match_book.specs.declared.answer.Answer.{Answer}
+use Rattle.match_book.specs.declared.answer.Mark.{Mark}
+use Rattle.match_book.specs.declared.answer.AnswerFault.{AnswerFault}
+use Rattle.match_book.specs.declared.answer.AnswerFault.TheVariants.{NoRole, Over, Stale, Twice, Memory}
+use Rattle.match_book.specs.declared.phase.Stage.{Stage}
+use Rattle.match_book.specs.declared.phase.Stage.TheVariants.{Starting, Playing, Stopping, Aborting}
+
+-- a match with nothing in it
+abbrev pub new_match : {S M : Type 0} → Rules S M → Setup → MatchValue M
+new_match g setup = record { setup = setup; start_marks = blank g.roles; turns = []; open_answers = blank g.roles; abort_asked = false; end_marks = blank g.roles }
+
+-- why an answer of the role r for the round n is refused: none where it is taken
+abbrev pub refusal : {S M : Type 0} → Rules S M → MatchValue M → ℕ → ℕ → Option AnswerFault
+refusal g m r n = if nat_lt r g.roles then (if is_over g m then Some Over else (if n == round g m then (if has_answered g m r then Some Twice else None) else Some (Stale (round g m)))) else Some NoRole
+
+-- the turn that is made of these judgements, one for each role
+abbrev pub turn_of : {M : Type 0} → List (Option (Judgement M)) → Turn M
+turn_of parts = record { moves = map (λ j. j.taken) (present parts); errors = map (λ j. j.error) (present parts) }
+
+-- once all roles have answered, their answers become a turn
+abbrev pub recorded : {S M : Type 0} → Rules S M → MatchValue M → MatchValue M
+recorded g m = if every_role g.roles (answered_in Playing m) then record m { turns = m.turns ++ turn_of m.open_answers ∷ []; open_answers = blank g.roles } else m
+
+abbrev pub with_start_mark : {M : Type 0} → MatchValue M → ℕ → Mark → MatchValue M
+with_start_mark m r mark = record m { start_marks = slice_set m.start_marks r (Some mark) }
+
+abbrev pub with_end_mark : {M : Type 0} → MatchValue M → ℕ → Mark → MatchValue M
+with_end_mark m r mark = record m { end_marks = slice_set m.end_marks r (Some mark) }
+
+abbrev pub with_open_answer : {S M : Type 0} → Rules S M → MatchValue M → ℕ → Option (Judgement M) → MatchValue M
+with_open_answer g m r judged = recorded g (record m { open_answers = slice_set m.open_answers r judged })
+
+abbrev pub with_answer_in : {S M : Type 0} → Stage → Rules S M → MatchValue M → ℕ → Answer → MatchValue M
+with_answer_in Starting g m r a = with_start_mark m r (mark_of a)
+with_answer_in Playing g m r a = with_open_answer g m r (judgement g (state_after g m.turns) r a)
+with_answer_in Stopping g m r a = with_end_mark m r (mark_of a)
+with_answer_in (Aborting c) g m r a = with_end_mark m r (mark_of a)
+
+-- the match after an answer that is taken
+abbrev pub with_answer : {S M : Type 0} → Rules S M → MatchValue M → ℕ → Answer → MatchValue M
+with_answer g m r a = with_answer_in (stage g m) g m r a
+
+-- the match after an answer of the role r for the round n: as it was, where the answer is refused
+abbrev pub after_answer : {S M : Type 0} → Rules S M → MatchValue M → ℕ → ℕ → Answer → MatchValue M
+after_answer g m r n a = if is_none (refusal g m r n) then with_answer g m r a else m
+
+-- the match whose abort is asked: the answers of the open turn are dropped
+abbrev pub with_abort : {S M : Type 0} → Rules S M → MatchValue M → MatchValue M
+with_abort g m = record m { abort_asked = true; open_answers = blank g.roles }
+
+-- the match after an abort: as it was, where the match is already stopping or aborting
+abbrev pub after_abort : {S M : Type 0} → Rules S M → MatchValue M → MatchValue M
+after_abort g m = if is_live (stage g m) then with_abort g m else m
+
+-- An answer is taken where nothing refuses it, and else its refusal is given. Want of memory comes after the tests.
+abbrev pub IsTakenUnless : Option AnswerFault → Result (Unit {0}) AnswerFault → Type 0
+IsTakenUnless o (Ok u) = o ≡ None
+IsTakenUnless o (Err NoRole) = o ≡ Some NoRole
+IsTakenUnless o (Err Over) = o ≡ Some Over
+IsTakenUnless o (Err (Stale n)) = o ≡ Some (Stale n)
+IsTakenUnless o (Err Twice) = o ≡ Some Twice
+IsTakenUnless o (Err Memory) = o ≡ None

@@ -1,0 +1,28 @@
+//! The reading of an answered text.
+ghost use Rattle.std.specs.Prelude.{◌≡◌, IfOk};
+ghost use Rattle.match_book.specs.AnswerReading.{answer_reading};
+
+use game_core::Text;
+use kif_text::{KifFault, fold, print, read_one};
+use std::alloc::{AllocError, Global};
+
+/// An answer of more bytes is not read.
+const MAX_ANSWER: usize = 4096;
+
+/// The folded canonical text of the one expression that the answer spells, if it spells one.
+#[tactic(auto, unfolding(crate::specs::AnswerReading::answer_reading))]
+pub fn read_answer(alloc: Global, text: &[u8]) -> Result<Option<Text>, AllocError>
+    ensures { IfOk result (λ o. o ≡ answer_reading text.now) }
+{
+    if text.len() > MAX_ANSWER {
+        return Ok(None);
+    }
+    match read_one(alloc, text) {
+        Ok(mut expr) => {
+            fold(&mut expr);
+            Ok(Some(print(alloc, &expr)?))
+        }
+        Err(KifFault::Memory) => Err(AllocError),
+        Err(_) => Ok(None),
+    }
+}

@@ -1,0 +1,124 @@
+//! The judge of the answers in play.
+ghost use Rattle.std.specs.Prelude.{◌≡◌, ◌<◌, IfOk, All};
+ghost use Rattle.match_book.specs.Judgement.{error_text, substitute, move_named, taken_or_substituted, judgement};
+ghost use Rattle.match_book.specs.Searches.{IsPlaceOf};
+
+use crate::answer::{Answer, Mark};
+use crate::answer_text::read_answer;
+use game_core::{Game, Text};
+use std::alloc::{AllocError, Global};
+
+/// A move, and the error of the answer that it stands for: empty where the answer named the move.
+#[derive(Drop)]
+pub struct Judgement<M> {
+    pub taken: M,
+    pub error: Text,
+}
+
+/// Why the first legal move stands in place of an answer.
+#[derive(Drop)]
+pub enum Substitution {
+    TimeOut,
+    ConnectionError,
+    /// The answer spells no expression, or more than one, or is too long.
+    Unreadable,
+    /// The answer spells this text, which is no legal move's.
+    Illegal(Text),
+}
+
+impl Substitution {
+    /// The error beside the move.
+    fn error(&self, alloc: Global) -> Result<Text, AllocError>
+        ensures { IfOk result (λ t. t ≡ error_text self.now) }
+    {
+        match self {
+            Substitution::TimeOut => Text::from_slice(alloc, Mark::TimeOut.text()),
+            Substitution::ConnectionError => Text::from_slice(alloc, Mark::ConnectionError.text()),
+            Substitution::Unreadable => Text::from_slice(alloc, b"IL ?"),
+            Substitution::Illegal(read) => {
+                let mut bytes = Vec::from_slice(alloc, b"IL ")?;
+                bytes.extend_from_slice(read.as_slice())?;
+                Ok(Text { bytes })
+            }
+        }
+    }
+}
+
+/// The first of these moves, if there is one, with the error of this reason.
+fn substitute<M: Drop>(
+    alloc: Global,
+    mut moves: Vec<M>,
+    why: &Substitution,
+) -> Result<Option<Judgement<M>>, AllocError>
+    ensures { IfOk result (λ o. o ≡ substitute moves.items why.now) }
+{
+    if moves.is_empty() {
+        return Ok(None);
+    }
+    let taken = moves.swap_remove(0);
+    let error = why.error(alloc)?;
+    Ok(Some(Judgement { taken, error }))
+}
+
+/// The place of the move with this text, if there is one.
+fn place_of<G: Game>(
+    alloc: Global,
+    game: &G,
+    moves: &[G::Move],
+    wanted: &[u8],
+) -> Result<Option<usize>, AllocError>
+    requires { All (λ m. (G.rules game.now).IsMove m) moves.now }
+    ensures { IfOk result (λ o. IsPlaceOf (G.rules game.now) moves.now wanted.now o) }
+{
+    for (place, taken) in moves.iter().enumerate() {
+        let text = game.move_text(alloc, taken)?;
+        if text.as_slice() == wanted {
+            return Ok(Some(place));
+        }
+    }
+    Ok(None)
+}
+
+/// The move with this text, or the first in its place.
+fn judge_text<G: Game>(
+    alloc: Global,
+    game: &G,
+    mut moves: Vec<G::Move>,
+    read: Text,
+) -> Result<Option<Judgement<G::Move>>, AllocError>
+    requires { All (λ m. (G.rules game.now).IsMove m) moves.items }
+    ensures { IfOk result (λ o. o ≡ taken_or_substituted moves.items read (move_named (G.rules game.now) moves.items read)) }
+{
+    match place_of(alloc, game, moves.as_slice(), read.as_slice())? {
+        Some(place) => {
+            let taken = moves.swap_remove(place);
+            let error = Text::from_slice(alloc, b"")?;
+            Ok(Some(Judgement { taken, error }))
+        }
+        None => substitute(alloc, moves, &Substitution::Illegal(read)),
+    }
+}
+
+/// What a role's answer counts as in a state: `None` where the role has no legal move.
+#[tactic(auto, unfolding(crate::specs::Judgement::judgement))]
+pub fn judge<G: Game>(
+    alloc: Global,
+    game: &G,
+    state: &G::State,
+    role: usize,
+    answer: &Answer,
+) -> Result<Option<Judgement<G::Move>>, AllocError>
+    requires state { (G.rules game.now).IsState state.now }
+    requires role { role < (G.rules game.now).roles }
+    ensures { IfOk result (λ o. o ≡ judgement (G.rules game.now) state.now role answer.now) }
+{
+    let moves = game.legal(alloc, state, role)?;
+    match answer {
+        Answer::Text(text) => match read_answer(alloc, text.as_slice())? {
+            Some(read) => judge_text(alloc, game, moves, read),
+            None => substitute(alloc, moves, &Substitution::Unreadable),
+        },
+        Answer::Silent => substitute(alloc, moves, &Substitution::TimeOut),
+        Answer::Broken => substitute(alloc, moves, &Substitution::ConnectionError),
+    }
+}

@@ -1,0 +1,26 @@
+//! A match of any game: what each role owes, how an answer is judged, when a move is substituted, and when
+//! the match stops or is aborted.
+//!
+//! Methods take the allocator right after `self`, free functions take it first. A match is driven by its
+//! answers alone: it sends nothing, and knows no clock.
+#![tactic(auto)]
+
+mod answer;
+mod answer_text;
+mod due;
+mod judgement;
+pub mod laws;
+mod matches;
+mod phase;
+mod places;
+mod settlement;
+mod setup;
+mod turn;
+
+pub use answer::{AbortFault, Answer, AnswerFault, Mark};
+pub use due::{Due, Owed, OwedFault};
+pub use judgement::Judgement;
+pub use matches::Match;
+pub use phase::{Cause, Phase, Status};
+pub use setup::Setup;
+pub use turn::Turn;

@@ -1,0 +1,426 @@
+//! A match.
+ghost use Rattle.std.specs.Prelude.{◌≡◌, ◌<◌, ◌≤◌, ◌+◌, length, true, false, IfOk, OnOk, OnErr, option_copied, option_map, Some, slice_set};
+ghost use Rattle.game_core.specs.Play.{Rules};
+ghost use Rattle.match_book.specs.Roles.{at_role, is_there, every_role};
+ghost use Rattle.match_book.specs.Marks.{mark_text};
+ghost use Rattle.match_book.specs.Judgement.{judgement, IsJudged};
+ghost use Rattle.match_book.specs.MatchValue.{state_after, move_at, error_at};
+ghost use Rattle.match_book.specs.declared.phase.Stage.TheVariants.{Starting, Playing};
+ghost use Rattle.match_book.specs.Phase.{stage, has_answered, status, round, cause, goal_of, is_live};
+ghost use Rattle.match_book.specs.Due.{IsDueAnswer, owed_in, last_move_texts};
+ghost use Rattle.match_book.specs.Lawful.{IsLawfulMatch};
+ghost use Rattle.match_book.specs.Steps.{new_match, after_abort, after_answer, with_start_mark, with_open_answer, with_end_mark, refusal, IsTakenUnless};
+
+use crate::answer::{AbortFault, Answer, AnswerFault, Mark};
+use crate::due::{Due, Owed, OwedFault};
+use crate::judgement::{Judgement, judge};
+use crate::phase::{Cause, Stage, Status};
+use crate::places::{are_all_there, blank, clear};
+use crate::settlement::settle;
+use crate::setup::Setup;
+use crate::turn::{Turn, count_errors, move_texts, turn_with};
+use game_core::{Game, Texts};
+use std::alloc::{AllocError, Global};
+use std::marker::Model;
+use std::snapshot::Snapshot;
+
+/// A match: what was answered, and what is known of the present, so that no call goes over the turns.
+///
+/// Contracts see a match as its value and the game that it is of. The game itself is kept by the caller,
+/// who hands it to each call that needs it. Each match is lawful, as `state` says.
+#[derive(Drop)]
+pub struct Match<G: Game> {
+    game: Snapshot<G>,
+    setup: Setup,
+    start_marks: Vec<Option<Mark>>,
+    turns: Vec<Turn<G::Move>>,
+    open_answers: Vec<Option<Judgement<G::Move>>>,
+    abort_asked: bool,
+    end_marks: Vec<Option<Mark>>,
+    state: G::State,
+    stage: Stage,
+    answered: usize,
+    substituted: u64,
+    goals: Vec<Option<u8>>,
+}
+
+impl<G: Game> Model for Match<G> {
+    ghost use Rattle.match_book.specs.MatchValue.{GameMatch};
+    ghost use Rattle.match_book.specs.Kept.{IsKept};
+
+    ghost Value = { GameMatch G G.Move };
+
+    ghost view = { λ m. record {
+      game = m.game.value;
+      value = record {
+        setup = m.setup;
+        start_marks = m.start_marks.items;
+        turns = m.turns.items;
+        open_answers = m.open_answers.items;
+        abort_asked = m.abort_asked;
+        end_marks = m.end_marks.items;
+      };
+    } };
+
+    ghost invariant = { λ m. IsKept (G.rules m.game.value) (record {
+      setup = m.setup;
+      start_marks = m.start_marks.items;
+      turns = m.turns.items;
+      open_answers = m.open_answers.items;
+      abort_asked = m.abort_asked;
+      end_marks = m.end_marks.items;
+    }) m.state m.stage m.answered m.substituted m.goals.items };
+}
+
+impl<G: Game> Match<G> {
+    /// A match with nothing in it: each role owes an answer to START.
+    pub fn new(alloc: Global, game: &G, setup: Setup) -> Result<Match<G>, AllocError>
+        requires { length setup.players ≡ (G.rules game.now).roles }
+        ensures { IfOk result (λ m. m ≡ record { game = game.now; value = new_match (G.rules game.now) setup }) }
+    {
+        let roles = game.roles();
+        let state = game.initial(alloc)?;
+        let start_marks = blank(alloc, roles)?;
+        let open_answers = blank(alloc, roles)?;
+        let end_marks = blank(alloc, roles)?;
+        Ok(Match {
+            game: Snapshot::of(game),
+            setup,
+            start_marks,
+            turns: Vec::new(alloc),
+            open_answers,
+            abort_asked: false,
+            end_marks,
+            state,
+            stage: Stage::Starting,
+            answered: 0,
+            substituted: 0,
+            goals: Vec::new(alloc),
+        })
+    }
+
+    pub fn setup(&self) -> &Setup
+        ensures { result.now ≡ self.now.value.setup }
+    {
+        &self.setup
+    }
+
+    /// The phase, the round, and how many turns and substitutions there are.
+    pub fn status(&self) -> Status
+        ensures { result ≡ status (G.rules self.now.game) self.now.value }
+    {
+        Status {
+            phase: self.stage.phase(are_all_there(self.end_marks.as_slice())),
+            round: self.round(),
+            turns: self.turns.len() as u64,
+            substitutions: self.substituted,
+        }
+    }
+
+    /// The state after the recorded turns.
+    pub fn state(&self) -> &G::State
+        ensures state { result.now ≡ state_after (G.rules self.now.game) self.now.value.turns }
+        ensures is_state { (G.rules self.now.game).IsState result.now }
+        ensures lawful { IsLawfulMatch (G.rules self.now.game) self.now.value }
+    {
+        &self.state
+    }
+
+    /// The role's move in a recorded turn. Turns are numbered from 0.
+    pub fn move_at(&self, turn: usize, role: usize) -> &G::Move
+        requires turn { turn < length self.now.value.turns }
+        requires role { role < (G.rules self.now.game).roles }
+        ensures taken { move_at self.now.value.turns turn role ≡ Some result.now }
+        ensures is_move { (G.rules self.now.game).IsMove result.now }
+    {
+        self.turns[turn].moves.at(role)
+    }
+
+    /// The error beside the role's move in a recorded turn: empty where the role's answer named the move.
+    pub fn error_at(&self, turn: usize, role: usize) -> &[u8]
+        requires turn { turn < length self.now.value.turns }
+        requires role { role < (G.rules self.now.game).roles }
+        ensures { error_at self.now.value.turns turn role ≡ Some result.now }
+    {
+        self.turns[turn].errors.at(role).as_slice()
+    }
+
+    /// The mark of the role's answer to START, if it has answered.
+    pub fn start_mark(&self, role: usize) -> Option<&[u8]>
+        requires { role < (G.rules self.now.game).roles }
+        ensures { option_copied result ≡ option_map mark_text (at_role self.now.value.start_marks role) }
+    {
+        match self.start_marks[role] {
+            Some(mark) => Some(mark.text()),
+            None => None,
+        }
+    }
+
+    /// The mark of the role's answer to STOP or ABORT, if it has answered.
+    pub fn end_mark(&self, role: usize) -> Option<&[u8]>
+        requires { role < (G.rules self.now.game).roles }
+        ensures { option_copied result ≡ option_map mark_text (at_role self.now.value.end_marks role) }
+    {
+        match self.end_marks[role] {
+            Some(mark) => Some(mark.text()),
+            None => None,
+        }
+    }
+
+    /// The role's goal: none before the match stops.
+    pub fn goal_of(&self, role: usize) -> Option<u8>
+        requires { role < (G.rules self.now.game).roles }
+        ensures { result ≡ goal_of (G.rules self.now.game) self.now.value role }
+    {
+        *self.goals.get(role)?
+    }
+
+    /// Why the match is aborted, if it is.
+    pub fn cause(&self) -> Option<Cause>
+        ensures { result ≡ cause (G.rules self.now.game) self.now.value }
+    {
+        self.stage.cause()
+    }
+
+    fn stage(&self) -> Stage
+        ensures { result ≡ stage (G.rules self.now.game) self.now.value }
+    {
+        self.stage
+    }
+
+    fn round(&self) -> u64
+        ensures { result ≡ round (G.rules self.now.game) self.now.value }
+    {
+        let turns = self.turns.len() as u64;
+        match self.stage {
+            Stage::Starting => 0,
+            Stage::Aborting(Cause::Asked) if !are_all_there(self.start_marks.as_slice()) => 1,
+            Stage::Aborting(Cause::Asked) => turns + 2,
+            _ => turns + 1,
+        }
+    }
+
+    /// Whether the role has answered this round.
+    fn has_answered(&self, role: usize) -> bool
+        requires { role < (G.rules self.now.game).roles }
+        ensures { result ≡ has_answered (G.rules self.now.game) self.now.value role }
+    {
+        match self.stage {
+            Stage::Starting => self.start_marks[role].is_some(),
+            Stage::Playing => self.open_answers[role].is_some(),
+            Stage::Stopping | Stage::Aborting(_) => self.end_marks[role].is_some(),
+        }
+    }
+
+    /// What is due to a role.
+    pub fn owed(&self, alloc: Global, game: &G, role: usize) -> Result<Due, OwedFault>
+        requires game { self.now.game ≡ game.now }
+        ensures { IsDueAnswer (G.rules self.now.game) self.now.value role result }
+    {
+        if role >= game.roles() {
+            return Err(OwedFault::NoRole);
+        }
+        let status = self.status();
+        if status.phase.is_last() {
+            return Ok(Due::Over);
+        }
+        let round = status.round;
+        if self.has_answered(role) {
+            return Ok(Due::Hold { round });
+        }
+        let owed = self.owed_message(alloc, game)?;
+        Ok(Due::Owe { round, owed })
+    }
+
+    /// The message that this round owes to the roles.
+    fn owed_message(&self, alloc: Global, game: &G) -> Result<Owed, AllocError>
+        requires { self.now.game ≡ game.now }
+        ensures { IfOk result (λ o. o ≡ owed_in (stage (G.rules self.now.game) self.now.value) (last_move_texts (G.rules self.now.game) self.now.value.turns)) }
+    {
+        match self.stage() {
+            Stage::Starting => Ok(Owed::Start),
+            Stage::Playing => Ok(Owed::Play(self.last_move_texts(alloc, game)?)),
+            Stage::Stopping => Ok(Owed::Stop(self.last_move_texts(alloc, game)?)),
+            Stage::Aborting(_) => Ok(Owed::Abort),
+        }
+    }
+
+    fn last_move_texts(&self, alloc: Global, game: &G) -> Result<Option<Texts>, AllocError>
+        requires { self.now.game ≡ game.now }
+        ensures { IfOk result (λ o. o ≡ last_move_texts (G.rules self.now.game) self.now.value.turns) }
+    {
+        let count = self.turns.len();
+        if count == 0 {
+            return Ok(None);
+        }
+        let turn = &self.turns[count - 1];
+        Ok(Some(move_texts(alloc, game, turn.moves.as_slice())?))
+    }
+
+    /// Takes a role's answer for a round. Once all roles have answered, the next round begins.
+    pub fn answer(
+        &mut self,
+        alloc: Global,
+        game: &G,
+        role: usize,
+        round: u64,
+        answer: Answer,
+    ) -> Result<(), AnswerFault>
+        requires game { self.old.game ≡ game.now }
+        ensures game { self.new.game ≡ self.old.game }
+        ensures taken { IsTakenUnless (refusal (G.rules self.old.game) self.old.value role round) result }
+        ensures ok { OnOk result (self.new.value ≡ after_answer (G.rules self.old.game) self.old.value role round answer) }
+        ensures err { OnErr result (self.new ≡ self.old) }
+    {
+        if role >= game.roles() {
+            return Err(AnswerFault::NoRole);
+        }
+        let status = self.status();
+        if status.phase.is_last() {
+            return Err(AnswerFault::Over);
+        }
+        if round != status.round {
+            return Err(AnswerFault::Stale(status.round));
+        }
+        if self.has_answered(role) {
+            return Err(AnswerFault::Twice);
+        }
+        match self.stage() {
+            Stage::Starting => self.take_start_mark(alloc, game, role, answer.mark())?,
+            Stage::Playing => {
+                let judged = self.judged(alloc, game, role, &answer)?;
+                self.take_open_answer(alloc, game, role, judged)?;
+            }
+            Stage::Stopping | Stage::Aborting(_) => self.take_end_mark(role, answer.mark()),
+        }
+        Ok(())
+    }
+
+    fn take_start_mark(
+        &mut self,
+        alloc: Global,
+        game: &G,
+        role: usize,
+        mark: Mark,
+    ) -> Result<(), AllocError>
+        requires game { self.old.game ≡ game.now }
+        requires role { role < (G.rules self.old.game).roles }
+        requires stage { stage (G.rules self.old.game) self.old.value ≡ Starting }
+        requires free { is_there self.old.value.start_marks role ≡ false }
+        ensures game { self.new.game ≡ self.old.game }
+        ensures ok { OnOk result (self.new.value ≡ with_start_mark self.old.value role mark) }
+        ensures err { OnErr result (self.new ≡ self.old) }
+    {
+        if self.answered + 1 < self.start_marks.len() {
+            self.start_marks[role] = Some(mark);
+            self.answered += 1;
+            return Ok(());
+        }
+        let settlement = settle(alloc, game, &self.state, self.turns.len())?;
+        self.start_marks[role] = Some(mark);
+        self.stage = settlement.stage;
+        self.goals = settlement.goals;
+        self.answered = 0;
+        Ok(())
+    }
+
+    fn take_end_mark(&mut self, role: usize, mark: Mark)
+        requires role { role < (G.rules self.old.game).roles }
+        requires stage { is_live (stage (G.rules self.old.game) self.old.value) ≡ false }
+        requires free { is_there self.old.value.end_marks role ≡ false }
+        ensures game { self.new.game ≡ self.old.game }
+        ensures value { self.new.value ≡ with_end_mark self.old.value role mark }
+    {
+        self.end_marks[role] = Some(mark);
+        self.answered += 1;
+    }
+
+    /// The judgement of a role's answer for the open turn.
+    fn judged(
+        &self,
+        alloc: Global,
+        game: &G,
+        role: usize,
+        answer: &Answer,
+    ) -> Result<Judgement<G::Move>, AllocError>
+        requires game { self.now.game ≡ game.now }
+        requires role { role < (G.rules self.now.game).roles }
+        requires stage { stage (G.rules self.now.game) self.now.value ≡ Playing }
+        ensures { IfOk result (λ j. judgement (G.rules self.now.game) (state_after (G.rules self.now.game) self.now.value.turns) role answer.now ≡ Some j) }
+    {
+        Ok(judge(alloc, game, &self.state, role, answer)?.unwrap())
+    }
+
+    fn take_open_answer(
+        &mut self,
+        alloc: Global,
+        game: &G,
+        role: usize,
+        judged: Judgement<G::Move>,
+    ) -> Result<(), AllocError>
+        requires game { self.old.game ≡ game.now }
+        requires role { role < (G.rules self.old.game).roles }
+        requires stage { stage (G.rules self.old.game) self.old.value ≡ Playing }
+        requires free { is_there self.old.value.open_answers role ≡ false }
+        requires judged { IsJudged (G.rules self.old.game) ((G.rules self.old.game).legal (state_after (G.rules self.old.game) self.old.value.turns) role) judged.taken judged.error }
+        ensures game { self.new.game ≡ self.old.game }
+        ensures ok { OnOk result (self.new.value ≡ with_open_answer (G.rules self.old.game) self.old.value role (Some judged)) }
+        ensures err { OnErr result (self.new ≡ self.old) }
+    {
+        if self.answered + 1 < self.open_answers.len() {
+            self.open_answers[role] = Some(judged);
+            self.answered += 1;
+            return Ok(());
+        }
+        self.record_turn(alloc, game, role, judged)
+    }
+
+    /// Makes a turn of the open answers and of the role's, the last one.
+    fn record_turn(
+        &mut self,
+        alloc: Global,
+        game: &G,
+        role: usize,
+        judged: Judgement<G::Move>,
+    ) -> Result<(), AllocError>
+        requires game { self.old.game ≡ game.now }
+        requires role { role < (G.rules self.old.game).roles }
+        requires stage { stage (G.rules self.old.game) self.old.value ≡ Playing }
+        requires judged { IsJudged (G.rules self.old.game) ((G.rules self.old.game).legal (state_after (G.rules self.old.game) self.old.value.turns) role) judged.taken judged.error }
+        requires last { every_role (G.rules self.old.game).roles (is_there (slice_set self.old.value.open_answers role (Some judged))) ≡ true }
+        ensures game { self.new.game ≡ self.old.game }
+        ensures ok { OnOk result (self.new.value ≡ with_open_answer (G.rules self.old.game) self.old.value role (Some judged)) }
+        ensures err { OnErr result (self.new ≡ self.old) }
+    {
+        let turn = turn_with(alloc, game, self.open_answers.as_slice(), role, judged)?;
+        let state = game.next(alloc, &self.state, turn.moves.as_slice())?;
+        let settlement = settle(alloc, game, &state, self.turns.len() + 1)?;
+        let errors = count_errors(turn.errors.as_slice());
+        self.turns.push(turn)?;
+        clear(&mut self.open_answers);
+        self.state = state;
+        self.stage = settlement.stage;
+        self.goals = settlement.goals;
+        self.answered = 0;
+        self.substituted += errors as u64;
+        Ok(())
+    }
+
+    /// Aborts a match that is neither stopping nor aborting. The answers of the open turn are dropped.
+    pub fn abort(&mut self) -> Result<(), AbortFault>
+        ensures game { self.new.game ≡ self.old.game }
+        ensures ok { OnOk result (is_live (stage (G.rules self.old.game) self.old.value) ≡ true) }
+        ensures err { OnErr result (is_live (stage (G.rules self.old.game) self.old.value) ≡ false) }
+        ensures value { self.new.value ≡ after_abort (G.rules self.old.game) self.old.value }
+    {
+        match self.stage {
+            Stage::Starting | Stage::Playing => {}
+            Stage::Stopping | Stage::Aborting(_) => return Err(AbortFault::Ended),
+        }
+        clear(&mut self.open_answers);
+        self.abort_asked = true;
+        self.stage = Stage::Aborting(Cause::Asked);
+        self.answered = 0;
+        Ok(())
+    }
+}

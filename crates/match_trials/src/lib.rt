@@ -1,0 +1,9 @@
+//! Trials of whole matches by scripts: tests alone.
+#![tactic(auto)]
+
+#[cfg(test)]
+mod lone;
+#[cfg(test)]
+mod script;
+#[cfg(test)]
+mod tests;
