@@ -4,20 +4,20 @@ PROGRAM := bin/ggp_manager
 
 .PHONY: demo test check build
 
-# a match through the program
-demo:
-	@test -d crates/ggp_manager || { echo 'demo: the program is not there yet' >&2; exit 1; }
+# A match of Countdown through the program: each line of a script, and its reply.
+demo: build
+	@examples/side-by-side examples/countdown.script $(PROGRAM) desk --countdown 3
 
-# the gate: every proof from nothing, the edits that must fail, the tests, the programs
+# The gate: every proof from nothing, the edits that must fail, the tests, the programs.
 test:
 	@.ci/gate
 
-# every proof, over what earlier checks kept
+# Every proof, over what earlier checks kept.
 check:
 	@rt all check
 
-# the proved program
-build: $(PROGRAM)
-
-$(PROGRAM):
-	@test -d crates/ggp_manager || { echo 'build: the program is not there yet' >&2; exit 1; }
+# The proved program, as LLVM builds it.
+build:
+	@mkdir -p bin
+	@cd crates/ggp_manager && rt run -- desk --countdown 3 < /dev/null > ../../bin/build.log 2>&1 || { cat ../../bin/build.log; exit 1; }
+	@cp crates/ggp_manager/out/ggp_manager $(PROGRAM)

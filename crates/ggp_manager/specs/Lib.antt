@@ -1,0 +1,5 @@
+pub mod Streams
+pub mod Words
+pub mod ScriptLines
+pub mod Script
+pub mod ScriptFaults

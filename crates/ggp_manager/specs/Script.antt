@@ -1,0 +1,44 @@
+-- What a script's output is, as a function of its input. The calls are made on an object that is spoken of by its reply to
+-- a call and its value after a call.
+use Rattle.std.specs.Prelude.{ℕ, ◌+◌, List, [], ◌∷◌, ◌++◌, Option, Some, None, is_none, codes, if◌then◌else◌}
+use Rattle.std.specs.Str.Lines.{lines}
+use Rattle.game_core.specs.Bytes.{line_feed}
+use Rattle.game_core.specs.Play.{Rules}
+use Rattle.match_desk.specs.ManagerValue.{ManagerValue}
+use Rattle.match_desk.specs.Steps.{reply, after}
+use Rattle.match_desk.specs.declared.call.Call.{Call}
+use Rattle.match_desk.specs.declared.call.Reply.{Reply}
+use Rattle.ggp_manager.specs.ScriptLines.{call_of, reply_text}
+
+-- the answer to a line: a bad line makes no call
+abbrev pub line_answer : {S : Type 0} → (S → Call → Reply) → S → Option Call → List ℕ
+line_answer reply s None = codes "badline"
+line_answer reply s (Some call) = reply_text (reply s call)
+
+-- the object after a line
+abbrev pub after_line : {S : Type 0} → (S → Call → S) → S → Option Call → S
+after_line after s None = s
+after_line after s (Some call) = after s call
+
+-- the answers to these lines in order, each with a line feed, where the first comes to the object s
+abbrev pub answer_lines : {S : Type 0} → (S → Call → Reply) → (S → Call → S) → S → List (List ℕ) → List ℕ
+answer_lines reply after s [] = []
+answer_lines reply after s (line ∷ more) = line_answer reply s (call_of line) ++ line_feed ∷ answer_lines reply after (after_line after s (call_of line)) more
+
+-- the object that these lines leave
+abbrev pub after_lines : {S : Type 0} → (S → Call → S) → S → List (List ℕ) → S
+after_lines after s [] = s
+after_lines after s (line ∷ more) = after_lines after (after_line after s (call_of line)) more
+
+-- a desk of these games before any call
+abbrev pub no_matches : {G M : Type 0} → List G → ManagerValue G M
+no_matches games = record { games = games; matches = [] }
+
+-- how many of these lines are bad
+abbrev pub bad_lines : List (List ℕ) → ℕ
+bad_lines [] = 0
+bad_lines (line ∷ more) = (if is_none (call_of line) then 1 else 0) + bad_lines more
+
+-- what is written for an input, on a desk of these games: the answers to its lines, from the first match on
+abbrev pub script_output : {G S M : Type 0} → (G → Rules S M) → List G → List ℕ → List ℕ
+script_output rules games input = answer_lines (reply rules) (after rules) (no_matches games) (lines input)

@@ -1,0 +1,114 @@
+//! Reading the command line.
+
+use clap::error::ErrorKind;
+use clap::{Arg, ArgAction, ArgMatches, Command};
+use std::alloc::{AllocError, Global};
+
+/// What the command line asks for. Its texts are the words that it was read from.
+#[derive(Drop)]
+pub enum Task<'a> {
+    /// To answer a script, with one game.
+    Desk(GameSource<'a>),
+    /// To show this help.
+    Help(String),
+}
+
+/// Where a game comes from.
+#[derive(Clone, Copy, Debug, PartialEq, Eq)]
+pub enum GameSource<'a> {
+    /// Countdown, with a heap of this size.
+    Countdown(u8),
+    /// A ground description.
+    Rules(&'a str),
+}
+
+/// Why a command line is refused.
+#[derive(Clone, Copy, Debug, PartialEq, Eq)]
+pub enum ArgumentFault {
+    WrongUse,
+    Memory,
+}
+
+impl From<AllocError> for ArgumentFault {
+    fn from(_: AllocError) -> ArgumentFault {
+        ArgumentFault::Memory
+    }
+}
+
+impl From<clap::Error> for ArgumentFault {
+    fn from(error: clap::Error) -> ArgumentFault {
+        match error.kind() {
+            ErrorKind::OutOfMemory => ArgumentFault::Memory,
+            _ => ArgumentFault::WrongUse,
+        }
+    }
+}
+
+fn option<'a>(alloc: Global, name: &'a str, value: &'a str, help: &'a str) -> Arg<'a> {
+    Arg::new(alloc, name)
+        .long(name)
+        .value_name(value)
+        .action(ArgAction::Set)
+        .help(help)
+}
+
+fn desk_command<'a>(alloc: Global) -> Result<Command<'a>, AllocError> {
+    Command::new(alloc, "desk")
+        .about("Answers a script from standard input, line by line")
+        .arg(option(
+            alloc,
+            "countdown",
+            "N",
+            "The game is Countdown with a heap of N, 1 to 100",
+        ))?
+        .arg(option(
+            alloc,
+            "rules",
+            "TEXT",
+            "The game is this ground description",
+        ))
+}
+
+fn program<'a>(alloc: Global) -> Result<Command<'a>, AllocError> {
+    Command::new(alloc, "ggp_manager")
+        .about("The referee of General Game Playing")
+        .no_binary_name(true)
+        .subcommand_required(true)
+        .subcommand(desk_command(alloc)?)
+}
+
+/// The number that a text of digits is, if it is at most `most`.
+fn decimal(text: &str, most: u64) -> Option<u64> {
+    if text.is_empty() || !text.bytes().all(|b| b.is_ascii_digit()) {
+        return None;
+    }
+    text.parse().ok().filter(|number| *number <= most)
+}
+
+/// Exactly one of `--countdown` and `--rules` has to be there.
+fn game_source<'a>(found: &ArgMatches<'a>) -> Option<GameSource<'a>> {
+    match (found.get_str("countdown"), found.get_str("rules")) {
+        (Some(size), None) => {
+            let size = decimal(size, 100).filter(|size| *size > 0)?;
+            Some(GameSource::Countdown(u8::try_from(size).ok()?))
+        }
+        (None, Some(rules)) => Some(GameSource::Rules(rules)),
+        _ => None,
+    }
+}
+
+/// What the words after the program's name ask for.
+pub fn read_arguments<'a>(alloc: Global, words: &'a [&'a str]) -> Result<Task<'a>, ArgumentFault> {
+    let found = match program(alloc)?.try_get_matches_from(words) {
+        Ok(found) => found,
+        Err(error) if !error.use_stderr() => return Ok(Task::Help(error.to_string(alloc)?)),
+        Err(error) => return Err(ArgumentFault::from(error)),
+    };
+    match found.subcommand() {
+        Some(("desk", found)) => match game_source(found) {
+            Some(game) => Ok(Task::Desk(game)),
+            None => Err(ArgumentFault::WrongUse),
+        },
+        _ => Err(ArgumentFault::WrongUse),
+    }
+}

@@ -1,0 +1,48 @@
+//! Why a command ends with a fault.
+
+use std::alloc::{AllocError, AllocFailed};
+use thiserror::Error;
+
+/// A fault of the program. Its text is what standard error shows behind the program's name.
+#[derive(Clone, Copy, Debug, PartialEq, Eq, Error)]
+pub enum Fault {
+    #[error("wrong use")]
+    WrongUse,
+    #[error("want of memory")]
+    Memory,
+    /// Standard input failed.
+    #[error("read fault")]
+    ReadFault,
+    /// The input has more bytes than it may have.
+    #[error("input too long")]
+    InputTooLong,
+    /// Standard output failed.
+    #[error("write fault")]
+    WriteFault,
+    /// So many lines of a script were bad. All output is there.
+    #[error("bad lines {0}")]
+    BadLines(u64),
+}
+
+impl Fault {
+    /// The program's status.
+    pub fn status(self) -> u8 {
+        match self {
+            Fault::WrongUse => 2,
+            Fault::Memory => 3,
+            _ => 1,
+        }
+    }
+}
+
+impl From<AllocError> for Fault {
+    fn from(_: AllocError) -> Fault {
+        Fault::Memory
+    }
+}
+
+impl<T: Drop> From<AllocFailed<T>> for Fault {
+    fn from(_: AllocFailed<T>) -> Fault {
+        Fault::Memory
+    }
+}

@@ -1,0 +1,33 @@
+//! Cutting an input into lines.
+ghost use Rattle.std.specs.Prelude.{◌≡◌, ◌<◌, ◌∷◌, ◌==◌, length, position};
+ghost use Rattle.std.specs.Str.Lines.{lines, strip_carriage_return};
+ghost use Rattle.game_core.specs.Bytes.{line_feed};
+
+fn line_end(text: &[u8]) -> Option<usize>
+    ensures { result ≡ position (λ b. b == line_feed) text.now }
+{
+    text.iter().position(|b| *b == b'\n')
+}
+
+/// A line without the one carriage return before its line feed.
+fn without_return(line: &[u8]) -> &[u8]
+    ensures { result.now ≡ strip_carriage_return line.now }
+{
+    let count = line.len();
+    if count > 0 && line[count - 1] == b'\r' {
+        return &line[..count - 1];
+    }
+    line
+}
+
+/// The first line of a text that is not empty, and what follows it.
+pub fn first_line(text: &[u8]) -> (&[u8], &[u8])
+    requires { 0 < length text.now }
+    ensures cut { lines text.now ≡ result.0.now ∷ lines result.1.now }
+    ensures shorter { length result.1.now < length text.now }
+{
+    match line_end(text) {
+        None => (text, &text[text.len()..]),
+        Some(end) => (without_return(&text[..end]), &text[end + 1..]),
+    }
+}

@@ -1,0 +1,45 @@
+//! The referee of General Game Playing: the program.
+#![tactic(auto)]
+
+mod arguments;
+mod command;
+mod fault;
+mod lines;
+mod reply_lines;
+mod script;
+mod script_lines;
+mod streams;
+#[cfg(test)]
+mod tests;
+mod words;
+
+use command::{command, report};
+use fault::Fault;
+use game_core::Counted;
+use std::io::ErrorKind;
+use std::process::ExitCode;
+use std::{env, io};
+
+/// The words after the program's name.
+fn command_line(rt: &HostRuntime) -> io::Result<Vec<String>> {
+    Ok(env::args(rt)?.skip(1).collect(rt.alloc())?)
+}
+
+fn main(rt: HostRuntime) -> ExitCode {
+    let mut errors = rt.stderr();
+    let words = match command_line(&rt) {
+        Ok(words) => words,
+        Err(error) => {
+            let fault = match error.kind() {
+                ErrorKind::OutOfMemory => Fault::Memory,
+                _ => Fault::WrongUse,
+            };
+            report(&mut errors, fault);
+            return ExitCode::from(fault.status());
+        }
+    };
+    let mut reader = Counted::new(rt.stdin());
+    let mut writer = Counted::new(rt.stdout());
+    let status = command(rt.alloc(), &words, &mut reader, &mut writer, &mut errors);
+    ExitCode::from(status)
+}

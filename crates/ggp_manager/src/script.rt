@@ -1,0 +1,140 @@
+//! Scripts: each line of the input is answered by a line of the output.
+ghost use Rattle.std.specs.Prelude.{◌≡◌, ◌++◌, ◌∷◌, [], ℕ, List, length, IfOk, OnOk, IfErr, is_some};
+ghost use Rattle.std.specs.Io.KnownBytes.{Consumes, Appends, IsAtEnd};
+ghost use Rattle.std.specs.Str.Lines.{lines};
+ghost use Rattle.game_core.specs.Bytes.{line_feed};
+ghost use Rattle.ggp_manager.specs.ScriptLines.{call_of};
+ghost use Rattle.ggp_manager.specs.Script.{line_answer, after_line, answer_lines, after_lines, bad_lines, script_output};
+ghost use Rattle.ggp_manager.specs.ScriptFaults.{ScriptFails};
+
+use crate::lines::first_line;
+use crate::reply_lines::push_reply;
+use crate::script_lines::call_of;
+use crate::streams::{InputFault, WriteFault, read_to_end, write_all};
+use call_history::Object;
+use game_core::{Counted, Game};
+use match_desk::{Call, Manager, Reply};
+use std::alloc::{AllocError, Global};
+use std::io::{Read, Write};
+use thiserror::Error;
+
+/// How many bytes a script has at most.
+const MAX_SCRIPT: usize = 1_048_576;
+
+/// The answers to a script, and how many of its lines are bad.
+#[derive(Drop)]
+struct Answers {
+    text: Vec<u8>,
+    bad_lines: u64,
+}
+
+/// Answers one line, and says whether it is a good one.
+fn answer_line<O: Object<Call = Call, Reply = Reply>>(
+    alloc: Global,
+    object: &mut O,
+    line: &[u8],
+    out: &mut Vec<u8>,
+) -> Result<bool, AllocError>
+    ensures good { IfOk result (λ good. good ≡ is_some (call_of line.now)) }
+    ensures answer { OnOk result (out.new.items ≡ out.old.items ++ line_answer O.reply object.old (call_of line.now) ++ line_feed ∷ []) }
+    ensures after { OnOk result (object.new ≡ after_line O.after object.old (call_of line.now)) }
+{
+    let Some(call) = call_of(alloc, line)? else {
+        out.extend_from_slice(b"badline\n")?;
+        return Ok(false);
+    };
+    let reply = object.answer(alloc, &call)?;
+    push_reply(alloc, out, &reply)?;
+    out.push(b'\n')?;
+    object.apply(alloc, &call)?;
+    Ok(true)
+}
+
+/// Answers the lines of an input in their order.
+fn answer_input<O: Object<Call = Call, Reply = Reply>>(
+    alloc: Global,
+    object: &mut O,
+    input: &[u8],
+) -> Result<Answers, AllocError>
+    ensures text { IfOk result (λ a. a.text.items ≡ answer_lines O.reply O.after object.old (lines input.now)) }
+    ensures bad_lines { IfOk result (λ a. a.bad_lines ≡ bad_lines (lines input.now)) }
+    ensures after { OnOk result (object.new ≡ after_lines O.after object.old (lines input.now)) }
+{
+    let mut text = Vec::new(alloc);
+    let mut bad_lines = 0;
+    let mut rest = input;
+    while !rest.is_empty() {
+        let (line, more) = first_line(rest);
+        if !answer_line(alloc, object, line, &mut text)? {
+            bad_lines += 1;
+        }
+        rest = more;
+    }
+    Ok(Answers { text, bad_lines })
+}
+
+/// Why a script was not answered: the first of these to come. After the first three nothing was
+/// written, and after a failed write a prefix of the output was.
+#[derive(Clone, Copy, Debug, PartialEq, Eq, Error)]
+pub enum ScriptFault {
+    /// A read failed, interruptions included, or 200,000 reads came to no end.
+    #[error("the script can't be read")]
+    ReadFault,
+    /// The script has more than 1,048,576 bytes.
+    #[error("the script is too long")]
+    TooLong,
+    /// Want of memory.
+    #[error("want of memory")]
+    Memory,
+    /// A write failed, or took none of some bytes.
+    #[error("the answers can't be written")]
+    WriteFault,
+}
+
+/// Reads a whole script, answers each of its lines on a manager of these games, and writes the
+/// answers. The number of bad lines is answered.
+pub fn run_script<R: Read, W: Write, G: Game + Drop>(
+    alloc: Global,
+    reader: &mut Counted<R>,
+    writer: &mut Counted<W>,
+    games: Vec<G>,
+) -> Result<u64, ScriptFault>
+    ensures output { IfOk result (λ bad. (input : List ℕ)
+        × Consumes (R.remaining reader.old.stream) (R.remaining reader.new.stream) input
+        × IsAtEnd (R.remaining reader.new.stream)
+        × Appends (W.contents writer.old.stream) (W.contents writer.new.stream) (script_output G.rules games.items input)
+        × (bad ≡ bad_lines (lines input))) }
+    ensures no_fault { OnOk result ((reader.new.faults ≡ reader.old.faults) × (writer.new.faults ≡ writer.old.faults)) }
+    ensures fails { IfErr result (λ fault. (given : List ℕ)
+        × Consumes (R.remaining reader.old.stream) (R.remaining reader.new.stream) given
+        × ScriptFails W.contents (script_output G.rules games.items given) fault (length given) reader.old.faults reader.new.faults writer.old writer.new) }
+{
+    let input = match read_to_end(alloc, reader, MAX_SCRIPT) {
+        Ok(input) => input,
+        Err(InputFault::ReadFault) => return Err(ScriptFault::ReadFault),
+        Err(InputFault::TooLong) => return Err(ScriptFault::TooLong),
+        Err(InputFault::Memory) => return Err(ScriptFault::Memory),
+    };
+    let answers = match answer_script(alloc, games, &input) {
+        Ok(answers) => answers,
+        Err(_) => return Err(ScriptFault::Memory),
+    };
+    match write_all(writer, answers.text.as_slice()) {
+        Ok(()) => Ok(answers.bad_lines),
+        Err(WriteFault) => Err(ScriptFault::WriteFault),
+    }
+}
+
+/// The answers to a script, made on a manager of these games.
+fn answer_script<G: Game + Drop>(
+    alloc: Global,
+    games: Vec<G>,
+    input: &[u8],
+) -> Result<Answers, AllocError>
+    ensures text { IfOk result (λ a. a.text.items ≡ script_output G.rules games.items input.now) }
+    ensures bad_lines { IfOk result (λ a. a.bad_lines ≡ bad_lines (lines input.now)) }
+{
+    let mut manager = Manager::new(alloc, games)?;
+    let answers = answer_input(alloc, &mut manager, input)?;
+    Ok(answers)
+}

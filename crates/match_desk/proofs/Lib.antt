@@ -1,0 +1,7 @@
+pub mod Managers
+pub mod MatchSlots
+pub mod Openings
+pub mod LawfulSteps
+pub mod NewMatches
+pub mod FollowedMatches
+pub mod FollowedHistories

@@ -1,0 +1,42 @@
+-- Lawful ids, players' names and clocks.
+use Rattle.std.specs.Prelude.{ℕ, Bool, ◌&&◌, ◌||◌, ◌==◌, nat_le, List, length}
+use Rattle.std.specs.List.{list_all}
+
+abbrev pub hyphen : ℕ
+hyphen = 45
+
+abbrev pub full_stop : ℕ
+full_stop = 46
+
+abbrev pub underscore : ℕ
+underscore = 95
+
+-- how long a name is at most
+abbrev pub max_name : ℕ
+max_name = 64
+
+-- how many seconds a clock has at most: a day
+abbrev pub max_clock : ℕ
+max_clock = 86400
+
+abbrev pub is_between : ℕ → ℕ → ℕ → Bool
+is_between low high n = nat_le low n && nat_le n high
+
+-- `A` to `Z`, `a` to `z`
+abbrev pub is_letter : ℕ → Bool
+is_letter b = is_between 65 90 b || is_between 97 122 b
+
+-- `0` to `9`
+abbrev pub is_digit : ℕ → Bool
+is_digit b = is_between 48 57 b
+
+abbrev pub is_name_byte : ℕ → Bool
+is_name_byte b = is_letter b || is_digit b || b == hyphen || b == underscore || b == full_stop
+
+-- a lawful id, or a lawful name of a player
+abbrev pub is_name : List ℕ → Bool
+is_name text = is_between 1 max_name (length text) && list_all is_name_byte text
+
+-- a lawful clock, in seconds
+abbrev pub is_clock : ℕ → Bool
+is_clock seconds = is_between 1 max_clock seconds

@@ -1,0 +1,44 @@
+-- When a match is opened.
+use Rattle.std.specs.Prelude.{ℕ, Bool, false, ◌==◌, nat_lt, ◌&&◌, List, [], ◌∷◌, ◌++◌, length, if◌then◌else◌, Option, Some, None, is_none, is_some, option_map, unwrap_or, slice_get}
+use Rattle.std.specs.List.{list_all}
+use Rattle.game_core.specs.Play.{Rules}
+use Rattle.match_book.specs.Steps.{new_match}
+use Rattle.match_book.specs.declared.setup.Setup.{Setup}
+use Rattle.match_desk.specs.Names.{is_name, is_clock}
+use Rattle.match_desk.specs.ManagerValue.{ManagerValue, match_of, max_matches}
+use Rattle.match_desk.specs.declared.call.Refusal.{Refusal}
+use Rattle.match_desk.specs.declared.call.Refusal.TheVariants.{BadId, IdUsed, NoGame, WrongPlayers, BadName, BadClock, DeskFull}
+
+-- the refusal of the first test that fails
+abbrev pub first_refusal : List (Bool × Refusal) → Option Refusal
+first_refusal [] = None
+first_refusal (test ∷ tests) = if test.0 then first_refusal tests else Some test.1
+
+-- the game with this number has as many roles
+abbrev pub has_roles : {G S M : Type 0} → (G → Rules S M) → Option G → ℕ → Bool
+has_roles rules o n = unwrap_or (option_map (λ g. n == (rules g).roles) o) false
+
+-- the tests of `Open`, in their order
+abbrev pub opening_tests : {G S M : Type 0} → (G → Rules S M) → ManagerValue G M → ℕ → Setup → List (Bool × Refusal)
+opening_tests rules d game setup =
+    (is_name setup.id, BadId)
+    ∷ ((is_none (match_of d setup.id), IdUsed)
+    ∷ ((is_some (slice_get d.games game), NoGame)
+    ∷ ((has_roles rules (slice_get d.games game) (length setup.players), WrongPlayers)
+    ∷ ((list_all is_name setup.players, BadName)
+    ∷ ((is_clock setup.start && is_clock setup.play, BadClock)
+    ∷ ((nat_lt (length d.matches) max_matches, DeskFull)
+    ∷ []))))))
+
+-- why a match is not opened: none where it is
+abbrev pub opening_refusal : {G S M : Type 0} → (G → Rules S M) → ManagerValue G M → ℕ → Setup → Option Refusal
+opening_refusal rules d game setup = first_refusal (opening_tests rules d game setup)
+
+-- the matches with a new one, which has nothing in it
+abbrev pub with_new_match : {G S M : Type 0} → (G → Rules S M) → ManagerValue G M → ℕ → Setup → Option G → ManagerValue G M
+with_new_match rules d game setup None = d
+with_new_match rules d game setup (Some g) = record d { matches = d.matches ++ (record { game = game; value = new_match (rules g) setup }) ∷ [] }
+
+-- the manager after `Open`: as it was, where the match is not opened
+abbrev pub after_opening : {G S M : Type 0} → (G → Rules S M) → ManagerValue G M → ℕ → Setup → ManagerValue G M
+after_opening rules d game setup = if is_none (opening_refusal rules d game setup) then with_new_match rules d game setup (slice_get d.games game) else d

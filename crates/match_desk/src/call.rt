@@ -1,0 +1,105 @@
+//! Calls and their replies.
+use game_core::{Text, Texts};
+use match_book::{Due, Status};
+use thiserror::Error;
+
+/// A call on the desk. Games and roles are numbered from 0; a match goes by its id, compared byte for byte.
+#[derive(Drop)]
+pub enum Call {
+    /// Opens a match of a game. The clocks are in seconds, the players in the order of the roles.
+    Open {
+        id: Text,
+        game: usize,
+        start: u32,
+        play: u32,
+        players: Texts,
+    },
+    /// Asks what is due to a role.
+    Next {
+        id: Text,
+        role: usize,
+    },
+    /// A role's answer for a round.
+    Submit {
+        id: Text,
+        role: usize,
+        round: u64,
+        text: Text,
+    },
+    /// A role has no answer for a round: for want of a connection where `broken`, and else in time.
+    Miss {
+        id: Text,
+        role: usize,
+        round: u64,
+        broken: bool,
+    },
+    /// Asks where a match stands.
+    Query {
+        id: Text,
+    },
+    /// Aborts a match.
+    Abort {
+        id: Text,
+    },
+}
+
+/// The reply to a call.
+#[derive(Drop)]
+pub enum Reply {
+    /// To `Open`.
+    Opened,
+    /// To `Next`.
+    Due(Due),
+    /// To `Submit` and `Miss`.
+    Taken,
+    /// To `Query`.
+    Status(Status),
+    /// To `Abort`.
+    Aborting,
+    /// To any call that is not accepted. Such a call changes no match.
+    Refused(Refusal),
+}
+
+/// Why a call is refused: the first of these that holds.
+#[derive(Clone, Copy, Debug, PartialEq, Eq, Error)]
+pub enum Refusal {
+    /// The id is not 1 to 64 bytes of ASCII letters, digits, `-`, `_` and `.`.
+    #[error("the id is not lawful")]
+    BadId,
+    /// There is a match with this id.
+    #[error("the id is used")]
+    IdUsed,
+    /// There is no game with this number.
+    #[error("there is no such game")]
+    NoGame,
+    /// There is not one player for each role.
+    #[error("there is not one player for each role")]
+    WrongPlayers,
+    /// A player's name is not made as an id is.
+    #[error("a player's name is not lawful")]
+    BadName,
+    /// A clock is not 1 to 86,400 seconds.
+    #[error("a clock is out of range")]
+    BadClock,
+    /// The desk holds 1,024 matches.
+    #[error("the desk is full")]
+    DeskFull,
+    /// There is no match with this id.
+    #[error("there is no such match")]
+    NoMatch,
+    /// The match's game has no such role.
+    #[error("there is no such role")]
+    NoRole,
+    /// The match is finished or aborted.
+    #[error("the match is over")]
+    Over,
+    /// The answer is for another round than this, the present one.
+    #[error("the present round is {0}")]
+    Stale(u64),
+    /// The role has answered this round.
+    #[error("the role has answered this round")]
+    Twice,
+    /// The match is stopping or aborting already, or is over.
+    #[error("the match has come to its end")]
+    Ended,
+}

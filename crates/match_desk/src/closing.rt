@@ -1,0 +1,41 @@
+//! The closing of a desk of matches over which many threads shared one manager behind a lock.
+ghost use Rattle.std.specs.Prelude.{◌≡◌, ◌↔◌, ℕ, length, sum, IsOk, IfOk, IfErr};
+ghost use Rattle.call_history.specs.History.{IsReplay};
+ghost use Rattle.call_history.specs.Lines.{HasAll, IsLowestMissing};
+ghost use Rattle.match_desk.specs.ManagerValue.{opening, IsLawfulManager};
+ghost use Rattle.match_desk.specs.Steps.{reply, after};
+ghost use Rattle.match_desk.specs.Accepted.{AreAccounted};
+ghost use Rattle.match_desk.specs.Headline.{ArePlayedLegally};
+
+use crate::manager::Manager;
+use call_history::{CloseFault, Closed, LockDesk, LockLine, Unclosed};
+use game_core::Game;
+use std::sync::ledger::Ledger;
+
+/// Closes a desk of matches, where all its lines are handed in.
+///
+/// Then the kept history, replayed call by call on a manager of one thread from the games without a match, gives every kept reply
+/// and the manager as it stands, and holds as many calls as the lines made. Each match is lawful, so that its state, as
+/// `Match::state` gives it, is the game's after its recorded joint moves; these were legal. For each recorded move the history
+/// took exactly one answer of its role, and the move and its error are the judgement of that answer: the error is empty exactly
+/// where the answer named the move, so each substituted move stands among the errors.
+pub fn close_desk<G: Game, L: Ledger>(
+    desk: LockDesk<Manager<G>, L>,
+    lines: Vec<LockLine<L>>,
+) -> Result<Closed<Manager<G>>, Unclosed<Manager<G>, L>>
+    ensures all { IsOk result ↔ HasAll lines.items desk.lines }
+
+    // The history replays on one thread, and holds each call that was made.
+    ensures replay { IfOk result (λ c. IsReplay (reply G.rules) (after G.rules) opening c.object c.history.items) }
+    ensures counted { IfOk result (λ c. sum c.made_by_line.items ≡ length c.history.items) }
+
+    // The matches, and how the history accounts for their moves.
+    ensures lawful { IfOk result (λ c. IsLawfulManager G.rules c.object) }
+    ensures legal { IfOk result (λ c. ArePlayedLegally G.rules c.object) }
+    ensures accounted { IfOk result (λ c. AreAccounted G.rules c.object c.history.items) }
+
+    ensures missing { IfErr result (λ u. (n : ℕ) × (u.cause ≡ CloseFault.MissingLine n) × IsLowestMissing lines.items desk.lines n) }
+    ensures back { IfErr result (λ u. (u.desk ≡ desk) × (u.lines ≡ lines)) }
+{
+    desk.close(lines)
+}

@@ -1,0 +1,28 @@
+//! Laws of the definitions.
+ghost use Rattle.call_history.specs.History.{run, IsLegalHistory};
+ghost use Rattle.std.specs.Prelude.{◌≡◌, []};
+ghost use Rattle.match_desk.specs.ManagerValue.{IsLawfulManager};
+ghost use Rattle.match_desk.specs.Steps.{reply, after};
+ghost use Rattle.match_desk.specs.Accepted.{AreAccounted};
+
+use crate::call::{Call, Reply};
+use crate::manager::Manager;
+use call_history::Entry;
+use game_core::Game;
+
+/// The accepted-answer law. In a history that is legal from an opening, exactly one entry is an answer that was taken for each
+/// recorded turn of each match and each role: a `Submit` or a `Miss` for the match's id, the role and the turn's round, with the
+/// reply `Taken`. The recorded move and error are the judgement of its answer in the state before the turn.
+pub fn answers_are_accounted<G: Game>(opening: &Manager<G>, history: &[Entry<Call, Reply>])
+    requires opening { opening.now.matches ≡ [] }
+    requires legal { IsLegalHistory (reply G.rules) (after G.rules) opening.now history.now }
+    ensures { AreAccounted G.rules (run (after G.rules) opening.now history.now) history.now }
+{}
+
+/// A manager that a legal history leaves, from an opening, is lawful: each match is a lawful match of its game, with a setup that
+/// can be opened and an id of its own.
+pub fn matches_are_lawful<G: Game>(opening: &Manager<G>, history: &[Entry<Call, Reply>])
+    requires opening { opening.now.matches ≡ [] }
+    requires legal { IsLegalHistory (reply G.rules) (after G.rules) opening.now history.now }
+    ensures { IsLawfulManager G.rules (run (after G.rules) opening.now history.now) }
+{}

@@ -1,0 +1,391 @@
+//! The manager of all matches.
+ghost use Rattle.std.specs.Prelude.{◌≡◌, [], IfOk, IfSome, OnOk, OnErr, length, slice_get, is_some, option_copied, option_map, option_and_then};
+ghost use Rattle.match_book.specs.Steps.{after_answer, after_abort};
+ghost use Rattle.match_desk.specs.ManagerValue.{game_of, game_match, match_of, match_with_id, IsLawfulManager};
+ghost use Rattle.match_desk.specs.Opening.{opening_refusal, after_opening};
+ghost use Rattle.match_desk.specs.Steps.{setup_of, next_reply, answer_reply, query_reply, abort_reply, reply_of, refused_or, with_change};
+ghost use Rattle.match_desk.specs.declared.call.Reply.TheVariants.{Opened};
+
+use crate::call::{Call, Refusal, Reply};
+use crate::names::{are_clocks, are_names, is_name};
+use crate::opening::{Opening, copy_texts};
+use crate::slot::{self, Slot, missed};
+use call_history::Object;
+use game_core::Game;
+use indexmap::IndexMap;
+use match_book::{Answer, Match};
+use std::alloc::{AllocError, Global};
+use std::marker::Model;
+
+/// The most matches of a desk.
+const MAX_MATCHES: usize = 1_024;
+
+/// For how many matches there is room from the start.
+const FIRST_ROOM: usize = 8;
+
+/// A fixed list of games, and matches of them, in order of opening. No match is ever removed.
+#[derive(Drop)]
+pub struct Manager<G: Game> {
+    games: Vec<G>,
+    matches: IndexMap<Vec<u8>, Slot<G>>,
+}
+
+impl<G: Game> Model for Manager<G> {
+    ghost use Rattle.match_desk.specs.ManagerValue.{ManagerValue};
+    ghost use Rattle.match_desk.specs.Slots.{desk_matches, AreKept};
+
+    ghost Value = { ManagerValue G G.Move };
+
+    ghost view = { λ m. record { games = m.games.items; matches = desk_matches m.matches.entries } };
+
+    ghost invariant = { λ m. AreKept G.rules m.games.items m.matches.entries };
+}
+
+impl<G: Game> Manager<G> {
+    /// A manager of these games, without a match. Games are numbered from 0.
+    pub fn new(alloc: Global, games: Vec<G>) -> Result<Manager<G>, AllocError>
+    where
+        G: Drop,
+        ensures { IfOk result (λ m. m ≡ record { games = games.items; matches = [] }) }
+    {
+        let matches = IndexMap::with_capacity(alloc, FIRST_ROOM)?;
+        Ok(Manager { games, matches })
+    }
+
+    /// How many matches there are.
+    pub fn matches(&self) -> usize
+        ensures count { result ≡ length self.now.matches }
+
+        // What the type keeps.
+        ensures lawful { IsLawfulManager G.rules self.now }
+    {
+        self.matches.len()
+    }
+
+    /// The match at a place in the order of opening. Places are numbered from 0.
+    pub fn match_at(&self, place: usize) -> Option<&Match<G>>
+        ensures { option_copied result ≡ option_and_then (game_match self.now) (slice_get self.now.matches place) }
+    {
+        let (_, slot) = self.matches.get_index(place)?;
+        Some(&slot.held)
+    }
+
+    /// The match with this id, compared byte for byte.
+    pub fn find(&self, id: &[u8]) -> Option<&Match<G>>
+        ensures { option_copied result ≡ match_with_id self.now id.now }
+    {
+        let (_, held) = self.game_and_match(id)?;
+        Some(held)
+    }
+
+    /// The game of the match at a place in the order of opening.
+    pub fn game_of_match(&self, place: usize) -> Option<&G>
+        ensures { option_copied result ≡ option_and_then (game_of self.now) (slice_get self.now.matches place) }
+    {
+        let (_, slot) = self.matches.get_index(place)?;
+        self.games.get(slot.game)
+    }
+
+    /// The game with this number.
+    pub fn game(&self, number: usize) -> Option<&G>
+        ensures { option_copied result ≡ slice_get self.now.games number }
+    {
+        self.games.get(number)
+    }
+
+    /// The match with this id, and its game.
+    fn game_and_match(&self, id: &[u8]) -> Option<(&G, &Match<G>)>
+        ensures found { option_map (λ r. r.1.now) result ≡ match_with_id self.now id.now }
+        ensures game { IfSome result (λ r. r.1.now.game ≡ r.0.now) }
+    {
+        let slot = self.matches.get(id)?;
+        Some((&self.games[slot.game], &slot.held))
+    }
+
+    /// Whether there is a match with this id.
+    fn has_match(&self, id: &[u8]) -> bool
+        ensures { result ≡ is_some (match_of self.now id.now) }
+    {
+        self.matches.contains_key(id)
+    }
+
+    /// Why a match is not opened, if it is not: the tests in their order.
+    fn opening_refusal(&self, opening: &Opening<'_>) -> Option<Refusal>
+        ensures { result ≡ opening_refusal G.rules self.now opening.now.game (setup_of opening.now.id.now opening.now.start opening.now.play opening.now.players.now) }
+    {
+        let players = opening.players.as_slice();
+        if !is_name(opening.id.as_slice()) {
+            return Some(Refusal::BadId);
+        }
+        if self.has_match(opening.id.as_slice()) {
+            return Some(Refusal::IdUsed);
+        }
+        let Some(game) = self.game(opening.game) else {
+            return Some(Refusal::NoGame);
+        };
+        if players.len() != game.roles() {
+            return Some(Refusal::WrongPlayers);
+        }
+        if !are_names(players) {
+            return Some(Refusal::BadName);
+        }
+        if !are_clocks(opening.start, opening.play) {
+            return Some(Refusal::BadClock);
+        }
+        if self.matches() >= MAX_MATCHES {
+            return Some(Refusal::DeskFull);
+        }
+        None
+    }
+
+    /// What an opening gets.
+    fn open_reply(&self, opening: &Opening<'_>) -> Reply
+        ensures { result ≡ refused_or (opening_refusal G.rules self.now opening.now.game (setup_of opening.now.id.now opening.now.start opening.now.play opening.now.players.now)) Opened }
+    {
+        match self.opening_refusal(opening) {
+            Some(refusal) => Reply::Refused(refusal),
+            None => Reply::Opened,
+        }
+    }
+
+    /// Opens a match, where nothing refuses it.
+    fn open(&mut self, alloc: Global, opening: &Opening<'_>) -> Result<(), AllocError>
+        ensures ok { OnOk result (self.new ≡ after_opening G.rules self.old opening.now.game (setup_of opening.now.id.now opening.now.start opening.now.play opening.now.players.now)) }
+        ensures err { OnErr result (self.new ≡ self.old) }
+    {
+        if self.opening_refusal(opening).is_some() {
+            return Ok(());
+        }
+        let id = Vec::from_slice(alloc, opening.id.as_slice())?;
+        let setup = opening.setup(alloc)?;
+        let held = Match::new(alloc, &self.games[opening.game], setup)?;
+        self.matches.insert(
+            id,
+            Slot {
+                game: opening.game,
+                held,
+            },
+        )?;
+        Ok(())
+    }
+
+    /// What is due to a role of a match.
+    fn next_reply(&self, alloc: Global, id: &[u8], role: usize) -> Result<Reply, AllocError>
+        ensures { IfOk result (λ r. r ≡ reply_of G.rules self.now id.now (next_reply role)) }
+    {
+        match self.game_and_match(id) {
+            Some((game, held)) => slot::next_reply(alloc, game, held, role),
+            None => Ok(Reply::Refused(Refusal::NoMatch)),
+        }
+    }
+
+    /// What an answer of a role of a match for a round gets.
+    fn answer_reply(
+        &self,
+        alloc: Global,
+        id: &[u8],
+        role: usize,
+        round: u64,
+    ) -> Result<Reply, AllocError>
+        ensures { IfOk result (λ r. r ≡ reply_of G.rules self.now id.now (answer_reply role round)) }
+    {
+        match self.game_and_match(id) {
+            Some((game, held)) => slot::answer_reply(alloc, game, held, role, round),
+            None => Ok(Reply::Refused(Refusal::NoMatch)),
+        }
+    }
+
+    /// Where a match stands.
+    fn query_reply(&self, id: &[u8]) -> Reply
+        ensures { result ≡ reply_of G.rules self.now id.now query_reply }
+    {
+        match self.game_and_match(id) {
+            Some((_, held)) => slot::query_reply(held),
+            None => Reply::Refused(Refusal::NoMatch),
+        }
+    }
+
+    /// What an abort of a match gets.
+    fn abort_reply(&self, id: &[u8]) -> Reply
+        ensures { result ≡ reply_of G.rules self.now id.now abort_reply }
+    {
+        match self.game_and_match(id) {
+            Some((_, held)) => slot::abort_reply(held),
+            None => Reply::Refused(Refusal::NoMatch),
+        }
+    }
+
+    /// Gives a match an answer.
+    fn take_answer(
+        &mut self,
+        alloc: Global,
+        id: &[u8],
+        role: usize,
+        round: u64,
+        answer: Answer,
+    ) -> Result<(), AllocError>
+        ensures ok { OnOk result (self.new ≡ with_change G.rules self.old id.now (λ g m. after_answer g m role round answer)) }
+        ensures err { OnErr result (self.new ≡ self.old) }
+    {
+        let Some(slot) = self.matches.get_mut(id) else {
+            return Ok(());
+        };
+        let game = &self.games[slot.game];
+        slot::take_answer(alloc, game, &mut slot.held, role, round, answer)
+    }
+
+    /// Aborts a match.
+    fn take_abort(&mut self, id: &[u8])
+        ensures { self.new ≡ with_change G.rules self.old id.now after_abort }
+    {
+        let Some(slot) = self.matches.get_mut(id) else {
+            return;
+        };
+        slot::take_abort(&mut slot.held);
+    }
+}
+
+impl<G: Game> Object for Manager<G> {
+    ghost use Rattle.std.specs.Prelude.{refl};
+    ghost use Rattle.match_desk.specs.ManagerValue.{opening};
+    ghost use Rattle.match_desk.specs.Steps.{reply, after};
+    ghost use Rattle.match_desk.specs.StepLaws.{opening-after};
+
+    type Call = Call;
+
+    type Reply = Reply;
+
+    ghost reply = { λ d call. reply G.rules d call };
+
+    ghost after = { λ d call. after G.rules d call };
+
+    ghost opening = { opening };
+
+    fn answer(&self, alloc: Global, call: &Call) -> Result<Reply, AllocError> {
+        match call {
+            Call::Open {
+                id,
+                game,
+                start,
+                play,
+                players,
+            } => Ok(self.open_reply(&Opening {
+                id,
+                game: *game,
+                start: *start,
+                play: *play,
+                players,
+            })),
+            Call::Next { id, role } => self.next_reply(alloc, id.as_slice(), *role),
+            Call::Submit {
+                id,
+                role,
+                round,
+                ..
+            } => self.answer_reply(alloc, id.as_slice(), *role, *round),
+            Call::Miss {
+                id,
+                role,
+                round,
+                ..
+            } => self.answer_reply(alloc, id.as_slice(), *role, *round),
+            Call::Query { id } => Ok(self.query_reply(id.as_slice())),
+            Call::Abort { id } => Ok(self.abort_reply(id.as_slice())),
+        }
+    }
+
+    fn apply(&mut self, alloc: Global, call: &Call) -> Result<(), AllocError> {
+        match call {
+            Call::Open {
+                id,
+                game,
+                start,
+                play,
+                players,
+            } => self.open(
+                alloc,
+                &Opening {
+                    id,
+                    game: *game,
+                    start: *start,
+                    play: *play,
+                    players,
+                },
+            ),
+            Call::Submit {
+                id,
+                role,
+                round,
+                text,
+            } => {
+                let answer = Answer::Text(text.copy(alloc)?);
+                self.take_answer(alloc, id.as_slice(), *role, *round, answer)
+            }
+            Call::Miss {
+                id,
+                role,
+                round,
+                broken,
+            } => self.take_answer(alloc, id.as_slice(), *role, *round, missed(*broken)),
+            Call::Abort { id } => {
+                self.take_abort(id.as_slice());
+                Ok(())
+            }
+            Call::Next { .. } | Call::Query { .. } => Ok(()),
+        }
+    }
+
+    fn copy_call(alloc: Global, call: &Call) -> Result<Call, AllocError> {
+        Ok(match call {
+            Call::Open {
+                id,
+                game,
+                start,
+                play,
+                players,
+            } => Call::Open {
+                id: id.copy(alloc)?,
+                game: *game,
+                start: *start,
+                play: *play,
+                players: copy_texts(alloc, players.as_slice())?,
+            },
+            Call::Next { id, role } => Call::Next {
+                id: id.copy(alloc)?,
+                role: *role,
+            },
+            Call::Submit {
+                id,
+                role,
+                round,
+                text,
+            } => Call::Submit {
+                id: id.copy(alloc)?,
+                role: *role,
+                round: *round,
+                text: text.copy(alloc)?,
+            },
+            Call::Miss {
+                id,
+                role,
+                round,
+                broken,
+            } => Call::Miss {
+                id: id.copy(alloc)?,
+                role: *role,
+                round: *round,
+                broken: *broken,
+            },
+            Call::Query { id } => Call::Query {
+                id: id.copy(alloc)?,
+            },
+            Call::Abort { id } => Call::Abort {
+                id: id.copy(alloc)?,
+            },
+        })
+    }
+
+    ghost keeps_opening = { opening-after G.rules };
+
+    ghost opening_is_own = { λ d. refl };
+}

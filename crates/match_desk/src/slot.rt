@@ -1,0 +1,111 @@
+//! One match of the desk.
+ghost use Rattle.std.specs.Prelude.{◌≡◌, IfOk, OnErr, OnOk};
+ghost use Rattle.match_book.specs.Steps.{after_answer, after_abort};
+ghost use Rattle.match_desk.specs.Steps.{next_reply, answer_reply, query_reply, abort_reply, missed};
+
+use crate::call::{Refusal, Reply};
+use game_core::Game;
+use match_book::{Answer, AnswerFault, Due, Match, OwedFault, Phase};
+use std::alloc::{AllocError, Global};
+
+/// A match, and the number of its game.
+#[derive(Drop)]
+pub struct Slot<G: Game> {
+    pub game: usize,
+    pub held: Match<G>,
+}
+
+/// What is due to a role, as a reply.
+pub fn next_reply<G: Game>(
+    alloc: Global,
+    game: &G,
+    held: &Match<G>,
+    role: usize,
+) -> Result<Reply, AllocError>
+    requires { held.now.game ≡ game.now }
+    ensures { IfOk result (λ r. r ≡ next_reply role (G.rules game.now) held.now.value) }
+{
+    match held.owed(alloc, game, role) {
+        Ok(due) => Ok(Reply::Due(due)),
+        Err(OwedFault::NoRole) => Ok(Reply::Refused(Refusal::NoRole)),
+        Err(OwedFault::Memory) => Err(AllocError),
+    }
+}
+
+/// What an answer of a role for a round gets as a reply. It goes by what is due to the role.
+pub fn answer_reply<G: Game>(
+    alloc: Global,
+    game: &G,
+    held: &Match<G>,
+    role: usize,
+    round: u64,
+) -> Result<Reply, AllocError>
+    requires { held.now.game ≡ game.now }
+    ensures { IfOk result (λ r. r ≡ answer_reply role round (G.rules game.now) held.now.value) }
+{
+    let refusal = match held.owed(alloc, game, role) {
+        Err(OwedFault::Memory) => return Err(AllocError),
+        Err(OwedFault::NoRole) => Refusal::NoRole,
+        Ok(Due::Over) => Refusal::Over,
+        Ok(Due::Owe { round: now, .. }) if now == round => return Ok(Reply::Taken),
+        Ok(Due::Hold { round: now }) if now == round => Refusal::Twice,
+        Ok(Due::Owe { round: now, .. } | Due::Hold { round: now }) => Refusal::Stale(now),
+    };
+    Ok(Reply::Refused(refusal))
+}
+
+/// Where the match stands, as a reply.
+pub fn query_reply<G: Game>(held: &Match<G>) -> Reply
+    ensures { result ≡ query_reply (G.rules held.now.game) held.now.value }
+{
+    Reply::Status(held.status())
+}
+
+/// What an abort gets as a reply.
+pub fn abort_reply<G: Game>(held: &Match<G>) -> Reply
+    ensures { result ≡ abort_reply (G.rules held.now.game) held.now.value }
+{
+    match held.status().phase {
+        Phase::Starting | Phase::Playing => Reply::Aborting,
+        _ => Reply::Refused(Refusal::Ended),
+    }
+}
+
+/// Gives the match an answer. A refusal of the match leaves it as it is, and is no fault.
+pub fn take_answer<G: Game>(
+    alloc: Global,
+    game: &G,
+    held: &mut Match<G>,
+    role: usize,
+    round: u64,
+    answer: Answer,
+) -> Result<(), AllocError>
+    requires { held.old.game ≡ game.now }
+    ensures game { held.new.game ≡ held.old.game }
+    ensures ok { OnOk result (held.new.value ≡ after_answer (G.rules held.old.game) held.old.value role round answer) }
+    ensures err { OnErr result (held.new ≡ held.old) }
+{
+    match held.answer(alloc, game, role, round, answer) {
+        Err(AnswerFault::Memory) => Err(AllocError),
+        _ => Ok(()),
+    }
+}
+
+/// Aborts the match, where it is neither stopping nor aborting.
+pub fn take_abort<G: Game>(held: &mut Match<G>)
+    ensures game { held.new.game ≡ held.old.game }
+    ensures value { held.new.value ≡ after_abort (G.rules held.old.game) held.old.value }
+{
+    let _ = held.abort();
+}
+
+/// The answer that a miss stands for.
+pub fn missed(broken: bool) -> Answer
+    ensures { result ≡ missed broken }
+{
+    if broken {
+        Answer::Broken
+    } else {
+        Answer::Silent
+    }
+}
