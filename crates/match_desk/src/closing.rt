@@ -1,5 +1,5 @@
 //! The closing of a desk of matches over which many threads shared one manager behind a lock.
-ghost use Rattle.std.specs.Prelude.{◌≡◌, ◌↔◌, ℕ, length, sum, IsOk, IfOk, IfErr};
+ghost use Rattle.std.specs.Prelude.{◌≡◌, ◌<◌, ◌↔◌, ℕ, length, slice_index, sum, IsOk, IfOk, IfErr, Contains};
 ghost use Rattle.call_history.specs.History.{IsReplay};
 ghost use Rattle.call_history.specs.Lines.{HasAll, IsLowestMissing};
 ghost use Rattle.match_desk.specs.ManagerValue.{opening, IsLawfulManager};
@@ -28,6 +28,9 @@ pub fn close_desk<G: Game, L: Ledger>(
     // The history replays on one thread, and holds each call that was made.
     ensures replay { IfOk result (λ c. IsReplay (reply G.rules) (after G.rules) opening c.object c.history.items) }
     ensures counted { IfOk result (λ c. sum c.made_by_line.items ≡ length c.history.items) }
+
+    ensures lines { IfOk result (λ c. length c.made_by_line.items ≡ desk.lines) }
+    ensures made { IfOk result (λ c. (k : ℕ) → k < desk.lines → Contains lines.items (record { number = k; made = slice_index c.made_by_line.items k })) }
 
     // The matches, and how the history accounts for their moves.
     ensures lawful { IfOk result (λ c. IsLawfulManager G.rules c.object) }
