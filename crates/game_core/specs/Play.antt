@@ -43,7 +43,7 @@ pub record IsLawful {S M : Type 0} (g : Rules S M) : Type 0 where
   pub legal_differ : (s : S) (r : ℕ) → g.IsState s → r < g.roles → AllPairs (λ m n. m ≢ n) (g.legal s r)
   pub move_texts_folded : (m : M) → g.IsMove m → IsFoldedText (g.move_text m)
   pub one_move_for_each_text : (m n : M) → g.IsMove m → g.IsMove n → g.move_text m ≡ g.move_text n → m ≡ n
-  -- the text of an unreadable answer in a match's errors, which names no ground term
+  -- in a match's errors this text stands for an unreadable answer
   pub no_question : (m : M) → g.IsMove m → g.move_text m ≢ codes "?"
   pub state_texts_canonical : (s : S) → g.IsState s → All IsCanonicalText (g.state_text s)
   pub state_texts_ordered : (s : S) → g.IsState s → AreInByteOrder (g.state_text s)
