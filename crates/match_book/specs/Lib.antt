@@ -10,3 +10,4 @@ pub mod Steps
 pub mod Kept
 pub mod Laws
 pub mod Searches
+pub mod Names

@@ -257,6 +257,26 @@ impl<G: Game> Match<G> {
         Ok(Some(move_texts(alloc, game, turn.moves.as_slice())?))
     }
 
+    /// Why an answer of the role for a round is refused: none where `answer` takes it.
+    pub fn refusal(&self, role: usize, round: u64) -> Option<AnswerFault>
+        ensures { result ≡ refusal (G.rules self.now.game) self.now.value role round }
+    {
+        if role >= self.start_marks.len() {
+            return Some(AnswerFault::NoRole);
+        }
+        let status = self.status();
+        if status.phase.is_last() {
+            return Some(AnswerFault::Over);
+        }
+        if round != status.round {
+            return Some(AnswerFault::Stale(status.round));
+        }
+        if self.has_answered(role) {
+            return Some(AnswerFault::Twice);
+        }
+        None
+    }
+
     /// Takes a role's answer for a round. Once all roles have answered, the next round begins.
     pub fn answer(
         &mut self,
@@ -272,18 +292,8 @@ impl<G: Game> Match<G> {
         ensures ok { OnOk result (self.new.value ≡ after_answer (G.rules self.old.game) self.old.value role round answer) }
         ensures err { OnErr result (self.new ≡ self.old) }
     {
-        if role >= game.roles() {
-            return Err(AnswerFault::NoRole);
-        }
-        let status = self.status();
-        if status.phase.is_last() {
-            return Err(AnswerFault::Over);
-        }
-        if round != status.round {
-            return Err(AnswerFault::Stale(status.round));
-        }
-        if self.has_answered(role) {
-            return Err(AnswerFault::Twice);
+        if let Some(fault) = self.refusal(role, round) {
+            return Err(fault);
         }
         match self.stage() {
             Stage::Starting => self.take_start_mark(alloc, game, role, answer.mark())?,

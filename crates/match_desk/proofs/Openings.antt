@@ -5,8 +5,9 @@ use Rattle.std.specs.Prelude.{is_none, is_some, nat_lt, if◌then◌else◌, ◌
 use Rattle.std.specs.List.{list_all}
 use Rattle.game_core.specs.Play.{Rules}
 use Rattle.match_book.specs.declared.setup.Setup.{Setup}
-use Rattle.match_desk.specs.Names.{is_name, is_clock}
-use Rattle.match_desk.specs.ManagerValue.{ManagerValue, match_of, max_matches, IsLawfulSetup}
+use Rattle.match_book.specs.Names.{is_name, is_clock}
+use Rattle.match_desk.specs.ManagerValue.{ManagerValue, match_of, max_matches}
+use Rattle.match_book.specs.Names.{IsLawfulSetup}
 use Rattle.match_desk.specs.Opening.{has_roles, opening_refusal}
 use Rattle.match_desk.specs.declared.call.Refusal.{Refusal}
 use Rattle.match_desk.specs.declared.call.Refusal.TheVariants.{BadId, IdUsed, NoGame, WrongPlayers, BadName, BadClock, DeskFull}

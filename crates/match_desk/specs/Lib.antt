@@ -1,4 +1,3 @@
-pub mod Names
 pub mod ManagerValue
 pub mod Opening
 pub mod Steps

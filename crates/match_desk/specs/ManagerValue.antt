@@ -1,11 +1,9 @@
 -- What a manager is, as a plain value.
 use Rattle.std.specs.Prelude.{◌≡◌, ◌≢◌, ◌≤◌, ℕ, Bool, true, List, [], length, Option, Some, option_map, option_and_then, find, slice_get, bytes_eq, All, AllPairs}
-use Rattle.std.specs.List.{list_all}
 use Rattle.game_core.specs.Play.{Rules}
 use Rattle.match_book.specs.MatchValue.{MatchValue, GameMatch}
 use Rattle.match_book.specs.Lawful.{IsLawfulMatch}
-use Rattle.match_book.specs.declared.setup.Setup.{Setup}
-use Rattle.match_desk.specs.Names.{is_name, is_clock}
+use Rattle.match_book.specs.Names.{IsLawfulSetup}
 
 -- how many matches a desk holds at most
 abbrev pub max_matches : ℕ
@@ -44,13 +42,6 @@ game_match d m = option_map (λ g. record { game = g; value = m.value }) (game_o
 -- the match with this id, together with its game
 abbrev pub match_with_id : {G M : Type 0} → ManagerValue G M → List ℕ → Option (GameMatch G M)
 match_with_id d id = option_and_then (game_match d) (match_of d id)
-
--- a lawful id, lawful names and lawful clocks
-pub record IsLawfulSetup (setup : Setup) : Type 0 where
-  pub id : is_name setup.id ≡ true
-  pub players : list_all is_name setup.players ≡ true
-  pub start : is_clock setup.start ≡ true
-  pub play : is_clock setup.play ≡ true
 
 -- the match is of one of these games, and lawful by its rules
 pub record IsMatchOf {G S M : Type 0} (rules : G → Rules S M) (games : List G) (m : DeskMatch M) : Type 0 where

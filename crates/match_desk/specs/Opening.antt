@@ -4,7 +4,7 @@ use Rattle.std.specs.List.{list_all}
 use Rattle.game_core.specs.Play.{Rules}
 use Rattle.match_book.specs.Steps.{new_match}
 use Rattle.match_book.specs.declared.setup.Setup.{Setup}
-use Rattle.match_desk.specs.Names.{is_name, is_clock}
+use Rattle.match_book.specs.Names.{is_name, is_clock}
 use Rattle.match_desk.specs.ManagerValue.{ManagerValue, match_of, max_matches}
 use Rattle.match_desk.specs.declared.call.Refusal.{Refusal}
 use Rattle.match_desk.specs.declared.call.Refusal.TheVariants.{BadId, IdUsed, NoGame, WrongPlayers, BadName, BadClock, DeskFull}

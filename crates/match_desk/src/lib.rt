@@ -9,7 +9,6 @@ mod call;
 mod closing;
 pub mod laws;
 mod manager;
-mod names;
 mod opening;
 mod slot;
 #[cfg(test)]

@@ -7,13 +7,12 @@ ghost use Rattle.match_desk.specs.Steps.{setup_of, next_reply, answer_reply, que
 ghost use Rattle.match_desk.specs.declared.call.Reply.TheVariants.{Opened};
 
 use crate::call::{Call, Refusal, Reply};
-use crate::names::{are_clocks, are_names, is_name};
 use crate::opening::{Opening, copy_texts};
 use crate::slot::{self, Slot, missed};
 use call_history::Object;
 use game_core::Game;
 use indexmap::IndexMap;
-use match_book::{Answer, Match};
+use match_book::{Answer, Match, are_clocks, are_names, is_name};
 use std::alloc::{AllocError, Global};
 use std::marker::Model;
 
@@ -180,18 +179,12 @@ impl<G: Game> Manager<G> {
     }
 
     /// What an answer of a role of a match for a round gets.
-    fn answer_reply(
-        &self,
-        alloc: Global,
-        id: &[u8],
-        role: usize,
-        round: u64,
-    ) -> Result<Reply, AllocError>
-        ensures { IfOk result (λ r. r ≡ reply_of G.rules self.now id.now (answer_reply role round)) }
+    fn answer_reply(&self, id: &[u8], role: usize, round: u64) -> Reply
+        ensures { result ≡ reply_of G.rules self.now id.now (answer_reply role round) }
     {
         match self.game_and_match(id) {
-            Some((game, held)) => slot::answer_reply(alloc, game, held, role, round),
-            None => Ok(Reply::Refused(Refusal::NoMatch)),
+            Some((_, held)) => slot::answer_reply(held, role, round),
+            None => Reply::Refused(Refusal::NoMatch),
         }
     }
 
@@ -282,13 +275,13 @@ impl<G: Game> Object for Manager<G> {
                 role,
                 round,
                 ..
-            } => self.answer_reply(alloc, id.as_slice(), *role, *round),
+            } => Ok(self.answer_reply(id.as_slice(), *role, *round)),
             Call::Miss {
                 id,
                 role,
                 round,
                 ..
-            } => self.answer_reply(alloc, id.as_slice(), *role, *round),
+            } => Ok(self.answer_reply(id.as_slice(), *role, *round)),
             Call::Query { id } => Ok(self.query_reply(id.as_slice())),
             Call::Abort { id } => Ok(self.abort_reply(id.as_slice())),
         }

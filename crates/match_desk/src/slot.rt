@@ -5,7 +5,7 @@ ghost use Rattle.match_desk.specs.Steps.{next_reply, answer_reply, query_reply, 
 
 use crate::call::{Refusal, Reply};
 use game_core::Game;
-use match_book::{Answer, AnswerFault, Due, Match, OwedFault, Phase};
+use match_book::{Answer, AnswerFault, Match, OwedFault, Phase};
 use std::alloc::{AllocError, Global};
 
 /// A match, and the number of its game.
@@ -32,26 +32,18 @@ pub fn next_reply<G: Game>(
     }
 }
 
-/// What an answer of a role for a round gets as a reply. It goes by what is due to the role.
-pub fn answer_reply<G: Game>(
-    alloc: Global,
-    game: &G,
-    held: &Match<G>,
-    role: usize,
-    round: u64,
-) -> Result<Reply, AllocError>
-    requires { held.now.game ≡ game.now }
-    ensures { IfOk result (λ r. r ≡ answer_reply role round (G.rules game.now) held.now.value) }
+/// What an answer of a role for a round gets as a reply.
+pub fn answer_reply<G: Game>(held: &Match<G>, role: usize, round: u64) -> Reply
+    ensures { result ≡ answer_reply role round (G.rules held.now.game) held.now.value }
 {
-    let refusal = match held.owed(alloc, game, role) {
-        Err(OwedFault::Memory) => return Err(AllocError),
-        Err(OwedFault::NoRole) => Refusal::NoRole,
-        Ok(Due::Over) => Refusal::Over,
-        Ok(Due::Owe { round: now, .. }) if now == round => return Ok(Reply::Taken),
-        Ok(Due::Hold { round: now }) if now == round => Refusal::Twice,
-        Ok(Due::Owe { round: now, .. } | Due::Hold { round: now }) => Refusal::Stale(now),
+    let refusal = match held.refusal(role, round) {
+        None | Some(AnswerFault::Memory) => return Reply::Taken,
+        Some(AnswerFault::NoRole) => Refusal::NoRole,
+        Some(AnswerFault::Over) => Refusal::Over,
+        Some(AnswerFault::Stale(now)) => Refusal::Stale(now),
+        Some(AnswerFault::Twice) => Refusal::Twice,
     };
-    Ok(Reply::Refused(refusal))
+    Reply::Refused(refusal)
 }
 
 /// Where the match stands, as a reply.

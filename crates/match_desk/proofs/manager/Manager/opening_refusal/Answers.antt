@@ -1,7 +1,7 @@
 use Rattle.std.proofs.Common.{◌∙◌, ap, sym, length, arith}
 use Rattle.std.specs.Prelude.{is_some}
 use Rattle.std.specs.List.{list_all}
-use Rattle.match_desk.specs.Names.{is_name}
+use Rattle.match_book.specs.Names.{is_name}
 use Rattle.match_desk.specs.ManagerValue.{match_of}
 use Rattle.match_desk.specs.Steps.{setup_of}
 use Rattle.match_desk.proofs.Openings.{refused-used, refused-no_game, refused-wrong_players, refused-bad_name, refused-bad_clock, refused-full, refused-none}

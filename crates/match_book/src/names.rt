@@ -1,7 +1,7 @@
 //! Lawful ids, players' names and clocks.
 ghost use Rattle.std.specs.Prelude.{◌≡◌, ◌&&◌};
 ghost use Rattle.std.specs.List.{list_all};
-ghost use Rattle.match_desk.specs.Names.{is_between, max_name, is_name_byte, is_name, is_clock};
+ghost use Rattle.match_book.specs.Names.{is_between, max_name, is_name_byte, is_name, is_clock};
 
 use game_core::Text;
 
@@ -43,7 +43,8 @@ pub fn are_names(texts: &[Text]) -> bool
     texts.iter().all(|text| is_name(text.as_slice()))
 }
 
-fn is_clock(seconds: u32) -> bool
+/// Whether these are the seconds of a lawful clock.
+pub fn is_clock(seconds: u32) -> bool
     ensures { result ≡ is_clock seconds }
 {
     1 <= seconds && seconds <= MAX_CLOCK

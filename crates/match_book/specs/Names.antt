@@ -1,6 +1,7 @@
--- Lawful ids, players' names and clocks.
-use Rattle.std.specs.Prelude.{ℕ, Bool, ◌&&◌, ◌||◌, ◌==◌, nat_le, List, length}
+-- Lawful ids, players' names, clocks and setups.
+use Rattle.std.specs.Prelude.{◌≡◌, ℕ, Bool, true, ◌&&◌, ◌||◌, ◌==◌, nat_le, List, length}
 use Rattle.std.specs.List.{list_all}
+use Rattle.match_book.specs.declared.setup.Setup.{Setup}
 
 abbrev pub hyphen : ℕ
 hyphen = 45
@@ -40,3 +41,10 @@ is_name text = is_between 1 max_name (length text) && list_all is_name_byte text
 -- a lawful clock, in seconds
 abbrev pub is_clock : ℕ → Bool
 is_clock seconds = is_between 1 max_clock seconds
+
+-- a lawful id, lawful names and lawful clocks
+pub record IsLawfulSetup (setup : Setup) : Type 0 where
+  pub id : is_name setup.id ≡ true
+  pub players : list_all is_name setup.players ≡ true
+  pub start : is_clock setup.start ≡ true
+  pub play : is_clock setup.play ≡ true
