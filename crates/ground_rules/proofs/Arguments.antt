@@ -1,0 +1,48 @@
+-- The arguments of a relation, by the number of a list's members.
+use Rattle.std.proofs.Common.{◌≡◌, ◌≢◌, ◌<◌, ℕ, List, [], ◌∷◌, length, get_or, None, Some, Option, refl, arith}
+use Rattle.std.specs.Option.{option_zip}
+use Rattle.game_core.specs.Expression.{Expression}
+use Rattle.kif_text.specs.View.{view, views}
+use Rattle.kif_text.specs.declared.expr.Expr.{Expr}
+use Rattle.ground_rules.specs.Terms.{term_text}
+use Rattle.ground_rules.specs.Sentences.{TextLiterals}
+use Rattle.ground_rules.specs.declared.sentence.Atomic.{Atomic}
+use Rattle.ground_rules.specs.Reading.{one_argument, two_arguments, both, sentence, read_atomic, read_literals, without_first, read_rule}
+
+pub one_argument-none : (xs : List Expr) → length xs ≢ 2 → None ≡ one_argument (views xs)
+one_argument-none [] ne = refl
+one_argument-none (f ∷ []) ne = refl
+one_argument-none (f ∷ x ∷ []) ne = absurd (ne (omega arith))
+one_argument-none (f ∷ x ∷ y ∷ xs) ne = refl
+
+pub two_arguments-none : {A : Type 0} (read : Expression → Option A) (xs : List Expr) → length xs ≢ 3 → None ≡ two_arguments read (views xs)
+two_arguments-none read [] ne = refl
+two_arguments-none read (f ∷ []) ne = refl
+two_arguments-none read (f ∷ x ∷ []) ne = refl
+two_arguments-none read (f ∷ x ∷ y ∷ []) ne = absurd (ne (omega arith))
+two_arguments-none read (f ∷ x ∷ y ∷ z ∷ xs) ne = refl
+
+zipped : {A B : Type 0} (o : Option A) (p : Option B) → option_zip o p ≡ both (λ x y. (x, y)) o p
+zipped None p = refl
+zipped (Some x) None = refl
+zipped (Some x) (Some y) = refl
+
+pub two_arguments-are : {A : Type 0} (read : Expression → Option A) (xs : List Expr) (d e : Expr) (o : Option (List ℕ)) (p : Option A) → length xs ≡ 3 → o ≡ term_text (view (get_or xs 1 d)) → p ≡ read (view (get_or xs 2 e)) → option_zip o p ≡ two_arguments read (views xs)
+two_arguments-are read [] d e o p size is is' = absurd (omega arith)
+two_arguments-are read (f ∷ []) d e o p size is is' = absurd (omega arith)
+two_arguments-are read (f ∷ x ∷ []) d e o p size is is' = absurd (omega arith)
+two_arguments-are read (f ∷ x ∷ y ∷ []) d e o p size is is' = rw (is, is') (zipped (term_text (view x)) (read (view y)))
+two_arguments-are read (f ∷ x ∷ y ∷ z ∷ xs) d e o p size is is' = absurd (omega arith)
+
+pub rule-none : (xs : List Expr) → length xs < 2 → None ≡ read_rule (views xs)
+rule-none [] lt = refl
+rule-none (f ∷ []) lt = refl
+rule-none (f ∷ x ∷ xs) lt = absurd (omega arith)
+
+both-some : {A B C : Type 0} (f : A → B → C) (x : A) (y : B) (o : Option A) (p : Option B) → Some x ≡ o → Some y ≡ p → Some (f x y) ≡ both f o p
+both-some f x y o p e g = rw (← e, ← g) refl
+
+pub rule-is : (xs : List Expr) (d : Expr) (head : Atomic) (body : TextLiterals) → (length xs < 2 → ⊥) → Some head ≡ read_atomic (view (get_or xs 1 d)) → Some body ≡ read_literals (without_first 2 (views xs)) → Some (sentence head body) ≡ read_rule (views xs)
+rule-is [] d head body long e f = absurd (long (omega arith))
+rule-is (x ∷ []) d head body long e f = absurd (long (omega arith))
+rule-is (x ∷ y ∷ xs) d head body long e f = both-some sentence head body _ _ e f

@@ -1,0 +1,104 @@
+-- A sorted set of texts is in byte order.
+use Rattle.std.proofs.Common.{◌≡◌, ℕ, zero, suc, ◌<◌, ◌≤◌, Bool, true, false, ◌||◌, bytes_eq, nat_eq, nat_lt, nat_cmp, is_lt, List, [], ◌∷◌, ◌++◌, if◌then◌else◌, length, get_or, Vec, Global, refl, sym, ap, ◌∙◌, arith, inl, inr}
+use Rattle.std.specs.List.{IsDistinct, AllByRecursion, Contains}
+use Rattle.std.specs.List.Sorted.{IsSorted, IsPermutation}
+use Rattle.std.specs.Cmp.Lexicographic.{slice_cmp, nat_list_cmp_total}
+use Rattle.std.proofs.lemmas.Bool.{cases_order}
+use Rattle.std.proofs.lemmas.Bool.Decides.{Decides-ltb}
+use Rattle.std.proofs.lemmas.List.Sorted.{sorted_far, ranks_by, Contains-permutation, IsPermutation-sym, IsPermutation-map}
+use Rattle.ground_rules.specs.Bools.{and-both, or-left, or-right, bool-same}
+use Rattle.ground_rules.specs.Names.{text-sound, text-same, number-same}
+use Rattle.ground_rules.specs.Described.{is_among, with_new, with_all_new}
+use Rattle.ground_rules.specs.Tables.{comes_before, comes_before_all, are_in_order}
+use Rattle.ground_rules.specs.Keys.{texts}
+use Rattle.ground_rules.proofs.NameLists.{among-any}
+
+is-false : (b : Bool) → (b ≡ true → ⊥) → b ≡ false
+is-false true h = absurd (h refl)
+is-false false h = refl
+
+not-below : (m n : ℕ) → (m < n → ⊥) → nat_lt m n ≡ false
+not-below m n h = is-false (nat_lt m n) (λ e. h ((Decides-ltb m n).0 e))
+
+cmp-before : (a b : List ℕ) → is_lt (slice_cmp nat_cmp b a) ≡ false → bytes_eq a b ≡ false → comes_before a b ≡ true
+cmp-before [] [] f e = absurd cc
+cmp-before [] (b ∷ bs) f e = refl
+cmp-before (a ∷ as') [] f e = absurd cc
+cmp-before (a ∷ as') (b ∷ bs) f e = elim (cases_order a b) [
+  | inl same ↦
+      let lt : nat_lt b a ≡ false = not-below b a (λ h. omega arith) in
+      let eq : nat_eq b a ≡ true = number-same b a (sym same) in
+      let eq' : nat_eq a b ≡ true = number-same a b same in
+      or-right _ _ (and-both (nat_eq a b) _ eq' (cmp-before as' bs (rw (lt, eq) at f) (rw eq' at e)))
+  | inr f' ↦ elim f' [
+    | inl below ↦ or-left _ _ ((Decides-ltb a b).1 below)
+    | inr above ↦ let lt : nat_lt b a ≡ true = (Decides-ltb b a).1 above in let wrong = rw lt at f in absurd cc
+  ]
+]
+
+first : (k : Vec ℕ Global) (ks : List (Vec ℕ Global)) → AllByRecursion (λ y. bytes_eq k.items y.items ≡ false) ks → ((j : ℕ) (d : Vec ℕ Global) → j < length ks → is_lt (slice_cmp nat_cmp (get_or ks j d).items k.items) ≡ false) → comes_before_all k.items (texts ks) ≡ true
+first k [] u far = refl
+first k (y ∷ ys) u far = and-both (comes_before k.items y.items) _ (cmp-before k.items y.items (far 0 y (omega arith)) u.0) (first k ys u.1 (λ j d lt. far (suc j) d (omega (arith, lt))))
+
+order-from : (ks : List (Vec ℕ Global)) → IsDistinct (λ x y. bytes_eq x.items y.items) ks → ((i j : ℕ) (d : Vec ℕ Global) → i ≤ j → j < length ks → is_lt (slice_cmp nat_cmp (get_or ks j d).items (get_or ks i d).items) ≡ false) → are_in_order (texts ks) ≡ true
+unfolding IsDistinct
+order-from [] u far = refl
+order-from (k ∷ ks) u far =
+    and-both (comes_before_all k.items (texts ks)) _ (first k ks u.0 (λ j d lt. far 0 (suc j) d (omega arith) (omega (arith, lt))))
+    (order-from ks u.1 (λ i j d le lt. far (suc i) (suc j) d (omega (arith, le)) (omega (arith, lt))))
+
+pub sorted-in-order : (ks : List (Vec ℕ Global)) → IsDistinct (λ x y. bytes_eq x.items y.items) ks → IsSorted (λ x y. slice_cmp nat_cmp x.items y.items) ks → are_in_order (texts ks) ≡ true
+sorted-in-order ks u sorted = order-from ks u (sorted_far (λ x y. is_lt (slice_cmp nat_cmp x.items y.items)) (ranks_by nat_list_cmp_total (λ (v : Vec ℕ Global). v.items)) ks sorted)
+
+among-contains : (xs : List (List ℕ)) (t : List ℕ) → is_among xs t ≡ true → Contains xs t
+among-contains [] t h = absurd cc
+among-contains (x ∷ xs) t h = by-head (bytes_eq x t) refl (among-contains xs t) h
+  where
+    by-head : (b : Bool) → bytes_eq x t ≡ b → (is_among xs t ≡ true → Contains xs t) → (b || is_among xs t) ≡ true → Contains (x ∷ xs) t
+    by-head true is rest e = (0, omega arith, text-sound x t is)
+    by-head false is rest e = let c = rest e in (suc c.0, omega (arith, c.1), c.2)
+
+contains-among : (xs : List (List ℕ)) (t : List ℕ) (k : ℕ) → k < length xs → get_or xs k t ≡ t → is_among xs t ≡ true
+contains-among [] t k lt at = absurd (omega (arith, lt))
+contains-among (x ∷ xs) t zero lt at = or-left _ _ (text-same x t at)
+contains-among (x ∷ xs) t (suc k) lt at = or-right _ _ (contains-among xs t k (omega (arith, lt)) at)
+
+among-permuted : (xs ys : List (List ℕ)) (t : List ℕ) → IsPermutation xs ys → is_among xs t ≡ is_among ys t
+among-permuted xs ys t moved =
+    bool-same (is_among xs t) (is_among ys t)
+    (λ h. let c = Contains-permutation xs ys t moved (among-contains xs t h) in contains-among ys t c.0 c.1 c.2)
+    (λ h. let c = Contains-permutation ys xs t (IsPermutation-sym xs ys moved) (among-contains ys t h) in contains-among xs t c.0 c.1 c.2)
+
+or-assoc : (x y z : Bool) → ((x || y) || z) ≡ (x || (y || z))
+or-assoc true y z = refl
+or-assoc false y z = refl
+
+or-false : (x : Bool) → (x || false) ≡ x
+or-false true = refl
+or-false false = refl
+
+among-append : (xs ys : List (List ℕ)) (t : List ℕ) → is_among (xs ++ ys) t ≡ (is_among xs t || is_among ys t)
+among-append [] ys t = refl
+among-append (x ∷ xs) ys t = ap (λ b. bytes_eq x t || b) (among-append xs ys t) ∙ sym (or-assoc (bytes_eq x t) (is_among xs t) (is_among ys t))
+
+new-by : (seen : List (List ℕ)) (x t : List ℕ) (b : Bool) → is_among seen x ≡ b → is_among (if b then seen else seen ++ x ∷ []) t ≡ (is_among seen t || bytes_eq x t)
+new-by seen x t true is =
+    bool-same (is_among seen t) (is_among seen t || bytes_eq x t) (or-left _ _)
+    (λ h. by-either (is_among seen t) refl h)
+  where
+    by-either : (b : Bool) → is_among seen t ≡ b → (b || bytes_eq x t) ≡ true → is_among seen t ≡ true
+    by-either true e h = e
+    by-either false e h = ap (is_among seen) (sym (text-sound x t h)) ∙ is
+new-by seen x t false is = among-append seen (x ∷ []) t ∙ ap (λ b. is_among seen t || b) (or-false (bytes_eq x t))
+
+among-new : (seen : List (List ℕ)) (x t : List ℕ) → is_among (with_new bytes_eq seen x) t ≡ (is_among seen t || bytes_eq x t)
+among-new seen x t = rw (← among-any seen x) (new-by seen x t (is_among seen x) refl)
+
+pub among-all-new : (seen xs : List (List ℕ)) (t : List ℕ) → is_among (with_all_new bytes_eq seen xs) t ≡ (is_among seen t || is_among xs t)
+among-all-new seen [] t = sym (or-false (is_among seen t))
+among-all-new seen (x ∷ xs) t = among-all-new (with_new bytes_eq seen x) xs t ∙ ap (λ b. b || is_among xs t) (among-new seen x t) ∙ or-assoc (is_among seen t) (bytes_eq x t) (is_among xs t)
+
+-- a sorted set has the texts that were added
+pub sorted-same : (ks js : List (Vec ℕ Global)) (xs : List (List ℕ)) (t : List ℕ) → IsPermutation ks js → texts ks ≡ with_all_new bytes_eq [] xs → is_among (texts js) t ≡ is_among xs t
+sorted-same ks js xs t moved e =
+    sym (among-permuted (texts ks) (texts js) t (IsPermutation-map (λ v. v.items) ks js moved)) ∙ ap (λ ys. is_among ys t) e ∙ among-all-new [] xs t

@@ -1,0 +1,62 @@
+-- The size of a description against the limits.
+use Rattle.std.proofs.Common.{◌≡◌, ℕ, ◌<◌, ◌≤◌, Bool, true, false, ◌&&◌, nat_le, List, [], ◌∷◌, length, map, refl, sym, ap, ◌∙◌, arith}
+use Rattle.std.proofs.lemmas.Bool.Decides.{nat_tests}
+use Rattle.game_core.specs.Play.{max_roles}
+use Rattle.ground_rules.specs.declared.sentence.Derived.{Derived}
+use Rattle.ground_rules.specs.Bools.{and-both}
+use Rattle.ground_rules.specs.Described.{Description, each_once, role_names, heads, moves_in}
+use Rattle.ground_rules.specs.Sizes.{max_sentences, max_atomic_sentences, max_moves, same_atomic, atomics, have_few_moves, is_small}
+use Rattle.ground_rules.specs.Prepared.{is_small_so_far, have_few_moves_by}
+use Rattle.ground_rules.specs.Resolved.{NameTable, role_table}
+use Rattle.ground_rules.specs.declared.tables.Mention.{Mention}
+use Rattle.ground_rules.proofs.Mentions.{mentions_by, with_mention, texts_by, with_text, legal_pick, legal-mentions, moves-texts}
+use Rattle.std.proofs.Common.{Option, Some, None, ◌+◌, suc}
+
+left-false : (x y : Bool) → x ≡ false → (x && y) ≡ false
+left-false true y e = absurd cc
+left-false false y e = refl
+
+right-false : (x y : Bool) → y ≡ false → (x && y) ≡ false
+right-false true y e = e
+right-false false y e = refl
+
+more : (m n : ℕ) → n < m → nat_le m n ≡ false
+more m n lt = grind (arith, nat_tests)
+
+most : (m n : ℕ) → m ≤ n → nat_le m n ≡ true
+most m n le = grind (arith, nat_tests)
+
+pub too-many-sentences : (n : ℕ) (d : Description) → max_sentences < n → is_small n d ≡ false
+too-many-sentences n d lt = left-false _ _ (left-false _ _ (left-false (nat_le n max_sentences) _ (more n max_sentences lt)))
+
+pub too-many-atomics : (n k : ℕ) (d : Description) → k ≡ length (each_once same_atomic (atomics d)) → max_atomic_sentences < k → is_small n d ≡ false
+too-many-atomics n k d e lt = left-false _ _ (left-false _ _ (right-false (nat_le n max_sentences) _ (more (length (each_once same_atomic (atomics d))) max_atomic_sentences (omega (arith, e, lt)))))
+
+pub too-many-roles : (n k : ℕ) (d : Description) → k ≡ length (role_names d) → max_roles < k → is_small n d ≡ false
+too-many-roles n k d e lt = left-false _ _ (right-false (nat_le n max_sentences && nat_le (length (each_once same_atomic (atomics d))) max_atomic_sentences) _ (more (length (role_names d)) max_roles (omega (arith, e, lt))))
+
+pub few-so-far : (n k m : ℕ) (d : Description) → n ≤ max_sentences → k ≡ length (each_once same_atomic (atomics d)) → k ≤ max_atomic_sentences → m ≡ length (role_names d) → m ≤ max_roles → is_small_so_far n d ≡ true
+few-so-far n k m d le e le' f le'' = and-both _ _ (and-both _ _ (most n max_sentences le) (most _ max_atomic_sentences (omega (arith, e, le')))) (most _ max_roles (omega (arith, f, le'')))
+
+one-more : (terms : List (List ℕ)) (n : ℕ) (o : Option (List ℕ)) (ms : List Mention) (ts : List (List ℕ)) → length ms ≡ length ts → length (with_mention terms n o ms) ≡ length (with_text o ts)
+one-more terms n (Some t) ms ts e = ap suc e
+one-more terms n None ms ts e = e
+
+mentions-length : (pick : Derived → Option (List ℕ)) (terms : List (List ℕ)) (n : ℕ) (hs : List Derived) → length (mentions_by pick terms n hs) ≡ length (texts_by pick hs)
+mentions-length pick terms n [] = refl
+mentions-length pick terms n (a ∷ as') = one-more terms n (pick a) (mentions_by pick terms (n + 1) as') (texts_by pick as') (mentions-length pick terms (n + 1) as')
+
+few-moves : (t : NameTable) (d : Description) (ns : List (List ℕ)) → t.heads ≡ heads d → have_few_moves_by (map (role_table t) ns) ≡ have_few_moves ns d
+few-moves t d [] same = refl
+few-moves t d (n ∷ ns) same =
+    let size : length (role_table t n).legal ≡ length (moves_in n (heads d)) =
+    ap length (legal-mentions t.terms n 0 t.heads) ∙ mentions-length (legal_pick n) t.terms 0 t.heads ∙ ap length (sym (moves-texts n t.heads)) ∙ ap (λ hs. length (moves_in n hs)) same in
+    let first = ap (λ k. nat_le k max_moves) size in
+    let rest = few-moves t d ns same in
+    cc
+
+-- the moves decide the rest
+pub small-by-moves : (n : ℕ) (t : NameTable) (d : Description) → t.heads ≡ heads d → t.roles ≡ role_names d → is_small_so_far n d ≡ true → is_small n d ≡ have_few_moves_by (map (role_table t) t.roles)
+small-by-moves n t d same roles so_far =
+    let e : have_few_moves_by (map (role_table t) t.roles) ≡ have_few_moves (role_names d) d = few-moves t d t.roles same ∙ ap (λ ns. have_few_moves ns d) roles in
+    ap (λ b. b && have_few_moves (role_names d) d) so_far ∙ sym e

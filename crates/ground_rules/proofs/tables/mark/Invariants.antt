@@ -1,0 +1,7 @@
+use Rattle.std.proofs.Common.{◌≡◌, drop}
+use Rattle.ground_rules.specs.Numbered.{unset}
+use Rattle.ground_rules.specs.Tables.{marked}
+use Rattle.ground_rules.proofs.tables.mark.Given as goal
+
+abbrev pub invariant-loop-mention : goal.invariant-loop-mention
+invariant-loop-mention l = marked l.marks.items l.row (drop l.mention-index l.mentions) ≡ marked (unset l.terms) l.row l.mentions

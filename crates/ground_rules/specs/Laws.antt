@@ -1,0 +1,9 @@
+-- The laws of descriptions.
+use Rattle.std.specs.Prelude.{ℕ, List}
+use Rattle.ground_rules.specs.Acyclic.{IsAcyclic}
+use Rattle.ground_rules.specs.Described.{Description, situation}
+use Rattle.ground_rules.specs.Fit.{HasOneFit}
+
+-- an acyclic description has exactly one fit, for each set of terms and each joint move
+abbrev pub OneFit : Type 0
+OneFit = (d : Description) (terms names moves : List (List ℕ)) → IsAcyclic d → HasOneFit (situation terms names moves) d

@@ -1,0 +1,78 @@
+//! The truth of the derived atoms in a state.
+ghost use Rattle.std.specs.Prelude.{◌≡◌, ℕ, IfOk, []};
+ghost use Rattle.ground_rules.specs.Fit.{truth, any_true, all_true, Fits};
+ghost use Rattle.ground_rules.specs.Numbered.{bit, numbered, view, views, rules_of, row_after, unset, AreRankedFrom};
+
+use crate::numbered::{Literal, Rule};
+use crate::row::{is_set, set};
+use std::alloc::{AllocError, Global};
+
+/// Whether the literal is true, by the row of the derived atoms, the state's row by term, and the
+/// terms of the moves by role.
+#[cycle(holds)]
+pub fn holds(literal: &Literal, row: &[bool], state: &[bool], joint: &[usize]) -> bool
+    ensures { result ≡ truth (numbered state.now joint.now) (bit row.now) (view literal.now) }
+{
+    match literal {
+        Literal::Holds(atom) => is_set(row, *atom),
+        Literal::InState(term) => is_set(state, *term),
+        Literal::Does(role, term) => makes(joint, *role, *term),
+        Literal::Not(inner) => !holds(inner, row, state, joint),
+        Literal::Or(literals) => any_holds(literals, row, state, joint),
+        Literal::Known(truth) => *truth,
+    }
+}
+
+#[cycle(holds)]
+fn any_holds(literals: &Vec<Literal>, row: &[bool], state: &[bool], joint: &[usize]) -> bool
+    ensures { result ≡ any_true (numbered state.now joint.now) (bit row.now) (views literals.now.items) }
+{
+    for literal in literals {
+        if holds(literal, row, state, joint) {
+            return true;
+        }
+    }
+    false
+}
+
+fn makes(joint: &[usize], role: usize, term: usize) -> bool
+    ensures { result ≡ (numbered [] joint.now).does role term }
+{
+    if role < joint.len() {
+        joint[role] == term
+    } else {
+        false
+    }
+}
+
+fn all_hold(literals: &[Literal], row: &[bool], state: &[bool], joint: &[usize]) -> bool
+    ensures { result ≡ all_true (numbered state.now joint.now) (bit row.now) (views literals.now) }
+{
+    for literal in literals {
+        if !holds(literal, row, state, joint) {
+            return false;
+        }
+    }
+    true
+}
+
+/// The truth of each of so many derived atoms, by one pass over the rules. Where the rules stand in
+/// the order of a ranking of their heads, this is the fit.
+pub fn evaluate(
+    alloc: Global,
+    rules: &[Rule],
+    atoms: usize,
+    state: &[bool],
+    joint: &[usize],
+) -> Result<Vec<bool>, AllocError>
+    ensures fits { IfOk result (λ row. (rank : ℕ → ℕ) → AreRankedFrom rank 0 atoms (rules_of rules.now) → Fits (numbered state.now joint.now) (rules_of rules.now) (bit row.items)) }
+    ensures pass { IfOk result (λ row. row.items ≡ row_after (numbered state.now joint.now) (unset atoms) (rules_of rules.now)) }
+{
+    let mut row = vec![in alloc; false; atoms]?;
+    for rule in rules {
+        if all_hold(&rule.body, &row, state, joint) {
+            set(&mut row, rule.head);
+        }
+    }
+    Ok(row)
+}

@@ -1,0 +1,7 @@
+//! Laws of the definitions.
+ghost use Rattle.ground_rules.specs.Laws.{OneFit};
+
+/// An acyclic description has exactly one fit for each state and joint move.
+pub fn one_fit()
+    ensures { OneFit }
+{}

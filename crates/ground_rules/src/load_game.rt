@@ -1,0 +1,24 @@
+//! From expressions to a game.
+ghost use Rattle.std.specs.Prelude.{map};
+ghost use Rattle.game_core.specs.Expression.{folded};
+ghost use Rattle.kif_text.specs.View.{view as expression};
+ghost use Rattle.ground_rules.specs.Loaded.{IsLoadAnswer};
+
+use crate::fault::LoadFault;
+use crate::ground_game::GroundGame;
+use crate::loading::prepare;
+use crate::rules::{folded, read_rules};
+use kif_text::Expr;
+use std::alloc::Global;
+
+/// The game of a ground description: facts and rules of GDL without variables, in any case of
+/// letters. Sentences are numbered from 0. Faults are found in the order of `LoadFault`, each over
+/// all sentences before the next.
+pub fn load(alloc: Global, sentences: &[Expr]) -> Result<GroundGame, LoadFault>
+    ensures { IsLoadAnswer (map folded (map expression sentences.now)) result }
+{
+    let description = folded(alloc, sentences)?;
+    let rules = read_rules(alloc, &description)?;
+    let parts = prepare(alloc, description.len(), &rules)?;
+    Ok(GroundGame::new(alloc, description, parts)?)
+}

@@ -1,0 +1,193 @@
+//! What a description is made into on the way to its game.
+ghost use Rattle.std.specs.Prelude.{◌≡◌, ◌⊎◌, ℕ, true, false, IfOk, IfErr, map, length, slice_index};
+ghost use Rattle.std.specs.List.Sorted.{IsPermutation, IsNonDecreasingBy};
+ghost use Rattle.game_core.specs.Expression.{folded};
+ghost use Rattle.kif_text.specs.View.{view as expression};
+ghost use Rattle.ground_rules.specs.Sentences.{rules_of};
+ghost use Rattle.ground_rules.specs.Acyclic.{IsAcyclic};
+ghost use Rattle.ground_rules.specs.Numbered.{rules_of as numbered_rules};
+ghost use Rattle.ground_rules.specs.Keys.{derived_of, texts};
+ghost use Rattle.ground_rules.specs.Resolved.{table_of, role_table};
+ghost use Rattle.ground_rules.specs.Barred.{barred_by, has_barred};
+ghost use Rattle.ground_rules.specs.Loading.{HasRoles, IsDescriptionFault};
+ghost use Rattle.ground_rules.specs.Described.{Description};
+ghost use Rattle.ground_rules.specs.Dependence.{HasBarredHead};
+ghost use Rattle.ground_rules.specs.Prepared.{IsTestOf, IsTableOf, is_small_so_far, have_few_moves_by, AreRankedOf, IsPrepared};
+
+use crate::dependence::dependence;
+use crate::fault::LoadFault;
+use crate::keys::DerivedKey;
+use crate::lookups::{goal_heads, legal_mentions};
+use crate::names::{head_terms, heads, role_names};
+use crate::needs::needs_of;
+use crate::numbered;
+use crate::rank::rank;
+use crate::resolve::{Names, resolve_rules};
+use crate::row::is_set;
+use crate::sentence::Rule;
+use crate::sizes::{
+    MAX_ATOMIC_SENTENCES, MAX_MOVES, MAX_ROLES, MAX_SENTENCES, count_atomic_sentences,
+};
+use crate::tables::Role;
+use game_core::Text;
+use std::alloc::{AllocError, Global};
+
+fn role_of(alloc: Global, names: &Names, name: &[u8]) -> Result<Role, AllocError>
+    ensures { IfOk result (λ r. r ≡ role_table (table_of names.now) name.now) }
+{
+    let heads = names.heads.as_slice();
+    let legal = legal_mentions(alloc, heads, &names.terms, name)?;
+    let goals = goal_heads(alloc, heads, name)?;
+    let name = Text::from_slice(alloc, name)?;
+    Ok(Role { name, legal, goals })
+}
+
+fn roles_of(alloc: Global, names: &Names) -> Result<Vec<Role>, AllocError>
+    ensures { IfOk result (λ v. v.items ≡ map (role_table (table_of names.now)) (table_of names.now).roles) }
+{
+    let mut roles = Vec::with_capacity(alloc, names.roles.len())?;
+    for name in names.roles.as_slice() {
+        roles.push(role_of(alloc, names, name)?)?;
+    }
+    Ok(roles)
+}
+
+fn have_few_moves(roles: &[Role]) -> bool
+    ensures { result ≡ have_few_moves_by roles.now }
+{
+    for role in roles {
+        if role.legal().len() > MAX_MOVES {
+            return false;
+        }
+    }
+    true
+}
+
+fn rank_at(places: &[usize], atom: usize) -> usize
+    ensures { result ≡ slice_index places.now atom }
+{
+    if atom < places.len() { places[atom] } else { 0 }
+}
+
+/// The rules by the places of their heads.
+fn sort_by_rank(
+    rules: Vec<numbered::Rule>,
+    places: &[usize],
+) -> Result<Vec<numbered::Rule>, AllocError>
+    ensures moved { IfOk result (λ v. IsPermutation rules.items v.items) }
+    ensures sorted { IfOk result (λ v. IsNonDecreasingBy (λ r. slice_index places.now r.head) v.items) }
+{
+    let mut rules = rules;
+    rules.sort_by_key(|rule| rank_at(places, rule.head))?;
+    Ok(rules)
+}
+
+/// Whether a head is barred that depends on `does` sentences, or on given sentences, as said.
+fn is_barred(head: &DerivedKey, on_moves: bool, on_given: bool) -> bool
+    ensures { result ≡ barred_by (derived_of head.now) on_moves on_given }
+{
+    match head {
+        DerivedKey::Legal(_, _) | DerivedKey::Goal(_, _) | DerivedKey::Terminal => on_moves,
+        DerivedKey::Init(_) => on_given,
+        DerivedKey::Role(_) | DerivedKey::Next(_) | DerivedKey::Other(_) => false,
+    }
+}
+
+fn has_barred(heads: &[DerivedKey], on_moves: &[bool], on_given: &[bool]) -> bool
+    ensures { result ≡ has_barred on_moves.now on_given.now 0 (map derived_of heads.now) }
+{
+    for (atom, head) in heads.iter().enumerate() {
+        if is_barred(head, is_set(on_moves, atom), is_set(on_given, atom)) {
+            return true;
+        }
+    }
+    false
+}
+
+/// The tables of names of a description of so many sentences, or its first fault in roles and size,
+/// but for the numbers of moves.
+fn names_of(alloc: Global, sentences: usize, rules: &[Rule]) -> Result<Names, LoadFault>
+    ensures table { IfOk result (λ t. IsTableOf (rules_of rules.now) (table_of t)) }
+    ensures roles { IfOk result (λ _. HasRoles (rules_of rules.now)) }
+    ensures small { IfOk result (λ _. is_small_so_far sentences (rules_of rules.now) ≡ true) }
+    ensures fault { IfErr result (IsDescriptionFault sentences (rules_of rules.now)) }
+{
+    let roles = role_names(alloc, rules)?;
+    let atomic_sentences = count_atomic_sentences(alloc, rules)?;
+    if sentences > MAX_SENTENCES
+        || atomic_sentences > MAX_ATOMIC_SENTENCES
+        || roles.len() > MAX_ROLES
+    {
+        return Err(LoadFault::TooLarge);
+    }
+    let heads = heads(alloc, rules)?;
+    let terms = head_terms(alloc, rules)?;
+    Ok(Names {
+        roles,
+        heads,
+        terms,
+    })
+}
+
+/// The rules in the order of a ranking of their heads, or `Cyclic`.
+fn ranked_rules(
+    alloc: Global,
+    names: &Names,
+    rules: &[Rule],
+) -> Result<Vec<numbered::Rule>, LoadFault>
+    requires { IsTableOf (rules_of rules.now) (table_of names.now) }
+    ensures acyclic { IfOk result (λ _. IsAcyclic (rules_of rules.now)) }
+    ensures ranked { IfOk result (λ v. AreRankedOf (rules_of rules.now) (table_of names.now) (numbered_rules v.items)) }
+    ensures cyclic { IfErr result (λ e. (e ≡ LoadFault.Memory) ⊎ ((e ≡ LoadFault.Cyclic) × ¬ (IsAcyclic (rules_of rules.now)))) }
+{
+    let resolved = resolve_rules(alloc, names, rules)?;
+    let needs = needs_of(alloc, &resolved, names.heads.len())?;
+    match rank(alloc, &needs)? {
+        Some(ranking) => Ok(sort_by_rank(resolved, &ranking.places)?),
+        None => Err(LoadFault::Cyclic),
+    }
+}
+
+/// Whether some head depends on what it may not depend on.
+fn has_barred_head(
+    alloc: Global,
+    names: &Names,
+    rules: &[numbered::Rule],
+) -> Result<bool, AllocError>
+    ensures { IfOk result (λ b. (d : Description) → IsTableOf d (table_of names.now) → IsAcyclic d → AreRankedOf d (table_of names.now) (numbered_rules rules.now) → IsTestOf b (HasBarredHead d)) }
+{
+    let atoms = names.heads.len();
+    let on_moves = dependence(alloc, rules, atoms, false)?;
+    let on_given = dependence(alloc, rules, atoms, true)?;
+    Ok(has_barred(names.heads.as_slice(), &on_moves, &on_given))
+}
+
+/// What is made of a description on the way to its game.
+#[derive(Drop)]
+pub struct Parts {
+    pub names: Names,
+    pub roles: Vec<Role>,
+    /// In the order of a ranking of their heads.
+    pub rules: Vec<numbered::Rule>,
+}
+
+/// The parts of the game of a description of so many sentences, or the first of its faults.
+pub fn prepare(alloc: Global, sentences: usize, rules: &[Rule]) -> Result<Parts, LoadFault>
+    ensures prepared { IfOk result (λ p. IsPrepared sentences (rules_of rules.now) (table_of p.names) p.roles.items (numbered_rules p.rules.items)) }
+    ensures fault { IfErr result (IsDescriptionFault sentences (rules_of rules.now)) }
+{
+    let names = names_of(alloc, sentences, rules)?;
+    let roles = roles_of(alloc, &names)?;
+    if !have_few_moves(&roles) {
+        return Err(LoadFault::TooLarge);
+    }
+    let ranked = ranked_rules(alloc, &names, rules)?;
+    if has_barred_head(alloc, &names, &ranked)? {
+        return Err(LoadFault::Depends);
+    }
+    Ok(Parts {
+        names,
+        roles,
+        rules: ranked,
+    })
+}

@@ -1,0 +1,21 @@
+//! Rules with numbers for derived atoms, terms and roles.
+
+/// A literal over numbers.
+#[derive(Drop)]
+pub enum Literal {
+    Holds(usize),
+    InState(usize),
+    /// A role and the term of its move.
+    Does(usize, usize),
+    Not(Box<Literal>),
+    Or(Vec<Literal>),
+    /// A literal whose truth is known once and for all, as that of a `distinct` literal.
+    Known(bool),
+}
+
+/// A head and its literals.
+#[derive(Drop)]
+pub struct Rule {
+    pub head: usize,
+    pub body: Vec<Literal>,
+}

@@ -1,0 +1,93 @@
+//! Numbers in the place of names.
+ghost use Rattle.std.specs.Prelude.{◌≡◌, IfOk};
+ghost use Rattle.ground_rules.specs.Sentences.{view, views, rules_of, literal_of};
+ghost use Rattle.ground_rules.specs.Numbered.{view as numbered, views as all_numbered, rules_of as numbered_rules};
+ghost use Rattle.ground_rules.specs.Resolved.{resolved, all_resolved, resolved_rules, table_of};
+
+use crate::keys::DerivedKey;
+use crate::names::{place_of_head, place_of_text};
+use crate::numbered;
+use crate::sentence::{Atomic, Literal, Rule};
+use indexmap::IndexSet;
+use std::alloc::{AllocError, Global};
+
+/// The tables of names, each of which is numbered by its place.
+#[derive(Drop)]
+pub struct Names {
+    pub roles: IndexSet<Vec<u8>>,
+    pub heads: IndexSet<DerivedKey>,
+    pub terms: IndexSet<Vec<u8>>,
+}
+
+#[cycle(resolve)]
+fn resolve(alloc: Global, names: &Names, literal: &Literal) -> Result<numbered::Literal, AllocError>
+    ensures { IfOk result (λ l. numbered l ≡ resolved (table_of names.now) (view literal.now)) }
+{
+    match literal {
+        Literal::Atomic(atomic) => resolve_atomic(alloc, names, atomic),
+        Literal::Not(inner) => {
+            let inner = resolve(alloc, names, inner)?;
+            Ok(numbered::Literal::Not(Box::new(alloc, inner)?))
+        }
+        Literal::Or(literals) => Ok(numbered::Literal::Or(resolve_all(alloc, names, literals)?)),
+        Literal::Distinct(first, second) => {
+            Ok(numbered::Literal::Known(first.as_slice() != second.as_slice()))
+        }
+    }
+}
+
+fn resolve_atomic(
+    alloc: Global,
+    names: &Names,
+    atomic: &Atomic,
+) -> Result<numbered::Literal, AllocError>
+    ensures { IfOk result (λ l. numbered l ≡ resolved (table_of names.now) (literal_of atomic.now)) }
+{
+    match atomic {
+        Atomic::Derived(atom) => {
+            let number = place_of_head(alloc, &names.heads, atom)?;
+            Ok(numbered::Literal::Holds(number))
+        }
+        Atomic::InState(term) => {
+            let number = place_of_text(&names.terms, term.as_slice());
+            Ok(numbered::Literal::InState(number))
+        }
+        Atomic::Does(role, taken) => {
+            let role = place_of_text(&names.roles, role.as_slice());
+            let taken = place_of_text(&names.terms, taken.as_slice());
+            Ok(numbered::Literal::Does(role, taken))
+        }
+    }
+}
+
+#[cycle(resolve)]
+fn resolve_all(
+    alloc: Global,
+    names: &Names,
+    literals: &Vec<Literal>,
+) -> Result<Vec<numbered::Literal>, AllocError>
+    ensures { IfOk result (λ v. all_numbered v.items ≡ all_resolved (table_of names.now) (views literals.now.items)) }
+{
+    let mut resolved = Vec::with_capacity(alloc, literals.len())?;
+    for literal in literals {
+        resolved.push(resolve(alloc, names, literal)?)?;
+    }
+    Ok(resolved)
+}
+
+/// The rules with numbers for their names.
+pub fn resolve_rules(
+    alloc: Global,
+    names: &Names,
+    rules: &[Rule],
+) -> Result<Vec<numbered::Rule>, AllocError>
+    ensures { IfOk result (λ v. numbered_rules v.items ≡ resolved_rules (table_of names.now) (rules_of rules.now)) }
+{
+    let mut resolved = Vec::with_capacity(alloc, rules.len())?;
+    for rule in rules {
+        let head = place_of_head(alloc, &names.heads, &rule.head)?;
+        let body = resolve_all(alloc, names, &rule.body)?;
+        resolved.push(numbered::Rule { head, body })?;
+    }
+    Ok(resolved)
+}

@@ -1,0 +1,46 @@
+//! Sentences of a ground description, with the canonical texts of their terms.
+use game_core::Text;
+
+/// A derived atom: an atomic sentence whose truth the rules say. Names and terms are canonical texts.
+#[derive(Drop)]
+pub enum Derived {
+    Role(Text),
+    Init(Text),
+    Next(Text),
+    Legal(Text, Text),
+    Goal(Text, u8),
+    Terminal,
+    /// An atomic sentence with any other relation, by its canonical text.
+    Other(Text),
+}
+
+/// An atomic sentence: a derived atom, `(true t)` or `(does r m)`.
+#[derive(Drop)]
+pub enum Atomic {
+    Derived(Derived),
+    InState(Text),
+    Does(Text, Text),
+}
+
+/// A literal of a rule's body.
+#[derive(Drop)]
+pub enum Literal {
+    Atomic(Atomic),
+    Not(Box<Literal>),
+    Or(Vec<Literal>),
+    Distinct(Text, Text),
+}
+
+/// A sentence as it is read: a head and its literals. A fact has none.
+#[derive(Drop)]
+pub struct Sentence {
+    pub head: Atomic,
+    pub body: Vec<Literal>,
+}
+
+/// A sentence whose atomic sentences stand in lawful places.
+#[derive(Drop)]
+pub struct Rule {
+    pub head: Derived,
+    pub body: Vec<Literal>,
+}

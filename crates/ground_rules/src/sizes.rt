@@ -1,0 +1,73 @@
+//! How large a description may be.
+ghost use Rattle.std.specs.Prelude.{◌≡◌, IfOk, OnOk, map, length, nat_le};
+ghost use Rattle.ground_rules.specs.Sentences.{view, views, rules_of};
+ghost use Rattle.ground_rules.specs.Described.{with_new, with_all_new, each_once};
+ghost use Rattle.ground_rules.specs.Keys.{atomic_of};
+ghost use Rattle.ground_rules.specs.Sizes.{same_atomic, atomics_in, all_atomics_in, atomics};
+
+use crate::keys::{AtomicKey, DerivedKey};
+use crate::sentence::{Atomic, Literal, Rule};
+use indexmap::IndexSet;
+use std::alloc::{AllocError, Global};
+
+/// How many sentences a description has at most.
+pub const MAX_SENTENCES: usize = 8192;
+
+/// How many distinct atomic sentences a description has at most.
+pub const MAX_ATOMIC_SENTENCES: usize = 16384;
+
+/// How many distinct moves the `legal` heads of one role have at most.
+pub const MAX_MOVES: usize = 4096;
+
+/// How many roles a game has at most.
+pub const MAX_ROLES: usize = 16;
+
+fn add_key(set: &mut IndexSet<AtomicKey>, key: AtomicKey) -> Result<(), AllocError>
+    ensures { OnOk result (map atomic_of set.new.keys ≡ with_new same_atomic (map atomic_of set.old.keys) (atomic_of key)) }
+{
+    set.insert(key)?;
+    Ok(())
+}
+
+#[cycle(add_literal)]
+fn add_literal(
+    alloc: Global,
+    set: &mut IndexSet<AtomicKey>,
+    literal: &Literal,
+) -> Result<(), AllocError>
+    ensures { OnOk result (map atomic_of set.new.keys ≡ with_all_new same_atomic (map atomic_of set.old.keys) (atomics_in (view literal.now))) }
+{
+    match literal {
+        Literal::Atomic(atomic) => add_key(set, AtomicKey::of(alloc, atomic)?),
+        Literal::Not(inner) => add_literal(alloc, set, inner),
+        Literal::Or(literals) => add_all_literals(alloc, set, literals),
+        Literal::Distinct(_, _) => Ok(()),
+    }
+}
+
+#[cycle(add_literal)]
+fn add_all_literals(
+    alloc: Global,
+    set: &mut IndexSet<AtomicKey>,
+    literals: &Vec<Literal>,
+) -> Result<(), AllocError>
+    ensures { OnOk result (map atomic_of set.new.keys ≡ with_all_new same_atomic (map atomic_of set.old.keys) (all_atomics_in (views literals.now.items))) }
+{
+    for literal in literals {
+        add_literal(alloc, set, literal)?;
+    }
+    Ok(())
+}
+
+/// How many distinct atomic sentences the rules have: their heads and those in their literals.
+pub fn count_atomic_sentences(alloc: Global, rules: &[Rule]) -> Result<usize, AllocError>
+    ensures { IfOk result (λ n. n ≡ length (each_once same_atomic (atomics (rules_of rules.now)))) }
+{
+    let mut set = IndexSet::new(alloc);
+    for rule in rules {
+        let head = DerivedKey::of(alloc, &rule.head)?;
+        add_key(&mut set, AtomicKey::Derived(head))?;
+        add_all_literals(alloc, &mut set, &rule.body)?;
+    }
+    Ok(set.len())
+}

@@ -1,0 +1,140 @@
+//! What a game looks up in a row of truth values.
+ghost use Rattle.std.specs.Prelude.{◌≡◌, length, IfOk};
+ghost use Rattle.ground_rules.specs.Tables.{marked, chosen, only_goal, picked};
+ghost use Rattle.ground_rules.specs.Numbered.{unset};
+
+use crate::row::{is_set, set};
+use game_core::Text;
+use std::alloc::{AllocError, Global};
+use std::marker::Model;
+
+/// A term and the derived atom that says something about it.
+#[derive(Clone, Copy)]
+pub struct Mention {
+    pub term: usize,
+    pub atom: usize,
+}
+
+/// A goal value and the derived atom that gives it.
+#[derive(Clone, Copy)]
+pub struct GoalHead {
+    pub value: u8,
+    pub atom: usize,
+}
+
+/// What is known of a role. Its legal heads stand by their first appearance.
+#[derive(Drop)]
+pub struct Role {
+    pub name: Text,
+    pub legal: Vec<Mention>,
+    pub goals: Vec<GoalHead>,
+}
+
+impl Model for Role {
+    ghost use Rattle.ground_rules.specs.Roles.{RoleTable};
+
+    ghost Value = { RoleTable };
+
+    ghost view = { λ r. record { name = r.name; legal = r.legal.items; goals = r.goals.items } };
+}
+
+impl Role {
+    pub fn name(&self) -> &[u8]
+        ensures { result.now ≡ self.now.name }
+    {
+        self.name.as_slice()
+    }
+
+    pub fn legal(&self) -> &[Mention]
+        ensures { result.now ≡ self.now.legal }
+    {
+        self.legal.as_slice()
+    }
+
+    pub fn goals(&self) -> &[GoalHead]
+        ensures { result.now ≡ self.now.goals }
+    {
+        self.goals.as_slice()
+    }
+}
+
+/// A state of a ground game, as a row with a truth value for each term. Contracts see the row.
+#[derive(Drop)]
+pub struct GroundState {
+    pub row: Vec<bool>,
+}
+
+impl Model for GroundState {
+    ghost use Rattle.std.specs.Prelude.{List, Bool};
+
+    ghost Value = { List Bool };
+
+    ghost view = { λ s. s.row.items };
+}
+
+/// A move of a ground game, by the number of its term.
+#[derive(Clone, Copy)]
+pub struct GroundMove {
+    pub term: usize,
+}
+
+/// The row of so many terms in which those of the true mentions are set.
+pub fn mark(
+    alloc: Global,
+    mentions: &[Mention],
+    row: &[bool],
+    terms: usize,
+) -> Result<Vec<bool>, AllocError>
+    ensures { IfOk result (λ v. v.items ≡ marked (unset terms) row.now mentions.now) }
+{
+    let mut marks = vec![in alloc; false; terms]?;
+    for mention in mentions {
+        if is_set(row, mention.atom) {
+            set(&mut marks, mention.term);
+        }
+    }
+    Ok(marks)
+}
+
+/// The moves whose heads are true.
+pub fn choose(alloc: Global, heads: &[Mention], row: &[bool]) -> Result<Vec<GroundMove>, AllocError>
+    ensures { IfOk result (λ v. v.items ≡ chosen row.now heads.now) }
+{
+    let mut moves = Vec::new(alloc);
+    for head in heads {
+        if is_set(row, head.atom) {
+            moves.push(GroundMove { term: head.term })?;
+        }
+    }
+    Ok(moves)
+}
+
+/// The value of the one true head, if only one is true.
+pub fn find_goal(heads: &[GoalHead], row: &[bool]) -> Option<u8>
+    ensures { result ≡ only_goal row.now heads.now }
+{
+    let mut found = None;
+    for head in heads {
+        if is_set(row, head.atom) {
+            if found.is_some() {
+                return None;
+            }
+            found = Some(head.value);
+        }
+    }
+    found
+}
+
+/// The texts of the terms that are set, in their order.
+pub fn pick(alloc: Global, row: &[bool], texts: &[Text]) -> Result<Vec<Text>, AllocError>
+    requires { length row.now ≡ length texts.now }
+    ensures { IfOk result (λ v. v.items ≡ picked row.now texts.now) }
+{
+    let mut found = Vec::new(alloc);
+    for i in 0..row.len() {
+        if row[i] {
+            found.push(texts[i].copy(alloc)?)?;
+        }
+    }
+    Ok(found)
+}
