@@ -1,0 +1,76 @@
+-- Expressions by their members, and those that have not the form of a message.
+use Rattle.std.proofs.Common.{◌≡◌, ◌⊎◌, inl, inr, ℕ, ◌<◌, ◌≤◌, Option, Some, None, Ok, Err, List, [], ◌∷◌, map, length, refl, ap, arith}
+use Rattle.game_core.specs.Expression.{Expression, atom, list, Expressions, more, folded, all_folded}
+use Rattle.kif_text.specs.View.{view, views, expressions}
+use Rattle.kif_text.specs.declared.expr.Expr.{Expr}
+use Rattle.match_wire.specs.InfoReading.{status_pair}
+use Rattle.match_wire.specs.MessageValue.{MessageValue}
+use Rattle.match_wire.specs.MessageReading.{members_in, moves_in, info_in, start_in, moves_of, last_moves_in, abort_in}
+use Rattle.match_wire.specs.declared.messages.MessageFault.TheVariants.{BadMessage}
+
+pub views_folded : (xs : List Expr) → all_folded (views xs) ≡ expressions (map (λ x. folded (view x)) xs)
+views_folded [] = refl
+views_folded (x ∷ xs) = ap (more (folded (view x))) (views_folded xs)
+
+-- a list with a member is a list of moves
+pub moves_listed : (x : Expression) (xs : List Expr) → members_in x ≡ Some (views xs) → 0 < length xs → moves_in x ≡ Some (Some (all_folded (views xs)))
+moves_listed (atom w) xs is some = absurd cc
+moves_listed (list ys) [] is some = absurd (omega arith)
+moves_listed (list ys) (x ∷ xs) is some = let e : ys ≡ views (x ∷ xs) = cc in rw e refl
+
+-- ---- too few members, or too many
+
+pub status_few : (xs : List Expr) → length xs < 2 → status_pair (views xs) ≡ None
+status_few [] few = refl
+status_few (x ∷ []) few = refl
+status_few (x ∷ (y ∷ xs)) few = absurd (omega arith)
+
+pub status_many : (xs : List Expr) → 3 ≤ length xs → status_pair (views xs) ≡ None
+status_many [] many = absurd (omega arith)
+status_many (x ∷ []) many = absurd (omega arith)
+status_many (x ∷ (y ∷ [])) many = absurd (omega arith)
+status_many (x ∷ (y ∷ (z ∷ xs))) many = refl
+
+pub info_many : (xs : List Expr) → 1 ≤ length xs → info_in (views xs) ≡ Err BadMessage
+info_many [] many = absurd (omega arith)
+info_many (x ∷ xs) many = refl
+
+pub abort_many : (xs : List Expr) → 2 ≤ length xs → abort_in (views xs) ≡ Err BadMessage
+abort_many [] many = absurd (omega arith)
+abort_many (x ∷ []) many = absurd (omega arith)
+abort_many (x ∷ (y ∷ xs)) many = refl
+
+pub moves_few : (f : List ℕ → Option Expressions → MessageValue) (xs : List Expr) → length xs < 2 → last_moves_in f (views xs) ≡ Err BadMessage
+moves_few f [] few = refl
+moves_few f (x ∷ []) few = refl
+moves_few f (x ∷ (y ∷ xs)) few = absurd (omega arith)
+
+pub moves_many : (f : List ℕ → Option Expressions → MessageValue) (xs : List Expr) → 3 ≤ length xs → last_moves_in f (views xs) ≡ Err BadMessage
+moves_many f [] many = absurd (omega arith)
+moves_many f (x ∷ []) many = absurd (omega arith)
+moves_many f (x ∷ (y ∷ [])) many = absurd (omega arith)
+moves_many f (x ∷ (y ∷ (z ∷ xs))) many = refl
+
+pub start_few : (xs : List Expr) → length xs < 5 → start_in (views xs) ≡ Err BadMessage
+start_few [] few = refl
+start_few (a ∷ []) few = refl
+start_few (a ∷ (b ∷ [])) few = refl
+start_few (a ∷ (b ∷ (d ∷ []))) few = refl
+start_few (a ∷ (b ∷ (d ∷ (e ∷ [])))) few = refl
+start_few (a ∷ (b ∷ (d ∷ (e ∷ (f ∷ xs))))) few = absurd (omega arith)
+
+pub start_many : (xs : List Expr) → 6 ≤ length xs → start_in (views xs) ≡ Err BadMessage
+start_many [] many = absurd (omega arith)
+start_many (a ∷ []) many = absurd (omega arith)
+start_many (a ∷ (b ∷ [])) many = absurd (omega arith)
+start_many (a ∷ (b ∷ (d ∷ []))) many = absurd (omega arith)
+start_many (a ∷ (b ∷ (d ∷ (e ∷ [])))) many = absurd (omega arith)
+start_many (a ∷ (b ∷ (d ∷ (e ∷ (f ∷ []))))) many = absurd (omega arith)
+start_many (a ∷ (b ∷ (d ∷ (e ∷ (f ∷ (g ∷ xs)))))) many = refl
+
+-- an id or moves that are not there
+pub moves_missing : (f : List ℕ → Option Expressions → MessageValue) (id : Option (List ℕ)) (moves : Option (Option Expressions)) → (id ≡ None) ⊎ (moves ≡ None) → moves_of f id moves ≡ Err BadMessage
+moves_missing f None moves is = refl
+moves_missing f (Some id) None is = refl
+moves_missing f (Some id) (Some moves) (inl is) = absurd cc
+moves_missing f (Some id) (Some moves) (inr is) = absurd cc

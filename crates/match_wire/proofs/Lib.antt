@@ -1,0 +1,15 @@
+pub mod Forms
+pub mod Seconds
+pub mod Printed
+pub mod Numerals
+pub mod ReadBack
+pub mod Ascii
+pub mod RecordParts
+pub mod Lengths
+pub mod FieldSteps
+pub mod Heads
+pub mod Parsed
+pub mod Stays
+pub mod Found
+pub mod Turning
+pub mod WrittenTexts

@@ -1,0 +1,11 @@
+use Rattle.std.proofs.Common.{◌≡◌, ℕ, List, min, length, take, arith, ap, ◌∙◌}
+use Rattle.std.proofs.lemmas.List.{take_min}
+use Rattle.match_wire.proofs.head.front_of.Goals as goal
+
+take_least : (bytes : List ℕ) (n m : ℕ) → m ≡ min (length bytes) n → take m bytes ≡ take n bytes
+take_least bytes n m h =
+    let same : m ≡ min n (length bytes) = omega arith in
+    ap (λ k. take k bytes) same ∙ take_min n bytes
+
+pub returns : goal.returns
+returns c = take_least c.args.bytes.now 16384 c.min.result c.min.ensures

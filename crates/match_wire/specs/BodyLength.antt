@@ -1,0 +1,58 @@
+-- What the fields of a head say of the length of the body.
+use Rattle.std.specs.Prelude.{ℕ, Bool, ◌&&◌, ◌==◌, nat_lt, if◌then◌else◌, List, [], ◌∷◌, length, map, filter, codes, Option, Some, None}
+use Rattle.std.specs.List.{list_all, list_any}
+use Rattle.std.specs.Char.{is_ascii_digit, to_ascii_lowercase}
+use Rattle.std.specs.Str.{bytes_eq}
+use Rattle.std.specs.Str.Parse.{digits_value}
+
+-- a name, and a value without the white space around it
+abbrev pub Header : Type 0
+Header = List ℕ × List ℕ
+
+-- the name is this one, which is in small letters, in any ASCII case
+abbrev pub has_name : List ℕ → List ℕ → Bool
+has_name small name = bytes_eq (map to_ascii_lowercase name) small
+
+abbrev pub transfer_encoding : List ℕ
+transfer_encoding = codes "transfer-encoding"
+
+abbrev pub content_length : List ℕ
+content_length = codes "content-length"
+
+-- one or more decimal digits
+abbrev pub is_numeral : List ℕ → Bool
+is_numeral value = nat_lt 0 (length value) && list_all is_ascii_digit value
+
+-- a numeral that writes this number
+abbrev pub writes_number : ℕ → List ℕ → Bool
+writes_number n value = is_numeral value && digits_value 10 value == n
+
+-- nothing; that the body has so many bytes; or nothing that can be taken
+pub data BodyLength : Type 0 where
+  unsaid : BodyLength
+  said : ℕ → BodyLength
+  wrong : BodyLength
+
+-- the values of all lengths that the fields give
+abbrev pub lengths : List Header → List (List ℕ)
+lengths fields = map (λ (field : Header). field.1) (filter (λ (field : Header). has_name content_length field.0) fields)
+
+-- Lengths agree where all are numerals of the same number, whatever their leading zeros.
+abbrev pub agreed : List (List ℕ) → BodyLength
+agreed [] = unsaid
+agreed (value ∷ values) =
+    if list_all (writes_number (digits_value 10 value)) (value ∷ values) then said (digits_value 10 value) else wrong
+
+abbrev pub body_length : List Header → BodyLength
+body_length fields =
+    if list_any (λ (field : Header). has_name transfer_encoding field.0) fields then wrong else agreed (lengths fields)
+
+-- the length that digits give, if there are any
+abbrev pub length_of : Option (List ℕ) → BodyLength
+length_of None = unsaid
+length_of (Some digits) = said (digits_value 10 digits)
+
+-- the value is a numeral, and of the same number as the one before it
+abbrev pub agrees : Option (List ℕ) → List ℕ → Bool
+agrees None value = is_numeral value
+agrees (Some before) value = writes_number (digits_value 10 before) value

@@ -1,0 +1,16 @@
+pub mod Clock
+pub mod MessageValue
+pub mod MessageText
+pub mod MessageReading
+pub mod InfoReading
+pub mod MessageLaws
+pub mod RecordTree
+pub mod BodyLength
+pub mod HttpText
+pub mod HttpHead
+pub mod Looks
+pub mod Carried
+pub mod WireFaults
+pub mod Exchange
+pub mod Turns
+pub mod WireLaws

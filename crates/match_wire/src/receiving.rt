@@ -1,0 +1,88 @@
+//! The reading of a message, in turns of one read each.
+ghost use Rattle.std.specs.Prelude.{◌≡◌, ◌<◌, ◌≤◌, List, ℕ, length, slice_range, IfOk, IfErr};
+ghost use Rattle.match_wire.specs.Exchange.{TakesBody, TakesNone};
+ghost use Rattle.match_wire.specs.Turns.{Turn, TurnFails};
+
+use crate::head::{Head, HttpKind, head_after};
+use crate::look::{Look, look_past};
+use crate::wire_fault::WireFault;
+use game_core::{Counted, Text};
+use std::alloc::Global;
+use std::io::{ErrorKind, Read};
+
+/// How many reads a message takes at most.
+const MOST_TURNS: u32 = 200_000;
+
+/// How many bytes a read is given room for.
+const READ_SIZE: usize = 4_096;
+
+/// One turn of reading: one call of `read`. Whether the stream has ended is answered.
+fn read_turn<S: Read>(
+    stream: &mut Counted<S>,
+    bytes: &mut Vec<u8>,
+    chunk: &mut [u8],
+) -> Result<bool, WireFault>
+    requires { 0 < length chunk.old }
+    ensures turn { IfOk result (λ ended. Turn S.remaining stream.old stream.new bytes.old.items bytes.new.items ended) }
+    ensures fails { IfErr result (λ fault. TurnFails S.remaining stream.old stream.new fault) }
+{
+    match stream.read(chunk) {
+        Ok(0) => Ok(true),
+        Ok(count) => {
+            if bytes.extend_from_slice(&chunk[..count]).is_err() {
+                return Err(WireFault::Memory);
+            }
+            Ok(false)
+        }
+        Err(error) => {
+            let kind = error.kind();
+            if kind == ErrorKind::Interrupted {
+                return Ok(false);
+            }
+            Err(WireFault::ReadFault(kind))
+        }
+    }
+}
+
+/// A copy of the part of the bytes that is the body.
+fn body_of(alloc: Global, bytes: &[u8], start: usize, end: usize) -> Result<Text, WireFault>
+    requires ordered { start ≤ end }
+    requires within { end ≤ length bytes.now }
+    ensures body { IfOk result (λ body. body ≡ slice_range bytes.now start end) }
+    ensures memory { IfErr result (λ fault. fault ≡ WireFault.Memory) }
+{
+    match Text::from_slice(alloc, &bytes[start..end]) {
+        Ok(body) => Ok(body),
+        Err(_) => Err(WireFault::Memory),
+    }
+}
+
+/// Reads a message, and answers its body. What follows the body may have been read too.
+pub(crate) fn receive<S: Read>(
+    alloc: Global,
+    stream: &mut Counted<S>,
+    kind: HttpKind,
+) -> Result<Text, WireFault>
+    ensures body { IfOk result (λ body. TakesBody kind S.remaining stream.old stream.new body) }
+    ensures fails { IfErr result (λ fault. TakesNone kind S.remaining stream.old stream.new fault) }
+{
+    let mut bytes = Vec::new(alloc);
+    let mut chunk = [0; READ_SIZE];
+    let mut head = Head::Unfinished;
+    for turn in 0..MOST_TURNS {
+        let ended = match read_turn(stream, &mut bytes, &mut chunk) {
+            Ok(ended) => ended,
+            Err(fault) => return Err(fault),
+        };
+        head = head_after(kind, head, &bytes);
+        match look_past(head, bytes.len(), ended) {
+            Look::More => {}
+            Look::Body(start, end) => match body_of(alloc, &bytes, start, end) {
+                Ok(body) => return Ok(body),
+                Err(fault) => return Err(fault),
+            },
+            Look::Refused(refusal) => return Err(WireFault::from(refusal)),
+        }
+    }
+    Err(WireFault::TooManyReads)
+}
