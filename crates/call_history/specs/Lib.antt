@@ -1,2 +1,4 @@
 pub mod History
 pub mod Lines
+pub mod Told
+pub mod Faults

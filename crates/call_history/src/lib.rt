@@ -10,11 +10,15 @@ mod journal;
 pub mod laws;
 mod line;
 mod lock;
+mod lock_wire;
 mod object;
 #[cfg(test)]
 mod tests;
+mod wire;
 
 pub use journal::{CallFault, Entry, Journal, MAX_ENTRIES};
 pub use line::LockLine;
 pub use lock::{CloseFault, Closed, LockDesk, MAX_LINES, Unclosed, open_lock};
+pub use lock_wire::LockWire;
 pub use object::Object;
+pub use wire::{AskFault, Wire};

@@ -1,4 +1,5 @@
-ghost use Rattle.std.specs.Prelude.{◌≡◌, ◌<◌};
+ghost use Rattle.std.specs.Prelude.{◌≡◌, ◌<◌, [], ◌∷◌, OnOk};
+ghost use Rattle.call_history.specs.Told.{told_with};
 
 use super::*;
 use std::alloc::{AllocError, Global};
@@ -183,4 +184,110 @@ fn run_four_lines<L: Ledger + Send + Sync, R: Threads + Wait + Abort + Sync>(
 #[test]
 fn four_threads_and_one_history(rt: HostRuntime) -> Result<(), Fail> {
     run_four_lines::<Brand, HostRuntime>(&rt, rt.alloc(), Blank::new(4))
+}
+
+/// A wire over memory to an object like `Register`. It stalls where the call is 0.
+#[derive(Drop)]
+struct MemoryWire {
+    calls: Vec<u64>,
+    replies: Vec<u64>,
+}
+
+impl Wire for MemoryWire {
+    ghost use Rattle.std.specs.Prelude.{Some, ⊤};
+
+    type Call = u64;
+
+    type Reply = u64;
+
+    ghost calls = { λ w. Some w.calls.items };
+
+    ghost replies = { λ w. Some w.replies.items };
+
+    ghost same_line = { λ v w. ⊤ };
+
+    fn ask(&mut self, call: u64) -> Result<u64, AskFault> {
+        let reply = self.calls.last().copied().unwrap_or(0);
+        if self.calls.reserve(1).is_err() || self.replies.reserve(1).is_err() {
+            return Err(AskFault::Memory);
+        }
+        self.calls.push_reserved(call);
+        if call == 0 {
+            return Err(AskFault::Stalled);
+        }
+        self.replies.push_reserved(reply);
+        Ok(reply)
+    }
+
+    ghost same_line_refl = { λ w. tt };
+
+    ghost same_line_trans = { λ a b c ab bc. tt };
+}
+
+/// Makes two calls over any wire. From the wire's contract alone it is known what went out, and that the line is the same.
+#[tactic(auto, using(crate::proofs::Tellings::told_again))]
+fn ask_twice<W: Wire<Call = u64, Reply = u64>>(
+    wire: &mut W,
+    first: u64,
+    second: u64,
+) -> Result<(u64, u64), AskFault>
+    ensures line { W.same_line wire.old wire.new }
+    ensures calls { OnOk result (W.calls wire.new ≡ told_with (W.calls wire.old) (first ∷ (second ∷ []))) }
+{
+    let one = wire.ask(first)?;
+    let other = wire.ask(second)?;
+    Ok((one, other))
+}
+
+#[test]
+fn wire_over_memory_tells_its_calls(rt: HostRuntime) {
+    let mut wire = MemoryWire {
+        calls: Vec::new(rt.alloc()),
+        replies: Vec::new(rt.alloc()),
+    };
+    assert_eq!(rt; ask_twice(&mut wire, 7, 8), Ok((0, 7)));
+    assert_eq!(rt; ask_twice(&mut wire, 9, 0), Err(AskFault::Stalled));
+    assert_eq!(rt; wire.calls.as_slice(), [7, 8, 9, 0].as_slice());
+    assert_eq!(rt; wire.replies.as_slice(), [0, 7, 8].as_slice());
+}
+
+/// Asks over the two lines of a desk that takes three entries, and gives the lines back.
+fn ask_over_wires<L: Ledger, R: Wait + Abort>(
+    rt: &R,
+    alloc: Global,
+    blank: Blank,
+) -> Result<(), Fail>
+    requires name { blank.name ≡ L.name }
+    requires parts { blank.parts ≡ L.parts }
+    requires two { blank.parts ≡ 2 }
+{
+    let opened = open_lock::<Register, L>(alloc, blank, Register { value: 0 }, 3, 2);
+    let (desk, mut lines) = opened.ok().ok_or("no memory")?;
+    let last = lines.pop().ok_or("no line")?;
+    let first = lines.pop().ok_or("no line")?;
+
+    let mut wire = LockWire::new(rt, &desk, last);
+    assert_eq!(rt; ask_twice(&mut wire, 7, 8), Ok((0, 7)));
+    let last = wire.end();
+    let mut wire = LockWire::new(rt, &desk, first);
+    assert_eq!(rt; ask_twice(&mut wire, 9, 10), Err(AskFault::Full));
+    let first = wire.end();
+    assert_eq!(rt; (first.number(), first.made()), (0, 1));
+    assert_eq!(rt; (last.number(), last.made()), (1, 2));
+
+    lines.push(last).ok().ok_or("no memory")?;
+    lines.push(first).ok().ok_or("no memory")?;
+    let closed = desk.close(lines).ok().ok_or("not closed")?;
+    let [one, two, three] = closed.history.as_slice() else {
+        return Err(Fail::from("not three entries"));
+    };
+    assert_eq!(rt; (one.line, one.call, one.reply), (1, 7, 0));
+    assert_eq!(rt; (two.line, two.call, two.reply), (1, 8, 7));
+    assert_eq!(rt; (three.line, three.call, three.reply), (0, 9, 8));
+    Ok(())
+}
+
+#[test]
+fn wires_over_a_lock_stand_for_their_lines(rt: HostRuntime) -> Result<(), Fail> {
+    ask_over_wires::<Brand, HostRuntime>(&rt, rt.alloc(), Blank::new(2))
 }

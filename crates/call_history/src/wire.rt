@@ -1,0 +1,65 @@
+//! What a caller asks its calls over, whatever lies behind it.
+ghost use Rattle.std.specs.Prelude.{◌≡◌, [], ◌∷◌, List, Option, ◌⊎◌, IfOk, OnOk, OnErr};
+ghost use Rattle.call_history.specs.Told.{told_with};
+ghost use Rattle.call_history.specs.Faults.{ask_fault};
+
+use crate::journal::CallFault;
+use thiserror::Error;
+
+/// Why a call got no reply.
+#[derive(Clone, Copy, Debug, PartialEq, Eq, Error)]
+pub enum AskFault {
+    /// The history holds as many entries as it was opened for.
+    #[error("the history is full")]
+    Full,
+    /// Want of memory.
+    #[error("want of memory")]
+    Memory,
+    /// The wire gave up waiting. Whether the call is made is not known.
+    #[error("no reply came")]
+    Stalled,
+}
+
+impl From<CallFault> for AskFault {
+    ghost from_gives = { λ fault passed. passed ≡ ask_fault fault };
+
+    fn from(fault: CallFault) -> AskFault {
+        match fault {
+            CallFault::Full => AskFault::Full,
+            CallFault::Memory => AskFault::Memory,
+        }
+    }
+}
+
+/// A way to make calls one after another and to take the reply of each. It stands for one line of a
+/// desk, and goes on doing so.
+///
+/// A wire may tell the calls that went out over it and the replies that came: as one over memory
+/// does, and one over rings. One over a lock does not.
+pub trait Wire {
+    type Call: Drop;
+
+    type Reply: Drop;
+
+    /// The calls that it made, in their order: none where it does not tell them.
+    ghost calls: { Self → Option (List Self.Call) };
+
+    /// The replies that it took, in their order: none where it does not tell them.
+    ghost replies: { Self → Option (List Self.Reply) };
+
+    /// The two stand for the same line.
+    ghost same_line: { Self → Self → Type 0 };
+
+    /// Makes a call and takes its reply. At a fault no reply was taken, and the call may have been
+    /// made.
+    fn ask(&mut self, call: Self::Call) -> Result<Self::Reply, AskFault>
+        ensures line { same_line self.old self.new }
+        ensures call { OnOk result (calls self.new ≡ told_with (calls self.old) (call ∷ [])) }
+        ensures reply { IfOk result (λ r. replies self.new ≡ told_with (replies self.old) (r ∷ [])) }
+        ensures maybe_call { OnErr result ((calls self.new ≡ calls self.old) ⊎ (calls self.new ≡ told_with (calls self.old) (call ∷ []))) }
+        ensures no_reply { OnErr result (replies self.new ≡ replies self.old) };
+
+    ghost same_line_refl: { (wire : Self) → same_line wire wire };
+
+    ghost same_line_trans: { (a b c : Self) → same_line a b → same_line b c → same_line a c };
+}
