@@ -1,12 +1,13 @@
 -- What a script's output is, as a function of its input. The calls are made on an object that is spoken of by its reply to
 -- a call and its value after a call.
-use Rattle.std.specs.Prelude.{ℕ, ◌+◌, List, [], ◌∷◌, ◌++◌, Option, Some, None, is_none, codes, if◌then◌else◌}
+use Rattle.std.specs.Prelude.{ℕ, ◌+◌, List, [], ◌∷◌, ◌++◌, Option, Some, None, is_none, option_map, unwrap_or, codes, if◌then◌else◌}
 use Rattle.std.specs.Str.Lines.{lines}
 use Rattle.game_core.specs.Bytes.{line_feed}
 use Rattle.game_core.specs.Play.{Rules}
-use Rattle.match_desk.specs.ManagerValue.{ManagerValue}
+use Rattle.match_desk.specs.ManagerValue.{ManagerValue, DeskMatch, game_match}
 use Rattle.match_desk.specs.Steps.{reply, after}
 use Rattle.match_desk.specs.declared.call.Call.{Call}
+use Rattle.match_wire.specs.RecordTree.{record_text}
 use Rattle.match_desk.specs.declared.call.Reply.{Reply}
 use Rattle.ggp_manager.specs.ScriptLines.{call_of, reply_text}
 
@@ -39,6 +40,19 @@ abbrev pub bad_lines : List (List ℕ) → ℕ
 bad_lines [] = 0
 bad_lines (line ∷ more) = (if is_none (call_of line) then 1 else 0) + bad_lines more
 
--- what is written for an input, on a desk of these games: the answers to its lines, from the first match on
+-- the record of a match, as a line
+abbrev pub record_line : {G S M : Type 0} → (G → Rules S M) → ManagerValue G M → DeskMatch M → List ℕ
+record_line rules d m = unwrap_or (option_map (λ x. record_text (rules x.game) x.value ++ line_feed ∷ []) (game_match d m)) []
+
+-- the records of these matches of a desk, in their order
+abbrev pub records : {G S M : Type 0} → (G → Rules S M) → ManagerValue G M → List (DeskMatch M) → List ℕ
+records rules d [] = []
+records rules d (m ∷ more) = record_line rules d m ++ records rules d more
+
+-- the desk of these games that an input leaves
+abbrev pub desk_after : {G S M : Type 0} → (G → Rules S M) → List G → List ℕ → ManagerValue G M
+desk_after rules games input = after_lines (after rules) (no_matches games) (lines input)
+
+-- what is written for an input, on a desk of these games: the answers to its lines, then the records of the matches
 abbrev pub script_output : {G S M : Type 0} → (G → Rules S M) → List G → List ℕ → List ℕ
-script_output rules games input = answer_lines (reply rules) (after rules) (no_matches games) (lines input)
+script_output rules games input = answer_lines (reply rules) (after rules) (no_matches games) (lines input) ++ records rules (desk_after rules games input) (desk_after rules games input).matches

@@ -1,14 +1,19 @@
 //! Reading the command line.
 
+use crate::addresses::{PlayerAddress, decimal, player_address};
 use clap::error::ErrorKind;
 use clap::{Arg, ArgAction, ArgMatches, Command};
-use std::alloc::{AllocError, Global};
+use std::alloc::{AllocError, AllocFailed, Global};
 
 /// What the command line asks for. Its texts are the words that it was read from.
 #[derive(Drop)]
 pub enum Task<'a> {
     /// To answer a script, with one game.
     Desk(GameSource<'a>),
+    /// To referee a match between players on the network.
+    Run(MatchPlan<'a>),
+    /// To ask a player whether it is free.
+    Info(PlayerAddress<'a>),
     /// To show this help.
     Help(String),
 }
@@ -22,6 +27,17 @@ pub enum GameSource<'a> {
     Rules(&'a str),
 }
 
+/// A match between players on the network: the rules of its game, its id, its clocks in seconds, and
+/// its players in the order of the roles.
+#[derive(Drop)]
+pub struct MatchPlan<'a> {
+    pub rules: &'a str,
+    pub id: &'a str,
+    pub start: u32,
+    pub play: u32,
+    pub players: Vec<PlayerAddress<'a>>,
+}
+
 /// Why a command line is refused.
 #[derive(Clone, Copy, Debug, PartialEq, Eq)]
 pub enum ArgumentFault {
@@ -31,6 +47,12 @@ pub enum ArgumentFault {
 
 impl From<AllocError> for ArgumentFault {
     fn from(_: AllocError) -> ArgumentFault {
+        ArgumentFault::Memory
+    }
+}
+
+impl<T: Drop> From<AllocFailed<T>> for ArgumentFault {
+    fn from(_: AllocFailed<T>) -> ArgumentFault {
         ArgumentFault::Memory
     }
 }
@@ -69,20 +91,43 @@ fn desk_command<'a>(alloc: Global) -> Result<Command<'a>, AllocError> {
         ))
 }
 
+fn run_command<'a>(alloc: Global) -> Result<Command<'a>, AllocError> {
+    Command::new(alloc, "run")
+        .about("Referees a match between players over HTTP, and prints its record")
+        .arg(option(alloc, "rules", "TEXT", "The ground description of the game").required(true))?
+        .arg(option(alloc, "id", "ID", "The match's id").required(true))?
+        .arg(option(alloc, "start", "S", "The seconds for START").default_value("10"))?
+        .arg(option(alloc, "play", "S", "The seconds for every other message").default_value("10"))?
+        .arg(
+            Arg::new(alloc, "players")
+                .value_name("NAME@HOST:PORT")
+                .required(true)
+                .num_args(1..)
+                .action(ArgAction::Append)
+                .help("The players, in the order of the roles"),
+        )
+}
+
+fn info_command<'a>(alloc: Global) -> Result<Command<'a>, AllocError> {
+    Command::new(alloc, "info")
+        .about("Asks a player whether it is free")
+        .arg(
+            Arg::new(alloc, "player")
+                .value_name("NAME@HOST:PORT")
+                .required(true)
+                .action(ArgAction::Set)
+                .help("The player"),
+        )
+}
+
 fn program<'a>(alloc: Global) -> Result<Command<'a>, AllocError> {
     Command::new(alloc, "ggp_manager")
         .about("The referee of General Game Playing")
         .no_binary_name(true)
         .subcommand_required(true)
-        .subcommand(desk_command(alloc)?)
-}
-
-/// The number that a text of digits is, if it is at most `most`.
-fn decimal(text: &str, most: u64) -> Option<u64> {
-    if text.is_empty() || !text.bytes().all(|b| b.is_ascii_digit()) {
-        return None;
-    }
-    text.parse().ok().filter(|number| *number <= most)
+        .subcommand(desk_command(alloc)?)?
+        .subcommand(run_command(alloc)?)?
+        .subcommand(info_command(alloc)?)
 }
 
 /// Exactly one of `--countdown` and `--rules` has to be there.
@@ -97,6 +142,26 @@ fn game_source<'a>(found: &ArgMatches<'a>) -> Option<GameSource<'a>> {
     }
 }
 
+/// The seconds that an option gives, in or out of a clock's range.
+fn seconds(found: &ArgMatches<'_>, name: &str) -> Option<u32> {
+    let seconds = decimal(found.get_str(name)?, u64::from(u32::MAX))?;
+    u32::try_from(seconds).ok()
+}
+
+fn match_plan<'a>(alloc: Global, found: &ArgMatches<'a>) -> Result<MatchPlan<'a>, ArgumentFault> {
+    let mut players = Vec::new(alloc);
+    for word in found.get_strs("players").ok_or(ArgumentFault::WrongUse)? {
+        players.push(player_address(word).ok_or(ArgumentFault::WrongUse)?)?;
+    }
+    Ok(MatchPlan {
+        rules: found.get_str("rules").ok_or(ArgumentFault::WrongUse)?,
+        id: found.get_str("id").ok_or(ArgumentFault::WrongUse)?,
+        start: seconds(found, "start").ok_or(ArgumentFault::WrongUse)?,
+        play: seconds(found, "play").ok_or(ArgumentFault::WrongUse)?,
+        players,
+    })
+}
+
 /// What the words after the program's name ask for.
 pub fn read_arguments<'a>(alloc: Global, words: &'a [&'a str]) -> Result<Task<'a>, ArgumentFault> {
     let found = match program(alloc)?.try_get_matches_from(words) {
@@ -104,11 +169,14 @@ pub fn read_arguments<'a>(alloc: Global, words: &'a [&'a str]) -> Result<Task<'a
         Err(error) if !error.use_stderr() => return Ok(Task::Help(error.to_string(alloc)?)),
         Err(error) => return Err(ArgumentFault::from(error)),
     };
-    match found.subcommand() {
-        Some(("desk", found)) => match game_source(found) {
-            Some(game) => Ok(Task::Desk(game)),
-            None => Err(ArgumentFault::WrongUse),
-        },
-        _ => Err(ArgumentFault::WrongUse),
-    }
+    let task = match found.subcommand() {
+        Some(("desk", found)) => game_source(found).map(|game| Task::Desk(game)),
+        Some(("run", found)) => Some(Task::Run(match_plan(alloc, found)?)),
+        Some(("info", found)) => found
+            .get_str("player")
+            .and_then(|word| player_address(word))
+            .map(|player| Task::Info(player)),
+        _ => None,
+    };
+    task.ok_or(ArgumentFault::WrongUse)
 }

@@ -1,12 +1,20 @@
 //! The commands, for any streams.
 
+use crate::addresses::PlayerAddress;
 use crate::arguments::{ArgumentFault, GameSource, Task, read_arguments};
+use crate::contact::{ContactFault, contact};
 use crate::fault::Fault;
+use crate::games::described_game;
 use crate::script::{ScriptFault, run_script};
 use crate::streams::{WriteFault, write_all};
-use game_core::{Countdown, Counted};
+use game_core::{Countdown, Counted, Game};
+use match_wire::{Info, WireFault, info_message, read_info};
 use std::alloc::Global;
 use std::io::{Read, Write};
+use std::net::Net;
+
+/// How many seconds a player has to answer INFO.
+const INFO_SECONDS: u32 = 10;
 
 impl From<ArgumentFault> for Fault {
     fn from(fault: ArgumentFault) -> Fault {
@@ -34,16 +42,26 @@ impl From<WriteFault> for Fault {
     }
 }
 
+impl From<ContactFault> for Fault {
+    fn from(fault: ContactFault) -> Fault {
+        match fault {
+            ContactFault::Exchange(WireFault::Memory) => Fault::Memory,
+            _ => Fault::NoAnswer,
+        }
+    }
+}
+
 /// Does what the words after the program's name ask for, and answers the program's status. A fault
 /// is one line on `errors`; a failed write to `errors` is passed by.
-pub fn command<R: Read, W: Write, E: Write>(
+pub fn command<N: Net, R: Read, W: Write, E: Write>(
+    rt: &N,
     alloc: Global,
     words: &[String],
     reader: &mut Counted<R>,
     writer: &mut Counted<W>,
     errors: &mut E,
 ) -> u8 {
-    match perform(alloc, words, reader, writer) {
+    match perform(rt, alloc, words, reader, writer) {
         Ok(()) => 0,
         Err(fault) => {
             report(errors, fault);
@@ -57,7 +75,8 @@ pub fn report<E: Write>(errors: &mut E, fault: Fault) {
     let _ = writeln!(errors, "ggp_manager: {fault}");
 }
 
-fn perform<R: Read, W: Write>(
+fn perform<N: Net, R: Read, W: Write>(
+    rt: &N,
     alloc: Global,
     words: &[String],
     reader: &mut Counted<R>,
@@ -67,6 +86,8 @@ fn perform<R: Read, W: Write>(
     match read_arguments(alloc, words.as_slice())? {
         Task::Help(text) => Ok(write_all(writer, text.as_bytes())?),
         Task::Desk(game) => desk(alloc, game, reader, writer),
+        Task::Run(_) => Err(Fault::WrongUse),
+        Task::Info(player) => info(rt, alloc, &player, writer),
     }
 }
 
@@ -76,18 +97,50 @@ fn desk<R: Read, W: Write>(
     reader: &mut Counted<R>,
     writer: &mut Counted<W>,
 ) -> Result<(), Fault> {
-    let bad_lines = match game {
+    match game {
         GameSource::Countdown(size) => {
             let game = Countdown::new(size).ok_or(Fault::WrongUse)?;
-            let mut games = Vec::new(alloc);
-            games.push(game)?;
-            run_script(alloc, reader, writer, games)?
+            desk_of(alloc, game, reader, writer)
         }
-        // Descriptions are not read yet.
-        GameSource::Rules(_) => return Err(Fault::WrongUse),
-    };
-    match bad_lines {
+        GameSource::Rules(text) => {
+            let game = described_game(alloc, text)?;
+            desk_of(alloc, game, reader, writer)
+        }
+    }
+}
+
+/// Answers a script, with this game as number 0.
+fn desk_of<R: Read, W: Write, G: Game + Drop>(
+    alloc: Global,
+    game: G,
+    reader: &mut Counted<R>,
+    writer: &mut Counted<W>,
+) -> Result<(), Fault> {
+    let mut games = Vec::new(alloc);
+    games.push(game)?;
+    match run_script(alloc, reader, writer, games)? {
         0 => Ok(()),
         count => Err(Fault::BadLines(count)),
     }
+}
+
+/// What the answer to an INFO means, as a line of output.
+fn info_line(info: Info) -> &'static [u8] {
+    match info {
+        Info::Available => b"available\n",
+        Info::Ready => b"ready\n",
+        Info::Busy => b"busy\n",
+        Info::Unknown => b"unknown\n",
+    }
+}
+
+fn info<N: Net, W: Write>(
+    rt: &N,
+    alloc: Global,
+    player: &PlayerAddress<'_>,
+    writer: &mut Counted<W>,
+) -> Result<(), Fault> {
+    let answer = contact(rt, alloc, player, INFO_SECONDS, &info_message())?;
+    let info = read_info(alloc, answer.as_slice())?;
+    Ok(write_all(writer, info_line(info))?)
 }

@@ -10,6 +10,9 @@ pub enum Fault {
     WrongUse,
     #[error("want of memory")]
     Memory,
+    /// The text of the rules is not KIF, or is no ground description.
+    #[error("bad description")]
+    BadDescription,
     /// Standard input failed.
     #[error("read fault")]
     ReadFault,
@@ -19,6 +22,9 @@ pub enum Fault {
     /// Standard output failed.
     #[error("write fault")]
     WriteFault,
+    /// The player can't be reached, or its answer can't be taken.
+    #[error("no answer")]
+    NoAnswer,
     /// So many lines of a script were bad. All output is there.
     #[error("bad lines {0}")]
     BadLines(u64),

@@ -1,10 +1,17 @@
 //! The referee of General Game Playing: the program.
 #![tactic(auto)]
 
+mod addresses;
 mod arguments;
 mod command;
+mod contact;
+#[cfg(test)]
+mod example_games;
 mod fault;
+mod games;
 mod lines;
+#[cfg(test)]
+mod network_tests;
 mod reply_lines;
 mod script;
 mod script_lines;
@@ -40,6 +47,13 @@ fn main(rt: HostRuntime) -> ExitCode {
     };
     let mut reader = Counted::new(rt.stdin());
     let mut writer = Counted::new(rt.stdout());
-    let status = command(rt.alloc(), &words, &mut reader, &mut writer, &mut errors);
+    let status = command(
+        &rt,
+        rt.alloc(),
+        &words,
+        &mut reader,
+        &mut writer,
+        &mut errors,
+    );
     ExitCode::from(status)
 }

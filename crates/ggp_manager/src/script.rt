@@ -1,10 +1,10 @@
-//! Scripts: each line of the input is answered by a line of the output.
+//! Scripts: each line of the input is answered by a line of the output, and then come the records.
 ghost use Rattle.std.specs.Prelude.{◌≡◌, ◌++◌, ◌∷◌, [], ℕ, List, length, IfOk, OnOk, IfErr, is_some};
 ghost use Rattle.std.specs.Io.KnownBytes.{Consumes, Appends, IsAtEnd};
 ghost use Rattle.std.specs.Str.Lines.{lines};
 ghost use Rattle.game_core.specs.Bytes.{line_feed};
 ghost use Rattle.ggp_manager.specs.ScriptLines.{call_of};
-ghost use Rattle.ggp_manager.specs.Script.{line_answer, after_line, answer_lines, after_lines, bad_lines, script_output};
+ghost use Rattle.ggp_manager.specs.Script.{line_answer, after_line, answer_lines, after_lines, bad_lines, records, script_output};
 ghost use Rattle.ggp_manager.specs.ScriptFaults.{ScriptFails};
 
 use crate::lines::first_line;
@@ -14,6 +14,7 @@ use crate::streams::{InputFault, WriteFault, read_to_end, write_all};
 use call_history::Object;
 use game_core::{Counted, Game};
 use match_desk::{Call, Manager, Reply};
+use match_wire::record_json;
 use std::alloc::{AllocError, Global};
 use std::io::{Read, Write};
 use thiserror::Error;
@@ -21,7 +22,7 @@ use thiserror::Error;
 /// How many bytes a script has at most.
 const MAX_SCRIPT: usize = 1_048_576;
 
-/// The answers to a script, and how many of its lines are bad.
+/// What is written for a script, and how many of its lines are bad.
 #[derive(Drop)]
 struct Answers {
     text: Vec<u8>,
@@ -92,7 +93,7 @@ pub enum ScriptFault {
 }
 
 /// Reads a whole script, answers each of its lines on a manager of these games, and writes the
-/// answers. The number of bad lines is answered.
+/// answers and then the record of each match in order of opening. The number of bad lines is answered.
 pub fn run_script<R: Read, W: Write, G: Game + Drop>(
     alloc: Global,
     reader: &mut Counted<R>,
@@ -125,7 +126,25 @@ pub fn run_script<R: Read, W: Write, G: Game + Drop>(
     }
 }
 
-/// The answers to a script, made on a manager of these games.
+/// Writes the record of each match in order of opening, each with a line feed.
+fn push_records<G: Game>(
+    alloc: Global,
+    manager: &Manager<G>,
+    out: &mut Vec<u8>,
+) -> Result<(), AllocError>
+    ensures { OnOk result (out.new.items ≡ out.old.items ++ records G.rules manager.now manager.now.matches) }
+{
+    for place in 0..manager.matches() {
+        let game = manager.game_of_match(place).unwrap();
+        let held = manager.match_at(place).unwrap();
+        let record = record_json(alloc, game, held)?;
+        out.extend_from_slice(record.as_slice())?;
+        out.push(b'\n')?;
+    }
+    Ok(())
+}
+
+/// The answers to a script and the records of its matches, on a manager of these games.
 fn answer_script<G: Game + Drop>(
     alloc: Global,
     games: Vec<G>,
@@ -135,6 +154,7 @@ fn answer_script<G: Game + Drop>(
     ensures bad_lines { IfOk result (λ a. a.bad_lines ≡ bad_lines (lines input.now)) }
 {
     let mut manager = Manager::new(alloc, games)?;
-    let answers = answer_input(alloc, &mut manager, input)?;
+    let mut answers = answer_input(alloc, &mut manager, input)?;
+    push_records(alloc, &manager, &mut answers.text)?;
     Ok(answers)
 }

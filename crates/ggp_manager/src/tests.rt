@@ -1,17 +1,26 @@
 //! The commands, over streams in memory.
-use crate::command::command;
+use crate::arguments::ArgumentFault;
+use crate::command::{command, report};
+use crate::example_games::{
+    BUTTONS_OUTPUT, BUTTONS_RULES, BUTTONS_SCRIPT, COUNTDOWN_OUTPUT, COUNTDOWN_RULES,
+    COUNTDOWN_SCRIPT, ROSHAMBO_OUTPUT, ROSHAMBO_RULES, ROSHAMBO_SCRIPT, TICTACTOE_OUTPUT,
+    TICTACTOE_RULES, TICTACTOE_SCRIPT,
+};
+use crate::fault::Fault;
+use crate::script::ScriptFault;
 use game_core::Counted;
 use std::alloc::{AllocError, Global};
 use std::io;
 use std::io::{ErrorKind, Read, Write};
+use std::net::Net;
 use std::test::Fail;
 
 /// What a command left: its output, its line of a fault, and its status.
 #[derive(Drop)]
-struct Outcome {
-    output: Vec<u8>,
-    errors: Vec<u8>,
-    status: u8,
+pub struct Outcome {
+    pub output: Vec<u8>,
+    pub errors: Vec<u8>,
+    pub status: u8,
 }
 
 fn strings(alloc: Global, words: &[&str]) -> Result<Vec<String>, AllocError> {
@@ -22,54 +31,24 @@ fn strings(alloc: Global, words: &[&str]) -> Result<Vec<String>, AllocError> {
     Ok(all)
 }
 
-fn outcome_of(alloc: Global, words: &[&str], input: &[u8]) -> Result<Outcome, AllocError> {
+/// Runs a command on that input.
+pub fn outcome_of<N: Net>(
+    rt: &N,
+    alloc: Global,
+    words: &[&str],
+    input: &[u8],
+) -> Result<Outcome, AllocError> {
     let words = strings(alloc, words)?;
     let mut reader = Counted::new(input);
     let mut writer = Counted::new(Vec::new(alloc));
     let mut errors = Vec::new(alloc);
-    let status = command(alloc, &words, &mut reader, &mut writer, &mut errors);
+    let status = command(rt, alloc, &words, &mut reader, &mut writer, &mut errors);
     Ok(Outcome {
         output: writer.end(),
         errors,
         status,
     })
 }
-
-const COUNTDOWN_SCRIPT: &[u8] = b"open m1 0 10 5 ann bob
-next m1 0
-submit m1 0 0 READY
-next m1 0
-submit m1 1 0 READY
-next m1 0
-submit m1 0 1 (take 1)
-submit m1 1 1 noop
-next m1 1
-submit m1 0 2 noop
-submit m1 1 2 (take 2)
-next m1 0
-submit m1 0 3 DONE
-submit m1 1 3 DONE
-next m1 0
-query m1
-";
-
-const COUNTDOWN_REPLIES: &[u8] = b"opened
-owe 0 start
-taken
-hold 0
-taken
-owe 1 play NIL
-taken
-taken
-owe 2 play ((take 1) noop)
-taken
-taken
-owe 3 stop (noop (take 2))
-taken
-taken
-over
-status finished round 3 turns 2 substitutions 0
-";
 
 /// Answers that are read as KIF text, and queries between.
 const SPELLED_SCRIPT: &[u8] = b"open m 0 1 1 ann bob
@@ -85,7 +64,7 @@ next m 0
 query m
 ";
 
-const SPELLED_REPLIES: &[u8] = b"opened
+const SPELLED_OUTPUT: &[u8] = br#"opened
 taken
 taken
 taken
@@ -96,7 +75,53 @@ taken
 taken
 owe 3 play (noop (take 1))
 status playing round 3 turns 2 substitutions 1
+{"cause":null,"endMarks":[null,null],"errors":[["",""],["","IL ?"]],"goalValues":[],"matchId":"m","moves":[["(take 2)","noop"],["noop","(take 1)"]],"phase":"playing","playClock":1,"players":["ann","bob"],"roles":["red","blue"],"startClock":1,"startMarks":["",""],"states":[["(heap 10)","(turn red)"],["(heap 8)","(turn blue)"],["(heap 7)","(turn red)"]]}
+"#;
+
+/// Answers that are illegal, unreadable or missing.
+const JUDGED_SCRIPT: &[u8] = b"open m 0 1 1 ann bob
+submit m 0 0 READY
+submit m 1 0 READY
+submit m 0 1 (Take 3)
+submit m 1 1 noop
+miss m 0 2 silent
+submit m 1 2 (take
+submit m 0 3 noop
+miss m 1 3 broken
+query m
 ";
+
+const JUDGED_OUTPUT: &[u8] = br#"opened
+taken
+taken
+taken
+taken
+taken
+taken
+taken
+taken
+status playing round 4 turns 3 substitutions 5
+{"cause":null,"endMarks":[null,null],"errors":[["IL (take 3)",""],["TO","IL ?"],["IL noop","CE"]],"goalValues":[],"matchId":"m","moves":[["(take 1)","noop"],["noop","(take 1)"],["(take 1)","noop"]],"phase":"playing","playClock":1,"players":["ann","bob"],"roles":["red","blue"],"startClock":1,"startMarks":["",""],"states":[["(heap 10)","(turn red)"],["(heap 9)","(turn blue)"],["(heap 8)","(turn red)"],["(heap 7)","(turn blue)"]]}
+"#;
+
+/// Aborts before the players are ready, and two matches.
+const EARLY_SCRIPT: &[u8] = b"open m 0 1 1 ann bob
+open n 0 2 3 cy dee
+abort m
+next m 0
+submit m 0 0 READY
+miss n 1 0 silent
+";
+
+const EARLY_OUTPUT: &[u8] = br#"opened
+opened
+aborting
+owe 1 abort
+refused stale 1
+taken
+{"cause":"asked","endMarks":[null,null],"errors":[],"goalValues":[],"matchId":"m","moves":[],"phase":"aborting","playClock":1,"players":["ann","bob"],"roles":["red","blue"],"startClock":1,"startMarks":[null,null],"states":[["(heap 3)","(turn red)"]]}
+{"cause":null,"endMarks":[null,null],"errors":[],"goalValues":[],"matchId":"n","moves":[],"phase":"starting","playClock":3,"players":["cy","dee"],"roles":["red","blue"],"startClock":2,"startMarks":[null,"TO"],"states":[["(heap 3)","(turn red)"]]}
+"#;
 
 /// Calls that are refused, and an asked abort.
 const ABORT_SCRIPT: &[u8] = b"open m 0 1 1 ann bob
@@ -124,7 +149,7 @@ submit m 0 2 ok
 query m
 ";
 
-const ABORT_REPLIES: &[u8] = b"opened
+const ABORT_OUTPUT: &[u8] = br#"opened
 refused idused
 refused badid
 refused nogame
@@ -147,24 +172,196 @@ refused norole
 over
 refused over
 status aborted round 2 turns 0 substitutions 0
-";
+{"cause":"asked","endMarks":["","CE"],"errors":[],"goalValues":[],"matchId":"m","moves":[],"phase":"aborted","playClock":1,"players":["ann","bob"],"roles":["red","blue"],"startClock":1,"startMarks":["",""],"states":[["(heap 3)","(turn red)"]]}
+"#;
 
 #[test]
 fn scripts_are_answered(rt: HostRuntime) -> Result<(), Fail> {
     let desk = ["desk", "--countdown", "3"];
     let large = ["desk", "--countdown=10"];
-    let table: [(&[&str], &[u8], &[u8]); 5] = [
-        (&desk, COUNTDOWN_SCRIPT, COUNTDOWN_REPLIES),
-        (&large, SPELLED_SCRIPT, SPELLED_REPLIES),
-        (&desk, ABORT_SCRIPT, ABORT_REPLIES),
+    let largest = ["desk", "--countdown", "100"];
+    let padded = ["desk", "--countdown", "003"];
+    let table: [(&[&str], &[u8], &[u8]); 9] = [
+        (&desk, COUNTDOWN_SCRIPT, COUNTDOWN_OUTPUT),
+        (&padded, COUNTDOWN_SCRIPT, COUNTDOWN_OUTPUT),
+        (&large, SPELLED_SCRIPT, SPELLED_OUTPUT),
+        (&large, JUDGED_SCRIPT, JUDGED_OUTPUT),
+        (&desk, ABORT_SCRIPT, ABORT_OUTPUT),
+        (&desk, EARLY_SCRIPT, EARLY_OUTPUT),
         (&desk, b"", b""),
+        (&largest, b"", b""),
         (&desk, b"query m\r", b"refused nomatch\n"),
     ];
     for (words, script, replies) in table {
-        let outcome = outcome_of(rt.alloc(), words, script)?;
+        let outcome = outcome_of(&rt, rt.alloc(), words, script)?;
         assert_eq!(rt; outcome.errors.as_slice(), b"".as_slice());
         assert_eq!(rt; outcome.status, 0);
         assert!(rt; outcome.output.as_slice() == replies);
+    }
+    Ok(())
+}
+
+#[test]
+fn games_are_played_by_their_rules(rt: HostRuntime) -> Result<(), Fail> {
+    let table: [(&str, &[u8], &[u8]); 4] = [
+        (COUNTDOWN_RULES, COUNTDOWN_SCRIPT, COUNTDOWN_OUTPUT),
+        (TICTACTOE_RULES, TICTACTOE_SCRIPT, TICTACTOE_OUTPUT),
+        (ROSHAMBO_RULES, ROSHAMBO_SCRIPT, ROSHAMBO_OUTPUT),
+        (BUTTONS_RULES, BUTTONS_SCRIPT, BUTTONS_OUTPUT),
+    ];
+    for (rules, script, output) in table {
+        let outcome = outcome_of(&rt, rt.alloc(), &["desk", "--rules", rules], script)?;
+        assert_eq!(rt; outcome.errors.as_slice(), b"".as_slice());
+        assert_eq!(rt; outcome.status, 0);
+        assert!(rt; outcome.output.as_slice() == output);
+    }
+    Ok(())
+}
+
+/// The role's only move leads to a state in which it has none.
+const NO_LEGAL_RULES: &str = "(role a) (init s) (<= (legal a go) (true s))
+(<= (next u) (does a go)) (<= terminal (true end))";
+
+/// The role's only move leads to an end in which it has two goals.
+const NO_GOAL_RULES: &str = "(role a) (init s) (<= (legal a go) (true s))
+(<= (next end) (does a go)) (<= terminal (true end)) (goal a 1) (goal a 2)";
+
+const ABORTED_SCRIPT: &[u8] = b"open m 0 1 1 ann
+submit m 0 0 x
+submit m 0 1 go
+next m 0
+submit m 0 2 x
+query m
+";
+
+const NO_LEGAL_OUTPUT: &[u8] = br#"opened
+taken
+taken
+owe 2 abort
+taken
+status aborted round 2 turns 1 substitutions 0
+{"cause":"nolegal 0","endMarks":[""],"errors":[[""]],"goalValues":[],"matchId":"m","moves":[["go"]],"phase":"aborted","playClock":1,"players":["ann"],"roles":["a"],"startClock":1,"startMarks":[""],"states":[["s"],["u"]]}
+"#;
+
+const NO_GOAL_OUTPUT: &[u8] = br#"opened
+taken
+taken
+owe 2 abort
+taken
+status aborted round 2 turns 1 substitutions 0
+{"cause":"nogoal 0","endMarks":[""],"errors":[[""]],"goalValues":[],"matchId":"m","moves":[["go"]],"phase":"aborted","playClock":1,"players":["ann"],"roles":["a"],"startClock":1,"startMarks":[""],"states":[["s"],["end"]]}
+"#;
+
+/// A game that has ended before its first turn.
+const ENDED_RULES: &str =
+    "(role solo) (init done) (<= terminal (true done)) (goal solo 50) (legal solo rest)";
+
+const ENDED_SCRIPT: &[u8] = b"open t 0 1 1 ann
+submit t 0 0 ready
+next t 0
+submit t 0 1 done
+query t
+";
+
+const ENDED_OUTPUT: &[u8] = br#"opened
+taken
+owe 1 stop NIL
+taken
+status finished round 1 turns 0 substitutions 0
+{"cause":null,"endMarks":[""],"errors":[],"goalValues":[50],"matchId":"t","moves":[],"phase":"finished","playClock":1,"players":["ann"],"roles":["solo"],"startClock":1,"startMarks":[""],"states":[["done"]]}
+"#;
+
+#[test]
+fn games_end_by_their_rules(rt: HostRuntime) -> Result<(), Fail> {
+    let table: [(&str, &[u8], &[u8]); 3] = [
+        (NO_LEGAL_RULES, ABORTED_SCRIPT, NO_LEGAL_OUTPUT),
+        (NO_GOAL_RULES, ABORTED_SCRIPT, NO_GOAL_OUTPUT),
+        (ENDED_RULES, ENDED_SCRIPT, ENDED_OUTPUT),
+    ];
+    for (rules, script, replies) in table {
+        let outcome = outcome_of(&rt, rt.alloc(), &["desk", "--rules", rules], script)?;
+        assert_eq!(rt; outcome.errors.as_slice(), b"".as_slice());
+        assert!(rt; outcome.output.as_slice() == replies);
+    }
+    Ok(())
+}
+
+/// A game of one move that never ends.
+const ENDLESS_RULES: &str = "(role a) (legal a go) (init s) (next s)";
+
+/// The longest match: 10,000 turns, and what is owed then.
+fn endless_script(alloc: Global) -> Result<Vec<u8>, Fail> {
+    let mut script = Vec::from_slice(alloc, b"open m 0 1 1 ann\nmiss m 0 0 silent\n")?;
+    for round in 1..10_001u32 {
+        writeln!(script, "submit m 0 {round} go")?;
+    }
+    script.extend_from_slice(b"next m 0\n")?;
+    Ok(script)
+}
+
+/// That text, so many times, with commas between.
+fn push_repeated(out: &mut Vec<u8>, text: &[u8], count: u32) -> Result<(), AllocError> {
+    for number in 0..count {
+        if number > 0 {
+            out.push(b',')?;
+        }
+        out.extend_from_slice(text)?;
+    }
+    Ok(())
+}
+
+fn endless_output(alloc: Global) -> Result<Vec<u8>, Fail> {
+    let mut output = Vec::from_slice(alloc, b"opened\n")?;
+    for _ in 0..10_001u32 {
+        output.extend_from_slice(b"taken\n")?;
+    }
+    output.extend_from_slice(b"owe 10001 abort\n")?;
+    output.extend_from_slice(br#"{"cause":"toolong","endMarks":[null],"errors":["#)?;
+    push_repeated(&mut output, br#"[""]"#, 10_000)?;
+    output.extend_from_slice(br#"],"goalValues":[],"matchId":"m","moves":["#)?;
+    push_repeated(&mut output, br#"["go"]"#, 10_000)?;
+    output.extend_from_slice(br#"],"phase":"aborting","playClock":1,"players":["ann"],"#)?;
+    output.extend_from_slice(br#""roles":["a"],"startClock":1,"startMarks":["TO"],"states":["#)?;
+    push_repeated(&mut output, br#"["s"]"#, 10_001)?;
+    output.extend_from_slice(b"]}\n")?;
+    Ok(output)
+}
+
+#[test]
+fn longest_matches_are_recorded(rt: HostRuntime) -> Result<(), Fail> {
+    let alloc = rt.alloc();
+    let script = endless_script(alloc)?;
+    let outcome = outcome_of(&rt, alloc, &["desk", "--rules", ENDLESS_RULES], &script)?;
+    assert_eq!(rt; outcome.status, 0);
+    assert!(rt; outcome.output.as_slice() == endless_output(alloc)?.as_slice());
+    Ok(())
+}
+
+#[test]
+fn bad_descriptions_are_refused(rt: HostRuntime) -> Result<(), Fail> {
+    for rules in [
+        "",
+        "(",
+        "(role a) (role a)",
+        "(role a) (<= p (not q)) (<= q p)",
+    ] {
+        // The input fails, and is not read.
+        let words = strings(rt.alloc(), &["desk", "--rules", rules])?;
+        let mut reader = Counted::new(Broken);
+        let mut writer = Counted::new(Vec::new(rt.alloc()));
+        let mut errors = Vec::new(rt.alloc());
+        let status = command(
+            &rt,
+            rt.alloc(),
+            &words,
+            &mut reader,
+            &mut writer,
+            &mut errors,
+        );
+        assert_eq!(rt; status, 1);
+        assert!(rt; errors.as_slice() == b"ggp_manager: bad description\n".as_slice());
+        assert_eq!(rt; reader.faults(), 0);
+        assert_eq!(rt; writer.end().len(), 0);
     }
     Ok(())
 }
@@ -190,7 +387,7 @@ fn bad_lines_are_counted(rt: HostRuntime) -> Result<(), Fail> {
         ),
     ];
     for (script, replies, errors) in table {
-        let outcome = outcome_of(rt.alloc(), &["desk", "--countdown", "3"], script)?;
+        let outcome = outcome_of(&rt, rt.alloc(), &["desk", "--countdown", "3"], script)?;
         assert!(rt; outcome.output.as_slice() == replies);
         assert!(rt; outcome.errors.as_slice() == errors);
         assert_eq!(rt; outcome.status, 1);
@@ -200,7 +397,7 @@ fn bad_lines_are_counted(rt: HostRuntime) -> Result<(), Fail> {
 
 #[test]
 fn wrong_use_is_refused(rt: HostRuntime) -> Result<(), Fail> {
-    let table: [&[&str]; 10] = [
+    let table: [&[&str]; 16] = [
         &[],
         &["desk"],
         &["frob"],
@@ -211,9 +408,15 @@ fn wrong_use_is_refused(rt: HostRuntime) -> Result<(), Fail> {
         &["desk", "--countdown", "3", "--countdown", "3"],
         &["desk", "--countdown", "3", "--rules", "(role a)"],
         &["desk", "--countdown", "3", "more"],
+        &["info"],
+        &["info", "ann"],
+        &["info", "ann@host"],
+        &["info", "an n@host:80"],
+        &["info", "ann@host:0"],
+        &["info", "ann@host:65536"],
     ];
     for words in table {
-        let outcome = outcome_of(rt.alloc(), words, b"query m\n")?;
+        let outcome = outcome_of(&rt, rt.alloc(), words, b"query m\n")?;
         assert_eq!(rt; outcome.output.len(), 0);
         assert!(rt; outcome.errors.as_slice() == b"ggp_manager: wrong use\n".as_slice());
         assert_eq!(rt; outcome.status, 2);
@@ -228,7 +431,7 @@ fn help_is_no_fault(rt: HostRuntime) -> Result<(), Fail> {
         ["-h"].as_slice(),
         ["help"].as_slice(),
     ] {
-        let outcome = outcome_of(rt.alloc(), words, b"")?;
+        let outcome = outcome_of(&rt, rt.alloc(), words, b"")?;
         assert!(rt; !outcome.output.is_empty());
         assert_eq!(rt; outcome.errors.len(), 0);
         assert_eq!(rt; outcome.status, 0);
@@ -262,32 +465,77 @@ fn streams_that_fail_are_faults(rt: HostRuntime) -> Result<(), Fail> {
     let mut errors = Vec::new(rt.alloc());
     let mut output = Counted::new(Vec::new(rt.alloc()));
     let mut broken = Counted::new(Broken);
-    let status = command(rt.alloc(), &words, &mut broken, &mut output, &mut errors);
+    let status = command(
+        &rt,
+        rt.alloc(),
+        &words,
+        &mut broken,
+        &mut output,
+        &mut errors,
+    );
     assert_eq!(rt; status, 1);
     assert!(rt; errors.as_slice() == b"ggp_manager: read fault\n".as_slice());
     assert_eq!(rt; output.end().len(), 0);
 
     errors.clear();
     let mut input = Counted::new(COUNTDOWN_SCRIPT);
-    let status = command(rt.alloc(), &words, &mut input, &mut broken, &mut errors);
+    let status = command(
+        &rt,
+        rt.alloc(),
+        &words,
+        &mut input,
+        &mut broken,
+        &mut errors,
+    );
     assert_eq!(rt; status, 1);
     assert!(rt; errors.as_slice() == b"ggp_manager: write fault\n".as_slice());
 
     let mut input = Counted::new(b"frob".as_slice());
     let mut output = Counted::new(Vec::new(rt.alloc()));
-    let status = command(rt.alloc(), &words, &mut input, &mut output, &mut Broken);
+    let status = command(
+        &rt,
+        rt.alloc(),
+        &words,
+        &mut input,
+        &mut output,
+        &mut Broken,
+    );
     assert_eq!(rt; status, 1);
     assert!(rt; output.end().as_slice() == b"badline\n".as_slice());
     Ok(())
 }
 
 #[test]
+fn faults_have_their_lines_and_statuses(rt: HostRuntime) -> Result<(), Fail> {
+    let table: [(Fault, &[u8], u8); 8] = [
+        (Fault::WrongUse, b"ggp_manager: wrong use\n", 2),
+        (Fault::Memory, b"ggp_manager: want of memory\n", 3),
+        (Fault::BadDescription, b"ggp_manager: bad description\n", 1),
+        (Fault::ReadFault, b"ggp_manager: read fault\n", 1),
+        (Fault::InputTooLong, b"ggp_manager: input too long\n", 1),
+        (Fault::WriteFault, b"ggp_manager: write fault\n", 1),
+        (Fault::NoAnswer, b"ggp_manager: no answer\n", 1),
+        (Fault::BadLines(10), b"ggp_manager: bad lines 10\n", 1),
+    ];
+    for (fault, line, status) in table {
+        let mut errors = Vec::new(rt.alloc());
+        report(&mut errors, fault);
+        assert!(rt; errors.as_slice() == line);
+        assert_eq!(rt; fault.status(), status);
+    }
+    assert_eq!(rt; Fault::from(ScriptFault::Memory), Fault::Memory);
+    assert_eq!(rt; Fault::from(ArgumentFault::Memory), Fault::Memory);
+    assert_eq!(rt; Fault::from(AllocError), Fault::Memory);
+    Ok(())
+}
+
+#[test]
 fn long_scripts_are_refused(rt: HostRuntime) -> Result<(), Fail> {
     let mut script = vec![in rt.alloc(); b' '; 1_048_576]?;
-    let kept = outcome_of(rt.alloc(), &["desk", "--countdown", "3"], &script)?;
+    let kept = outcome_of(&rt, rt.alloc(), &["desk", "--countdown", "3"], &script)?;
     assert!(rt; kept.output.as_slice() == b"badline\n".as_slice());
     script.push(b' ')?;
-    let refused = outcome_of(rt.alloc(), &["desk", "--countdown", "3"], &script)?;
+    let refused = outcome_of(&rt, rt.alloc(), &["desk", "--countdown", "3"], &script)?;
     assert_eq!(rt; refused.output.len(), 0);
     assert!(rt; refused.errors.as_slice() == b"ggp_manager: input too long\n".as_slice());
     assert_eq!(rt; refused.status, 1);

@@ -1,0 +1,137 @@
+#!/usr/bin/env python3
+"""A player to play against: it plays ground descriptions over HTTP, with legal moves at random.
+
+    player.py PORT [SEED]
+
+It listens on 127.0.0.1, answers INFO, START, PLAY, STOP and ABORT, and plays one match at a time.
+It needs Python's standard library alone.
+"""
+
+import random
+import re
+import sys
+from http.server import BaseHTTPRequestHandler, HTTPServer
+
+
+def read(text):
+    """The expressions of a KIF text: an atom is a string, a list a tuple. Capitals are folded."""
+    stack = [[]]
+    for token in re.findall(r"[()]|[^\s()]+", re.sub(r";[^\n]*", "", text.lower())):
+        if token == "(":
+            stack.append([])
+        elif token == ")":
+            done = tuple(stack.pop())
+            stack[-1].append(done)
+        else:
+            stack[-1].append(token)
+    return stack[0]
+
+
+def show(expression):
+    """The canonical text of an expression."""
+    if isinstance(expression, str):
+        return expression
+    return "(" + " ".join(map(show, expression)) + ")"
+
+
+class Game:
+    """The game of a ground description."""
+
+    def __init__(self, sentences):
+        self.bodies = {}
+        for sentence in sentences:
+            is_rule = sentence[0] == "<=" and isinstance(sentence, tuple)
+            head, body = (sentence[1], sentence[2:]) if is_rule else (sentence, ())
+            self.bodies.setdefault(head, []).append(body)
+        self.roles = [head[1] for head in self.heads("role")]
+
+    def heads(self, relation):
+        return [head for head in self.bodies if isinstance(head, tuple) and head[0] == relation]
+
+    def true_heads(self, relation, state, joint=()):
+        known = {}
+        return [head for head in self.heads(relation) if self.holds(head, state, joint, known)]
+
+    def holds(self, literal, state, joint, known):
+        """Whether a literal is true in a state, where these are the `does` sentences of a joint move."""
+        match literal:
+            case ("not", inner):
+                return not self.holds(inner, state, joint, known)
+            case ("or", *inner):
+                return any(self.holds(one, state, joint, known) for one in inner)
+            case ("distinct", one, other):
+                return one != other
+            case ("true", term):
+                return term in state
+            case ("does", _, _):
+                return literal in joint
+        if literal not in known:
+            bodies = self.bodies.get(literal, [])
+            known[literal] = any(all(self.holds(one, state, joint, known) for one in body) for body in bodies)
+        return known[literal]
+
+    def initial(self):
+        return {head[1] for head in self.true_heads("init", set())}
+
+    def next(self, state, moves):
+        joint = {("does", role, move) for role, move in zip(self.roles, moves)}
+        return {head[1] for head in self.true_heads("next", state, joint)}
+
+    def legal(self, state, role):
+        return [head[2] for head in self.true_heads("legal", state) if head[1] == role]
+
+
+class Player:
+    """What the player knows of its match, and how it answers a message."""
+
+    def __init__(self, choose):
+        self.choose = choose
+        self.match = None
+
+    def answer(self, message):
+        match message:
+            case "info" | ("info",):
+                return "busy" if self.match else "available"
+            case ("start", match_id, role, rules, _, _):
+                self.match, self.role, self.game = match_id, role, Game(rules)
+                self.state = self.game.initial()
+                return "ready"
+            case ("play", match_id, moves) if match_id == self.match:
+                if moves not in ("nil", ()):
+                    self.state = self.game.next(self.state, moves)
+                return show(self.choose(self.game.legal(self.state, self.role)))
+            case ("stop", _, _) | ("abort", _):
+                self.match = None
+                return "done"
+        return "busy"
+
+
+class Handler(BaseHTTPRequestHandler):
+    def do_POST(self):
+        body = self.rfile.read(int(self.headers["Content-Length"])).decode("ascii")
+        answer = self.server.player.answer(read(body)[0])
+        print(f"{self.headers['Receiver']}: {body[:60]} -> {answer}", file=sys.stderr)
+        answer = answer.encode("ascii")
+        self.send_response(200)
+        self.send_header("Content-Type", "text/acl")
+        self.send_header("Content-Length", str(len(answer)))
+        self.end_headers()
+        self.wfile.write(answer)
+
+    def log_message(self, format, *arguments):
+        pass
+
+
+def main():
+    if len(sys.argv) not in (2, 3):
+        sys.exit(__doc__)
+    server = HTTPServer(("127.0.0.1", int(sys.argv[1])), Handler)
+    server.player = Player(random.Random(*map(int, sys.argv[2:])).choice)
+    try:
+        server.serve_forever()
+    except KeyboardInterrupt:
+        pass
+
+
+if __name__ == "__main__":
+    main()
