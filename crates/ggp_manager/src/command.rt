@@ -86,7 +86,6 @@ fn perform<N: Net, R: Read, W: Write>(
     match read_arguments(alloc, words.as_slice())? {
         Task::Help(text) => Ok(write_all(writer, text.as_bytes())?),
         Task::Desk(game) => desk(alloc, game, reader, writer),
-        Task::Run(_) => Err(Fault::WrongUse),
         Task::Info(player) => info(rt, alloc, &player, writer),
     }
 }
