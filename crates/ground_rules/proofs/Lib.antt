@@ -9,7 +9,6 @@ pub mod Goals
 pub mod HeadTables
 pub mod HeadsRead
 pub mod KeyEquality
-pub mod LegalMoves
 pub mod Limits
 pub mod LiteralLists
 pub mod Mentions

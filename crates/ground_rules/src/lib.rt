@@ -29,8 +29,3 @@ pub use fault::LoadFault;
 pub use ground_game::GroundGame;
 pub use load_game::load;
 pub use tables::{GroundMove, GroundState};
-
-#[cfg(test)]
-mod play_tests;
-#[cfg(test)]
-mod tests;

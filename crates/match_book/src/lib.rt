@@ -23,6 +23,7 @@ pub use due::{Due, Owed, OwedFault};
 pub use judgement::Judgement;
 pub use matches::Match;
 pub use names::{are_clocks, are_names, is_clock, is_name};
-pub use phase::{Cause, Phase, Status};
+pub use phase::{Cause, Phase, Stage, Status};
+pub use settlement::{Settlement, first_without_move, settle};
 pub use setup::Setup;
 pub use turn::Turn;

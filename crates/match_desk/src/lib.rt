@@ -11,10 +11,6 @@ pub mod laws;
 mod manager;
 mod opening;
 mod slot;
-#[cfg(test)]
-mod tests;
-#[cfg(test)]
-mod thread_tests;
 
 pub use call::{Call, Refusal, Reply};
 pub use closing::close_desk;

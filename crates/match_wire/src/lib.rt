@@ -37,8 +37,3 @@ pub use record::record_json;
 pub use trees::phase_text;
 pub use wire_fault::WireFault;
 pub use writing::{info_message, message};
-
-#[cfg(test)]
-mod exchange_tests;
-#[cfg(test)]
-mod tests;

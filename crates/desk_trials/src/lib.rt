@@ -1,0 +1,7 @@
+//! Trials of the desk: its calls, and many lines in threads. Tests alone.
+#![tactic(auto)]
+
+#[cfg(test)]
+mod calls;
+#[cfg(test)]
+mod threads;
