@@ -1,0 +1,4 @@
+pub mod Tellings
+pub mod CallStops
+pub mod HandedOver
+pub mod Workers

@@ -1,0 +1,5 @@
+pub mod Handing
+pub mod Events
+pub mod AttendFaults
+pub mod Steps
+pub mod Attending
