@@ -13,3 +13,15 @@ pub mod Stays
 pub mod Found
 pub mod Turning
 pub mod WrittenTexts
+pub mod ErrorWords
+pub mod JsonData
+pub mod KeyFormats
+pub mod LawfulParts
+pub mod OneRecord
+pub mod PlainNumerals
+pub mod RecordShapes
+pub mod RecordedMoves
+pub mod Replays
+pub mod RecordEnds
+pub mod LawfulRecords
+pub mod CheckedRecords

@@ -1,5 +1,5 @@
 -- The decimal text of a clock, and a lawful id, as atoms.
-use Rattle.std.proofs.Common.{◌≡◌, ℕ, ◌+◌, ◌<◌, ◌≤◌, ◌%◌, ◌^◌, ◌&&◌, not, ◌==◌, nat_lt, Bool, true, false, Some, None, List, [], ◌∷◌, ◌++◌, length, get_or, length-append, refl, ap, arith, lit<, if◌then◌else◌}
+use Rattle.std.proofs.Common.{◌≡◌, ℕ, ◌+◌, ◌<◌, ◌≤◌, ◌%◌, ◌^◌, ◌&&◌, not, ◌==◌, nat_lt, Bool, true, false, Some, List, [], ◌∷◌, ◌++◌, length, length-append, refl, arith}
 use Rattle.std.specs.Prelude.{slice_index}
 use Rattle.std.specs.List.{list_all}
 use Rattle.std.specs.Char.{is_ascii_digit}
@@ -13,10 +13,10 @@ use Rattle.match_book.specs.Names.{is_name, is_name_byte, is_clock, max_clock}
 use Rattle.match_wire.specs.Clock.{is_numeral, clock_of}
 
 -- some digits, and nothing else
-record AreDigits (ds : List ℕ) : Type 0 where
-  some : 0 < length ds
-  digits : list_all is_ascii_digit ds ≡ true
-  bytes : AreAtomBytes ds
+pub record AreDigits (ds : List ℕ) : Type 0 where
+  pub some : 0 < length ds
+  pub digits : list_all is_ascii_digit ds ≡ true
+  pub bytes : AreAtomBytes ds
 
 digit_is_digit : (d : ℕ) → d < 10 → is_ascii_digit (48 + d) ≡ true
 digit_is_digit d small = grind (arith, nat_tests)
@@ -24,10 +24,10 @@ digit_is_digit d small = grind (arith, nat_tests)
 digit_is_atom_byte : (d : ℕ) → d < 10 → is_atom_byte (48 + d) ≡ true
 digit_is_atom_byte d small = grind (arith, nat_tests)
 
-both : (a b : Bool) → a ≡ true → b ≡ true → (a && b) ≡ true
+pub both : (a b : Bool) → a ≡ true → b ≡ true → (a && b) ≡ true
 both a b p q = rw (p, q) refl
 
-parts : (a b : Bool) → (a && b) ≡ true → (a ≡ true) × (b ≡ true)
+pub parts : (a b : Bool) → (a && b) ≡ true → (a ≡ true) × (b ≡ true)
 parts true true h = (refl, refl)
 parts true false h = absurd cc
 parts false b h = absurd cc
@@ -48,7 +48,7 @@ one_digit_more ds d small front =
     let last = one_digit d small in
     record { some = simp length-append (omega arith); digits = digits_append ds ((48 + d) ∷ []) front.digits last.digits; bytes = bytes_append ds ((48 + d) ∷ []) front.bytes last.bytes }
 
-decimal_is_digits : (n : ℕ) → n < 2 ^ 64 → AreDigits (decimal n)
+pub decimal_is_digits : (n : ℕ) → n < 2 ^ 64 → AreDigits (decimal n)
 decimal_is_digits n small = decimal_by_steps (λ _ ds. AreDigits ds) one_digit (λ m ds some front. one_digit_more ds (m % 10) (omega arith) front) n small
 
 clock_range : (n : ℕ) → is_clock n ≡ true → (0 < n) × (n ≤ max_clock)
@@ -60,10 +60,10 @@ clock_is_small n few = omega arith
 pub clock_is_atom : (n : ℕ) → is_clock n ≡ true → IsAtom (decimal n)
 clock_is_atom n is = let ds = decimal_is_digits n (clock_is_small n (clock_range n is).1) in (ds.some, ds.bytes)
 
-no_zero : (b : ℕ) → 48 < b → not (b == 48) ≡ true
+pub no_zero : (b : ℕ) → 48 < b → not (b == 48) ≡ true
 no_zero b above = grind (arith, nat_tests)
 
-is_some : (n : ℕ) → 0 < n → nat_lt 0 n ≡ true
+pub is_some : (n : ℕ) → 0 < n → nat_lt 0 n ≡ true
 is_some n some = grind (arith, nat_tests)
 
 numeral : (n : ℕ) → is_clock n ≡ true → is_numeral (decimal n) ≡ true

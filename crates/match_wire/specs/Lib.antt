@@ -14,3 +14,10 @@ pub mod WireFaults
 pub mod Exchange
 pub mod Turns
 pub mod WireLaws
+pub mod JsonValues
+pub mod LawfulRecord
+pub mod RecordParts
+pub mod Replaying
+pub mod ReplaySteps
+pub mod Shown
+pub mod Verified

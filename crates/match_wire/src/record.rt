@@ -5,6 +5,7 @@ ghost use Rattle.serde_json.specs.Read.{read};
 ghost use Rattle.serde_json.specs.View.{view};
 ghost use Rattle.match_book.specs.Lawful.{IsLawfulMatch};
 ghost use Rattle.match_book.specs.Names.{IsLawfulSetup};
+ghost use Rattle.match_wire.specs.LawfulRecord.{IsLawfulRecord};
 ghost use Rattle.match_wire.specs.RecordTree.{record_text, record_tree, marks_tree, moves_tree, errors_tree, goals_tree, states_tree, texts_tree, each_role};
 
 use crate::trees::{cause_tree, phase_text, text_or_null, text_tree, texts_tree};
@@ -235,6 +236,8 @@ pub fn record_json<G: Game>(alloc: Global, game: &G, held: &Match<G>) -> Result<
     ensures text { IfOk result (λ t. t ≡ record_text (G.rules game.now) held.now.value) }
     // So a reader of JSON finds the tree again.
     ensures reads_back { IfOk result (λ t. read t ≡ Some (record_tree (G.rules game.now) held.now.value)) }
+    // And `verify` refuses it for want of memory alone.
+    ensures lawful { IfOk result (IsLawfulRecord (G.rules game.now)) }
 {
     // This reader says that the match is lawful.
     let _state = held.state();
