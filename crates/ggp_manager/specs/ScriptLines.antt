@@ -7,8 +7,6 @@ use Rattle.match_book.specs.declared.due.Due.{Due}
 use Rattle.match_book.specs.declared.due.Due.TheVariants.{Owe, Hold, Over}
 use Rattle.match_book.specs.declared.due.Owed.{Owed}
 use Rattle.match_book.specs.declared.due.Owed.TheVariants.{Start, Play, Stop, Abort as OweAbort}
-use Rattle.match_book.specs.declared.phase.Phase.{Phase}
-use Rattle.match_book.specs.declared.phase.Phase.TheVariants.{Starting, Playing, Stopping, Finished, Aborting as InAborting, Aborted}
 use Rattle.match_book.specs.declared.phase.Status.{Status as MatchStatus}
 use Rattle.match_desk.specs.declared.call.Call.{Call}
 use Rattle.match_desk.specs.declared.call.Call.TheVariants.{Open, Next, Submit, Miss, Query, Abort}
@@ -16,6 +14,7 @@ use Rattle.match_desk.specs.declared.call.Reply.{Reply}
 use Rattle.match_desk.specs.declared.call.Reply.TheVariants.{Opened, Due as IsDue, Taken, Status, Aborting, Refused}
 use Rattle.match_desk.specs.declared.call.Refusal.{Refusal}
 use Rattle.match_desk.specs.declared.call.Refusal.TheVariants.{BadId, IdUsed, NoGame, WrongPlayers, BadName, BadClock, DeskFull, NoMatch, NoRole, Over as IsOver, Stale, Twice, Ended}
+use Rattle.match_wire.specs.RecordTree.{phase_text}
 use Rattle.ggp_manager.specs.Words.{words, spaced, number_of, name_of}
 
 -- the call that f makes of a name, if the word is one
@@ -93,14 +92,6 @@ abbrev pub due_text : Due → List ℕ
 due_text (Owe round owed) = codes "owe " ++ decimal round ++ codes " " ++ owed_text owed
 due_text (Hold round) = codes "hold " ++ decimal round
 due_text Over = codes "over"
-
-abbrev pub phase_text : Phase → List ℕ
-phase_text Starting = codes "starting"
-phase_text Playing = codes "playing"
-phase_text Stopping = codes "stopping"
-phase_text Finished = codes "finished"
-phase_text InAborting = codes "aborting"
-phase_text Aborted = codes "aborted"
 
 abbrev pub status_text : MatchStatus → List ℕ
 status_text s = codes "status " ++ phase_text s.phase ++ codes " round " ++ decimal s.round ++ codes " turns " ++ decimal s.turns ++ codes " substitutions " ++ decimal s.substitutions

@@ -10,6 +10,8 @@ use std::alloc::{AllocError, Global};
 pub enum Task<'a> {
     /// To answer a script, with one game.
     Desk(GameSource<'a>),
+    /// To check a record, for this game.
+    Verify(GameSource<'a>),
     /// To ask a player whether it is free.
     Info(PlayerAddress<'a>),
     /// To show this help.
@@ -55,9 +57,9 @@ fn option<'a>(alloc: Global, name: &'a str, value: &'a str, help: &'a str) -> Ar
         .help(help)
 }
 
-fn desk_command<'a>(alloc: Global) -> Result<Command<'a>, AllocError> {
-    Command::new(alloc, "desk")
-        .about("Answers a script from standard input, line by line")
+/// The options of a command that wants one game.
+fn with_game<'a>(alloc: Global, command: Command<'a>) -> Result<Command<'a>, AllocError> {
+    command
         .arg(option(
             alloc,
             "countdown",
@@ -70,6 +72,22 @@ fn desk_command<'a>(alloc: Global) -> Result<Command<'a>, AllocError> {
             "TEXT",
             "The game is this ground description",
         ))
+}
+
+fn desk_command<'a>(alloc: Global) -> Result<Command<'a>, AllocError> {
+    let command = Command::new(alloc, "desk");
+    with_game(
+        alloc,
+        command.about("Answers a script from standard input, line by line"),
+    )
+}
+
+fn verify_command<'a>(alloc: Global) -> Result<Command<'a>, AllocError> {
+    let command = Command::new(alloc, "verify");
+    with_game(
+        alloc,
+        command.about("Says whether the record on standard input is lawful"),
+    )
 }
 
 fn info_command<'a>(alloc: Global) -> Result<Command<'a>, AllocError> {
@@ -90,6 +108,7 @@ fn program<'a>(alloc: Global) -> Result<Command<'a>, AllocError> {
         .no_binary_name(true)
         .subcommand_required(true)
         .subcommand(desk_command(alloc)?)?
+        .subcommand(verify_command(alloc)?)?
         .subcommand(info_command(alloc)?)
 }
 
@@ -114,6 +133,7 @@ pub fn read_arguments<'a>(alloc: Global, words: &'a [&'a str]) -> Result<Task<'a
     };
     let task = match found.subcommand() {
         Some(("desk", found)) => game_source(found).map(|game| Task::Desk(game)),
+        Some(("verify", found)) => game_source(found).map(|game| Task::Verify(game)),
         Some(("info", found)) => found
             .get_str("player")
             .and_then(|word| player_address(word))

@@ -2,6 +2,7 @@
 
 use crate::addresses::PlayerAddress;
 use crate::arguments::{ArgumentFault, GameSource, Task, read_arguments};
+use crate::checking::check_record;
 use crate::contact::{ContactFault, contact};
 use crate::fault::Fault;
 use crate::games::described_game;
@@ -86,6 +87,7 @@ fn perform<N: Net, R: Read, W: Write>(
     match read_arguments(alloc, words.as_slice())? {
         Task::Help(text) => Ok(write_all(writer, text.as_bytes())?),
         Task::Desk(game) => desk(alloc, game, reader, writer),
+        Task::Verify(game) => check(alloc, game, reader, writer),
         Task::Info(player) => info(rt, alloc, &player, writer),
     }
 }
@@ -120,6 +122,24 @@ fn desk_of<R: Read, W: Write, G: Game + Drop>(
     match run_script(alloc, reader, writer, games)? {
         0 => Ok(()),
         count => Err(Fault::BadLines(count)),
+    }
+}
+
+fn check<R: Read, W: Write>(
+    alloc: Global,
+    game: GameSource<'_>,
+    reader: &mut Counted<R>,
+    writer: &mut Counted<W>,
+) -> Result<(), Fault> {
+    match game {
+        GameSource::Countdown(size) => {
+            let game = Countdown::new(size).ok_or(Fault::WrongUse)?;
+            check_record(alloc, &game, reader, writer)
+        }
+        GameSource::Rules(text) => {
+            let game = described_game(alloc, text)?;
+            check_record(alloc, &game, reader, writer)
+        }
     }
 }
 

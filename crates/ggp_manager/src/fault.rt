@@ -1,5 +1,6 @@
 //! Why a command ends with a fault.
 
+use match_wire::VerifyFault;
 use std::alloc::{AllocError, AllocFailed};
 use thiserror::Error;
 
@@ -25,6 +26,9 @@ pub enum Fault {
     /// The player can't be reached, or its answer can't be taken.
     #[error("no answer")]
     NoAnswer,
+    /// The record is not lawful: the first test that it fails.
+    #[error("not lawful: {0}")]
+    NotLawful(VerifyFault),
     /// So many lines of a script were bad. All output is there.
     #[error("bad lines {0}")]
     BadLines(u64),

@@ -3,6 +3,7 @@
 
 mod addresses;
 mod arguments;
+mod checking;
 mod command;
 mod contact;
 #[cfg(test)]
@@ -12,6 +13,8 @@ mod games;
 mod lines;
 #[cfg(test)]
 mod network_tests;
+#[cfg(test)]
+mod record_tests;
 mod reply_lines;
 mod script;
 mod script_lines;

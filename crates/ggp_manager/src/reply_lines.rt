@@ -2,11 +2,12 @@
 ghost use Rattle.std.specs.Prelude.{◌≡◌, ◌++◌, OnOk, IfOk};
 ghost use Rattle.std.specs.Fmt.{decimal};
 ghost use Rattle.ggp_manager.specs.Words.{spaced, behind_spaces};
-ghost use Rattle.ggp_manager.specs.ScriptLines.{joint_text, owed_text, due_text, phase_text, status_text, refusal_text, reply_text};
+ghost use Rattle.ggp_manager.specs.ScriptLines.{joint_text, owed_text, due_text, status_text, refusal_text, reply_text};
 
 use game_core::{Text, Texts};
-use match_book::{Due, Owed, Phase, Status};
+use match_book::{Due, Owed, Status};
 use match_desk::{Refusal, Reply};
+use match_wire::phase_text;
 use std::alloc::{AllocError, Global};
 
 fn push_number(alloc: Global, out: &mut Vec<u8>, number: u64) -> Result<(), AllocError>
@@ -79,20 +80,6 @@ fn push_due(alloc: Global, out: &mut Vec<u8>, due: &Due) -> Result<(), AllocErro
         Due::Over => out.extend_from_slice(b"over")?,
     }
     Ok(())
-}
-
-/// The phase's word in replies and records.
-pub fn phase_text(phase: Phase) -> &'static [u8]
-    ensures { result.now ≡ phase_text phase }
-{
-    match phase {
-        Phase::Starting => b"starting",
-        Phase::Playing => b"playing",
-        Phase::Stopping => b"stopping",
-        Phase::Finished => b"finished",
-        Phase::Aborting => b"aborting",
-        Phase::Aborted => b"aborted",
-    }
 }
 
 fn push_status(alloc: Global, out: &mut Vec<u8>, status: &Status) -> Result<(), AllocError>

@@ -64,7 +64,7 @@ next m 0
 query m
 ";
 
-const SPELLED_OUTPUT: &[u8] = br#"opened
+pub const SPELLED_OUTPUT: &[u8] = br#"opened
 taken
 taken
 taken
@@ -91,7 +91,7 @@ miss m 1 3 broken
 query m
 ";
 
-const JUDGED_OUTPUT: &[u8] = br#"opened
+pub const JUDGED_OUTPUT: &[u8] = br#"opened
 taken
 taken
 taken
@@ -113,7 +113,7 @@ submit m 0 0 READY
 miss n 1 0 silent
 ";
 
-const EARLY_OUTPUT: &[u8] = br#"opened
+pub const EARLY_OUTPUT: &[u8] = br#"opened
 opened
 aborting
 owe 1 abort
@@ -149,7 +149,7 @@ submit m 0 2 ok
 query m
 ";
 
-const ABORT_OUTPUT: &[u8] = br#"opened
+pub const ABORT_OUTPUT: &[u8] = br#"opened
 refused idused
 refused badid
 refused nogame
@@ -219,11 +219,11 @@ fn games_are_played_by_their_rules(rt: HostRuntime) -> Result<(), Fail> {
 }
 
 /// The role's only move leads to a state in which it has none.
-const NO_LEGAL_RULES: &str = "(role a) (init s) (<= (legal a go) (true s))
+pub const NO_LEGAL_RULES: &str = "(role a) (init s) (<= (legal a go) (true s))
 (<= (next u) (does a go)) (<= terminal (true end))";
 
 /// The role's only move leads to an end in which it has two goals.
-const NO_GOAL_RULES: &str = "(role a) (init s) (<= (legal a go) (true s))
+pub const NO_GOAL_RULES: &str = "(role a) (init s) (<= (legal a go) (true s))
 (<= (next end) (does a go)) (<= terminal (true end)) (goal a 1) (goal a 2)";
 
 const ABORTED_SCRIPT: &[u8] = b"open m 0 1 1 ann
@@ -234,7 +234,7 @@ submit m 0 2 x
 query m
 ";
 
-const NO_LEGAL_OUTPUT: &[u8] = br#"opened
+pub const NO_LEGAL_OUTPUT: &[u8] = br#"opened
 taken
 taken
 owe 2 abort
@@ -243,7 +243,7 @@ status aborted round 2 turns 1 substitutions 0
 {"cause":"nolegal 0","endMarks":[""],"errors":[[""]],"goalValues":[],"matchId":"m","moves":[["go"]],"phase":"aborted","playClock":1,"players":["ann"],"roles":["a"],"startClock":1,"startMarks":[""],"states":[["s"],["u"]]}
 "#;
 
-const NO_GOAL_OUTPUT: &[u8] = br#"opened
+pub const NO_GOAL_OUTPUT: &[u8] = br#"opened
 taken
 taken
 owe 2 abort
@@ -253,7 +253,7 @@ status aborted round 2 turns 1 substitutions 0
 "#;
 
 /// A game that has ended before its first turn.
-const ENDED_RULES: &str =
+pub const ENDED_RULES: &str =
     "(role solo) (init done) (<= terminal (true done)) (goal solo 50) (legal solo rest)";
 
 const ENDED_SCRIPT: &[u8] = b"open t 0 1 1 ann
@@ -263,7 +263,7 @@ submit t 0 1 done
 query t
 ";
 
-const ENDED_OUTPUT: &[u8] = br#"opened
+pub const ENDED_OUTPUT: &[u8] = br#"opened
 taken
 owe 1 stop NIL
 taken
@@ -287,7 +287,7 @@ fn games_end_by_their_rules(rt: HostRuntime) -> Result<(), Fail> {
 }
 
 /// A game of one move that never ends.
-const ENDLESS_RULES: &str = "(role a) (legal a go) (init s) (next s)";
+pub const ENDLESS_RULES: &str = "(role a) (legal a go) (init s) (next s)";
 
 /// The longest match: 10,000 turns, and what is owed then.
 fn endless_script(alloc: Global) -> Result<Vec<u8>, Fail> {
@@ -310,7 +310,7 @@ fn push_repeated(out: &mut Vec<u8>, text: &[u8], count: u32) -> Result<(), Alloc
     Ok(())
 }
 
-fn endless_output(alloc: Global) -> Result<Vec<u8>, Fail> {
+pub fn endless_output(alloc: Global) -> Result<Vec<u8>, Fail> {
     let mut output = Vec::from_slice(alloc, b"opened\n")?;
     for _ in 0..10_001u32 {
         output.extend_from_slice(b"taken\n")?;

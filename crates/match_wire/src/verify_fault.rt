@@ -7,31 +7,32 @@ use std::alloc::{AllocError, AllocFailed};
 use thiserror::Error;
 
 /// Why a text is no lawful record of the game: the first test that fails. First comes the shape of the whole
-/// text, then the turns in order, then the goals and the end. Turns and roles are numbered from 0.
+/// text, then the turns in order, then the goals and the end. Turns and roles are numbered from 0. It is shown
+/// in the words of the profile, as `shape KEY` or `state T`.
 #[derive(Clone, Copy, Debug, PartialEq, Eq, Error)]
 pub enum VerifyFault {
     /// The text is no JSON.
-    #[error("the text is no JSON")]
+    #[error("json")]
     NotJson,
     /// The first key, in the order of `Key`, that is missing or has a value of another shape; or `Errors`
     /// with another number of turns than `Moves`; or `States` with another number than one more.
-    #[error("a key has no value of its shape")]
+    #[error("shape {}", .0.text())]
     BadShape(Key),
     /// In this turn the role's move is not legal.
-    #[error("a move is not legal: turn {0}, role {1}")]
+    #[error("illegal {0} {1}")]
     Illegal(usize, usize),
     /// In this turn an error stands beside a role's move that is not the first legal one, or it names a move
     /// that is legal.
-    #[error("an error stands beside a move that is not the first: turn {0}, role {1}")]
+    #[error("notfirst {0} {1}")]
     NotFirst(usize, usize),
     /// The state after as many turns is another.
-    #[error("a state is wrong: after {0} turns")]
+    #[error("state {0}")]
     WrongState(usize),
     /// The goals are not those of the last state.
-    #[error("the goals are wrong")]
+    #[error("goals")]
     WrongGoals,
     /// A turn follows though the game can't go on; or phase, cause, marks and last state don't agree.
-    #[error("the end is wrong")]
+    #[error("end")]
     WrongEnd,
     /// Want of memory.
     #[error("want of memory")]
