@@ -2,3 +2,4 @@ pub mod Tellings
 pub mod CallStops
 pub mod HandedOver
 pub mod Workers
+pub mod Sends

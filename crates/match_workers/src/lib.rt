@@ -1,14 +1,21 @@
-//! The workers of a match: each attends one role, between a wire to the desk and the role's player.
+//! Matches between players: each role of a match has a player, and is attended in a thread of its own.
 //!
-//! Free functions take the allocator first.
+//! `attend` takes what is due to a role from a wire, hands it to the role's player and gives the answer back;
+//! `referee` does so for a whole match, and leaves the closed desk with the match's history.
 #![tactic(auto)]
 
 mod attend_fault;
 mod attending;
 mod player;
-#[cfg(test)]
-mod tests;
+mod refereeing;
+mod seats;
 
 pub use attend_fault::AttendFault;
 pub use attending::attend;
 pub use player::Player;
+pub use refereeing::{RefereeFault, Refereed, referee};
+
+#[cfg(test)]
+mod referee_tests;
+#[cfg(test)]
+mod tests;

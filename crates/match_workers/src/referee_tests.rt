@@ -1,0 +1,150 @@
+//! Whole matches between players in memory.
+use super::*;
+use game_core::{Countdown, Text, Texts};
+use match_book::{Answer, Phase, Setup};
+use match_desk::{Call, Refusal};
+use std::alloc::{AllocError, Global};
+use std::sync::atomic::{AtomicU64, Ordering};
+use std::test::Fail;
+use std::thread;
+use std::time::{Clock, Duration};
+
+/// How often a player looks for another.
+const LOOKS: u32 = 2_000;
+
+/// How often an attended role may ask what is due to it.
+const TURNS: u64 = 100_000;
+
+/// A player with ready answers. It counts its messages where others can see it, and gives its first answer once it has seen
+/// that another player has been handed a message: where it never sees that, the first answer is a silence.
+#[derive(Drop)]
+struct ReadyPlayer<'a, C> {
+    clock: &'a C,
+    alloc: Global,
+    answers: &'static [&'static [u8]],
+    messages: &'a AtomicU64,
+    awaited: &'a AtomicU64,
+}
+
+impl<C: Clock> ReadyPlayer<'_, C> {
+    fn sees_the_other(&self) -> bool {
+        for _ in 0..LOOKS {
+            if self.awaited.load(Ordering::SeqCst) > 0 {
+                return true;
+            }
+            thread::sleep(self.clock, Duration::from_millis(1));
+        }
+        false
+    }
+}
+
+impl<C: Clock> Player for ReadyPlayer<'_, C> {
+    ghost use Rattle.std.specs.Prelude.{None};
+
+    ghost handed = { λ p. None };
+
+    fn ask(&mut self, _seconds: u32, _body: &[u8]) -> Answer {
+        let before = self.messages.fetch_add(1, Ordering::SeqCst);
+        if before == 0 && !self.sees_the_other() {
+            return Answer::Silent;
+        }
+        let said = self.answers.get(before as usize).copied().unwrap_or(b"?");
+        match Text::from_slice(self.alloc, said) {
+            Ok(text) => Answer::Text(text),
+            Err(_) => Answer::Silent,
+        }
+    }
+
+    fn rest(&mut self) {
+        thread::sleep(self.clock, Duration::from_micros(10));
+    }
+}
+
+fn texts(alloc: Global, words: &[&[u8]]) -> Result<Texts, AllocError> {
+    let mut items = Vec::new(alloc);
+    for word in words {
+        items.push(Text::from_slice(alloc, word)?)?;
+    }
+    Ok(Texts { items })
+}
+
+fn setup(alloc: Global, id: &[u8], clock: u32, players: &[&[u8]]) -> Result<Setup, AllocError> {
+    Ok(Setup {
+        id: Text::from_slice(alloc, id)?,
+        start: clock,
+        play: clock,
+        players: texts(alloc, players)?,
+    })
+}
+
+#[test]
+fn roles_are_attended_at_once(rt: HostRuntime) -> Result<(), Fail> {
+    let alloc = rt.alloc();
+    let (red, blue) = (AtomicU64::new(0), AtomicU64::new(0));
+    let mut players = Vec::new(alloc);
+    players.push(ReadyPlayer {
+        clock: &rt,
+        alloc,
+        answers: &[b"READY", b"(take 1)", b"DONE"],
+        messages: &red,
+        awaited: &blue,
+    })?;
+    // Blue waits for nobody: it has itself been handed a message.
+    players.push(ReadyPlayer {
+        clock: &rt,
+        alloc,
+        answers: &[b"READY", b"noop", b"DONE"],
+        messages: &blue,
+        awaited: &blue,
+    })?;
+    let game = Countdown::new(1).ok_or("no such game")?;
+    let setup = setup(alloc, b"m", 1, &[b"ann", b"bob"])?;
+    let refereed = referee(&rt, alloc, game, setup, Vec::new(alloc), players, TURNS)?;
+    assert_eq!(rt; refereed.ends.as_slice(), [Ok(3), Ok(3)].as_slice());
+    let closed = &refereed.closed;
+    let held = closed.object.match_at(0).ok_or("no match")?;
+    assert_eq!(rt; held.status().phase, Phase::Finished);
+    for (role, goal) in [(0, 100), (1, 0)] {
+        assert_eq!(rt; held.start_mark(role), Some(b"".as_slice()));
+        assert_eq!(rt; held.goal_of(role), Some(goal));
+    }
+    // The calling thread opened the match, and each other call is a worker's.
+    let first = closed.history.first().ok_or("no entry")?;
+    assert!(rt; matches!(first.call, Call::Open { game: 0, .. }));
+    assert_eq!(rt; first.line, 0);
+    assert_eq!(rt; closed.made_by_line.len(), 3);
+    assert_eq!(rt; closed.made_by_line.first().copied(), Some(1));
+    Ok(())
+}
+
+#[test]
+fn matches_that_are_not_opened_reach_no_player(rt: HostRuntime) -> Result<(), Fail> {
+    let alloc = rt.alloc();
+    let table: [(&[u8], u32, &[&[u8]], Refusal); 6] = [
+        (b"m!", 0, &[b"ann"], Refusal::BadId),
+        (b"m", 0, &[b"ann"], Refusal::WrongPlayers),
+        (b"m", 0, &[], Refusal::WrongPlayers),
+        (b"m", 1, &[b"ann", b"bob", b"cy"], Refusal::WrongPlayers),
+        (b"m", 0, &[b"ann", b"b b"], Refusal::BadName),
+        (b"m", 0, &[b"ann", b"bob"], Refusal::BadClock),
+    ];
+    for (id, clock, names, refusal) in table {
+        let messages = AtomicU64::new(0);
+        let setup = setup(alloc, id, clock, names)?;
+        let mut players = Vec::new(alloc);
+        for _ in 0..setup.players.as_slice().len() {
+            players.push(ReadyPlayer {
+                clock: &rt,
+                alloc,
+                answers: &[],
+                messages: &messages,
+                awaited: &messages,
+            })?;
+        }
+        let game = Countdown::new(3).ok_or("no such game")?;
+        let refereed = referee(&rt, alloc, game, setup, Vec::new(alloc), players, TURNS);
+        assert_eq!(rt; refereed.err(), Some(RefereeFault::Refused(refusal)));
+        assert_eq!(rt; messages.load(Ordering::SeqCst), 0);
+    }
+    Ok(())
+}

@@ -1,0 +1,239 @@
+//! A whole match between players.
+ghost use Rattle.std.specs.Prelude.{◌≡◌, ◌+◌, IfOk, length, sum, vec_len};
+ghost use Rattle.call_history.specs.History.{IsReplay};
+ghost use Rattle.match_desk.specs.ManagerValue.{opening, IsLawfulManager};
+ghost use Rattle.match_desk.specs.Steps.{reply, after};
+ghost use Rattle.match_desk.specs.Accepted.{AreAccounted};
+ghost use Rattle.match_desk.specs.Headline.{ArePlayedLegally};
+
+use crate::attend_fault::AttendFault;
+use crate::player::Player;
+use crate::seats::{Attendance, Workers, attend_all, seat_players};
+use call_history::{CallFault, Closed, LockDesk, LockLine, MAX_ENTRIES, open_lock};
+use game_core::{Game, Text, Texts};
+use kif_text::Expr;
+use match_book::Setup;
+use match_desk::{Call, Manager, Refusal, Reply, close_desk};
+use match_wire::Brief;
+use std::alloc::{AllocError, AllocFailed, Global};
+use std::marker::Brand;
+use std::sync::Wait;
+use std::sync::ledger::{Blank, Ledger};
+use std::thread::Threads;
+use thiserror::Error;
+
+/// Why a match was not refereed to a closed desk.
+#[derive(Clone, Copy, Debug, PartialEq, Eq, Error)]
+pub enum RefereeFault {
+    /// The desk refused to open the match, for this reason. No player was asked anything.
+    #[error("refused: {0}")]
+    Refused(Refusal),
+    /// The desk did not close.
+    #[error("the desk did not close")]
+    Unclosed,
+    /// The desk's history was full before the match was opened.
+    #[error("the history is full")]
+    Full,
+    /// Want of memory, or of a thread.
+    #[error("want of memory")]
+    Memory,
+}
+
+impl From<AllocError> for RefereeFault {
+    fn from(_: AllocError) -> RefereeFault {
+        RefereeFault::Memory
+    }
+}
+
+impl<T: Drop> From<AllocFailed<T>> for RefereeFault {
+    fn from(_: AllocFailed<T>) -> RefereeFault {
+        RefereeFault::Memory
+    }
+}
+
+impl From<CallFault> for RefereeFault {
+    fn from(fault: CallFault) -> RefereeFault {
+        match fault {
+            CallFault::Full => RefereeFault::Full,
+            CallFault::Memory => RefereeFault::Memory,
+        }
+    }
+}
+
+/// What is left of a refereed match.
+#[derive(Drop)]
+pub struct Refereed<G: Game> {
+    /// The desk's history, and its manager with the one match.
+    pub closed: Closed<Manager<G>>,
+    /// How attending each role ended, in the order of the roles: with the number of messages that its player was handed, or
+    /// with a fault.
+    pub ends: Vec<Result<u64, AttendFault>>,
+}
+
+/// What a match is made of, beside its game.
+#[derive(Drop)]
+struct Plan<P> {
+    setup: Setup,
+    brief: Brief,
+    players: Vec<P>,
+    turns: u64,
+}
+
+/// What the players are told of the match.
+fn brief_of<G: Game>(
+    alloc: Global,
+    game: &G,
+    setup: &Setup,
+    rules: Vec<Expr>,
+) -> Result<Brief, AllocError> {
+    let mut items = Vec::with_capacity(alloc, game.roles())?;
+    for role in 0..game.roles() {
+        items.push(Text::from_slice(alloc, game.role_name(role))?)?;
+    }
+    Ok(Brief {
+        id: setup.id.copy(alloc)?,
+        roles: Texts { items },
+        rules,
+        start: setup.start,
+        play: setup.play,
+    })
+}
+
+/// Opens the match, which is of the desk's one game.
+fn open_match<G: Game, L: Ledger, R: Wait>(
+    rt: &R,
+    desk: &LockDesk<Manager<G>, L>,
+    line: &mut LockLine<L>,
+    setup: Setup,
+) -> Result<(), RefereeFault> {
+    let call = Call::Open {
+        id: setup.id,
+        game: 0,
+        start: setup.start,
+        play: setup.play,
+        players: setup.players,
+    };
+    match desk.ask(rt, line, call)? {
+        Reply::Refused(refusal) => Err(RefereeFault::Refused(refusal)),
+        _ => Ok(()),
+    }
+}
+
+/// Attends the seats of a match on its desk.
+fn attend_match<G, L, P, R>(
+    desk: &LockDesk<Manager<G>, L>,
+    workers: Workers<'_, P, L, R>,
+) -> Result<Attendance<L>, AllocError>
+where
+    G: Game + Drop + Send,
+    G::State: Send,
+    G::Move: Send,
+    L: Ledger + Send + Sync,
+    P: Player + Drop + Send,
+    R: Threads + Wait + Sync,
+{
+    attend_all(desk, workers)
+}
+
+/// Referees a match on a desk of this ledger.
+fn referee_on<G, L, P, R>(
+    rt: &R,
+    alloc: Global,
+    blank: Blank,
+    game: G,
+    plan: Plan<P>,
+) -> Result<Refereed<G>, RefereeFault>
+where
+    G: Game + Drop + Send,
+    G::State: Send,
+    G::Move: Send,
+    L: Ledger + Send + Sync,
+    P: Player + Drop + Send,
+    R: Threads + Wait + Sync,
+    requires name { blank.name ≡ L.name }
+    requires parts { blank.parts ≡ L.parts }
+    requires one_each { blank.parts ≡ (G.rules game).roles + 1 }
+    ensures replay { IfOk result (λ r. IsReplay (reply G.rules) (after G.rules) opening r.closed.object r.closed.history.items) }
+    ensures counted { IfOk result (λ r. sum r.closed.made_by_line.items ≡ length r.closed.history.items) }
+    ensures lines { IfOk result (λ r. length r.closed.made_by_line.items ≡ (G.rules game).roles + 1) }
+    ensures lawful { IfOk result (λ r. IsLawfulManager G.rules r.closed.object) }
+    ensures legal { IfOk result (λ r. ArePlayedLegally G.rules r.closed.object) }
+    ensures accounted { IfOk result (λ r. AreAccounted G.rules r.closed.object r.closed.history.items) }
+{
+    let Plan {
+        setup,
+        brief,
+        players,
+        turns,
+    } = plan;
+    let line_count = game.roles() as u32 + 1;
+    let mut games = Vec::new(alloc);
+    games.push(game)?;
+    let manager = Manager::new(alloc, games)?;
+    let opened = open_lock::<Manager<G>, L>(alloc, blank, manager, MAX_ENTRIES, line_count);
+    let Ok((desk, mut lines)) = opened else {
+        return Err(RefereeFault::Memory);
+    };
+    let mut first = lines.remove(0);
+    open_match(rt, &desk, &mut first, setup)?;
+    let seats = seat_players(alloc, &brief, lines, players)?;
+    let workers = Workers {
+        rt,
+        alloc,
+        first,
+        brief: &brief,
+        seats,
+        turns,
+    };
+    let Attendance { lines, ends } = attend_match(&desk, workers)?;
+    match close_desk(desk, lines) {
+        Ok(closed) => Ok(Refereed { closed, ends }),
+        Err(_) => Err(RefereeFault::Unclosed),
+    }
+}
+
+/// Referees a match of the game between these players, one for each name in the setup, to its end.
+///
+/// A desk of this one game is opened, with a line for the calling thread and one for each role. The calling thread opens the
+/// match, and each role is attended in a thread of its own, for so many turns at most, with these rules in START. Then the desk
+/// is closed. What it leaves is known as of any closed desk of matches: the history, replayed call by call on a manager of one
+/// thread from the games without a match, gives every kept reply and the manager as it stands, and holds as many calls as the
+/// lines made; each match is lawful, its recorded moves were legal, and the history took exactly one answer for each of them, of
+/// which the move and its error are the judgement.
+pub fn referee<G, P, R>(
+    rt: &R,
+    alloc: Global,
+    game: G,
+    setup: Setup,
+    rules: Vec<Expr>,
+    players: Vec<P>,
+    turns: u64,
+) -> Result<Refereed<G>, RefereeFault>
+where
+    G: Game + Drop + Send,
+    G::State: Send,
+    G::Move: Send,
+    P: Player + Drop + Send,
+    R: Threads + Wait + Sync,
+    requires { vec_len players ≡ length setup.players }
+
+    // The history replays on one thread, and holds each call that was made.
+    ensures replay { IfOk result (λ r. IsReplay (reply G.rules) (after G.rules) opening r.closed.object r.closed.history.items) }
+    ensures counted { IfOk result (λ r. sum r.closed.made_by_line.items ≡ length r.closed.history.items) }
+    ensures lines { IfOk result (λ r. length r.closed.made_by_line.items ≡ (G.rules game).roles + 1) }
+
+    // The match, and how the history accounts for its moves.
+    ensures lawful { IfOk result (λ r. IsLawfulManager G.rules r.closed.object) }
+    ensures legal { IfOk result (λ r. ArePlayedLegally G.rules r.closed.object) }
+    ensures accounted { IfOk result (λ r. AreAccounted G.rules r.closed.object r.closed.history.items) }
+{
+    let brief = brief_of(alloc, &game, &setup, rules)?;
+    let plan = Plan {
+        setup,
+        brief,
+        players,
+        turns,
+    };
+    let blank = Blank::new(game.roles() as u64 + 1);
+    referee_on::<G, Brand, P, R>(rt, alloc, blank, game, plan)
+}
