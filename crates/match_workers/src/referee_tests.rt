@@ -99,6 +99,7 @@ fn roles_are_attended_at_once(rt: HostRuntime) -> Result<(), Fail> {
     })?;
     let game = Countdown::new(1).ok_or("no such game")?;
     let setup = setup(alloc, b"m", 1, &[b"ann", b"bob"])?;
+    assert_eq!(rt; players.len(), setup.players.as_slice().len());
     let refereed = referee(&rt, alloc, game, setup, Vec::new(alloc), players, TURNS)?;
     assert_eq!(rt; refereed.ends.as_slice(), [Ok(3), Ok(3)].as_slice());
     let closed = &refereed.closed;
@@ -142,6 +143,7 @@ fn matches_that_are_not_opened_reach_no_player(rt: HostRuntime) -> Result<(), Fa
             })?;
         }
         let game = Countdown::new(3).ok_or("no such game")?;
+        assert_eq!(rt; players.len(), setup.players.as_slice().len());
         let refereed = referee(&rt, alloc, game, setup, Vec::new(alloc), players, TURNS);
         assert_eq!(rt; refereed.err(), Some(RefereeFault::Refused(refusal)));
         assert_eq!(rt; messages.load(Ordering::SeqCst), 0);
