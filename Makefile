@@ -2,11 +2,15 @@
 
 PROGRAM := bin/ggp_manager
 
-.PHONY: demo test check build
+.PHONY: demo match test check build
 
 # A match of Countdown through the program: each line of a script, and its reply.
 demo: build
 	@examples/side-by-side examples/countdown.script $(PROGRAM) desk --countdown 3
+
+# A match over HTTP between two players on this computer: what they are asked and answer, and the record.
+match: build
+	@examples/play-a-match $(PROGRAM) examples/games/tictactoe.kif
 
 # The gate: every proof from nothing, the edits that must fail, the tests, the programs.
 test:

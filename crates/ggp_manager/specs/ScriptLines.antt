@@ -96,20 +96,26 @@ due_text Over = codes "over"
 abbrev pub status_text : MatchStatus → List ℕ
 status_text s = codes "status " ++ phase_text s.phase ++ codes " round " ++ decimal s.round ++ codes " turns " ++ decimal s.turns ++ codes " substitutions " ++ decimal s.substitutions
 
+-- the word of a refusal
+abbrev pub refusal_word : Refusal → List ℕ
+refusal_word BadId = codes "badid"
+refusal_word IdUsed = codes "idused"
+refusal_word NoGame = codes "nogame"
+refusal_word WrongPlayers = codes "wrongplayers"
+refusal_word BadName = codes "badname"
+refusal_word BadClock = codes "badclock"
+refusal_word DeskFull = codes "deskfull"
+refusal_word NoMatch = codes "nomatch"
+refusal_word NoRole = codes "norole"
+refusal_word IsOver = codes "over"
+refusal_word (Stale round) = codes "stale"
+refusal_word Twice = codes "twice"
+refusal_word Ended = codes "ended"
+
+-- a refusal: its word, and the present round behind `stale`
 abbrev pub refusal_text : Refusal → List ℕ
-refusal_text BadId = codes "badid"
-refusal_text IdUsed = codes "idused"
-refusal_text NoGame = codes "nogame"
-refusal_text WrongPlayers = codes "wrongplayers"
-refusal_text BadName = codes "badname"
-refusal_text BadClock = codes "badclock"
-refusal_text DeskFull = codes "deskfull"
-refusal_text NoMatch = codes "nomatch"
-refusal_text NoRole = codes "norole"
-refusal_text IsOver = codes "over"
 refusal_text (Stale round) = codes "stale " ++ decimal round
-refusal_text Twice = codes "twice"
-refusal_text Ended = codes "ended"
+refusal_text reason = refusal_word reason
 
 -- the line of a reply, without its line feed
 abbrev pub reply_text : Reply → List ℕ

@@ -3,13 +3,15 @@
 use crate::addresses::{PlayerAddress, decimal, player_address};
 use clap::error::ErrorKind;
 use clap::{Arg, ArgAction, ArgMatches, Command};
-use std::alloc::{AllocError, Global};
+use std::alloc::{AllocError, AllocFailed, Global};
 
 /// What the command line asks for. Its texts are the words that it was read from.
 #[derive(Drop)]
 pub enum Task<'a> {
     /// To answer a script, with one game.
     Desk(GameSource<'a>),
+    /// To referee a match between players on the network.
+    Run(MatchPlan<'a>),
     /// To check a record, for this game.
     Verify(GameSource<'a>),
     /// To ask a player whether it is free.
@@ -27,6 +29,17 @@ pub enum GameSource<'a> {
     Rules(&'a str),
 }
 
+/// A match between players on the network: the rules of its game, its id, its clocks in seconds, and
+/// its players in the order of the roles.
+#[derive(Drop)]
+pub struct MatchPlan<'a> {
+    pub rules: &'a str,
+    pub id: &'a str,
+    pub start: u32,
+    pub play: u32,
+    pub players: Vec<PlayerAddress<'a>>,
+}
+
 /// Why a command line is refused.
 #[derive(Clone, Copy, Debug, PartialEq, Eq)]
 pub enum ArgumentFault {
@@ -36,6 +49,12 @@ pub enum ArgumentFault {
 
 impl From<AllocError> for ArgumentFault {
     fn from(_: AllocError) -> ArgumentFault {
+        ArgumentFault::Memory
+    }
+}
+
+impl<T: Drop> From<AllocFailed<T>> for ArgumentFault {
+    fn from(_: AllocFailed<T>) -> ArgumentFault {
         ArgumentFault::Memory
     }
 }
@@ -90,6 +109,23 @@ fn verify_command<'a>(alloc: Global) -> Result<Command<'a>, AllocError> {
     )
 }
 
+fn run_command<'a>(alloc: Global) -> Result<Command<'a>, AllocError> {
+    Command::new(alloc, "run")
+        .about("Referees a match between players over HTTP, and prints its record")
+        .arg(option(alloc, "rules", "TEXT", "The ground description of the game").required(true))?
+        .arg(option(alloc, "id", "ID", "The match's id").required(true))?
+        .arg(option(alloc, "start", "S", "The seconds for START").default_value("10"))?
+        .arg(option(alloc, "play", "S", "The seconds for every other message").default_value("10"))?
+        .arg(
+            Arg::new(alloc, "players")
+                .value_name("NAME@HOST:PORT")
+                .required(true)
+                .num_args(1..)
+                .action(ArgAction::Append)
+                .help("The players, in the order of the roles"),
+        )
+}
+
 fn info_command<'a>(alloc: Global) -> Result<Command<'a>, AllocError> {
     Command::new(alloc, "info")
         .about("Asks a player whether it is free")
@@ -108,6 +144,7 @@ fn program<'a>(alloc: Global) -> Result<Command<'a>, AllocError> {
         .no_binary_name(true)
         .subcommand_required(true)
         .subcommand(desk_command(alloc)?)?
+        .subcommand(run_command(alloc)?)?
         .subcommand(verify_command(alloc)?)?
         .subcommand(info_command(alloc)?)
 }
@@ -124,6 +161,26 @@ fn game_source<'a>(found: &ArgMatches<'a>) -> Option<GameSource<'a>> {
     }
 }
 
+/// The seconds that an option gives, in or out of a clock's range.
+fn seconds(found: &ArgMatches<'_>, name: &str) -> Option<u32> {
+    let seconds = decimal(found.get_str(name)?, u64::from(u32::MAX))?;
+    u32::try_from(seconds).ok()
+}
+
+fn match_plan<'a>(alloc: Global, found: &ArgMatches<'a>) -> Result<MatchPlan<'a>, ArgumentFault> {
+    let mut players = Vec::new(alloc);
+    for word in found.get_strs("players").ok_or(ArgumentFault::WrongUse)? {
+        players.push(player_address(word).ok_or(ArgumentFault::WrongUse)?)?;
+    }
+    Ok(MatchPlan {
+        rules: found.get_str("rules").ok_or(ArgumentFault::WrongUse)?,
+        id: found.get_str("id").ok_or(ArgumentFault::WrongUse)?,
+        start: seconds(found, "start").ok_or(ArgumentFault::WrongUse)?,
+        play: seconds(found, "play").ok_or(ArgumentFault::WrongUse)?,
+        players,
+    })
+}
+
 /// What the words after the program's name ask for.
 pub fn read_arguments<'a>(alloc: Global, words: &'a [&'a str]) -> Result<Task<'a>, ArgumentFault> {
     let found = match program(alloc)?.try_get_matches_from(words) {
@@ -133,6 +190,7 @@ pub fn read_arguments<'a>(alloc: Global, words: &'a [&'a str]) -> Result<Task<'a
     };
     let task = match found.subcommand() {
         Some(("desk", found)) => game_source(found).map(|game| Task::Desk(game)),
+        Some(("run", found)) => Some(Task::Run(match_plan(alloc, found)?)),
         Some(("verify", found)) => game_source(found).map(|game| Task::Verify(game)),
         Some(("info", found)) => found
             .get_str("player")

@@ -1,18 +1,23 @@
 //! The commands, for any streams.
 
 use crate::addresses::PlayerAddress;
-use crate::arguments::{ArgumentFault, GameSource, Task, read_arguments};
+use crate::arguments::{ArgumentFault, GameSource, MatchPlan, Task, read_arguments};
 use crate::checking::check_record;
 use crate::contact::{ContactFault, contact};
 use crate::fault::Fault;
 use crate::games::described_game;
+use crate::running::played_record;
 use crate::script::{ScriptFault, run_script};
+use crate::socket_player::Reach;
 use crate::streams::{WriteFault, write_all};
 use game_core::{Countdown, Counted, Game};
 use match_wire::{Info, WireFault, info_message, read_info};
+use match_workers::Player;
 use std::alloc::Global;
 use std::io::{Read, Write};
 use std::net::Net;
+use std::sync::Wait;
+use std::thread::Threads;
 
 /// How many seconds a player has to answer INFO.
 const INFO_SECONDS: u32 = 10;
@@ -54,15 +59,21 @@ impl From<ContactFault> for Fault {
 
 /// Does what the words after the program's name ask for, and answers the program's status. A fault
 /// is one line on `errors`; a failed write to `errors` is passed by.
-pub fn command<N: Net, R: Read, W: Write, E: Write>(
-    rt: &N,
+pub fn command<H, P, S, R: Read, W: Write, E: Write>(
+    rt: &H,
     alloc: Global,
+    reach: &S,
     words: &[String],
     reader: &mut Counted<R>,
     writer: &mut Counted<W>,
     errors: &mut E,
-) -> u8 {
-    match perform(rt, alloc, words, reader, writer) {
+) -> u8
+where
+    H: Net + Threads + Wait + Sync,
+    P: Player + Drop + Send,
+    S: Reach<P>,
+{
+    match perform::<H, P, S, R, W>(rt, alloc, reach, words, reader, writer) {
         Ok(()) => 0,
         Err(fault) => {
             report(errors, fault);
@@ -76,18 +87,25 @@ pub fn report<E: Write>(errors: &mut E, fault: Fault) {
     let _ = writeln!(errors, "ggp_manager: {fault}");
 }
 
-fn perform<N: Net, R: Read, W: Write>(
-    rt: &N,
+fn perform<H, P, S, R: Read, W: Write>(
+    rt: &H,
     alloc: Global,
+    reach: &S,
     words: &[String],
     reader: &mut Counted<R>,
     writer: &mut Counted<W>,
-) -> Result<(), Fault> {
+) -> Result<(), Fault>
+where
+    H: Net + Threads + Wait + Sync,
+    P: Player + Drop + Send,
+    S: Reach<P>,
+{
     let words: Vec<&str> = words.iter().map(|word| word.as_str()).collect(alloc)?;
     match read_arguments(alloc, words.as_slice())? {
         Task::Help(text) => Ok(write_all(writer, text.as_bytes())?),
         Task::Desk(game) => desk(alloc, game, reader, writer),
         Task::Verify(game) => check(alloc, game, reader, writer),
+        Task::Run(plan) => run::<H, P, S, W>(rt, alloc, reach, &plan, writer),
         Task::Info(player) => info(rt, alloc, &player, writer),
     }
 }
@@ -141,6 +159,23 @@ fn check<R: Read, W: Write>(
             check_record(alloc, &game, reader, writer)
         }
     }
+}
+
+fn run<H, P, S, W: Write>(
+    rt: &H,
+    alloc: Global,
+    reach: &S,
+    plan: &MatchPlan<'_>,
+    writer: &mut Counted<W>,
+) -> Result<(), Fault>
+where
+    H: Net + Threads + Wait + Sync,
+    P: Player + Drop + Send,
+    S: Reach<P>,
+{
+    let mut record = played_record::<H, P, S>(rt, alloc, reach, plan)?;
+    record.bytes.push(b'\n')?;
+    Ok(write_all(writer, record.as_slice())?)
 }
 
 /// What the answer to an INFO means, as a line of output.

@@ -1,5 +1,7 @@
 //! Why a command ends with a fault.
 
+use crate::reply_lines::refusal_word;
+use match_desk::Refusal;
 use match_wire::VerifyFault;
 use std::alloc::{AllocError, AllocFailed};
 use thiserror::Error;
@@ -26,6 +28,12 @@ pub enum Fault {
     /// The player can't be reached, or its answer can't be taken.
     #[error("no answer")]
     NoAnswer,
+    /// The match was not opened.
+    #[error("refused {}", refusal_word(*.0))]
+    Refused(Refusal),
+    /// The match has neither finished nor been aborted.
+    #[error("match not ended")]
+    MatchNotEnded,
     /// The record is not lawful: the first test that it fails.
     #[error("not lawful: {0}")]
     NotLawful(VerifyFault),

@@ -16,8 +16,10 @@ mod network_tests;
 #[cfg(test)]
 mod record_tests;
 mod reply_lines;
+mod running;
 mod script;
 mod script_lines;
+mod socket_player;
 mod streams;
 #[cfg(test)]
 mod tests;
@@ -26,6 +28,7 @@ mod words;
 use command::{command, report};
 use fault::Fault;
 use game_core::Counted;
+use socket_player::{SocketPlayer, Sockets};
 use std::io::ErrorKind;
 use std::process::ExitCode;
 use std::{env, io};
@@ -50,9 +53,11 @@ fn main(rt: HostRuntime) -> ExitCode {
     };
     let mut reader = Counted::new(rt.stdin());
     let mut writer = Counted::new(rt.stdout());
-    let status = command(
+    let reach = Sockets { rt: &rt };
+    let status = command::<_, SocketPlayer<'_>, _, _, _, _>(
         &rt,
         rt.alloc(),
+        &reach,
         &words,
         &mut reader,
         &mut writer,

@@ -11,23 +11,26 @@ use crate::tests::{
 use std::alloc::Global;
 use std::net::Net;
 use std::str::from_utf8;
+use std::sync::Wait;
 use std::test::Fail;
+use std::thread::Threads;
 
 /// How many records of these lines are lawful for the game.
 fn lawful_records<H>(
     rt: &H,
+    host: &HostRuntime,
     alloc: Global,
     option: &str,
     game: &str,
     output: &[u8],
 ) -> Result<u32, Fail>
 where
-    H: Net,
+    H: Net + Threads + Wait + Sync,
 {
     let mut lawful = 0u32;
     for line in from_utf8(output)?.lines() {
         if line.starts_with("{") {
-            let outcome = outcome_of(rt, alloc, &["verify", option, game], line.as_bytes())?;
+            let outcome = outcome_of(rt, host, alloc, &["verify", option, game], line.as_bytes())?;
             if outcome.status == 0 && outcome.output.as_slice() == b"lawful\n".as_slice() {
                 lawful = lawful.saturating_add(1);
             }
@@ -53,7 +56,7 @@ fn printed_records_are_lawful(rt: HostRuntime) -> Result<(), Fail> {
         ("--rules", ENDED_RULES, ENDED_OUTPUT, 1),
     ];
     for (option, game, output, count) in table {
-        let lawful = lawful_records(&rt, rt.alloc(), option, game, output)?;
+        let lawful = lawful_records(&rt, &rt, rt.alloc(), option, game, output)?;
         assert_eq!(rt; lawful, count);
     }
     Ok(())
@@ -62,7 +65,7 @@ fn printed_records_are_lawful(rt: HostRuntime) -> Result<(), Fail> {
 #[test]
 fn longest_records_are_lawful(rt: HostRuntime) -> Result<(), Fail> {
     let output = endless_output(rt.alloc())?;
-    let lawful = lawful_records(&rt, rt.alloc(), "--rules", ENDLESS_RULES, &output)?;
+    let lawful = lawful_records(&rt, &rt, rt.alloc(), "--rules", ENDLESS_RULES, &output)?;
     assert_eq!(rt; lawful, 1);
     Ok(())
 }
@@ -81,7 +84,7 @@ const UNLAWFUL: [(&[u8], &[u8]); 4] = [
 #[test]
 fn texts_that_are_no_records_are_refused(rt: HostRuntime) -> Result<(), Fail> {
     for (text, errors) in UNLAWFUL {
-        let outcome = outcome_of(&rt, rt.alloc(), &["verify", "--countdown", "3"], text)?;
+        let outcome = outcome_of(&rt, &rt, rt.alloc(), &["verify", "--countdown", "3"], text)?;
         assert_eq!(rt; outcome.output.len(), 0);
         assert!(rt; outcome.errors.as_slice() == errors);
         assert_eq!(rt; outcome.status, 1);
@@ -112,7 +115,7 @@ fn changed_records_are_not_lawful(rt: HostRuntime) -> Result<(), Fail> {
         for line in changed.as_str().lines() {
             if line.starts_with("{") {
                 let words = ["verify", "--countdown", "3"];
-                let outcome = outcome_of(&rt, rt.alloc(), &words, line.as_bytes())?;
+                let outcome = outcome_of(&rt, &rt, rt.alloc(), &words, line.as_bytes())?;
                 let errors = format!(in rt.alloc(); "ggp_manager: not lawful: {fault}\n")?;
                 assert_eq!(rt; outcome.output.len(), 0);
                 assert!(rt; outcome.errors.as_slice() == errors.as_bytes());
@@ -126,10 +129,10 @@ fn changed_records_are_not_lawful(rt: HostRuntime) -> Result<(), Fail> {
 #[test]
 fn long_records_are_refused(rt: HostRuntime) -> Result<(), Fail> {
     let mut text = vec![in rt.alloc(); b' '; 16_777_216]?;
-    let kept = outcome_of(&rt, rt.alloc(), &["verify", "--countdown", "3"], &text)?;
+    let kept = outcome_of(&rt, &rt, rt.alloc(), &["verify", "--countdown", "3"], &text)?;
     assert!(rt; kept.errors.as_slice() == b"ggp_manager: not lawful: json\n".as_slice());
     text.push(b' ')?;
-    let refused = outcome_of(&rt, rt.alloc(), &["verify", "--countdown", "3"], &text)?;
+    let refused = outcome_of(&rt, &rt, rt.alloc(), &["verify", "--countdown", "3"], &text)?;
     assert!(rt; refused.errors.as_slice() == b"ggp_manager: input too long\n".as_slice());
     assert_eq!(rt; refused.status, 1);
     Ok(())

@@ -2,7 +2,7 @@
 ghost use Rattle.std.specs.Prelude.{◌≡◌, ◌++◌, OnOk, IfOk};
 ghost use Rattle.std.specs.Fmt.{decimal};
 ghost use Rattle.ggp_manager.specs.Words.{spaced, behind_spaces};
-ghost use Rattle.ggp_manager.specs.ScriptLines.{joint_text, owed_text, due_text, status_text, refusal_text, reply_text};
+ghost use Rattle.ggp_manager.specs.ScriptLines.{joint_text, owed_text, due_text, status_text, refusal_word, refusal_text, reply_text};
 
 use game_core::{Text, Texts};
 use match_book::{Due, Owed, Status};
@@ -95,28 +95,35 @@ fn push_status(alloc: Global, out: &mut Vec<u8>, status: &Status) -> Result<(), 
     push_number(alloc, out, status.substitutions)
 }
 
+/// The word of a refusal, as replies and faults show it.
+pub fn refusal_word(refusal: Refusal) -> &'static str
+    ensures { result.now ≡ refusal_word refusal }
+{
+    match refusal {
+        Refusal::BadId => "badid",
+        Refusal::IdUsed => "idused",
+        Refusal::NoGame => "nogame",
+        Refusal::WrongPlayers => "wrongplayers",
+        Refusal::BadName => "badname",
+        Refusal::BadClock => "badclock",
+        Refusal::DeskFull => "deskfull",
+        Refusal::NoMatch => "nomatch",
+        Refusal::NoRole => "norole",
+        Refusal::Over => "over",
+        Refusal::Stale(_) => "stale",
+        Refusal::Twice => "twice",
+        Refusal::Ended => "ended",
+    }
+}
+
 fn push_refusal(alloc: Global, out: &mut Vec<u8>, refusal: Refusal) -> Result<(), AllocError>
     ensures { OnOk result (out.new.items ≡ out.old.items ++ refusal_text refusal) }
 {
-    let word: &[u8] = match refusal {
-        Refusal::BadId => b"badid",
-        Refusal::IdUsed => b"idused",
-        Refusal::NoGame => b"nogame",
-        Refusal::WrongPlayers => b"wrongplayers",
-        Refusal::BadName => b"badname",
-        Refusal::BadClock => b"badclock",
-        Refusal::DeskFull => b"deskfull",
-        Refusal::NoMatch => b"nomatch",
-        Refusal::NoRole => b"norole",
-        Refusal::Over => b"over",
-        Refusal::Stale(round) => {
-            out.extend_from_slice(b"stale ")?;
-            return push_number(alloc, out, round);
-        }
-        Refusal::Twice => b"twice",
-        Refusal::Ended => b"ended",
-    };
-    out.extend_from_slice(word)?;
+    out.extend_from_slice(refusal_word(refusal).as_bytes())?;
+    if let Refusal::Stale(round) = refusal {
+        out.push(b' ')?;
+        push_number(alloc, out, round)?;
+    }
     Ok(())
 }
 

@@ -8,12 +8,16 @@ use crate::example_games::{
 };
 use crate::fault::Fault;
 use crate::script::ScriptFault;
+use crate::socket_player::{SocketPlayer, Sockets};
 use game_core::Counted;
+use match_desk::Refusal;
 use std::alloc::{AllocError, Global};
 use std::io;
 use std::io::{ErrorKind, Read, Write};
 use std::net::Net;
+use std::sync::Wait;
 use std::test::Fail;
+use std::thread::Threads;
 
 /// What a command left: its output, its line of a fault, and its status.
 #[derive(Drop)]
@@ -31,18 +35,48 @@ fn strings(alloc: Global, words: &[&str]) -> Result<Vec<String>, AllocError> {
     Ok(all)
 }
 
+/// Runs a command over these streams. The runtime is handed in twice, since only a test itself knows that the very one that it
+/// takes has threads.
+fn run_command<H, R: Read, W: Write, E: Write>(
+    rt: &H,
+    host: &HostRuntime,
+    alloc: Global,
+    words: &[String],
+    reader: &mut Counted<R>,
+    writer: &mut Counted<W>,
+    errors: &mut E,
+) -> u8
+where
+    H: Net + Threads + Wait + Sync,
+{
+    let reach = Sockets { rt: host };
+    command::<_, SocketPlayer<'_>, _, _, _, _>(rt, alloc, &reach, words, reader, writer, errors)
+}
+
 /// Runs a command on that input.
-pub fn outcome_of<N: Net>(
-    rt: &N,
+pub fn outcome_of<H>(
+    rt: &H,
+    host: &HostRuntime,
     alloc: Global,
     words: &[&str],
     input: &[u8],
-) -> Result<Outcome, AllocError> {
+) -> Result<Outcome, AllocError>
+where
+    H: Net + Threads + Wait + Sync,
+{
     let words = strings(alloc, words)?;
     let mut reader = Counted::new(input);
     let mut writer = Counted::new(Vec::new(alloc));
     let mut errors = Vec::new(alloc);
-    let status = command(rt, alloc, &words, &mut reader, &mut writer, &mut errors);
+    let status = run_command(
+        rt,
+        host,
+        alloc,
+        &words,
+        &mut reader,
+        &mut writer,
+        &mut errors,
+    );
     Ok(Outcome {
         output: writer.end(),
         errors,
@@ -193,7 +227,7 @@ fn scripts_are_answered(rt: HostRuntime) -> Result<(), Fail> {
         (&desk, b"query m\r", b"refused nomatch\n"),
     ];
     for (words, script, replies) in table {
-        let outcome = outcome_of(&rt, rt.alloc(), words, script)?;
+        let outcome = outcome_of(&rt, &rt, rt.alloc(), words, script)?;
         assert_eq!(rt; outcome.errors.as_slice(), b"".as_slice());
         assert_eq!(rt; outcome.status, 0);
         assert!(rt; outcome.output.as_slice() == replies);
@@ -210,7 +244,7 @@ fn games_are_played_by_their_rules(rt: HostRuntime) -> Result<(), Fail> {
         (BUTTONS_RULES, BUTTONS_SCRIPT, BUTTONS_OUTPUT),
     ];
     for (rules, script, output) in table {
-        let outcome = outcome_of(&rt, rt.alloc(), &["desk", "--rules", rules], script)?;
+        let outcome = outcome_of(&rt, &rt, rt.alloc(), &["desk", "--rules", rules], script)?;
         assert_eq!(rt; outcome.errors.as_slice(), b"".as_slice());
         assert_eq!(rt; outcome.status, 0);
         assert!(rt; outcome.output.as_slice() == output);
@@ -279,7 +313,7 @@ fn games_end_by_their_rules(rt: HostRuntime) -> Result<(), Fail> {
         (ENDED_RULES, ENDED_SCRIPT, ENDED_OUTPUT),
     ];
     for (rules, script, replies) in table {
-        let outcome = outcome_of(&rt, rt.alloc(), &["desk", "--rules", rules], script)?;
+        let outcome = outcome_of(&rt, &rt, rt.alloc(), &["desk", "--rules", rules], script)?;
         assert_eq!(rt; outcome.errors.as_slice(), b"".as_slice());
         assert!(rt; outcome.output.as_slice() == replies);
     }
@@ -331,7 +365,13 @@ pub fn endless_output(alloc: Global) -> Result<Vec<u8>, Fail> {
 fn longest_matches_are_recorded(rt: HostRuntime) -> Result<(), Fail> {
     let alloc = rt.alloc();
     let script = endless_script(alloc)?;
-    let outcome = outcome_of(&rt, alloc, &["desk", "--rules", ENDLESS_RULES], &script)?;
+    let outcome = outcome_of(
+        &rt,
+        &rt,
+        alloc,
+        &["desk", "--rules", ENDLESS_RULES],
+        &script,
+    )?;
     assert_eq!(rt; outcome.status, 0);
     assert!(rt; outcome.output.as_slice() == endless_output(alloc)?.as_slice());
     Ok(())
@@ -350,7 +390,8 @@ fn bad_descriptions_are_refused(rt: HostRuntime) -> Result<(), Fail> {
         let mut reader = Counted::new(Broken);
         let mut writer = Counted::new(Vec::new(rt.alloc()));
         let mut errors = Vec::new(rt.alloc());
-        let status = command(
+        let status = run_command(
+            &rt,
             &rt,
             rt.alloc(),
             &words,
@@ -387,7 +428,7 @@ fn bad_lines_are_counted(rt: HostRuntime) -> Result<(), Fail> {
         ),
     ];
     for (script, replies, errors) in table {
-        let outcome = outcome_of(&rt, rt.alloc(), &["desk", "--countdown", "3"], script)?;
+        let outcome = outcome_of(&rt, &rt, rt.alloc(), &["desk", "--countdown", "3"], script)?;
         assert!(rt; outcome.output.as_slice() == replies);
         assert!(rt; outcome.errors.as_slice() == errors);
         assert_eq!(rt; outcome.status, 1);
@@ -397,7 +438,7 @@ fn bad_lines_are_counted(rt: HostRuntime) -> Result<(), Fail> {
 
 #[test]
 fn wrong_use_is_refused(rt: HostRuntime) -> Result<(), Fail> {
-    let table: [&[&str]; 16] = [
+    let table: [&[&str]; 26] = [
         &[],
         &["desk"],
         &["frob"],
@@ -408,6 +449,52 @@ fn wrong_use_is_refused(rt: HostRuntime) -> Result<(), Fail> {
         &["desk", "--countdown", "3", "--countdown", "3"],
         &["desk", "--countdown", "3", "--rules", "(role a)"],
         &["desk", "--countdown", "3", "more"],
+        &["run", "--id", "m", "ann@host:80"],
+        &["run", "--rules", "(role a)", "ann@host:80"],
+        &["run", "--rules", "(role a)", "--id", "m"],
+        &["run", "--rules", "(role a)", "--id", "m", "ann"],
+        &["run", "--rules", "(role a)", "--id", "m", "a b@host:80"],
+        &[
+            "run",
+            "--rules",
+            "(role a)",
+            "--id",
+            "m",
+            "--start",
+            "+1",
+            "ann@host:80",
+        ],
+        &[
+            "run",
+            "--rules",
+            "(role a)",
+            "--id",
+            "m",
+            "--play",
+            "",
+            "ann@host:80",
+        ],
+        &[
+            "run",
+            "--rules",
+            "(role a)",
+            "--id",
+            "m",
+            "--play",
+            "4294967296",
+            "ann@host:80",
+        ],
+        &[
+            "run",
+            "--rules",
+            "(role a)",
+            "--id",
+            "m",
+            "--id",
+            "n",
+            "ann@host:80",
+        ],
+        &["run", "--countdown", "3", "--id", "m", "ann@host:80"],
         &["info"],
         &["info", "ann"],
         &["info", "ann@host"],
@@ -416,7 +503,7 @@ fn wrong_use_is_refused(rt: HostRuntime) -> Result<(), Fail> {
         &["info", "ann@host:65536"],
     ];
     for words in table {
-        let outcome = outcome_of(&rt, rt.alloc(), words, b"query m\n")?;
+        let outcome = outcome_of(&rt, &rt, rt.alloc(), words, b"query m\n")?;
         assert_eq!(rt; outcome.output.len(), 0);
         assert!(rt; outcome.errors.as_slice() == b"ggp_manager: wrong use\n".as_slice());
         assert_eq!(rt; outcome.status, 2);
@@ -431,7 +518,7 @@ fn help_is_no_fault(rt: HostRuntime) -> Result<(), Fail> {
         ["-h"].as_slice(),
         ["help"].as_slice(),
     ] {
-        let outcome = outcome_of(&rt, rt.alloc(), words, b"")?;
+        let outcome = outcome_of(&rt, &rt, rt.alloc(), words, b"")?;
         assert!(rt; !outcome.output.is_empty());
         assert_eq!(rt; outcome.errors.len(), 0);
         assert_eq!(rt; outcome.status, 0);
@@ -465,7 +552,8 @@ fn streams_that_fail_are_faults(rt: HostRuntime) -> Result<(), Fail> {
     let mut errors = Vec::new(rt.alloc());
     let mut output = Counted::new(Vec::new(rt.alloc()));
     let mut broken = Counted::new(Broken);
-    let status = command(
+    let status = run_command(
+        &rt,
         &rt,
         rt.alloc(),
         &words,
@@ -479,7 +567,8 @@ fn streams_that_fail_are_faults(rt: HostRuntime) -> Result<(), Fail> {
 
     errors.clear();
     let mut input = Counted::new(COUNTDOWN_SCRIPT);
-    let status = command(
+    let status = run_command(
+        &rt,
         &rt,
         rt.alloc(),
         &words,
@@ -492,7 +581,8 @@ fn streams_that_fail_are_faults(rt: HostRuntime) -> Result<(), Fail> {
 
     let mut input = Counted::new(b"frob".as_slice());
     let mut output = Counted::new(Vec::new(rt.alloc()));
-    let status = command(
+    let status = run_command(
+        &rt,
         &rt,
         rt.alloc(),
         &words,
@@ -507,11 +597,17 @@ fn streams_that_fail_are_faults(rt: HostRuntime) -> Result<(), Fail> {
 
 #[test]
 fn faults_have_their_lines_and_statuses(rt: HostRuntime) -> Result<(), Fail> {
-    let table: [(Fault, &[u8], u8); 8] = [
+    let table: [(Fault, &[u8], u8); 10] = [
         (Fault::WrongUse, b"ggp_manager: wrong use\n", 2),
         (Fault::Memory, b"ggp_manager: want of memory\n", 3),
         (Fault::BadDescription, b"ggp_manager: bad description\n", 1),
         (Fault::ReadFault, b"ggp_manager: read fault\n", 1),
+        (
+            Fault::Refused(Refusal::DeskFull),
+            b"ggp_manager: refused deskfull\n",
+            1,
+        ),
+        (Fault::MatchNotEnded, b"ggp_manager: match not ended\n", 1),
         (Fault::InputTooLong, b"ggp_manager: input too long\n", 1),
         (Fault::WriteFault, b"ggp_manager: write fault\n", 1),
         (Fault::NoAnswer, b"ggp_manager: no answer\n", 1),
@@ -532,10 +628,10 @@ fn faults_have_their_lines_and_statuses(rt: HostRuntime) -> Result<(), Fail> {
 #[test]
 fn long_scripts_are_refused(rt: HostRuntime) -> Result<(), Fail> {
     let mut script = vec![in rt.alloc(); b' '; 1_048_576]?;
-    let kept = outcome_of(&rt, rt.alloc(), &["desk", "--countdown", "3"], &script)?;
+    let kept = outcome_of(&rt, &rt, rt.alloc(), &["desk", "--countdown", "3"], &script)?;
     assert!(rt; kept.output.as_slice() == b"badline\n".as_slice());
     script.push(b' ')?;
-    let refused = outcome_of(&rt, rt.alloc(), &["desk", "--countdown", "3"], &script)?;
+    let refused = outcome_of(&rt, &rt, rt.alloc(), &["desk", "--countdown", "3"], &script)?;
     assert_eq!(rt; refused.output.len(), 0);
     assert!(rt; refused.errors.as_slice() == b"ggp_manager: input too long\n".as_slice());
     assert_eq!(rt; refused.status, 1);

@@ -3,7 +3,6 @@ use denote.RattleType.{RattleType}
 use denote.Struct.Declared.{shape, fields}
 use denote.Param.Send.{IsSend, AllSend, recorded_send, struct_send, sendable}
 use Rattle.std.specs.contracts.option.Option as Option
-use Rattle.std.specs.contracts.snapshot.Snapshot as Snapshot
 use Rattle.std.proofs.Crossing.{crosses, Vec-send}
 use Rattle.indexmap.proofs.map.IndexMap.TheSendSync.{the_send as index_map}
 use Rattle.game_core.specs.declared.game.Game.{Ghosts}

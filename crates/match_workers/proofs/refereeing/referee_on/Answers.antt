@@ -1,4 +1,4 @@
-use Rattle.std.proofs.Common.{◌≡◌, ◌<◌, ◌+◌, ℕ, zero, suc, [], ◌∷◌, ◌++◌, length, ap, refl, ◌∙◌, arith, length-append}
+use Rattle.std.proofs.Common.{◌≡◌, ◌+◌, ℕ, zero, suc, [], ◌∷◌, length, ap, refl, ◌∙◌, arith, length-append}
 use Rattle.call_history.specs.Lines.{new_lines}
 use Rattle.match_workers.proofs.refereeing.referee_on.Goals as goal
 
