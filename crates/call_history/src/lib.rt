@@ -12,8 +12,6 @@ mod line;
 mod lock;
 mod lock_wire;
 mod object;
-#[cfg(test)]
-mod tests;
 mod wire;
 
 pub use journal::{CallFault, Entry, Journal, MAX_ENTRIES};

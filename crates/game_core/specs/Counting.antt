@@ -1,16 +1,17 @@
 -- What a counted stream shows.
 use Rattle.std.specs.Prelude.{ℕ, ◌+◌, ◌-◌, ◌^◌, min, List, length, Result, Ok, Err, if◌then◌else◌, ◌&&◌, ◌==◌, nat_lt}
 
--- a stream, and how many of its reads and writes have failed
+-- a stream, how many reads and writes it was asked for, and how many of these have failed
 pub record Counting (S : Type 0) : Type 0 where
   pub stream : S
+  pub calls : ℕ
   pub faults : ℕ
 
 -- the last number that a count reaches
 abbrev pub last_count : ℕ
 last_count = 2 ^ 64 - 1
 
--- one more fault, up to the last number
+-- one more, up to the last number
 abbrev pub one_more : ℕ → ℕ
 one_more n = min (n + 1) last_count
 

@@ -19,14 +19,18 @@ pub struct Countdown {
 /// A move: to take none, one or two.
 #[derive(Clone, Copy, Debug, PartialEq, Eq)]
 pub enum Take {
+    /// `noop`: of the role that is not on turn.
     Noop,
+    /// `(take 1)`.
     One,
+    /// `(take 2)`: with a heap of at least 2.
     Two,
 }
 
 /// The two roles: red is role 0, blue role 1.
 #[derive(Clone, Copy, Debug, PartialEq, Eq)]
 pub enum Side {
+    /// The role that begins.
     Red,
     Blue,
 }

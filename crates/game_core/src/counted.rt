@@ -2,7 +2,7 @@
 ghost use Rattle.std.specs.Prelude.{◌≡◌, ◌≤◌};
 ghost use Rattle.std.specs.Io.{ReadsAtMost, WritesAtMost};
 ghost use Rattle.std.specs.Io.KnownBytes.{ReadConsumes, WriteAppends};
-ghost use Rattle.game_core.specs.Counting.{after_read, after_write};
+ghost use Rattle.game_core.specs.Counting.{after_read, after_write, one_more};
 
 use std::io;
 use std::io::{Read, Write};
@@ -11,10 +11,14 @@ use std::marker::Model;
 /// A stream, and how many of its reads and writes have failed: each `Err`, interruptions included,
 /// and each write that takes 0 of some bytes. The count stops at 2^64 - 1.
 ///
+/// All reads and writes are counted too, for contracts alone: a clause that speaks of so many reads
+/// cites that count.
+///
 /// It does not implement `Read` and `Write`: their provided methods would not keep the count.
 #[derive(Drop)]
 pub struct Counted<S> {
     inner: S,
+    called: u64,
     failed: u64,
 }
 
@@ -23,7 +27,7 @@ impl<S> Model for Counted<S> {
 
     ghost Value = { Counting S };
 
-    ghost view = { λ c. record { stream = c.inner; faults = c.failed } };
+    ghost view = { λ c. record { stream = c.inner; calls = c.called; faults = c.failed } };
 }
 
 impl<S> Counted<S> {
@@ -31,9 +35,11 @@ impl<S> Counted<S> {
     pub fn new(stream: S) -> Counted<S>
         ensures stream { result.stream ≡ stream }
         ensures none_yet { result.faults ≡ 0 }
+        ensures not_called { result.calls ≡ 0 }
     {
         Counted {
             inner: stream,
+            called: 0,
             failed: 0,
         }
     }
@@ -49,7 +55,11 @@ impl<S> Counted<S> {
     pub fn end(self) -> S
         ensures { result ≡ self.stream }
     {
-        let Counted { inner, failed: _ } = self;
+        let Counted {
+            inner,
+            called: _,
+            failed: _,
+        } = self;
         inner
     }
 }
@@ -61,7 +71,9 @@ impl<S: Read> Counted<S> {
         ensures bytes { ReadConsumes (S.remaining self.old.stream) (S.remaining self.new.stream) result buffer.new }
         ensures counted { self.new.faults ≡ after_read result self.old.faults }
         ensures kept { self.old.faults ≤ self.new.faults }
+        ensures called { self.new.calls ≡ one_more self.old.calls }
     {
+        self.called = self.called.saturating_add(1);
         let given = self.inner.read(buffer);
         if given.is_err() {
             self.failed = self.failed.saturating_add(1);
@@ -77,7 +89,9 @@ impl<S: Write> Counted<S> {
         ensures bytes { WriteAppends (S.contents self.old.stream) (S.contents self.new.stream) result bytes.now }
         ensures counted { self.new.faults ≡ after_write result bytes.now self.old.faults }
         ensures kept { self.old.faults ≤ self.new.faults }
+        ensures called { self.new.calls ≡ one_more self.old.calls }
     {
+        self.called = self.called.saturating_add(1);
         let taken = self.inner.write(bytes);
         let failed = match &taken {
             Ok(count) => *count == 0 && !bytes.is_empty(),

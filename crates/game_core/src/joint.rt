@@ -18,6 +18,7 @@ impl<M> Model for Joint<M> {
 }
 
 impl<M> Joint<M> {
+    /// The moves in the order of the roles.
     pub fn as_slice(&self) -> &[M]
         ensures { result.now ≡ self.now }
     {

@@ -18,6 +18,3 @@ pub use joint::Joint;
 pub use play::{PlayFault, play_list};
 pub use text::Text;
 pub use texts::Texts;
-
-#[cfg(test)]
-mod tests;

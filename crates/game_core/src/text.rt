@@ -27,6 +27,7 @@ impl Text {
         Ok(Text { bytes })
     }
 
+    /// The bytes of a string, taken over.
     pub fn from_string(text: String) -> Text
         ensures { result ≡ string_bytes text }
     {
@@ -42,6 +43,7 @@ impl Text {
         Text::from_slice(alloc, self.as_slice())
     }
 
+    /// The bytes of the text.
     pub fn as_slice(&self) -> &[u8]
         ensures { result.now ≡ self.now }
     {

@@ -19,6 +19,7 @@ impl Model for Texts {
 }
 
 impl Texts {
+    /// The texts in their order.
     pub fn as_slice(&self) -> &[Text]
         ensures { result.now ≡ self.now }
     {

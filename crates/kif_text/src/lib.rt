@@ -20,6 +20,3 @@ pub use expr::{Expr, copy, fold};
 pub use fault::KifFault;
 pub use printing::print;
 pub use reading::{read_all, read_one};
-
-#[cfg(test)]
-mod tests;

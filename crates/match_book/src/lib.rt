@@ -2,7 +2,7 @@
 //! the match stops or is aborted.
 //!
 //! Methods take the allocator right after `self`, free functions take it first. A match is driven by its
-//! answers alone: it sends nothing, and knows no clock.
+//! answers alone: it sends nothing, and keeps no time.
 #![tactic(auto)]
 
 mod answer;
@@ -22,8 +22,8 @@ pub use answer::{AbortFault, Answer, AnswerFault, Mark};
 pub use due::{Due, Owed, OwedFault};
 pub use judgement::Judgement;
 pub use matches::Match;
-pub use names::{are_clocks, are_names, is_clock, is_name};
+pub use names::{MAX_CLOCK, are_clocks, are_names, is_clock, is_name};
 pub use phase::{Cause, Phase, Stage, Status};
-pub use settlement::{Settlement, first_without_move, settle};
+pub use settlement::{MAX_TURNS, Settlement, first_without_move, settle};
 pub use setup::Setup;
 pub use turn::Turn;

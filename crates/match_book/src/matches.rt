@@ -99,6 +99,7 @@ impl<G: Game> Match<G> {
         })
     }
 
+    /// The id, the clocks and the players that the match was made with.
     pub fn setup(&self) -> &Setup
         ensures { result.now ≡ self.now.value.setup }
     {

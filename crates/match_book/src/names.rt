@@ -9,7 +9,7 @@ use game_core::Text;
 const MAX_NAME: usize = 64;
 
 /// The most seconds of a clock.
-const MAX_CLOCK: u32 = 86_400;
+pub const MAX_CLOCK: u32 = 86_400;
 
 fn is_name_byte(byte: u8) -> bool
     ensures { result ≡ is_name_byte byte }

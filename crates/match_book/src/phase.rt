@@ -15,7 +15,7 @@ pub enum Cause {
     TooLong,
 }
 
-/// What a match is doing, apart from whether it has done it.
+/// The phase of a match, leaving open whether every role has answered STOP or ABORT.
 #[derive(Clone, Copy, Debug, PartialEq, Eq)]
 pub enum Stage {
     Starting,
@@ -24,6 +24,7 @@ pub enum Stage {
     Aborting(Cause),
 }
 
+/// How far a match has come.
 #[derive(Clone, Copy, Debug, PartialEq, Eq)]
 pub enum Phase {
     /// Not every role has answered START.
@@ -34,9 +35,9 @@ pub enum Phase {
     Stopping,
     /// The game has ended, and every role has answered STOP.
     Finished,
-    /// The match can't go on, and not every role has answered ABORT.
+    /// The match is aborted, as its cause says, and not every role has answered ABORT.
     Aborting,
-    /// The match could not go on, and every role has answered ABORT.
+    /// The match was aborted, and every role has answered ABORT.
     Aborted,
 }
 
@@ -44,7 +45,8 @@ pub enum Phase {
 #[derive(Clone, Copy, Debug, PartialEq, Eq)]
 pub struct Status {
     pub phase: Phase,
-    /// 0 while the match is starting, and then one more than the recorded turns. An asked abort adds one more.
+    /// 0 while the match is starting, and then one more than the recorded turns. An asked abort adds one more, or is round 1
+    /// where a role has not answered START.
     pub round: u64,
     /// How many turns are recorded.
     pub turns: u64,

@@ -7,8 +7,8 @@ use crate::phase::{Cause, Stage};
 use game_core::Game;
 use std::alloc::{AllocError, Global};
 
-/// A match has no more turns.
-const MAX_TURNS: usize = 10000;
+/// The most turns of a match.
+pub const MAX_TURNS: usize = 10_000;
 
 /// What a match does in a state, and the roles' goals where it stops: elsewhere there are none.
 #[derive(Drop)]

@@ -3,3 +3,4 @@ pub mod Events
 pub mod AttendFaults
 pub mod Steps
 pub mod Attending
+pub mod DeskLines

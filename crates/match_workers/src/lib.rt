@@ -14,8 +14,3 @@ pub use attend_fault::AttendFault;
 pub use attending::attend;
 pub use player::Player;
 pub use refereeing::{RefereeFault, Refereed, referee};
-
-#[cfg(test)]
-mod referee_tests;
-#[cfg(test)]
-mod tests;

@@ -1,5 +1,5 @@
 //! A whole match between players.
-ghost use Rattle.std.specs.Prelude.{◌≡◌, ◌+◌, IfOk, length, sum, vec_len};
+ghost use Rattle.std.specs.Prelude.{◌≡◌, ◌+◌, IfOk, OnOk, length, slice_index, sum, vec_len};
 ghost use Rattle.call_history.specs.History.{IsReplay};
 ghost use Rattle.match_desk.specs.ManagerValue.{opening, IsLawfulManager};
 ghost use Rattle.match_desk.specs.Steps.{reply, after};
@@ -105,7 +105,10 @@ fn open_match<G: Game, L: Ledger, R: Wait>(
     desk: &LockDesk<Manager<G>, L>,
     line: &mut LockLine<L>,
     setup: Setup,
-) -> Result<(), RefereeFault> {
+) -> Result<(), RefereeFault>
+    ensures number { line.new.number ≡ line.old.number }
+    ensures made { OnOk result (line.new.made ≡ line.old.made + 1) }
+{
     let call = Call::Open {
         id: setup.id,
         game: 0,
@@ -156,6 +159,7 @@ where
     ensures replay { IfOk result (λ r. IsReplay (reply G.rules) (after G.rules) opening r.closed.object r.closed.history.items) }
     ensures counted { IfOk result (λ r. sum r.closed.made_by_line.items ≡ length r.closed.history.items) }
     ensures lines { IfOk result (λ r. length r.closed.made_by_line.items ≡ (G.rules game).roles + 1) }
+    ensures opened { IfOk result (λ r. slice_index r.closed.made_by_line.items 0 ≡ 1) }
     ensures lawful { IfOk result (λ r. IsLawfulManager G.rules r.closed.object) }
     ensures legal { IfOk result (λ r. ArePlayedLegally G.rules r.closed.object) }
     ensures accounted { IfOk result (λ r. AreAccounted G.rules r.closed.object r.closed.history.items) }
@@ -221,6 +225,7 @@ where
     ensures replay { IfOk result (λ r. IsReplay (reply G.rules) (after G.rules) opening r.closed.object r.closed.history.items) }
     ensures counted { IfOk result (λ r. sum r.closed.made_by_line.items ≡ length r.closed.history.items) }
     ensures lines { IfOk result (λ r. length r.closed.made_by_line.items ≡ (G.rules game).roles + 1) }
+    ensures opened { IfOk result (λ r. slice_index r.closed.made_by_line.items 0 ≡ 1) }
 
     // The match, and how the history accounts for its moves.
     ensures lawful { IfOk result (λ r. IsLawfulManager G.rules r.closed.object) }

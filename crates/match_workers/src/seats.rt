@@ -1,5 +1,6 @@
 //! The roles of a match, each attended in a thread of its own.
-ghost use Rattle.std.specs.Prelude.{◌<◌, length};
+ghost use Rattle.std.specs.Prelude.{◌<◌, length, All};
+ghost use Rattle.match_workers.specs.DeskLines.{IsSeatLine, HasOpened};
 ghost use denote.Param.Send.{IsSend, IsSync};
 
 use crate::attend_fault::AttendFault;
@@ -23,6 +24,7 @@ pub struct Seat<'a, P, L: Ledger> {
     player: P,
     line: LockLine<L>,
     ghost is_role: { role < length brief.now.roles },
+    ghost is_seat_line: { IsSeatLine line },
 }
 
 /// What attending a role leaves.
@@ -30,6 +32,7 @@ pub struct Seat<'a, P, L: Ledger> {
 struct Attended<L: Ledger> {
     line: LockLine<L>,
     end: Result<u64, AttendFault>,
+    ghost is_seat_line: { IsSeatLine line },
 }
 
 /// What a match leaves whose roles were all attended: the lines of its desk, and how attending each role ended.
@@ -37,6 +40,7 @@ struct Attended<L: Ledger> {
 pub struct Attendance<L: Ledger> {
     pub lines: Vec<LockLine<L>>,
     pub ends: Vec<Result<u64, AttendFault>>,
+    ghost has_opened: { All HasOpened lines.items },
 }
 
 /// A seat for each role of the match: the roles, the lines and the players are taken in their order.
@@ -45,7 +49,9 @@ pub fn seat_players<'a, P: Drop, L: Ledger>(
     brief: &'a Brief,
     lines: Vec<LockLine<L>>,
     players: Vec<P>,
-) -> Result<Vec<Seat<'a, P, L>>, AllocError> {
+) -> Result<Vec<Seat<'a, P, L>>, AllocError>
+    requires { All IsSeatLine lines.items }
+{
     let mut seats = Vec::with_capacity(alloc, players.len())?;
     let mut lines = lines.into_iter();
     let mut players = players.into_iter();
@@ -133,6 +139,7 @@ pub struct Workers<'a, P, L: Ledger, R> {
     pub brief: &'a Brief,
     pub seats: Vec<Seat<'a, P, L>>,
     pub turns: u64,
+    ghost has_opened: { HasOpened first },
 }
 
 /// Attends each seat in a thread of its own. The lines are answered from the first on, and the ends in the order of the seats.
@@ -175,19 +182,20 @@ where
                 };
                 handles.push(handle)?;
             }
-            let mut first = first;
             let started = handles.len();
             if started < count {
+                let mut first = first;
                 let _ = abort_without(rt, alloc, desk, &mut first, brief, started);
+                for handle in handles {
+                    let _ = handle.join(rt);
+                }
+                return Err(AllocError);
             }
             lines.push(first)?;
             for handle in handles {
                 let Attended { line, end } = handle.join(rt);
                 lines.push(line)?;
                 ends.push(end)?;
-            }
-            if started < count {
-                return Err(AllocError);
             }
             Ok(Attendance { lines, ends })
         },

@@ -1,4 +1,4 @@
-use Rattle.call_history.proofs.tests.desk_of_two_refuses_the_third_call.Given as goal
+use Rattle.base_trials.proofs.histories.desk_of_two_refuses_the_third_call.Given as goal
 
 -- the ledger of the blank
 abbrev pub ghosts-fill_desk : goal.ghosts-fill_desk

@@ -1,4 +1,4 @@
-use Rattle.call_history.proofs.tests.wires_over_a_lock_stand_for_their_lines.Given as goal
+use Rattle.base_trials.proofs.histories.wires_over_a_lock_stand_for_their_lines.Given as goal
 
 -- the ledger of the blank
 abbrev pub ghosts-ask_over_wires : goal.ghosts-ask_over_wires

@@ -1,7 +1,7 @@
-//! Worked examples, and each call once.
+//! Games, replays and counted streams: worked examples, and each call once.
 ghost use Rattle.std.specs.Prelude.{◌≤◌, IfOk};
 
-use crate::{
+use game_core::{
     Countdown, Counted, Game, Joint, PlayFault, Position, Side, Take, Text, Texts, play_list,
 };
 use std::alloc::{AllocError, Global};

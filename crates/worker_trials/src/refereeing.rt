@@ -1,8 +1,8 @@
 //! Whole matches between players in memory.
-use super::*;
 use game_core::{Countdown, Text, Texts};
 use match_book::{Answer, Phase, Setup};
 use match_desk::{Call, Refusal};
+use match_workers::{Player, RefereeFault, referee};
 use std::alloc::{AllocError, Global};
 use std::sync::atomic::{AtomicU64, Ordering};
 use std::test::Fail;

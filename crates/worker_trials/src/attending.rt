@@ -1,7 +1,7 @@
 //! Worked examples, over a wire and a player in memory that tell what came.
 ghost use Rattle.std.specs.Prelude.{◌≡◌, ◌+◌, ◌<◌, length, IfOk};
 
-use crate::{AttendFault, Player, attend};
+use match_workers::{AttendFault, Player, attend};
 use call_history::{AskFault, Wire};
 use game_core::{Text, Texts};
 use match_book::{Answer, Due, Owed};

@@ -1,4 +1,4 @@
-use Rattle.call_history.proofs.tests.four_threads_and_one_history.Given as goal
+use Rattle.base_trials.proofs.histories.four_threads_and_one_history.Given as goal
 
 -- the ledger of the blank
 abbrev pub ghosts-run_four_lines : goal.ghosts-run_four_lines

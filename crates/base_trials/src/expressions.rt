@@ -1,5 +1,5 @@
-//! Worked examples, the limits at their edges, and each call once.
-use crate::{Expr, KifFault, copy, fold, print, read_all, read_one};
+//! Reading and printing expressions: worked examples, the limits at their edges, and each call once.
+use kif_text::{Expr, KifFault, copy, fold, print, read_all, read_one};
 use std::alloc::{AllocError, Global};
 use std::test::Fail;
 

@@ -1,7 +1,10 @@
 ghost use Rattle.std.specs.Prelude.{◌≡◌, ◌<◌, [], ◌∷◌, OnOk};
 ghost use Rattle.call_history.specs.Told.{told_with};
 
-use super::*;
+use call_history::{
+    AskFault, CallFault, CloseFault, Closed, Entry, Journal, LockDesk, LockLine, LockWire,
+    MAX_ENTRIES, Object, Unclosed, Wire, open_lock,
+};
 use std::alloc::{AllocError, Global};
 use std::marker::Brand;
 use std::process::Abort;
@@ -225,7 +228,7 @@ impl Wire for MemoryWire {
 }
 
 /// Makes two calls over any wire. From the wire's contract alone it is known what went out, and that the line is the same.
-#[tactic(auto, using(crate::proofs::Tellings::told_again))]
+#[tactic(auto, using(call_history::proofs::Tellings::told_again))]
 fn ask_twice<W: Wire<Call = u64, Reply = u64>>(
     wire: &mut W,
     first: u64,

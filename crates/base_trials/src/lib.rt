@@ -1,0 +1,9 @@
+//! Trials of the base crates: games, expressions and histories. Tests alone.
+#![tactic(auto)]
+
+#[cfg(test)]
+mod expressions;
+#[cfg(test)]
+mod games;
+#[cfg(test)]
+mod histories;

@@ -1,0 +1,7 @@
+//! Trials of the workers: attending one role, and whole matches. Tests alone.
+#![tactic(auto)]
+
+#[cfg(test)]
+mod attending;
+#[cfg(test)]
+mod refereeing;
