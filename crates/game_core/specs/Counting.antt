@@ -1,5 +1,5 @@
 -- What a counted stream shows.
-use Rattle.std.specs.Prelude.{ℕ, ◌+◌, ◌-◌, ◌^◌, min, List, length, Result, Ok, Err, if◌then◌else◌, ◌&&◌, ◌==◌, nat_lt}
+use Rattle.std.specs.Prelude.{ℕ, ◌<◌, ◌≤◌, ◌+◌, ◌-◌, ◌^◌, min, List, length, Result, Ok, Err, if◌then◌else◌, ◌&&◌, ◌==◌, nat_lt}
 
 -- a stream, how many reads and writes it was asked for, and how many of these have failed
 pub record Counting (S : Type 0) : Type 0 where
@@ -14,6 +14,10 @@ last_count = 2 ^ 64 - 1
 -- one more, up to the last number
 abbrev pub one_more : ℕ → ℕ
 one_more n = min (n + 1) last_count
+
+-- at least so many calls were made between these counts, unless the count is at its last number
+abbrev pub CallsMade : ℕ → ℕ → ℕ → Type 0
+CallsMade calls old new = new < last_count → calls + old ≤ new
 
 -- the faults after a read
 abbrev pub after_read : {E : Type 0} → Result ℕ E → ℕ → ℕ

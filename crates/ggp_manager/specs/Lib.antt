@@ -3,3 +3,5 @@ pub mod Words
 pub mod ScriptLines
 pub mod Script
 pub mod ScriptFaults
+pub mod Faults
+pub mod Commands

@@ -10,12 +10,12 @@ use Rattle.ggp_manager.specs.declared.script.ScriptFault.TheVariants.{ReadFault,
 abbrev pub max_script : ℕ
 max_script = 1048576
 
--- Of a script of which so many bytes were given, whose output is known: what the fault says of the reader's faults before
--- and after, and of the writer. Nothing was written but at a failed write, which leaves a prefix of the output.
-abbrev pub ScriptFails : {W : Type 0} → (W → Option (List ℕ)) → List ℕ → ScriptFault → ℕ → ℕ → ℕ → Counting W → Counting W → Type 0
-ScriptFails contents output ReadFault given old new writer writer' = (given ≤ max_script) × StopsReading given old new × (writer' ≡ writer)
-ScriptFails contents output TooLong given old new writer writer' = (max_script < given) × (new ≡ old) × (writer' ≡ writer)
-ScriptFails contents output Memory given old new writer writer' = (given ≤ max_script) × (new ≡ old) × (writer' ≡ writer)
-ScriptFails contents output WriteFault given old new writer writer' =
-    (new ≡ old) × (writer'.faults ≡ one_more writer.faults)
+-- Of a script of which so many bytes were given, whose output is known: what the fault says of the reader before and after,
+-- and of the writer. Nothing was written but at a failed write, which leaves a prefix of the output.
+abbrev pub ScriptFails : {R W : Type 0} → (W → Option (List ℕ)) → List ℕ → ScriptFault → ℕ → Counting R → Counting R → Counting W → Counting W → Type 0
+ScriptFails contents output ReadFault given reader reader' writer writer' = (given ≤ max_script) × StopsReading given reader reader' × (writer' ≡ writer)
+ScriptFails contents output TooLong given reader reader' writer writer' = (max_script < given) × (reader'.faults ≡ reader.faults) × (writer' ≡ writer)
+ScriptFails contents output Memory given reader reader' writer writer' = (given ≤ max_script) × (reader'.faults ≡ reader.faults) × (writer' ≡ writer)
+ScriptFails contents output WriteFault given reader reader' writer writer' =
+    (reader'.faults ≡ reader.faults) × (writer'.faults ≡ one_more writer.faults)
     × ((taken : ℕ) × (taken ≤ length output) × Appends (contents writer.stream) (contents writer'.stream) (take taken output))

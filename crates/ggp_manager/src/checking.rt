@@ -1,4 +1,8 @@
 //! The check of a record.
+ghost use Rattle.std.specs.Prelude.{◌≡◌, ℕ, List, IfErr, OnOk};
+ghost use Rattle.std.specs.Io.KnownBytes.{Consumes, Appends, IsAtEnd};
+ghost use Rattle.match_wire.specs.LawfulRecord.{IsLawfulRecord};
+ghost use Rattle.ggp_manager.specs.Commands.{lawful_line, RefusesOnly};
 
 use crate::fault::Fault;
 use crate::streams::{InputFault, read_to_end, write_all};
@@ -11,6 +15,11 @@ use std::io::{Read, Write};
 const MAX_RECORD: usize = 16_777_216;
 
 impl From<InputFault> for Fault {
+    ghost use Rattle.std.specs.Prelude.{◌≡◌};
+    ghost use Rattle.ggp_manager.specs.Faults.{input_fault};
+
+    ghost from_gives = { λ fault given. given ≡ input_fault fault };
+
     fn from(fault: InputFault) -> Fault {
         match fault {
             InputFault::ReadFault => Fault::ReadFault,
@@ -21,6 +30,11 @@ impl From<InputFault> for Fault {
 }
 
 impl From<VerifyFault> for Fault {
+    ghost use Rattle.std.specs.Prelude.{◌≡◌};
+    ghost use Rattle.ggp_manager.specs.Faults.{check_fault};
+
+    ghost from_gives = { λ fault given. given ≡ check_fault fault };
+
     fn from(fault: VerifyFault) -> Fault {
         match fault {
             VerifyFault::Memory => Fault::Memory,
@@ -35,7 +49,16 @@ pub fn check_record<G: Game, R: Read, W: Write>(
     game: &G,
     reader: &mut Counted<R>,
     writer: &mut Counted<W>,
-) -> Result<(), Fault> {
+) -> Result<(), Fault>
+    ensures lawful { OnOk result ((record : List ℕ)
+        × Consumes (R.remaining reader.old.stream) (R.remaining reader.new.stream) record
+        × IsAtEnd (R.remaining reader.new.stream)
+        × IsLawfulRecord (G.rules game.now) record
+        × Appends (W.contents writer.old.stream) (W.contents writer.new.stream) lawful_line) }
+    ensures unlawful { IfErr result (λ fault. (record : List ℕ)
+        × Consumes (R.remaining reader.old.stream) (R.remaining reader.new.stream) record
+        × RefusesOnly (G.rules game.now) record fault) }
+{
     let record = read_to_end(alloc, reader, MAX_RECORD)?;
     verify(alloc, game, &record)?;
     Ok(write_all(writer, b"lawful\n")?)

@@ -14,6 +14,7 @@ use game_core::{Countdown, Counted, Game};
 use match_wire::{Info, WireFault, info_message, read_info};
 use match_workers::Player;
 use std::alloc::Global;
+use std::fmt;
 use std::io::{Read, Write};
 use std::net::Net;
 use std::sync::Wait;
@@ -43,6 +44,11 @@ impl From<ScriptFault> for Fault {
 }
 
 impl From<WriteFault> for Fault {
+    ghost use Rattle.std.specs.Prelude.{◌≡◌};
+    ghost use Rattle.ggp_manager.specs.declared.fault.Fault.TheVariants.{WriteFault};
+
+    ghost from_gives = { λ _ given. given ≡ WriteFault };
+
     fn from(_: WriteFault) -> Fault {
         Fault::WriteFault
     }
@@ -51,7 +57,7 @@ impl From<WriteFault> for Fault {
 impl From<ContactFault> for Fault {
     fn from(fault: ContactFault) -> Fault {
         match fault {
-            ContactFault::Exchange(WireFault::Memory) => Fault::Memory,
+            ContactFault::Memory | ContactFault::Exchange(WireFault::Memory) => Fault::Memory,
             _ => Fault::NoAnswer,
         }
     }
@@ -82,9 +88,29 @@ where
     }
 }
 
+/// A stream to which text is formatted, each piece in as many writes as it takes. The first write that fails, that was
+/// interrupted or that takes nothing ends it: std's `write_all` would go on for as long as a stream is interrupted.
+struct Pieces<'a, E> {
+    stream: &'a mut E,
+}
+
+impl<E: Write> fmt::Write for Pieces<'_, E> {
+    fn write_str(&mut self, text: &str) -> fmt::Result {
+        let mut rest = text.as_bytes();
+        while !rest.is_empty() {
+            match self.stream.write(rest) {
+                Ok(count) if count > 0 => rest = &rest[count..],
+                _ => return Err(fmt::Error),
+            }
+        }
+        Ok(())
+    }
+}
+
 /// Writes the fault's line, as far as the stream takes it.
 pub fn report<E: Write>(errors: &mut E, fault: Fault) {
-    let _ = writeln!(errors, "ggp_manager: {fault}");
+    let mut pieces = Pieces { stream: errors };
+    let _ = writeln!(pieces, "ggp_manager: {fault}");
 }
 
 fn perform<H, P, S, R: Read, W: Write>(

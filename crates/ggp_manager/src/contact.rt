@@ -14,13 +14,18 @@ use std::time::Duration;
 pub enum ContactFault {
     /// The host has no address, or none of its addresses takes a connection.
     NoConnection,
+    /// Want of memory before there was a connection.
+    Memory,
     /// The exchange on the connection failed.
     Exchange(WireFault),
 }
 
 impl From<io::Error> for ContactFault {
-    fn from(_: io::Error) -> ContactFault {
-        ContactFault::NoConnection
+    fn from(error: io::Error) -> ContactFault {
+        match error.kind() {
+            ErrorKind::OutOfMemory => ContactFault::Memory,
+            _ => ContactFault::NoConnection,
+        }
     }
 }
 

@@ -1,5 +1,7 @@
 //! A match between players on the network, from its plan to its record.
 ghost use Rattle.std.specs.Prelude.{◌≡◌, IfOk, length, vec_len};
+ghost use Rattle.kif_text.specs.View.{views};
+ghost use Rattle.ggp_manager.specs.Commands.{IsEndedRecord};
 
 use crate::arguments::MatchPlan;
 use crate::fault::Fault;
@@ -19,6 +21,11 @@ use std::thread::Threads;
 const TURNS: u64 = 100_000;
 
 impl From<RefereeFault> for Fault {
+    ghost use Rattle.std.specs.Prelude.{◌≡◌};
+    ghost use Rattle.ggp_manager.specs.Faults.{referee_fault};
+
+    ghost from_gives = { λ fault given. given ≡ referee_fault fault };
+
     fn from(fault: RefereeFault) -> Fault {
         match fault {
             RefereeFault::Refused(refusal) => Fault::Refused(refusal),
@@ -29,7 +36,9 @@ impl From<RefereeFault> for Fault {
 }
 
 fn setup_of(alloc: Global, plan: &MatchPlan<'_>) -> Result<Setup, AllocError>
-    ensures { IfOk result (λ s. length s.players ≡ vec_len plan.now.players) }
+    ensures players { IfOk result (λ s. length s.players ≡ vec_len plan.now.players) }
+    ensures start { IfOk result (λ s. s.start ≡ plan.now.start) }
+    ensures play { IfOk result (λ s. s.play ≡ plan.now.play) }
 {
     let mut items = Vec::with_capacity(alloc, plan.players.len())?;
     for player in &plan.players {
@@ -57,7 +66,9 @@ fn players_of<P: Drop, S: Reach<P>>(
     Ok(players)
 }
 
-fn copies(alloc: Global, sentences: &[Expr]) -> Result<Vec<Expr>, AllocError> {
+fn copies(alloc: Global, sentences: &[Expr]) -> Result<Vec<Expr>, AllocError>
+    ensures { IfOk result (λ copies. views copies.items ≡ views sentences.now) }
+{
     let mut rules = Vec::with_capacity(alloc, sentences.len())?;
     for sentence in sentences {
         rules.push(copy(alloc, sentence)?)?;
@@ -66,7 +77,9 @@ fn copies(alloc: Global, sentences: &[Expr]) -> Result<Vec<Expr>, AllocError> {
 }
 
 /// The record of the desk's match, where that has come to its end.
-fn ended_record<G: Game>(alloc: Global, manager: &Manager<G>) -> Result<Text, Fault> {
+fn ended_record<G: Game>(alloc: Global, manager: &Manager<G>) -> Result<Text, Fault>
+    ensures { IfOk result (IsEndedRecord G.rules manager.now) }
+{
     if manager.matches() == 0 {
         return Err(Fault::MatchNotEnded);
     }

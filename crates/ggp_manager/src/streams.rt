@@ -40,7 +40,7 @@ pub fn read_to_end<R: Read>(
     ensures no_fault { OnOk result (reader.new.faults ≡ reader.old.faults) }
     ensures fails { IfErr result (λ fault. (given : List ℕ)
         × Consumes (R.remaining reader.old.stream) (R.remaining reader.new.stream) given
-        × InputFails most fault given reader.old.faults reader.new.faults) }
+        × InputFails most fault given reader.old reader.new) }
 {
     let mut input = Vec::new(alloc);
     let mut chunk = [0u8; READ_SIZE];

@@ -170,6 +170,7 @@ where
         move |scope| -> Result<Attendance<L>, AllocError>
             requires sent { IsSend O.row × IsSend L.row × IsSend P.row }
             requires shared { IsSync L.row × IsSync R.row }
+            requires opened { HasOpened first }
         {
             let count = seats.len();
             let mut handles = Vec::with_capacity(alloc, count)?;
