@@ -53,3 +53,16 @@ one_line written before text after out out' out'' so_far with_text with_feed who
     with_feed ∙ ap (λ z. z ++ line_feed ∷ []) (with_text ∙ ap (λ z. z ++ text) so_far)
     ∙ append_assoc (written ++ before) text (line_feed ∷ []) ∙ append_assoc written before (text ++ line_feed ∷ [])
     ∙ ap (λ z. written ++ z) (sym whole)
+
+-- the game that the manager's readers give beside a match is that match's game
+pub same_game : {G M : Type 0} (d : ManagerValue G M) (found : Option (DeskMatch M)) (g : G) (held : GameMatch G M)
+    → option_and_then (game_of d) found ≡ Some g → option_and_then (game_match d) found ≡ Some held → g ≡ held.game
+same_game d None g held is_game is_held = absurd cc
+same_game {G} {M} d (Some m) g held is_game is_held = at (game_of d m) is_game is_held
+  where
+    at : (o : Option G) → o ≡ Some g → option_map (λ x. record { game = x; value = m.value }) o ≡ Some held → g ≡ held.game
+    at None is_game is_held = absurd cc
+    at (Some x) is_game is_held =
+        let same : x ≡ g = cc in
+        let whole : record { game = x; value = m.value } ≡ held = cc in
+        sym same ∙ ap (λ (h : GameMatch G M). h.game) whole

@@ -1,5 +1,5 @@
 -- What the commands that play and check a match write.
-use Rattle.std.specs.Prelude.{◌≡◌, ℕ, true, List, codes, ◌++◌, ◌∷◌, [], Some, slice_get, option_and_then}
+use Rattle.std.specs.Prelude.{◌≡◌, ℕ, true, List, codes, ⊤, ◌++◌, ◌∷◌, [], Some, slice_get, option_and_then}
 use Rattle.game_core.specs.Bytes.{line_feed}
 use Rattle.game_core.specs.Play.{Rules}
 use Rattle.match_book.specs.MatchValue.{GameMatch}
@@ -25,5 +25,5 @@ lawful_line = codes "lawful" ++ line_feed ∷ []
 
 -- a record is called unlawful only where it is no lawful record of the game, and the fault that is named is its first
 abbrev pub RefusesOnly : {S M : Type 0} → Rules S M → List ℕ → Fault → Type 0
-RefusesOnly g record (NotLawful fault) = (¬ IsLawfulRecord g record) × FailsFirst g record fault
-RefusesOnly g record fault = ⊤
+RefusesOnly g text (NotLawful fault) = (¬ IsLawfulRecord g text) × FailsFirst g text fault
+RefusesOnly g text fault = ⊤

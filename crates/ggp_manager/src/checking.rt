@@ -50,14 +50,14 @@ pub fn check_record<G: Game, R: Read, W: Write>(
     reader: &mut Counted<R>,
     writer: &mut Counted<W>,
 ) -> Result<(), Fault>
-    ensures lawful { OnOk result ((record : List ℕ)
-        × Consumes (R.remaining reader.old.stream) (R.remaining reader.new.stream) record
+    ensures lawful { OnOk result ((text : List ℕ)
+        × Consumes (R.remaining reader.old.stream) (R.remaining reader.new.stream) text
         × IsAtEnd (R.remaining reader.new.stream)
-        × IsLawfulRecord (G.rules game.now) record
+        × IsLawfulRecord (G.rules game.now) text
         × Appends (W.contents writer.old.stream) (W.contents writer.new.stream) lawful_line) }
-    ensures unlawful { IfErr result (λ fault. (record : List ℕ)
-        × Consumes (R.remaining reader.old.stream) (R.remaining reader.new.stream) record
-        × RefusesOnly (G.rules game.now) record fault) }
+    ensures unlawful { IfErr result (λ fault. (text : List ℕ)
+        × Consumes (R.remaining reader.old.stream) (R.remaining reader.new.stream) text
+        × RefusesOnly (G.rules game.now) text fault) }
 {
     let record = read_to_end(alloc, reader, MAX_RECORD)?;
     verify(alloc, game, &record)?;

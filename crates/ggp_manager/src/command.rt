@@ -15,6 +15,7 @@ use match_wire::{Info, WireFault, info_message, read_info};
 use match_workers::Player;
 use std::alloc::Global;
 use std::fmt;
+use std::fmt::Write as _;
 use std::io::{Read, Write};
 use std::net::Net;
 use std::sync::Wait;
@@ -90,6 +91,7 @@ where
 
 /// A stream to which text is formatted, each piece in as many writes as it takes. The first write that fails, that was
 /// interrupted or that takes nothing ends it: std's `write_all` would go on for as long as a stream is interrupted.
+#[derive(Drop)]
 struct Pieces<'a, E> {
     stream: &'a mut E,
 }
