@@ -20,6 +20,10 @@ mod running;
 mod script;
 mod script_lines;
 mod socket_player;
+#[cfg(test)]
+mod stalled_tests;
+#[cfg(test)]
+mod stream_tests;
 mod streams;
 #[cfg(test)]
 mod tests;

@@ -125,6 +125,39 @@ fn matches_are_run_to_their_records(rt: HostRuntime) -> Result<(), Fail> {
     Ok(())
 }
 
+/// A game in whose first state nobody can move.
+const STUCK_RULES: &str =
+    "(role solo) (init s) (<= (legal solo go) (true t)) (<= terminal (true t))";
+
+const STUCK_RECORD: &[u8] =
+    br#"{"cause":"nolegal 0","endMarks":[""],"errors":[],"goalValues":[],"matchId":"m1","moves":[],"phase":"aborted","playClock":5,"players":["ann"],"roles":["solo"],"startClock":7,"startMarks":[""],"states":[["s"]]}
+"#;
+
+#[test]
+fn aborted_matches_have_records(rt: HostRuntime) -> Result<(), Fail> {
+    let (solo, ann) = listen(&rt)?;
+    let ann = format!(in rt.alloc(); "ann@127.0.0.1:{ann}")?;
+    let (rt, alloc) = (&rt, rt.alloc());
+    let (solo, ann) = (&solo, ann.as_str());
+    let (answered, outcome) = thread::join(
+        rt,
+        move || answer_all(alloc, solo, &[b"READY", b"DONE"]),
+        move || {
+            let (rules, id) = (STUCK_RULES, "m1");
+            let words = [
+                "run", "--rules", rules, "--id", id, "--start", "7", "--play", "5", ann,
+            ];
+            outcome_of(rt, rt, alloc, &words, b"")
+        },
+    );
+    let outcome = outcome?;
+    assert!(rt; answered.is_some());
+    assert!(rt; outcome.output.as_slice() == STUCK_RECORD);
+    assert_eq!(rt; outcome.errors.len(), 0);
+    assert_eq!(rt; outcome.status, 0);
+    Ok(())
+}
+
 /// Whether a connection has come.
 fn is_called(listener: &TcpListener) -> io::Result<bool> {
     listener.set_nonblocking(true)?;

@@ -1,19 +1,16 @@
 //! The commands, over streams in memory.
-use crate::arguments::ArgumentFault;
-use crate::command::{command, report};
+use crate::addresses::{PlayerAddress, player_address};
+use crate::command::command;
 use crate::example_games::{
     BUTTONS_OUTPUT, BUTTONS_RULES, BUTTONS_SCRIPT, COUNTDOWN_OUTPUT, COUNTDOWN_RULES,
     COUNTDOWN_SCRIPT, ROSHAMBO_OUTPUT, ROSHAMBO_RULES, ROSHAMBO_SCRIPT, TICTACTOE_OUTPUT,
     TICTACTOE_RULES, TICTACTOE_SCRIPT,
 };
-use crate::fault::Fault;
-use crate::script::ScriptFault;
 use crate::socket_player::{SocketPlayer, Sockets};
+use crate::stream_tests::Broken;
 use game_core::Counted;
-use match_desk::Refusal;
 use std::alloc::{AllocError, Global};
-use std::io;
-use std::io::{ErrorKind, Read, Write};
+use std::io::{Read, Write};
 use std::net::Net;
 use std::sync::Wait;
 use std::test::Fail;
@@ -27,7 +24,7 @@ pub struct Outcome {
     pub status: u8,
 }
 
-fn strings(alloc: Global, words: &[&str]) -> Result<Vec<String>, AllocError> {
+pub fn strings(alloc: Global, words: &[&str]) -> Result<Vec<String>, AllocError> {
     let mut all = Vec::new(alloc);
     for word in words {
         all.push(word.to_string(alloc)?)?;
@@ -37,7 +34,7 @@ fn strings(alloc: Global, words: &[&str]) -> Result<Vec<String>, AllocError> {
 
 /// Runs a command over these streams. The runtime is handed in twice, since only a test itself knows that the very one that it
 /// takes has threads.
-fn run_command<H, R: Read, W: Write, E: Write>(
+pub fn run_command<H, R: Read, W: Write, E: Write>(
     rt: &H,
     host: &HostRuntime,
     alloc: Global,
@@ -526,114 +523,20 @@ fn help_is_no_fault(rt: HostRuntime) -> Result<(), Fail> {
     Ok(())
 }
 
-/// A stream of which each call fails.
-#[derive(Drop)]
-struct Broken;
-
-impl Read for Broken {
-    fn read(&mut self, _buffer: &mut [u8]) -> io::Result<usize> {
-        Err(io::Error::from(ErrorKind::Interrupted))
-    }
-}
-
-impl Write for Broken {
-    fn write(&mut self, _bytes: &[u8]) -> io::Result<usize> {
-        Err(io::Error::from(ErrorKind::BrokenPipe))
-    }
-
-    fn flush(&mut self) -> io::Result<()> {
-        Ok(())
-    }
-}
-
 #[test]
-fn streams_that_fail_are_faults(rt: HostRuntime) -> Result<(), Fail> {
-    let words = strings(rt.alloc(), &["desk", "--countdown", "3"])?;
-    let mut errors = Vec::new(rt.alloc());
-    let mut output = Counted::new(Vec::new(rt.alloc()));
-    let mut broken = Counted::new(Broken);
-    let status = run_command(
-        &rt,
-        &rt,
-        rt.alloc(),
-        &words,
-        &mut broken,
-        &mut output,
-        &mut errors,
-    );
-    assert_eq!(rt; status, 1);
-    assert!(rt; errors.as_slice() == b"ggp_manager: read fault\n".as_slice());
-    assert_eq!(rt; output.end().len(), 0);
-
-    errors.clear();
-    let mut input = Counted::new(COUNTDOWN_SCRIPT);
-    let status = run_command(
-        &rt,
-        &rt,
-        rt.alloc(),
-        &words,
-        &mut input,
-        &mut broken,
-        &mut errors,
-    );
-    assert_eq!(rt; status, 1);
-    assert!(rt; errors.as_slice() == b"ggp_manager: write fault\n".as_slice());
-
-    let mut input = Counted::new(b"frob".as_slice());
-    let mut output = Counted::new(Vec::new(rt.alloc()));
-    let status = run_command(
-        &rt,
-        &rt,
-        rt.alloc(),
-        &words,
-        &mut input,
-        &mut output,
-        &mut Broken,
-    );
-    assert_eq!(rt; status, 1);
-    assert!(rt; output.end().as_slice() == b"badline\n".as_slice());
-    Ok(())
-}
-
-#[test]
-fn faults_have_their_lines_and_statuses(rt: HostRuntime) -> Result<(), Fail> {
-    let table: [(Fault, &[u8], u8); 10] = [
-        (Fault::WrongUse, b"ggp_manager: wrong use\n", 2),
-        (Fault::Memory, b"ggp_manager: want of memory\n", 3),
-        (Fault::BadDescription, b"ggp_manager: bad description\n", 1),
-        (Fault::ReadFault, b"ggp_manager: read fault\n", 1),
-        (
-            Fault::Refused(Refusal::DeskFull),
-            b"ggp_manager: refused deskfull\n",
-            1,
-        ),
-        (Fault::MatchNotEnded, b"ggp_manager: match not ended\n", 1),
-        (Fault::InputTooLong, b"ggp_manager: input too long\n", 1),
-        (Fault::WriteFault, b"ggp_manager: write fault\n", 1),
-        (Fault::NoAnswer, b"ggp_manager: no answer\n", 1),
-        (Fault::BadLines(10), b"ggp_manager: bad lines 10\n", 1),
+fn players_are_named_by_their_addresses(rt: HostRuntime) {
+    let table: [(&str, Option<(&str, &str, u16)>); 8] = [
+        ("ann@host:80", Some(("ann", "host", 80))),
+        ("ann@bob@host:80", Some(("ann", "bob@host", 80))),
+        ("ann@:080", Some(("ann", "", 80))),
+        ("ann@[::1]:65535", Some(("ann", "[::1]", 65_535))),
+        ("ann:80@host", None),
+        ("ann@host:", None),
+        ("@host:80", None),
+        ("ann@host:+80", None),
     ];
-    for (fault, line, status) in table {
-        let mut errors = Vec::new(rt.alloc());
-        report(&mut errors, fault);
-        assert!(rt; errors.as_slice() == line);
-        assert_eq!(rt; fault.status(), status);
+    for (word, wanted) in table {
+        let wanted = wanted.map(|(name, host, port)| PlayerAddress { name, host, port });
+        assert!(rt; player_address(word) == wanted);
     }
-    assert_eq!(rt; Fault::from(ScriptFault::Memory), Fault::Memory);
-    assert_eq!(rt; Fault::from(ArgumentFault::Memory), Fault::Memory);
-    assert_eq!(rt; Fault::from(AllocError), Fault::Memory);
-    Ok(())
-}
-
-#[test]
-fn long_scripts_are_refused(rt: HostRuntime) -> Result<(), Fail> {
-    let mut script = vec![in rt.alloc(); b' '; 1_048_576]?;
-    let kept = outcome_of(&rt, &rt, rt.alloc(), &["desk", "--countdown", "3"], &script)?;
-    assert!(rt; kept.output.as_slice() == b"badline\n".as_slice());
-    script.push(b' ')?;
-    let refused = outcome_of(&rt, &rt, rt.alloc(), &["desk", "--countdown", "3"], &script)?;
-    assert_eq!(rt; refused.output.len(), 0);
-    assert!(rt; refused.errors.as_slice() == b"ggp_manager: input too long\n".as_slice());
-    assert_eq!(rt; refused.status, 1);
-    Ok(())
 }

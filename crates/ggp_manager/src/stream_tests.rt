@@ -1,0 +1,175 @@
+//! Streams that fail, and the faults that the commands then show.
+use crate::arguments::ArgumentFault;
+use crate::command::report;
+use crate::fault::Fault;
+use crate::script::ScriptFault;
+use crate::tests::{outcome_of, run_command, strings};
+use game_core::Counted;
+use match_desk::Refusal;
+use std::alloc::AllocError;
+use std::io;
+use std::io::{ErrorKind, Read, Write};
+use std::test::Fail;
+
+/// A stream of which each call fails.
+#[derive(Drop)]
+pub struct Broken;
+
+impl Read for Broken {
+    fn read(&mut self, _buffer: &mut [u8]) -> io::Result<usize> {
+        Err(io::Error::from(ErrorKind::Interrupted))
+    }
+}
+
+impl Write for Broken {
+    fn write(&mut self, _bytes: &[u8]) -> io::Result<usize> {
+        Err(io::Error::from(ErrorKind::BrokenPipe))
+    }
+
+    fn flush(&mut self) -> io::Result<()> {
+        Ok(())
+    }
+}
+
+#[test]
+fn streams_that_fail_are_faults(rt: HostRuntime) -> Result<(), Fail> {
+    let words = strings(rt.alloc(), &["desk", "--countdown", "3"])?;
+    let mut errors = Vec::new(rt.alloc());
+    let mut output = Counted::new(Vec::new(rt.alloc()));
+    let mut broken = Counted::new(Broken);
+    let status = run_command(
+        &rt,
+        &rt,
+        rt.alloc(),
+        &words,
+        &mut broken,
+        &mut output,
+        &mut errors,
+    );
+    assert_eq!(rt; status, 1);
+    assert!(rt; errors.as_slice() == b"ggp_manager: read fault\n".as_slice());
+    assert_eq!(rt; output.end().len(), 0);
+
+    errors.clear();
+    // The script has a bad line too, and the failed write alone is told.
+    let mut input = Counted::new(b"frob".as_slice());
+    let status = run_command(
+        &rt,
+        &rt,
+        rt.alloc(),
+        &words,
+        &mut input,
+        &mut broken,
+        &mut errors,
+    );
+    assert_eq!(rt; status, 1);
+    assert!(rt; errors.as_slice() == b"ggp_manager: write fault\n".as_slice());
+
+    let mut input = Counted::new(b"frob".as_slice());
+    let mut output = Counted::new(Vec::new(rt.alloc()));
+    let status = run_command(
+        &rt,
+        &rt,
+        rt.alloc(),
+        &words,
+        &mut input,
+        &mut output,
+        &mut Broken,
+    );
+    assert_eq!(rt; status, 1);
+    assert!(rt; output.end().as_slice() == b"badline\n".as_slice());
+    Ok(())
+}
+
+/// A stream that gives spaces without end, one for each read, and of which each write is interrupted.
+#[derive(Drop)]
+struct Trickle;
+
+impl Read for Trickle {
+    fn read(&mut self, buffer: &mut [u8]) -> io::Result<usize> {
+        match buffer.first_mut() {
+            Some(byte) => {
+                *byte = b' ';
+                Ok(1)
+            }
+            None => Ok(0),
+        }
+    }
+}
+
+impl Write for Trickle {
+    fn write(&mut self, _bytes: &[u8]) -> io::Result<usize> {
+        Err(io::Error::from(ErrorKind::Interrupted))
+    }
+
+    fn flush(&mut self) -> io::Result<()> {
+        Ok(())
+    }
+}
+
+#[test]
+fn commands_end_on_streams_without_an_end(rt: HostRuntime) -> Result<(), Fail> {
+    for command in ["desk", "verify"] {
+        let words = strings(rt.alloc(), &[command, "--countdown", "3"])?;
+        let mut input = Counted::new(Trickle);
+        let mut output = Counted::new(Vec::new(rt.alloc()));
+        let mut errors = Vec::new(rt.alloc());
+        let status = run_command(
+            &rt,
+            &rt,
+            rt.alloc(),
+            &words,
+            &mut input,
+            &mut output,
+            &mut errors,
+        );
+        assert_eq!(rt; status, 1);
+        assert!(rt; errors.as_slice() == b"ggp_manager: read fault\n".as_slice());
+        assert_eq!(rt; output.end().len(), 0);
+    }
+    report(&mut Trickle, Fault::WrongUse);
+    Ok(())
+}
+
+#[test]
+fn faults_have_their_lines_and_statuses(rt: HostRuntime) -> Result<(), Fail> {
+    let table: [(Fault, &[u8], u8); 10] = [
+        (Fault::WrongUse, b"ggp_manager: wrong use\n", 2),
+        (Fault::Memory, b"ggp_manager: want of memory\n", 3),
+        (Fault::BadDescription, b"ggp_manager: bad description\n", 1),
+        (Fault::ReadFault, b"ggp_manager: read fault\n", 1),
+        (
+            Fault::Refused(Refusal::DeskFull),
+            b"ggp_manager: refused deskfull\n",
+            1,
+        ),
+        (Fault::MatchNotEnded, b"ggp_manager: match not ended\n", 1),
+        (Fault::InputTooLong, b"ggp_manager: input too long\n", 1),
+        (Fault::WriteFault, b"ggp_manager: write fault\n", 1),
+        (Fault::NoAnswer, b"ggp_manager: no answer\n", 1),
+        (Fault::BadLines(10), b"ggp_manager: bad lines 10\n", 1),
+    ];
+    for (fault, line, status) in table {
+        let mut errors = Vec::new(rt.alloc());
+        report(&mut errors, fault);
+        assert!(rt; errors.as_slice() == line);
+        assert_eq!(rt; fault.status(), status);
+    }
+    assert_eq!(rt; Fault::from(ScriptFault::Memory), Fault::Memory);
+    assert_eq!(rt; Fault::from(ArgumentFault::Memory), Fault::Memory);
+    assert_eq!(rt; Fault::from(AllocError), Fault::Memory);
+    Ok(())
+}
+
+#[test]
+fn long_scripts_are_refused(rt: HostRuntime) -> Result<(), Fail> {
+    let mut script = vec![in rt.alloc(); b' '; 1_048_576]?;
+    let kept = outcome_of(&rt, &rt, rt.alloc(), &["desk", "--countdown", "3"], &script)?;
+    assert!(rt; kept.output.as_slice() == b"badline\n".as_slice());
+    script.push(b' ')?;
+    let refused = outcome_of(&rt, &rt, rt.alloc(), &["desk", "--countdown", "3"], &script)?;
+    assert_eq!(rt; refused.output.len(), 0);
+    assert!(rt; refused.errors.as_slice() == b"ggp_manager: input too long\n".as_slice());
+    assert_eq!(rt; refused.status, 1);
+    Ok(())
+}
