@@ -227,13 +227,13 @@ not_refusing : (kind : HttpKind) (given : List ℕ) (ended : Bool) (body : List 
     → Looks kind given ended (looks.Refused refusal) → ⊥
 not_refusing kind given ended body refusal c is = carried_is_found kind given ended body (looks.Refused refusal) c is
 
-pub carried_has_no_fault : CarriedHasNoFault
-carried_has_no_fault kind given ended body (ReadFault cause) old new c stops = absurd (not_wanting kind given ended body c stops.1 stops.2)
-carried_has_no_fault kind given ended body TooManyReads old new c stops = absurd (not_wanting kind given ended body c stops.0 stops.1)
-carried_has_no_fault kind given ended body Memory old new c stops = refl
-carried_has_no_fault kind given ended body WriteFault old new c stops = absurd (not_refusing kind given ended body stops.0 c stops.2)
-carried_has_no_fault kind given ended body faults.BadHead old new c stops = absurd (not_refusing kind given ended body stops.0 c stops.2)
-carried_has_no_fault kind given ended body faults.BadStatus old new c stops = absurd (not_refusing kind given ended body stops.0 c stops.2)
-carried_has_no_fault kind given ended body faults.BadLength old new c stops = absurd (not_refusing kind given ended body stops.0 c stops.2)
-carried_has_no_fault kind given ended body faults.TooLong old new c stops = absurd (not_refusing kind given ended body stops.0 c stops.2)
-carried_has_no_fault kind given ended body faults.CutShort old new c stops = absurd (not_refusing kind given ended body stops.0 c stops.2)
+pub carried_has_no_fault : (S : Type 0) → CarriedHasNoFault S
+carried_has_no_fault S kind given ended body (ReadFault cause) old new c stops = absurd (not_wanting kind given ended body c stops.1 stops.2)
+carried_has_no_fault S kind given ended body TooManyReads old new c stops = absurd (not_wanting kind given ended body c stops.0 stops.1)
+carried_has_no_fault S kind given ended body Memory old new c stops = refl
+carried_has_no_fault S kind given ended body WriteFault old new c stops = absurd (not_refusing kind given ended body stops.0 c stops.2)
+carried_has_no_fault S kind given ended body faults.BadHead old new c stops = absurd (not_refusing kind given ended body stops.0 c stops.2)
+carried_has_no_fault S kind given ended body faults.BadStatus old new c stops = absurd (not_refusing kind given ended body stops.0 c stops.2)
+carried_has_no_fault S kind given ended body faults.BadLength old new c stops = absurd (not_refusing kind given ended body stops.0 c stops.2)
+carried_has_no_fault S kind given ended body faults.TooLong old new c stops = absurd (not_refusing kind given ended body stops.0 c stops.2)
+carried_has_no_fault S kind given ended body faults.CutShort old new c stops = absurd (not_refusing kind given ended body stops.0 c stops.2)

@@ -1,13 +1,14 @@
 -- Steps of the reading of a message.
-use Rattle.std.proofs.Common.{◌≡◌, ℕ, ◌+◌, ◌<◌, ◌≤◌, Bool, true, false, cond, List, ◌++◌, length, Option, Some, None, refl, sym, ap, subst, ◌∙◌, arith, inr, length-append}
+use Rattle.std.proofs.Common.{◌≡◌, ℕ, ◌+◌, ◌<◌, ◌≤◌, Bool, true, false, cond, List, ◌++◌, length, Option, Some, None, refl, sym, ap, subst, ◌∙◌, arith, inr}
 use Rattle.std.specs.Prelude.{nat_le, nat_lt}
 use Rattle.std.specs.Io.KnownBytes.{Consumes}
 use Rattle.std.proofs.KnownBytes.{Consumes-trans, Consumes-kept}
 use Rattle.std.proofs.lemmas.Bool.{false≢true}
+use Rattle.game_core.specs.Counting.{Counting, one_more}
 use Rattle.match_wire.specs.HttpHead.{HeadIs, IsKnown}
 use Rattle.match_wire.specs.Looks.{Looks, look_from, look_past}
 use Rattle.match_wire.specs.Exchange.{Gives}
-use Rattle.match_wire.specs.WireFaults.{fault_of, ReadStops, WantsMore, TurnsPassed}
+use Rattle.match_wire.specs.WireFaults.{fault_of, ReadStops, WantsMore, CallsMade}
 use Rattle.match_wire.specs.Turns.{Grows, TurnStops}
 use Rattle.match_wire.specs.declared.head.HttpKind.{HttpKind}
 use Rattle.match_wire.specs.declared.head.Head.{Head}
@@ -29,11 +30,11 @@ reached a b c held given now ended before gives grew = record {
 }
 
 -- why a turn failed is why the reading stops
-pub turn_stops : (kind : HttpKind) (fault : WireFault) (a b c : Option (List ℕ)) (held : List ℕ) (first before after : ℕ)
-    → Consumes a b held → WantsMore kind held → first ≤ before → TurnStops fault b c before after
+pub turn_stops : {S : Type 0} (kind : HttpKind) (fault : WireFault) (a b c : Option (List ℕ)) (held : List ℕ) (first before after : Counting S)
+    → Consumes a b held → WantsMore kind held → first.faults ≤ before.faults → TurnStops fault b c before after
     → (given : List ℕ) × (ended : Bool) × Gives a c given ended × ReadStops kind fault given ended first after
 turn_stops kind (ReadFault cause) a b c held first before after h wants kept fails =
-    (held, false, record { consumed = Consumes-kept a b c held h fails.1; at_end = λ e. absurd (false≢true e) }, (fails.0, refl, wants, λ below. let rose : before < after = fails.2 below in omega arith))
+    (held, false, record { consumed = Consumes-kept a b c held h fails.1; at_end = λ e. absurd (false≢true e) }, (fails.0, refl, wants, λ below. let rose : before.faults < after.faults = fails.2 below in omega arith))
 turn_stops kind Memory a b c held first before after h wants kept fails =
     (held ++ fails.0, false, record { consumed = Consumes-trans a b c held fails.0 h fails.1; at_end = λ e. absurd (false≢true e) }, tt)
 turn_stops kind WriteFault a b c held first before after h wants kept fails = absurd fails
@@ -44,7 +45,7 @@ turn_stops kind TooLong a b c held first before after h wants kept fails = absur
 turn_stops kind CutShort a b c held first before after h wants kept fails = absurd fails
 turn_stops kind TooManyReads a b c held first before after h wants kept fails = absurd fails
 
-refused_as : (kind : HttpKind) (refusal : Refusal) (given : List ℕ) (ended : Bool) (old new : ℕ) → Looks kind given ended (looks.Refused refusal)
+refused_as : {S : Type 0} (kind : HttpKind) (refusal : Refusal) (given : List ℕ) (ended : Bool) (old new : Counting S) → Looks kind given ended (looks.Refused refusal)
     → ReadStops kind (fault_of refusal) given ended old new
 refused_as kind refusals.BadHead given ended old new h = (refusals.BadHead, refl, h)
 refused_as kind refusals.BadStatus given ended old new h = (refusals.BadStatus, refl, h)
@@ -52,12 +53,12 @@ refused_as kind refusals.BadLength given ended old new h = (refusals.BadLength, 
 refused_as kind refusals.TooLong given ended old new h = (refusals.TooLong, refl, h)
 refused_as kind refusals.CutShort given ended old new h = (refusals.CutShort, refl, h)
 
-pub look_stops : (kind : HttpKind) (refusal : Refusal) (fault : WireFault) (given : List ℕ) (ended : Bool) (old new : ℕ) → fault ≡ fault_of refusal
+pub look_stops : {S : Type 0} (kind : HttpKind) (refusal : Refusal) (fault : WireFault) (given : List ℕ) (ended : Bool) (old new : Counting S) → fault ≡ fault_of refusal
     → Looks kind given ended (looks.Refused refusal) → ReadStops kind fault given ended old new
 look_stops kind refusal fault given ended old new is h =
     subst (λ (f : WireFault). ReadStops kind f given ended old new) (sym is) (refused_as kind refusal given ended old new h)
 
-pub want_of_memory : (kind : HttpKind) (fault : WireFault) (given : List ℕ) (ended : Bool) (old new : ℕ) → fault ≡ Memory
+pub want_of_memory : {S : Type 0} (kind : HttpKind) (fault : WireFault) (given : List ℕ) (ended : Bool) (old new : Counting S) → fault ≡ Memory
     → ReadStops kind fault given ended old new
 want_of_memory kind fault given ended old new is = subst (λ (f : WireFault). ReadStops kind f given ended old new) (sym is) tt
 
@@ -92,28 +93,31 @@ pub looks_at : (kind : HttpKind) (seen now : List ℕ) (head : Head) (have : ℕ
 looks_at kind seen now head have ended look same count is said =
     (head, subst (λ (l : List ℕ). HeadIs kind l head) same is, said ∙ ap (λ n. look_past head n ended) count)
 
+-- one more call is counted
+pub one_more_call : (turns first before after : ℕ) → CallsMade turns first before → after ≡ one_more before → CallsMade (turns + 1) first after
+one_more_call turns first before after made is below =
+    let one : 1 + before ≤ after = omega arith in
+    let so_far : turns + first ≤ before = made (omega arith) in
+    omega arith
+
 -- what was known of the bytes held is known of the bytes now
 pub known_after : (kind : HttpKind) (held given now seen : List ℕ) (head : Head) → now ≡ held ++ given → seen ≡ now → IsKnown kind held head → IsKnown kind seen head
 known_after kind held given now seen head grew same known =
     subst (λ (l : List ℕ). IsKnown kind l head) (sym (same ∙ grew)) (known_on kind held given head known)
 
 -- one more turn that asks for more
-pub turn_keeps : (kind : HttpKind) (a b c : Option (List ℕ)) (held now seen : List ℕ) (head : Head) (have : ℕ) (ended : Bool) (first before after turn : ℕ)
-    → Consumes a b held → first ≤ before → TurnsPassed turn (length held) first before
+pub turn_keeps : {S : Type 0} (kind : HttpKind) (a b c : Option (List ℕ)) (held now seen : List ℕ) (head : Head) (have : ℕ) (ended : Bool) (first before after : Counting S) (turn : ℕ)
+    → Consumes a b held → first.faults ≤ before.faults → CallsMade turn first.calls before.calls
     → Grows b c held now ended before after → seen ≡ now → have ≡ length now → HeadIs kind seen head → looks.More ≡ look_past head have ended
-    → Consumes a c now × WantsMore kind now × (first ≤ after) × TurnsPassed (turn + 1) (length now) first after × IsKnown kind now head
-turn_keeps kind a b c held now seen head have ended first before after turn given kept passed more same count is said =
+    → Consumes a c now × WantsMore kind now × (first.faults ≤ after.faults) × CallsMade (turn + 1) first.calls after.calls × IsKnown kind now head
+turn_keeps kind a b c held now seen head have ended first before after turn given kept called more same count is said =
     let open_yet = not_ended head have ended said in
-    let later : before ≤ after = more.kept in
-    let long : length now ≡ length held + length more.given = ap length more.grew ∙ length-append held more.given in
+    let later : before.faults ≤ after.faults = more.kept in
     let here : HeadIs kind now head = subst (λ (l : List ℕ). HeadIs kind l head) same is in
     let asked : looks.More ≡ look_past head (length now) false = said ∙ (λ i. look_past head (count i) (open_yet i)) in (
       (reached a b c held more.given now ended given more.gives more.grew).consumed,
       inr (head, here, asked),
       omega arith,
-      λ below.
-          let one : 1 + before ≤ length more.given + after = more.passed open_yet below in
-          let so_far : turn + first ≤ length held + before = passed (omega arith) in
-          omega arith,
+      one_more_call turn _ before.calls _ called more.called,
       inr here,
     )

@@ -21,7 +21,7 @@ WritesText contents old new text = (old.faults ≤ new.faults) × Appends (conte
 abbrev pub BreaksOff : {S : Type 0} → (S → Option (List ℕ)) → Counting S → Counting S → List ℕ → WireFault → Type 0
 BreaksOff contents old new text fault =
     (taken : ℕ) × (taken < length text) × Appends (contents old.stream) (contents new.stream) (take taken text)
-    × WriteStops fault taken old.faults new.faults
+    × WriteStops fault old new
 
 -- the bytes that the stream gave carry the body
 abbrev pub TakesBody : {S : Type 0} → HttpKind → (S → Option (List ℕ)) → Counting S → Counting S → List ℕ → Type 0
@@ -33,4 +33,4 @@ TakesBody kind remaining old new body =
 abbrev pub TakesNone : {S : Type 0} → HttpKind → (S → Option (List ℕ)) → Counting S → Counting S → WireFault → Type 0
 TakesNone kind remaining old new fault =
     (given : List ℕ) × (ended : Bool) × Gives (remaining old.stream) (remaining new.stream) given ended
-    × ReadStops kind fault given ended old.faults new.faults
+    × ReadStops kind fault given ended old new

@@ -1,30 +1,31 @@
 -- What one turn of reading does.
-use Rattle.std.specs.Prelude.{◌≡◌, ◌≢◌, ℕ, ◌≤◌, Bool, false, List, ◌++◌, length, Option}
+use Rattle.std.specs.Prelude.{◌≡◌, ◌≢◌, ℕ, ◌≤◌, Bool, false, List, ◌++◌, Option}
 use Rattle.std.specs.declared.io.ErrorKind.TheVariants.{Interrupted}
 use Rattle.std.specs.Io.KnownBytes.{Consumes, Keeps}
-use Rattle.game_core.specs.Counting.{Counting}
+use Rattle.game_core.specs.Counting.{Counting, one_more}
 use Rattle.match_wire.specs.Exchange.{Gives}
-use Rattle.match_wire.specs.WireFaults.{HasFailed, TurnsPassed}
+use Rattle.match_wire.specs.WireFaults.{HasFailed}
 use Rattle.match_wire.specs.declared.wire_fault.WireFault.{WireFault}
 use Rattle.match_wire.specs.declared.wire_fault.WireFault.TheVariants.{ReadFault, Memory}
 
--- the bytes held grew by what was given
-pub record Grows (old new : Option (List ℕ)) (held now : List ℕ) (ended : Bool) (before after : ℕ) : Type 0 where
+-- the bytes held grew by what one read gave
+pub record Grows {S : Type 0} (old new : Option (List ℕ)) (held now : List ℕ) (ended : Bool) (before after : Counting S) : Type 0 where
   pub given : List ℕ
   pub gives : Gives old new given ended
   pub grew : now ≡ held ++ given
-  pub passed : ended ≡ false → TurnsPassed 1 (length given) before after
-  pub kept : before ≤ after
+  pub called : after.calls ≡ one_more before.calls
+  pub kept : before.faults ≤ after.faults
 
 abbrev pub Turn : {S : Type 0} → (S → Option (List ℕ)) → Counting S → Counting S → List ℕ → List ℕ → Bool → Type 0
 Turn remaining old new held now ended =
-    Grows (remaining old.stream) (remaining new.stream) held now ended old.faults new.faults
+    Grows (remaining old.stream) (remaining new.stream) held now ended old new
 
 -- why a turn of reading failed
-abbrev pub TurnStops : WireFault → Option (List ℕ) → Option (List ℕ) → ℕ → ℕ → Type 0
-TurnStops (ReadFault cause) old new before after = (cause ≢ Interrupted) × Keeps old new × HasFailed before after
+abbrev pub TurnStops : {S : Type 0} → WireFault → Option (List ℕ) → Option (List ℕ) → Counting S → Counting S → Type 0
+TurnStops (ReadFault cause) old new before after =
+    (cause ≢ Interrupted) × Keeps old new × HasFailed before.faults after.faults
 TurnStops Memory old new before after = (given : List ℕ) × Consumes old new given
 TurnStops fault old new before after = ⊥
 
 abbrev pub TurnFails : {S : Type 0} → (S → Option (List ℕ)) → Counting S → Counting S → WireFault → Type 0
-TurnFails remaining old new fault = TurnStops fault (remaining old.stream) (remaining new.stream) old.faults new.faults
+TurnFails remaining old new fault = TurnStops fault (remaining old.stream) (remaining new.stream) old new

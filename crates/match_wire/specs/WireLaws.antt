@@ -2,6 +2,7 @@
 use Rattle.std.specs.Prelude.{◌≡◌, ◌≢◌, ◌≤◌, ◌⊎◌, ℕ, Bool, false, List, ◌++◌, length, slice_range}
 use Rattle.std.specs.List.{AllPass}
 use Rattle.httparse.specs.Grammar.{is_value_byte}
+use Rattle.game_core.specs.Counting.{Counting}
 use Rattle.match_wire.specs.Carried.{Carried}
 use Rattle.match_wire.specs.HttpHead.{MayBecomeHead, IsHopeless, front, most_body}
 use Rattle.match_wire.specs.HttpText.{reply_text, request_text}
@@ -20,7 +21,7 @@ pub record IsUndecided (kind : HttpKind) (bytes : List ℕ) : Type 0 where
   pub unfinished : MayBecomeHead kind (front bytes)
   pub hopeless : IsHopeless kind (front bytes)
 
--- Once more is not asked for, the same is said of all longer bytes: so the order and the sizes of the
+-- Once no more bytes are asked for, the same is said of all longer bytes: so the order and the sizes of the
 -- reads don't matter.
 abbrev pub LooksStay : Type 0
 LooksStay =
@@ -53,9 +54,9 @@ CarriesOneAtMost =
     → Carried kind given ended one → Carried kind given ended other → one ≡ other
 
 -- where the bytes carry a body, no fault comes but want of memory
-abbrev pub CarriedHasNoFault : Type 0
-CarriedHasNoFault =
-    (kind : HttpKind) (given : List ℕ) (ended : Bool) (body : List ℕ) (fault : WireFault) (old new : ℕ)
+abbrev pub CarriedHasNoFault : Type 0 → Type 0
+CarriedHasNoFault S =
+    (kind : HttpKind) (given : List ℕ) (ended : Bool) (body : List ℕ) (fault : WireFault) (old new : Counting S)
     → Carried kind given ended body → ReadStops kind fault given ended old new → fault ≡ Memory
 
 -- The reply that is written carries its body, whatever follows it.

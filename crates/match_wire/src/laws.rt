@@ -19,7 +19,7 @@ pub fn owed_messages_read_back()
     ensures { OwedMessagesReadBack }
 {}
 
-/// Once more is not asked for, the same is said of all longer bytes, unless they are hopeless.
+/// Once no more bytes are asked for, the same is said of all longer bytes, unless they are hopeless.
 pub fn looks_stay()
     ensures { LooksStay }
 {}
@@ -40,8 +40,8 @@ pub fn carries_one_at_most()
 {}
 
 /// Where the bytes carry a body, no fault comes but want of memory.
-pub fn carried_has_no_fault()
-    ensures { CarriedHasNoFault }
+pub fn carried_has_no_fault<S>()
+    ensures { CarriedHasNoFault S }
 {}
 
 /// The reply that `give_reply` writes carries its body.

@@ -1,8 +1,9 @@
 //! The writing of a message, in turns of one write each.
 ghost use Rattle.std.specs.Prelude.{◌≡◌, ◌<◌, ◌≤◌, length, take, IfOk, OnOk, OnErr, IfErr, []};
 ghost use Rattle.std.specs.Io.KnownBytes.{Appends};
+ghost use Rattle.game_core.specs.Counting.{one_more};
 ghost use Rattle.match_wire.specs.Exchange.{BreaksOff, WritesText};
-ghost use Rattle.match_wire.specs.WireFaults.{HasFailed, TurnsPassed};
+ghost use Rattle.match_wire.specs.WireFaults.{HasFailed};
 
 use crate::wire_fault::WireFault;
 use game_core::Counted;
@@ -17,7 +18,7 @@ fn write_turn<S: Write>(stream: &mut Counted<S>, rest: &[u8]) -> Result<usize, W
     requires { 0 < length rest.now }
     ensures bound { IfOk result (λ taken. taken ≤ length rest.now) }
     ensures bytes { IfOk result (λ taken. Appends (S.contents stream.old.stream) (S.contents stream.new.stream) (take taken rest.now)) }
-    ensures passed { IfOk result (λ taken. TurnsPassed 1 taken stream.old.faults stream.new.faults) }
+    ensures called { stream.new.calls ≡ one_more stream.old.calls }
     ensures fault { IfErr result (λ fault. fault ≡ WireFault.WriteFault) }
     ensures nothing { OnErr result (Appends (S.contents stream.old.stream) (S.contents stream.new.stream) []) }
     ensures failed { OnErr result (HasFailed stream.old.faults stream.new.faults) }

@@ -2,4 +2,4 @@ use Rattle.match_wire.proofs.Found as proved
 use Rattle.match_wire.proofs.laws.carried_has_no_fault.Goals as goal
 
 pub returns : goal.returns
-returns c = proved.carried_has_no_fault
+returns g c = proved.carried_has_no_fault _

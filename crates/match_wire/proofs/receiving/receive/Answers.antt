@@ -53,5 +53,5 @@ pub loop-turn-preserved : goal.loop-turn-preserved
 loop-turn-preserved g c =
     let before = c.loop-turn.invariant in
     let count : c.len.result ≡ length c.read_turn.new.bytes.items = search rules in
-    let after = turn_keeps c.args.kind _ _ _ c.loop-turn.bytes.items c.read_turn.new.bytes.items c.deref.result.now c.head_after-head.result c.len.result c.in-Ok.ended _ _ _ c.loop-turn.turn before.given before.kept before.passed c.in-Ok.ensures.turn c.deref.ensures.value count c.head_after-head.ensures.head c.in-More.ensures.value in
-    record { given = after.0; wants = after.1; kept = after.2; passed = after.3; known = after.4 }
+    let after = turn_keeps c.args.kind _ _ _ c.loop-turn.bytes.items c.read_turn.new.bytes.items c.deref.result.now c.head_after-head.result c.len.result c.in-Ok.ended c.args.stream.now c.loop-turn.stream c.read_turn.new.stream c.loop-turn.turn before.given before.kept before.called c.in-Ok.ensures.turn c.deref.ensures.value count c.head_after-head.ensures.head c.in-More.ensures.value in
+    record { given = after.0; wants = after.1; kept = after.2; called = after.3; known = after.4 }

@@ -1,7 +1,7 @@
-use Rattle.std.proofs.Common.{◌≤◌, length}
+use Rattle.std.proofs.Common.{◌≤◌}
 use Rattle.std.specs.Io.KnownBytes.{Consumes}
 use Rattle.match_wire.specs.HttpHead.{IsKnown}
-use Rattle.match_wire.specs.WireFaults.{WantsMore, TurnsPassed}
+use Rattle.match_wire.specs.WireFaults.{WantsMore, CallsMade}
 use Rattle.match_wire.proofs.receiving.receive.Given as goal
 
 abbrev pub invariant-loop-turn : goal.invariant-loop-turn
@@ -9,6 +9,6 @@ invariant-loop-turn g l = record {
   given : Consumes (g.S.Read.remaining l.initial.stream.stream) (g.S.Read.remaining l.stream.stream) l.bytes.items;
   wants : WantsMore l.kind l.bytes.items;
   kept : l.initial.stream.faults ≤ l.stream.faults;
-  passed : TurnsPassed l.turn (length l.bytes.items) l.initial.stream.faults l.stream.faults;
+  called : CallsMade l.turn l.initial.stream.calls l.stream.calls;
   known : IsKnown l.kind l.bytes.items l.head;
 }

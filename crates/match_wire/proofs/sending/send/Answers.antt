@@ -2,8 +2,8 @@ use Rattle.std.proofs.Common.{ℕ, ◌+◌, ◌-◌, ◌<◌, ◌≤◌, rules, 
 use Rattle.std.proofs.lemmas.List.{take_rest}
 use Rattle.std.specs.Io.KnownBytes.{Appends}
 use Rattle.std.proofs.KnownBytes.{Appends-trans}
-use Rattle.game_core.specs.Counting.{last_count}
 use lib.Seq.{take-add}
+use Rattle.match_wire.proofs.Turning.{one_more_call}
 use Rattle.match_wire.proofs.sending.send.Goals as goal
 
 -- one more write takes n bytes from place t on
@@ -18,9 +18,5 @@ loop-turn-preserved g c = record {
   within = search rules;
   stands = Appends_more _ _ _ c.args.text.now c.loop-turn.taken c.in-Ok.count c.loop-turn.invariant.stands c.in-Ok.ensures.bytes;
   kept = search rules;
-  passed = λ below.
-      let one : 1 + c.loop-turn.stream.faults ≤ c.in-Ok.count + c.write_turn.new.stream.faults = c.in-Ok.ensures.passed below in
-      let before : c.loop-turn.stream.faults < last_count = omega (arith, c.in-Ok.ensures.kept) in
-      let so_far : c.loop-turn.turn + c.args.stream.now.faults ≤ c.loop-turn.taken + c.loop-turn.stream.faults = c.loop-turn.invariant.passed before in
-      omega arith;
+  called = one_more_call c.loop-turn.turn _ c.loop-turn.stream.calls _ c.loop-turn.invariant.called c.write_turn.ensures.called;
 }

@@ -1,6 +1,6 @@
 use Rattle.std.proofs.Common.{◌≤◌, length, take}
 use Rattle.std.specs.Io.KnownBytes.{Appends}
-use Rattle.match_wire.specs.WireFaults.{TurnsPassed}
+use Rattle.match_wire.specs.WireFaults.{CallsMade}
 use Rattle.match_wire.proofs.sending.send.Given as goal
 
 abbrev pub invariant-loop-turn : goal.invariant-loop-turn
@@ -8,5 +8,5 @@ invariant-loop-turn g l = record {
   within : l.taken ≤ length l.text;
   stands : Appends (g.S.Write.contents l.initial.stream.stream) (g.S.Write.contents l.stream.stream) (take l.taken l.text);
   kept : l.initial.stream.faults ≤ l.stream.faults;
-  passed : TurnsPassed l.turn l.taken l.initial.stream.faults l.stream.faults;
+  called : CallsMade l.turn l.initial.stream.calls l.stream.calls;
 }
