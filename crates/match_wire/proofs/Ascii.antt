@@ -1,6 +1,6 @@
 -- The texts of a record are ASCII.
-use Rattle.std.proofs.Common.{◌≡◌, ◌⊎◌, inl, inr, ℕ, zero, suc, ◌<◌, ◌&&◌, nat_lt, Bool, true, Option, Some, None, List, [], ◌∷◌, ◌++◌, length, take, codes, refl, sym, subst, arith, lit<}
-use Rattle.std.specs.Prelude.{slice_index, slice_index_or, slice_get, option_map, option_and_then, All, IfSome}
+use Rattle.std.proofs.Common.{◌≡◌, inl, inr, ℕ, zero, suc, ◌<◌, ◌&&◌, nat_lt, Bool, true, Option, Some, None, List, [], ◌∷◌, ◌++◌, length, take, codes, refl, sym, subst, arith, lit<}
+use Rattle.std.specs.Prelude.{slice_index_or, slice_get, option_map, option_and_then, All, IfSome}
 use Rattle.std.specs.List.{list_all}
 use Rattle.std.specs.Str.{IsAscii}
 use Rattle.std.proofs.lemmas.Str.{IsAscii-append}
@@ -10,10 +10,10 @@ use Rattle.game_core.specs.Bytes.{is_atom_byte, left_parenthesis, right_parenthe
 use Rattle.game_core.specs.Expression.{Expression, atom, list, Expressions, none, more, AreAtomBytes, HasAtoms, AllHaveAtoms}
 use Rattle.game_core.specs.Canonical.{canonical, members, later, IsCanonicalText, IsFoldedText}
 use Rattle.game_core.specs.Play.{Rules}
-use Rattle.match_book.specs.Names.{is_name, is_name_byte}
+use Rattle.match_book.specs.Names.{is_name}
 use Rattle.match_book.specs.Marks.{mark_text}
-use Rattle.match_book.specs.Judgement.{IsSubstitution, IsJudged, error_text}
-use Rattle.match_book.specs.MatchValue.{error_at, state_after}
+use Rattle.match_book.specs.Judgement.{IsSubstitution, IsJudged}
+use Rattle.match_book.specs.MatchValue.{error_at}
 use Rattle.match_book.specs.Lawful.{IsLawfulTurn, AreLawful}
 use Rattle.match_book.specs.declared.answer.Mark.{Mark}
 use Rattle.match_book.specs.declared.answer.Mark.TheVariants.{Clear, TimeOut, ConnectionError}

@@ -5,13 +5,13 @@ use Rattle.std.specs.List.{list_all, list_any}
 use Rattle.std.specs.Str.Parse.{digits_value}
 use Rattle.std.proofs.lemmas.Bool.Decides.{nat_tests}
 use Rattle.std.proofs.lemmas.List.{at_drop_more}
-use Rattle.match_wire.specs.BodyLength.{Header, BodyLength, unsaid, said, wrong, has_name, transfer_encoding, content_length, is_numeral, writes_number, lengths, body_length, length_of, agrees}
+use Rattle.match_wire.specs.BodyLength.{Header, BodyLength, unsaid, said, wrong, has_name, transfer_encoding, content_length, are_digits, writes_number, lengths, body_length, length_of, agrees}
 use Rattle.match_wire.proofs.Lengths.{both}
 
 -- one more length
 abbrev agree : BodyLength → List ℕ → BodyLength
 agree wrong value = wrong
-agree unsaid value = if is_numeral value then said (digits_value 10 value) else wrong
+agree unsaid value = if are_digits value then said (digits_value 10 value) else wrong
 agree (said n) value = if writes_number n value then said n else wrong
 
 -- one more field
@@ -57,9 +57,9 @@ after_said n (field ∷ fields) =
 pub after_all : (fields : List Header) → after unsaid fields ≡ body_length fields
 after_all [] = refl
 after_all (field ∷ fields) =
-    step (has_coding field) refl (has_name content_length field.0) refl (is_numeral field.1) refl (after_all fields)
+    step (has_coding field) refl (has_name content_length field.0) refl (are_digits field.1) refl (after_all fields)
   where
-    step : (a : Bool) → has_name transfer_encoding field.0 ≡ a → (b : Bool) → has_name content_length field.0 ≡ b → (d : Bool) → is_numeral field.1 ≡ d
+    step : (a : Bool) → has_name transfer_encoding field.0 ≡ a → (b : Bool) → has_name content_length field.0 ≡ b → (d : Bool) → are_digits field.1 ≡ d
         → after unsaid fields ≡ body_length fields → after unsaid (field ∷ fields) ≡ body_length (field ∷ fields)
     step true e b f d g rest = rw e (after_wrong fields)
     step false e true f true g rest =
@@ -81,14 +81,14 @@ skips view before whole headers i d within e f so_far =
     let same : one before (view (get_or headers i d)) ≡ before = rw (e, f) refl in
     sym (next view before headers i d within ∙ ap (λ b. after b (map view (drop (i + 1) headers))) same) ∙ so_far
 
-pub agrees_numeral : (before : Option (List ℕ)) (value : List ℕ) → agrees before value ≡ true → is_numeral value ≡ true
+pub agrees_numeral : (before : Option (List ℕ)) (value : List ℕ) → agrees before value ≡ true → are_digits value ≡ true
 agrees_numeral None value e = e
-agrees_numeral (Some digits) value e = (both (is_numeral value) (digits_value 10 value == digits_value 10 digits) e).0
+agrees_numeral (Some digits) value e = (both (are_digits value) (digits_value 10 value == digits_value 10 digits) e).0
 
 agree_agrees : (before : Option (List ℕ)) (value : List ℕ) → agrees before value ≡ true → agree (length_of before) value ≡ said (digits_value 10 value)
 agree_agrees None value e = rw e refl
 agree_agrees (Some digits) value e =
-    let parts = both (is_numeral value) (digits_value 10 value == digits_value 10 digits) e in
+    let parts = both (are_digits value) (digits_value 10 value == digits_value 10 digits) e in
     let test : (digits_value 10 value == digits_value 10 digits) ≡ true = parts.1 in
     let same : digits_value 10 digits ≡ digits_value 10 value = grind (arith, nat_tests) in
     rw e (ap said same)

@@ -1,5 +1,5 @@
 -- Expressions by their members, and those that have not the form of a message.
-use Rattle.std.proofs.Common.{◌≡◌, ◌⊎◌, inl, inr, ℕ, ◌<◌, ◌≤◌, Option, Some, None, Ok, Err, List, [], ◌∷◌, map, length, refl, ap, arith}
+use Rattle.std.proofs.Common.{◌≡◌, ◌≢◌, ◌⊎◌, inl, inr, ℕ, ◌<◌, ◌≤◌, Option, Some, None, Err, List, [], ◌∷◌, map, length, refl, ap, arith}
 use Rattle.game_core.specs.Expression.{Expression, atom, list, Expressions, more, folded, all_folded}
 use Rattle.kif_text.specs.View.{view, views, expressions}
 use Rattle.kif_text.specs.declared.expr.Expr.{Expr}
@@ -35,38 +35,25 @@ pub info_many : (xs : List Expr) → 1 ≤ length xs → info_in (views xs) ≡ 
 info_many [] many = absurd (omega arith)
 info_many (x ∷ xs) many = refl
 
-pub abort_many : (xs : List Expr) → 2 ≤ length xs → abort_in (views xs) ≡ Err BadMessage
-abort_many [] many = absurd (omega arith)
-abort_many (x ∷ []) many = absurd (omega arith)
-abort_many (x ∷ (y ∷ xs)) many = refl
+pub abort_other : (xs : List Expr) → length xs ≢ 1 → abort_in (views xs) ≡ Err BadMessage
+abort_other [] other = refl
+abort_other (x ∷ []) other = absurd (other refl)
+abort_other (x ∷ (y ∷ xs)) other = refl
 
-pub moves_few : (f : List ℕ → Option Expressions → MessageValue) (xs : List Expr) → length xs < 2 → last_moves_in f (views xs) ≡ Err BadMessage
-moves_few f [] few = refl
-moves_few f (x ∷ []) few = refl
-moves_few f (x ∷ (y ∷ xs)) few = absurd (omega arith)
+pub moves_other : (f : List ℕ → Option Expressions → MessageValue) (xs : List Expr) → length xs ≢ 2 → last_moves_in f (views xs) ≡ Err BadMessage
+moves_other f [] other = refl
+moves_other f (x ∷ []) other = refl
+moves_other f (x ∷ (y ∷ [])) other = absurd (other refl)
+moves_other f (x ∷ (y ∷ (z ∷ xs))) other = refl
 
-pub moves_many : (f : List ℕ → Option Expressions → MessageValue) (xs : List Expr) → 3 ≤ length xs → last_moves_in f (views xs) ≡ Err BadMessage
-moves_many f [] many = absurd (omega arith)
-moves_many f (x ∷ []) many = absurd (omega arith)
-moves_many f (x ∷ (y ∷ [])) many = absurd (omega arith)
-moves_many f (x ∷ (y ∷ (z ∷ xs))) many = refl
-
-pub start_few : (xs : List Expr) → length xs < 5 → start_in (views xs) ≡ Err BadMessage
-start_few [] few = refl
-start_few (a ∷ []) few = refl
-start_few (a ∷ (b ∷ [])) few = refl
-start_few (a ∷ (b ∷ (d ∷ []))) few = refl
-start_few (a ∷ (b ∷ (d ∷ (e ∷ [])))) few = refl
-start_few (a ∷ (b ∷ (d ∷ (e ∷ (f ∷ xs))))) few = absurd (omega arith)
-
-pub start_many : (xs : List Expr) → 6 ≤ length xs → start_in (views xs) ≡ Err BadMessage
-start_many [] many = absurd (omega arith)
-start_many (a ∷ []) many = absurd (omega arith)
-start_many (a ∷ (b ∷ [])) many = absurd (omega arith)
-start_many (a ∷ (b ∷ (d ∷ []))) many = absurd (omega arith)
-start_many (a ∷ (b ∷ (d ∷ (e ∷ [])))) many = absurd (omega arith)
-start_many (a ∷ (b ∷ (d ∷ (e ∷ (f ∷ []))))) many = absurd (omega arith)
-start_many (a ∷ (b ∷ (d ∷ (e ∷ (f ∷ (g ∷ xs)))))) many = refl
+pub start_other : (xs : List Expr) → length xs ≢ 5 → start_in (views xs) ≡ Err BadMessage
+start_other [] other = refl
+start_other (a ∷ []) other = refl
+start_other (a ∷ (b ∷ [])) other = refl
+start_other (a ∷ (b ∷ (d ∷ []))) other = refl
+start_other (a ∷ (b ∷ (d ∷ (e ∷ [])))) other = refl
+start_other (a ∷ (b ∷ (d ∷ (e ∷ (f ∷ []))))) other = absurd (other refl)
+start_other (a ∷ (b ∷ (d ∷ (e ∷ (f ∷ (g ∷ xs)))))) other = refl
 
 -- an id or moves that are not there
 pub moves_missing : (f : List ℕ → Option Expressions → MessageValue) (id : Option (List ℕ)) (moves : Option (Option Expressions)) → (id ≡ None) ⊎ (moves ≡ None) → moves_of f id moves ≡ Err BadMessage

@@ -10,14 +10,14 @@ use Rattle.std.proofs.lemmas.Int.Digits.{digits_value_push, digits_value_more}
 use Rattle.std.proofs.lemmas.Str.Parse.{digits_value-take-le}
 use Rattle.std.proofs.lemmas.List.{reverse-append, reverse-reverse}
 use Rattle.std.proofs.lemmas.Slice.Eq.{bytes_eq-Decides}
-use Rattle.match_wire.specs.BodyLength.{is_numeral}
+use Rattle.match_wire.specs.BodyLength.{are_digits}
 
 pub both : (a b : Bool) → (a && b) ≡ true → (a ≡ true) × (b ≡ true)
 both true true e = (refl, refl)
 both true false e = (refl, e)
 both false b e = absurd (cc)
 
-pub numeral_parts : (value : List ℕ) → is_numeral value ≡ true → (0 < length value) × (list_all is_ascii_digit value ≡ true)
+pub numeral_parts : (value : List ℕ) → are_digits value ≡ true → (0 < length value) × (list_all is_ascii_digit value ≡ true)
 numeral_parts value e =
     let parts = both (nat_lt 0 (length value)) (list_all is_ascii_digit value) e in
     let some : nat_lt 0 (length value) ≡ true = parts.0 in
@@ -134,7 +134,7 @@ digit_less : (b : ℕ) → is_ascii_digit b ≡ true → b - 48 ≡ digit_value 
 digit_less b e = grind (arith, nat_tests)
 
 -- one more digit
-pub next_number : (digits : List ℕ) (i n r : ℕ) → is_numeral digits ≡ true → i < length digits → n ≡ digits_value 10 (take i digits)
+pub next_number : (digits : List ℕ) (i n r : ℕ) → are_digits digits ≡ true → i < length digits → n ≡ digits_value 10 (take i digits)
     → r ≡ get_or digits i 0 - 48 → n * 10 + r ≡ digits_value 10 (take (i + 1) digits)
 next_number digits i n r e within so_far more =
     let last : r ≡ digit_value (get_or digits i 0) = more ∙ digit_less (get_or digits i 0) (digit_at digits i (numeral_parts digits e).1 within) in

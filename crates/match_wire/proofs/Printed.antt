@@ -1,8 +1,7 @@
 -- Texts that stand in the places of the expressions that they are printed from.
 use Rattle.std.proofs.Common.{◌≡◌, List, [], ◌∷◌, ◌++◌, map, refl, ap}
-use Rattle.std.specs.Prelude.{ℕ}
 use Rattle.game_core.specs.Bytes.{space, left_parenthesis, right_parenthesis}
-use Rattle.game_core.specs.Expression.{list, none, more}
+use Rattle.game_core.specs.Expression.{list}
 use Rattle.game_core.specs.Canonical.{canonical, members, later}
 use Rattle.kif_text.specs.View.{view, views}
 use Rattle.kif_text.specs.declared.expr.Expr.{Expr}

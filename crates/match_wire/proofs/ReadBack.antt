@@ -1,20 +1,16 @@
 -- The texts of messages are read back.
-use Rattle.std.proofs.Common.{◌≡◌, ℕ, ◌≤◌, List, [], ◌∷◌, ◌++◌, length, Option, Some, None, Ok, true, refl, sym, ap, ◌∙◌, subst, lit<, codes, arith}
-use Rattle.game_core.specs.Bytes.{left_parenthesis, right_parenthesis, space}
-use Rattle.game_core.specs.Expression.{Expression, atom, list, Expressions, none, more, IsAtom, HasAtoms, AllHaveAtoms, all_folded}
+use Rattle.std.proofs.Common.{◌≡◌, ℕ, List, [], ◌∷◌, Option, Some, None, Ok, refl, ap, ◌∙◌, lit<, codes}
+use Rattle.game_core.specs.Expression.{Expressions, none, more, IsAtom, HasAtoms}
 use Rattle.game_core.specs.Canonical.{canonical, members, later}
 use Rattle.kif_text.specs.Reading.{reading}
-use Rattle.kif_text.specs.Spelling.{max_length}
 use Rattle.kif_text.proofs.Readings.{canonical_reads_back}
-use Rattle.match_book.specs.Names.{is_name}
 use Rattle.match_book.specs.declared.due.Owed.{Owed}
 use Rattle.match_book.specs.declared.due.Owed.TheVariants.{Start, Play, Stop, Abort}
 use Rattle.match_wire.specs.declared.brief.Brief.{Brief}
-use Rattle.match_wire.specs.Clock.{clock_of}
 use Rattle.match_wire.specs.MessageValue.{MessageValue, info, start, play, stop, abort, message_form, moves_form, folded_message}
 use Rattle.match_wire.specs.MessageText.{as_printed, message_text}
 use Rattle.match_wire.specs.MessageReading.{message_in, message_reading, in_expression}
-use Rattle.match_wire.specs.MessageLaws.{AreMoves, IsLawfulMessage, IsSayable, MessagesReadBack, HaveTexts, MovesHaveTexts, Says, OwedMessagesReadBack}
+use Rattle.match_wire.specs.MessageLaws.{AreMoves, IsLawfulMessage, MessagesReadBack, HaveTexts, Says, OwedMessagesReadBack}
 use Rattle.match_wire.proofs.Numerals.{clock_is_atom, clock_of-decimal, name_is_atom}
 
 -- ---- the form of a lawful message has atoms

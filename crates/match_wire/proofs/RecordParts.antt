@@ -1,8 +1,8 @@
 -- The lists of a record, member by member, and its tree: no floats, and three levels.
-use Rattle.std.proofs.Common.{◌≡◌, ℕ, zero, suc, ◌+◌, ◌<◌, ◌≤◌, max, Bool, true, false, Option, Some, None, List, [], ◌∷◌, ◌++◌, length, take, map, refl, sym, ap, ◌∙◌, subst, arith, add-one, append_assoc, Vec, Global, codes}
-use Rattle.std.specs.Prelude.{slice_index_or, slice_get, option_map, option_and_then, option_to_list}
-use Rattle.std.proofs.lemmas.List.{map-append, take_more, take_all, map_more}
-use Rattle.std.proofs.lemmas.Option.{get_or_from_slice_get, slice_get_within, slice_get-get_or}
+use Rattle.std.proofs.Common.{◌≡◌, ℕ, zero, suc, ◌+◌, ◌<◌, ◌≤◌, false, Option, Some, None, List, [], ◌∷◌, ◌++◌, length, take, map, refl, sym, ap, ◌∙◌, subst, arith, add-one, Vec, Global, codes}
+use Rattle.std.specs.Prelude.{slice_get, option_map, option_and_then, option_to_list}
+use Rattle.std.proofs.lemmas.List.{map-append, take_more, take_all}
+use Rattle.std.proofs.lemmas.Option.{get_or_from_slice_get, slice_get_within}
 use Rattle.serde_json.specs.Data.{Data, put, member, no_members, string, array, number, unsigned, depth, items_depth}
 use Rattle.serde_json.specs.Written.{has_float, items_have_float}
 use Rattle.serde_json.specs.View.{view, items_of}
@@ -16,9 +16,8 @@ use Rattle.match_book.specs.Phase.{cause, goal_of}
 use Rattle.match_book.specs.MatchValue.{MatchValue, state_after}
 use Rattle.match_book.specs.Lawful.{AreLawful}
 use Rattle.match_book.specs.declared.answer.Mark.{Mark}
-use Rattle.match_book.specs.declared.phase.Cause.{Cause}
 use Rattle.match_book.specs.declared.turn.Turn.{Turn}
-use Rattle.match_wire.specs.RecordTree.{each_role, goals_from, prefixes, list_tree, texts_tree, text_or_null, marks_tree, goals_tree, cause_text, moves_tree, errors_tree, states_tree, record_tree}
+use Rattle.match_wire.specs.RecordTree.{each_role, goals_from, prefixes, list_tree, texts_tree, text_or_null, cause_text, record_tree}
 
 -- ---- one role more
 

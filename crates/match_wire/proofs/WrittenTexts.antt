@@ -13,7 +13,7 @@ use Rattle.std.proofs.lemmas.Str.{IsUtf8-from_ascii}
 use Rattle.std.proofs.lemmas.Str.Parse.{digit_from_value}
 use Rattle.httparse.specs.Grammar.{is_token_byte, is_uri_byte, is_value_byte, is_ows, skip_ows, trim_ows, Field, IsField, print_field, crlf, ResponseHead, print_response, RequestHead, print_request}
 use Rattle.httparse.proofs.TrimLemmas.{trim_ows_space}
-use Rattle.match_wire.specs.BodyLength.{BodyLength, said, is_numeral, agreed}
+use Rattle.match_wire.specs.BodyLength.{BodyLength, said, are_digits, agreed}
 use Rattle.match_wire.specs.HttpHead.{reply_parts, request_parts, most_body}
 use Rattle.match_wire.specs.HttpText.{line_end, line, field, described_body, reply_text, request_text}
 use Rattle.match_wire.specs.Carried.{Follows}
@@ -31,7 +31,7 @@ all_digits (x ∷ xs) h =
     let test : is_ascii_digit x ≡ true = grind (arith, nat_tests, range) in
     rw (test, all_digits xs h.1) refl
 
-digits_of_decimal : (n : ℕ) → n < 2 ^ 64 → (list_all is_ascii_digit (decimal n) ≡ true) × (is_numeral (decimal n) ≡ true) × (digits_value 10 (decimal n) ≡ n)
+digits_of_decimal : (n : ℕ) → n < 2 ^ 64 → (list_all is_ascii_digit (decimal n) ≡ true) × (are_digits (decimal n) ≡ true) × (digits_value 10 (decimal n) ≡ n)
 digits_of_decimal n small =
     let numeral = decimal_is_IsNumeral n small in
     let digits = all_digits (decimal n) numeral.0.1 in
@@ -58,7 +58,7 @@ all_values (x ∷ xs) e =
 trimmed : (digits : List ℕ) → list_all is_ascii_digit digits ≡ true → trim_ows (32 ∷ digits) ≡ digits
 trimmed digits e = trim_ows_space digits (skips_nothing digits e) (skips_nothing (reverse digits) (all_reverse digits e))
 
-agreed_alone : (digits : List ℕ) → is_numeral digits ≡ true → agreed (digits ∷ []) ≡ said (digits_value 10 digits)
+agreed_alone : (digits : List ℕ) → are_digits digits ≡ true → agreed (digits ∷ []) ≡ said (digits_value 10 digits)
 agreed_alone digits e =
     let same : (digits_value 10 digits == digits_value 10 digits) ≡ true = grind (arith, nat_tests) in
     rw (e, same) refl

@@ -20,12 +20,12 @@ abbrev pub content_length : List ℕ
 content_length = codes "content-length"
 
 -- one or more decimal digits
-abbrev pub is_numeral : List ℕ → Bool
-is_numeral value = nat_lt 0 (length value) && list_all is_ascii_digit value
+abbrev pub are_digits : List ℕ → Bool
+are_digits value = nat_lt 0 (length value) && list_all is_ascii_digit value
 
--- a numeral that writes this number
+-- digits that write this number
 abbrev pub writes_number : ℕ → List ℕ → Bool
-writes_number n value = is_numeral value && digits_value 10 value == n
+writes_number n value = are_digits value && digits_value 10 value == n
 
 -- nothing; that the body has so many bytes; or nothing that can be taken
 pub data BodyLength : Type 0 where
@@ -37,7 +37,7 @@ pub data BodyLength : Type 0 where
 abbrev pub lengths : List Header → List (List ℕ)
 lengths fields = map (λ (field : Header). field.1) (filter (λ (field : Header). has_name content_length field.0) fields)
 
--- Lengths agree where all are numerals of the same number, whatever their leading zeros.
+-- Lengths agree where all are digits of the same number, whatever their leading zeros.
 abbrev pub agreed : List (List ℕ) → BodyLength
 agreed [] = unsaid
 agreed (value ∷ values) =
@@ -52,7 +52,7 @@ abbrev pub length_of : Option (List ℕ) → BodyLength
 length_of None = unsaid
 length_of (Some digits) = said (digits_value 10 digits)
 
--- the value is a numeral, and of the same number as the one before it
+-- the value is digits, and of the same number as the one before it
 abbrev pub agrees : Option (List ℕ) → List ℕ → Bool
-agrees None value = is_numeral value
+agrees None value = are_digits value
 agrees (Some before) value = writes_number (digits_value 10 before) value

@@ -1,5 +1,5 @@
 -- What a message says, as a plain value, and the expression that says it.
-use Rattle.std.specs.Prelude.{ℕ, List, [], ◌∷◌, Option, Some, None, option_map, codes}
+use Rattle.std.specs.Prelude.{ℕ, List, Option, Some, None, option_map, codes}
 use Rattle.std.specs.Fmt.{decimal}
 use Rattle.game_core.specs.Expression.{Expression, atom, list, Expressions, none, more, folded, all_folded}
 use Rattle.kif_text.specs.View.{view, views}

@@ -8,7 +8,7 @@ use Rattle.match_book.specs.MatchValue.{state_after}
 use Rattle.match_book.specs.Phase.{phase_in, cause_in, is_live}
 use Rattle.match_book.specs.declared.phase.Cause.TheVariants.{Asked}
 use Rattle.match_book.specs.declared.phase.Stage.{Stage}
-use Rattle.match_book.specs.declared.phase.Stage.TheVariants.{Starting, Playing, Stopping, Aborting}
+use Rattle.match_book.specs.declared.phase.Stage.TheVariants.{Starting, Aborting}
 use Rattle.match_book.specs.declared.turn.Turn.{Turn}
 use Rattle.match_wire.specs.Replaying.{GoesOn, NamesNone, IsWrongError, AreRightBelow, text_at, IsReplayed, IsFirstFault, IsRightEnd, is_asked}
 use Rattle.match_wire.specs.declared.record_parts.RecordParts.{RecordParts}

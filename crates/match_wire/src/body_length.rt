@@ -3,9 +3,9 @@ ghost use Rattle.std.specs.Prelude.{◌≡◌, All, IsTrue, IfOk, IfSome, MatchR
 ghost use Rattle.std.specs.Char.{to_ascii_lowercase};
 ghost use Rattle.std.specs.Option.{option_copied};
 ghost use Rattle.httparse.specs.Spans.{IsHeaderWithin, header_bytes};
-ghost use Rattle.match_wire.specs.BodyLength.{agrees, body_length, has_name, is_numeral, length_of, wrong};
+ghost use Rattle.match_wire.specs.BodyLength.{agrees, body_length, has_name, are_digits, length_of, wrong};
 
-use crate::numeral::{is_numeral, is_same_number};
+use crate::numeral::{are_digits, is_same_number};
 use crate::wire_fault::Refusal;
 use httparse::spans::HeaderSpan;
 
@@ -21,14 +21,14 @@ fn has_name(name: &[u8], small: &[u8]) -> bool
     name.eq_ignore_ascii_case(small)
 }
 
-/// Whether a value is a numeral, and of the same number as the one before it.
+/// Whether a value is digits, and of the same number as the one before it.
 fn agrees(before: Option<&[u8]>, value: &[u8]) -> bool
-    requires { IfSome (option_copied before) (λ digits. IsTrue (is_numeral digits)) }
+    requires { IfSome (option_copied before) (λ digits. IsTrue (are_digits digits)) }
     ensures { result ≡ agrees (option_copied before.entry) value.now }
 {
     match before {
-        None => is_numeral(value),
-        Some(before) => is_numeral(value) && is_same_number(before, value),
+        None => are_digits(value),
+        Some(before) => are_digits(value) && is_same_number(before, value),
     }
 }
 
@@ -41,7 +41,7 @@ pub(crate) fn said_length<'b>(
     ensures value { MatchResult result
         (λ said. body_length (map (header_bytes buf.now) headers.now) ≡ length_of (option_copied said))
         (λ refusal. (refusal ≡ Refusal.BadLength) × (body_length (map (header_bytes buf.now) headers.now) ≡ wrong)) }
-    ensures numeral { IfOk result (λ said. IfSome (option_copied said) (λ digits. IsTrue (is_numeral digits))) }
+    ensures numeral { IfOk result (λ said. IfSome (option_copied said) (λ digits. IsTrue (are_digits digits))) }
 {
     let mut said = None;
     for header in headers {

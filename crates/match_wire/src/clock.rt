@@ -6,10 +6,7 @@ ghost use Rattle.kif_text.specs.View.{view};
 ghost use Rattle.match_wire.specs.Clock.{is_numeral, clock_of, clock_in};
 
 use kif_text::Expr;
-use match_book::is_clock;
-
-/// No clock has more seconds.
-const MAX_CLOCK: u32 = 86_400;
+use match_book::{MAX_CLOCK, is_clock};
 
 fn is_digits(word: &[u8]) -> bool
     ensures { result ≡ list_all is_ascii_digit word.now }

@@ -12,6 +12,9 @@ use std::alloc::{AllocError, Global};
 /// The most bytes of what an answer is read as.
 const MAX_READING: usize = 8192;
 
+/// The prefix of an error that quotes an illegal answer.
+pub(crate) const ILLEGAL: &[u8] = b"IL ";
+
 /// Whether a text of at most 8,192 bytes is the canonical text of an expression without capitals.
 fn is_folded_text(alloc: Global, text: &[u8]) -> Result<bool, AllocError>
     ensures { IfOk result (λ b. IsTrue b ↔ (IsFoldedText text.now × (length text.now ≤ max_reading))) }
@@ -41,7 +44,7 @@ fn is_error_text(alloc: Global, text: &[u8]) -> Result<bool, AllocError>
     if text == b"IL ?".as_slice() {
         return Ok(true);
     }
-    match after(text, b"IL ") {
+    match after(text, ILLEGAL) {
         Some(read) => is_folded_text(alloc, read),
         None => Ok(false),
     }

@@ -34,19 +34,9 @@ pub fn exchange<S: Read + Write>(
         × WritesText S.contents stream.old sent (request_text player.now body.now)
         × TakesNone HttpKind.Reply S.remaining sent stream.new fault))) }
 {
-    let text = match request_text(alloc, player, body) {
-        Ok(text) => text,
-        Err(_) => return Err(WireFault::Memory),
-    };
-    match send(stream, &text) {
-        Ok(()) => {}
-        Err(fault) => return Err(fault),
-    }
-    let reply = match receive(alloc, stream, HttpKind::Reply) {
-        Ok(reply) => reply,
-        Err(fault) => return Err(fault),
-    };
-    Ok(reply)
+    let text = request_text(alloc, player, body)?;
+    send(stream, &text)?;
+    receive(alloc, stream, HttpKind::Reply)
 }
 
 /// Reads a request, and answers its body. Whatever follows the body is ignored, and may have been read.
@@ -69,8 +59,6 @@ pub fn give_reply<S: Write>(
         ((fault ≡ WireFault.Memory) × (stream.new ≡ stream.old))
         ⊎ BreaksOff S.contents stream.old stream.new (reply_text body.now) fault) }
 {
-    match reply_text(alloc, body) {
-        Ok(text) => send(stream, &text),
-        Err(_) => Err(WireFault::Memory),
-    }
+    let text = reply_text(alloc, body)?;
+    send(stream, &text)
 }

@@ -13,6 +13,7 @@ use game_core::{Text, Texts};
 use serde_json::Value;
 use std::alloc::{AllocError, Global};
 
+/// Whether there is a value, and it is null.
 pub fn is_null(found: Option<&Value>) -> bool
     ensures { result ≡ is_some (option_and_then as_null (option_map (λ v. view v.now) found.entry)) }
 {
@@ -45,6 +46,7 @@ pub fn whole_in(found: Option<&Value>) -> Option<u64>
     found?.as_u64()
 }
 
+/// A text.
 pub fn text_in(alloc: Global, found: Option<&Value>) -> Result<Option<Text>, AllocError>
     ensures { IfOk result (λ o. Shows string AnyShape (option_map (λ v. view v.now) found.entry) o) }
 {

@@ -1,11 +1,11 @@
-//! What passes between the referee and the players, and what is left of a match.
+//! What passes between the referee and the players, and the record of a match.
 //!
 //! The messages are those of the Stanford GGP communication specification: `message` writes one, and
 //! `read_message` reads it as a player does. Players are HTTP servers: `exchange` sends one a request and
 //! reads its reply, over any stream; `take_request` and `give_reply` are a player's side. A body is taken
 //! only where it is whole, within the limits, and framed by one length or by the end of the stream; each
-//! other outcome has a name. `record_json` writes what is left of a match for people who collect matches, and
-//! `verify` checks such a record against the game.
+//! other outcome has a name. `record_json` writes the record of a match, and `verify` checks such a record
+//! against the game.
 //!
 //! Free functions take the allocator first.
 #![tactic(auto)]
@@ -34,6 +34,7 @@ mod recorded_turn;
 mod replaying;
 mod sending;
 mod trees;
+mod turns;
 mod verify_fault;
 mod verifying;
 mod wire_fault;

@@ -4,11 +4,11 @@ ghost use Rattle.std.specs.List.{list_all};
 ghost use Rattle.std.specs.Char.{is_ascii_digit};
 ghost use Rattle.std.specs.Str.Parse.{digits_value};
 ghost use Rattle.httparse.specs.Ascii.{digit_zero};
-ghost use Rattle.match_wire.specs.BodyLength.{is_numeral};
+ghost use Rattle.match_wire.specs.BodyLength.{are_digits};
 
 /// Whether a value is one or more decimal digits.
-pub(crate) fn is_numeral(value: &[u8]) -> bool
-    ensures { result ≡ is_numeral value.now }
+pub(crate) fn are_digits(value: &[u8]) -> bool
+    ensures { result ≡ are_digits value.now }
 {
     !value.is_empty() && value.iter().all(|byte| byte.is_ascii_digit())
 }
@@ -28,8 +28,8 @@ fn without_leading_zeros(digits: &[u8]) -> &[u8]
 
 /// Whether two runs of digits write the same number.
 pub(crate) fn is_same_number(one: &[u8], other: &[u8]) -> bool
-    requires one { IsTrue (is_numeral one.now) }
-    requires other { IsTrue (is_numeral other.now) }
+    requires one { IsTrue (are_digits one.now) }
+    requires other { IsTrue (are_digits other.now) }
     ensures { result ≡ (digits_value 10 one.now == digits_value 10 other.now) }
 {
     without_leading_zeros(one) == without_leading_zeros(other)
@@ -37,7 +37,7 @@ pub(crate) fn is_same_number(one: &[u8], other: &[u8]) -> bool
 
 /// The number that the digits write, if it is at most `most`.
 pub(crate) fn number_up_to(digits: &[u8], most: usize) -> Option<usize>
-    requires numeral { IsTrue (is_numeral digits.now) }
+    requires numeral { IsTrue (are_digits digits.now) }
     requires small { most < 2 ^ 32 }
     ensures { result ≡ (if nat_le (digits_value 10 digits.now) most then Some (digits_value 10 digits.now) else None) }
 {

@@ -125,7 +125,6 @@ fn start_in(alloc: Global, members: &[Expr]) -> Result<Message, MessageFault>
             clock_in(start),
             clock_in(play),
         ),
-        [_, _, _, _, _, _, ..] => Err(MessageFault::BadMessage),
         _ => Err(MessageFault::BadMessage),
     }
 }
@@ -154,7 +153,6 @@ fn play_in(alloc: Global, members: &[Expr]) -> Result<Message, MessageFault>
             let (id, moves) = id_and_moves(alloc, id_in(id), moves)?;
             Ok(Message::Play { id, moves })
         }
-        [_, _, _, ..] => Err(MessageFault::BadMessage),
         _ => Err(MessageFault::BadMessage),
     }
 }
@@ -168,7 +166,6 @@ fn stop_in(alloc: Global, members: &[Expr]) -> Result<Message, MessageFault>
             let (id, moves) = id_and_moves(alloc, id_in(id), moves)?;
             Ok(Message::Stop { id, moves })
         }
-        [_, _, _, ..] => Err(MessageFault::BadMessage),
         _ => Err(MessageFault::BadMessage),
     }
 }
@@ -191,7 +188,6 @@ fn abort_in(alloc: Global, members: &[Expr]) -> Result<Message, MessageFault>
 {
     match members {
         [id] => abort_of(alloc, id_in(id)),
-        [_, _, ..] => Err(MessageFault::BadMessage),
         _ => Err(MessageFault::BadMessage),
     }
 }

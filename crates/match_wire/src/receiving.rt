@@ -5,13 +5,11 @@ ghost use Rattle.match_wire.specs.Turns.{Turn, TurnFails};
 
 use crate::head::{Head, HttpKind, head_after};
 use crate::look::{Look, look_past};
+use crate::turns::MOST_TURNS;
 use crate::wire_fault::WireFault;
 use game_core::{Counted, Text};
-use std::alloc::Global;
+use std::alloc::{AllocError, Global};
 use std::io::{ErrorKind, Read};
-
-/// How many reads a message takes at most.
-const MOST_TURNS: u32 = 200_000;
 
 /// How many bytes a read is given room for.
 const READ_SIZE: usize = 4_096;
@@ -29,9 +27,7 @@ fn read_turn<S: Read>(
     match stream.read(chunk) {
         Ok(0) => Ok(true),
         Ok(count) => {
-            if bytes.extend_from_slice(&chunk[..count]).is_err() {
-                return Err(WireFault::Memory);
-            }
+            bytes.extend_from_slice(&chunk[..count])?;
             Ok(false)
         }
         Err(error) => {
@@ -45,16 +41,12 @@ fn read_turn<S: Read>(
 }
 
 /// A copy of the part of the bytes that is the body.
-fn body_of(alloc: Global, bytes: &[u8], start: usize, end: usize) -> Result<Text, WireFault>
+fn body_of(alloc: Global, bytes: &[u8], start: usize, end: usize) -> Result<Text, AllocError>
     requires ordered { start ≤ end }
     requires within { end ≤ length bytes.now }
-    ensures body { IfOk result (λ body. body ≡ slice_range bytes.now start end) }
-    ensures memory { IfErr result (λ fault. fault ≡ WireFault.Memory) }
+    ensures { IfOk result (λ body. body ≡ slice_range bytes.now start end) }
 {
-    match Text::from_slice(alloc, &bytes[start..end]) {
-        Ok(body) => Ok(body),
-        Err(_) => Err(WireFault::Memory),
-    }
+    Text::from_slice(alloc, &bytes[start..end])
 }
 
 /// Reads a message, and answers its body. What follows the body may have been read too.
@@ -70,17 +62,11 @@ pub(crate) fn receive<S: Read>(
     let mut chunk = [0; READ_SIZE];
     let mut head = Head::Unfinished;
     for turn in 0..MOST_TURNS {
-        let ended = match read_turn(stream, &mut bytes, &mut chunk) {
-            Ok(ended) => ended,
-            Err(fault) => return Err(fault),
-        };
+        let ended = read_turn(stream, &mut bytes, &mut chunk)?;
         head = head_after(kind, head, &bytes);
         match look_past(head, bytes.len(), ended) {
             Look::More => {}
-            Look::Body(start, end) => match body_of(alloc, &bytes, start, end) {
-                Ok(body) => return Ok(body),
-                Err(fault) => return Err(fault),
-            },
+            Look::Body(start, end) => return Ok(body_of(alloc, &bytes, start, end)?),
             Look::Refused(refusal) => return Err(WireFault::from(refusal)),
         }
     }

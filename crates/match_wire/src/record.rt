@@ -1,4 +1,4 @@
-//! The record of a match, for people who collect matches.
+//! The record of a match.
 ghost use Rattle.std.specs.Prelude.{◌≡◌, ◌<◌, ◌++◌, IfOk, OnOk, Some, length, map, option_map, option_to_list, slice_get};
 ghost use Rattle.serde_json.specs.Data.{number, unsigned};
 ghost use Rattle.serde_json.specs.Read.{read};

@@ -18,18 +18,12 @@ use crate::record_parts::{Goals, Key, Marks, RecordParts, TextLists};
 use crate::record_words::{cause_in, mark_in, phase_in};
 use crate::verify_fault::VerifyFault;
 use game_core::{Game, Text, Texts};
-use match_book::{are_names, is_clock, is_name};
+use match_book::{MAX_CLOCK, MAX_TURNS, are_names, is_clock, is_name};
 use serde_json::Value;
 use std::alloc::{AllocError, Global};
 
-/// The most turns of a match.
-const MAX_TURNS: usize = 10_000;
-
 /// The highest goal.
 const MAX_GOAL: u64 = 100;
-
-/// The most seconds of a clock.
-const MAX_CLOCK: u64 = 86_400;
 
 /// A mark, or null, for each role.
 fn marks_in(alloc: Global, found: Option<&Value>, roles: usize) -> Result<Option<Marks>, AllocError>
@@ -104,7 +98,7 @@ fn clock_in(found: Option<&Value>) -> Option<u32>
     ensures { Shows (λ seconds. number (unsigned seconds)) (λ seconds. is_clock seconds ≡ true) (option_map (λ v. view v.now) found.entry) result }
 {
     let seconds = whole_in(found)?;
-    if seconds > MAX_CLOCK {
+    if seconds > u64::from(MAX_CLOCK) {
         return None;
     }
     let seconds = seconds as u32;

@@ -10,7 +10,7 @@ ghost use Rattle.match_wire.specs.RecordTree.{cause_text, phase_text, text_or_nu
 ghost use Rattle.match_wire.specs.Shown.{AnyShape, Shows};
 
 use crate::json_values::{bytes_in, is_null};
-use crate::numeral::{is_numeral, number_up_to};
+use crate::numeral::{are_digits, number_up_to};
 use crate::trees::phase_text;
 use match_book::{Cause, Mark, Phase};
 use serde_json::Value;
@@ -22,6 +22,7 @@ pub fn after<'a>(text: &'a [u8], word: &[u8]) -> Option<&'a [u8]>
     text.strip_prefix(word)
 }
 
+/// The mark that has this text.
 pub fn mark_of(text: &[u8]) -> Option<Mark>
     ensures { Shows mark_text AnyShape (Some text.now) result }
 {
@@ -67,6 +68,7 @@ fn phase_of(text: &[u8]) -> Option<Phase>
     }
 }
 
+/// The phase that a text names.
 pub fn phase_in(found: Option<&Value>) -> Option<Phase>
     ensures { Shows (λ phase. string (phase_text phase)) AnyShape (option_map (λ v. view v.now) found.entry) result }
 {
@@ -76,7 +78,7 @@ pub fn phase_in(found: Option<&Value>) -> Option<Phase>
 fn is_plain_numeral(digits: &[u8]) -> bool
     ensures { result ≡ is_plain_numeral digits.now }
 {
-    is_numeral(digits) && (digits.len() == 1 || digits[0] != b'0')
+    are_digits(digits) && (digits.len() == 1 || digits[0] != b'0')
 }
 
 /// The number of a role, in decimal digits without leading zeros.

@@ -5,13 +5,11 @@ ghost use Rattle.match_wire.specs.RecordParts.{IsErrorText};
 ghost use Rattle.match_wire.specs.Replaying.{GoesOn, DeniesOne};
 ghost use Rattle.match_wire.specs.ReplaySteps.{IsPlaceOf, IsRecorded, IsJointAnswer, IsTurnAnswer};
 
+use crate::error_texts::ILLEGAL;
 use crate::verify_fault::VerifyFault;
 use game_core::{Game, Joint, Text};
 use match_book::first_without_move;
 use std::alloc::{AllocError, Global};
-
-/// With this an error begins that says which illegal answer was given.
-const ILLEGAL: &[u8] = b"IL ";
 
 /// What a recorded move is.
 #[derive(Drop)]

@@ -5,12 +5,10 @@ ghost use Rattle.game_core.specs.Counting.{one_more};
 ghost use Rattle.match_wire.specs.Exchange.{BreaksOff, WritesText};
 ghost use Rattle.match_wire.specs.WireFaults.{HasFailed};
 
+use crate::turns::MOST_TURNS;
 use crate::wire_fault::WireFault;
 use game_core::Counted;
 use std::io::{ErrorKind, Write};
-
-/// How many writes a message takes at most.
-const MOST_TURNS: u32 = 200_000;
 
 /// One turn of writing: one call of `write`. How many bytes it took is answered, none where it was
 /// interrupted.
@@ -46,10 +44,7 @@ pub(crate) fn send<S: Write>(stream: &mut Counted<S>, text: &[u8]) -> Result<(),
         if taken == text.len() {
             return Ok(());
         }
-        match write_turn(stream, &text[taken..]) {
-            Ok(count) => taken += count,
-            Err(fault) => return Err(fault),
-        }
+        taken += write_turn(stream, &text[taken..])?;
     }
     if taken == text.len() {
         return Ok(());

@@ -22,6 +22,7 @@ pub fn text_tree(alloc: Global, text: &[u8]) -> Result<Value, AllocError>
     }
 }
 
+/// The text, or null where there is none.
 pub fn text_or_null(alloc: Global, text: Option<&[u8]>) -> Result<Value, AllocError>
     requires { IfSome (option_copied text) IsAscii }
     ensures { IfOk result (λ v. view v ≡ text_or_null (option_copied text.entry)) }
@@ -32,6 +33,7 @@ pub fn text_or_null(alloc: Global, text: Option<&[u8]>) -> Result<Value, AllocEr
     }
 }
 
+/// The texts as a list.
 pub fn texts_tree(alloc: Global, texts: &[Text]) -> Result<Value, AllocError>
     requires { All IsAscii texts.now }
     ensures { IfOk result (λ v. view v ≡ texts_tree texts.now) }

@@ -1,11 +1,13 @@
 //! Why a message was not sent, or not taken.
 ghost use Rattle.std.specs.Prelude.{◌≡◌};
 ghost use Rattle.match_wire.specs.WireFaults.{fault_of};
+ghost use Rattle.match_wire.specs.declared.wire_fault.WireFault.TheVariants.{Memory};
 
+use std::alloc::AllocError;
 use std::io::ErrorKind;
 use thiserror::Error;
 
-/// Why an exchange came to no body, or a reply was not written. The stream is given up after it:
+/// Why an exchange gave no body, or a reply was not written. The stream is given up after it:
 /// what it has given is not put back, and what it has taken stays written.
 #[derive(Clone, Copy, Debug, PartialEq, Eq, Error)]
 pub enum WireFault {
@@ -33,12 +35,20 @@ pub enum WireFault {
     /// The stream ended inside the head, or before as much of the body as its length says.
     #[error("the stream ended too early")]
     CutShort,
-    /// 200,000 reads, or as many writes, came to no end.
+    /// 200,000 reads were made and ask for more, or as many writes and bytes are left.
     #[error("too many reads or writes")]
     TooManyReads,
     /// Want of memory.
     #[error("want of memory")]
     Memory,
+}
+
+impl From<AllocError> for WireFault {
+    ghost from_gives = { λ _ fault. fault ≡ Memory };
+
+    fn from(_: AllocError) -> WireFault {
+        WireFault::Memory
+    }
 }
 
 /// Why the bytes of a message are refused.

@@ -1,12 +1,12 @@
 use Rattle.std.proofs.Common.{◌≡◌, IsTrue, IfSome, map, drop}
 use Rattle.std.specs.Option.{option_copied}
 use Rattle.httparse.specs.Spans.{header_bytes}
-use Rattle.match_wire.specs.BodyLength.{body_length, is_numeral, length_of}
+use Rattle.match_wire.specs.BodyLength.{body_length, are_digits, length_of}
 use Rattle.match_wire.proofs.FieldSteps.{after}
 use Rattle.match_wire.proofs.body_length.said_length.Given as goal
 
 abbrev pub invariant-loop-header : goal.invariant-loop-header
 invariant-loop-header l = record {
   length : after (length_of (option_copied l.said)) (map (header_bytes l.buf) (drop l.header-index l.headers)) ≡ body_length (map (header_bytes l.buf) l.headers);
-  numeral : IfSome (option_copied l.said) (λ digits. IsTrue (is_numeral digits));
+  numeral : IfSome (option_copied l.said) (λ digits. IsTrue (are_digits digits));
 }

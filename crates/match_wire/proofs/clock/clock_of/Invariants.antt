@@ -2,7 +2,6 @@ use Rattle.std.proofs.Common.{◌≡◌, ◌≤◌, true, drop}
 use Rattle.std.specs.List.{list_all}
 use Rattle.std.specs.Char.{is_ascii_digit}
 use Rattle.std.specs.Str.Parse.{digits_value_after, digits_value}
-use Rattle.match_book.specs.Names.{max_clock}
 use Rattle.match_wire.proofs.clock.clock_of.Given as goal
 
 abbrev pub invariant-loop-digit : goal.invariant-loop-digit

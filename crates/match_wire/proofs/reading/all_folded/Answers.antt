@@ -1,4 +1,4 @@
-use Rattle.std.proofs.Common.{rules, arith, ap, sym, ◌∙◌, map, take, ◌≡◌}
+use Rattle.std.proofs.Common.{rules, ap, sym, ◌∙◌, map, take, ◌≡◌}
 use Rattle.game_core.specs.Expression.{folded}
 use Rattle.kif_text.specs.View.{view, expressions}
 use Rattle.std.proofs.lemmas.List.{take_all}

@@ -1,4 +1,4 @@
-use Rattle.std.proofs.Common.{◌≡◌, ◌≤◌, ◌++◌, ◌∷◌, [], ap, sym, ◌∙◌, arith, map, take, length, refl}
+use Rattle.std.proofs.Common.{◌≤◌, ◌++◌, ◌∷◌, [], ap, sym, ◌∙◌, arith, map, length, refl}
 use Rattle.std.proofs.lemmas.List.{take_all}
 use Rattle.serde_json.specs.View.{view}
 use Rattle.match_wire.specs.RecordTree.{texts_tree}

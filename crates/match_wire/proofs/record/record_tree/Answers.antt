@@ -1,8 +1,8 @@
-use Rattle.std.proofs.Common.{◌≡◌, ap, ap₂, sym, subst, ◌∙◌, codes, option_map, refl}
+use Rattle.std.proofs.Common.{◌≡◌, ap, ap₂, sym, subst, ◌∙◌, codes, option_map}
 use Rattle.std.specs.Prelude.{All}
 use Rattle.std.specs.Str.{IsAscii}
-use Rattle.serde_json.specs.Data.{Members, object, string, number, unsigned, put, no_members}
-use Rattle.serde_json.specs.View.{view, members_view}
+use Rattle.serde_json.specs.Data.{object, string, number, unsigned, put, no_members}
+use Rattle.serde_json.specs.View.{members_view}
 use Rattle.serde_json.proofs.Views.{view-Object}
 use Rattle.match_book.specs.Phase.{cause, status}
 use Rattle.match_wire.specs.RecordTree.{record_tree, text_or_null, cause_text, phase_text, texts_tree}

@@ -1,10 +1,8 @@
-use Rattle.std.proofs.Common.{◌≡◌, ◌≤◌, ◌++◌, ◌∷◌, [], List, Some, ap, sym, subst, ◌∙◌, arith, map, take, length, refl, ◌+◌}
-use Rattle.std.specs.Prelude.{slice_get, option_map}
+use Rattle.std.proofs.Common.{◌≡◌, ◌≤◌, ◌++◌, ◌∷◌, [], Some, ap, sym, subst, ◌∙◌, arith, map, take, length, ◌+◌}
 use Rattle.std.proofs.lemmas.List.{take_all, map-append}
-use Rattle.serde_json.specs.View.{view}
 use Rattle.match_book.specs.MatchValue.{state_after}
 use Rattle.match_wire.specs.RecordTree.{texts_tree, prefixes}
-use Rattle.match_wire.proofs.RecordParts.{IsNext, next_state, view_push, list_view}
+use Rattle.match_wire.proofs.RecordParts.{next_state, view_push, list_view}
 use Rattle.match_wire.proofs.record.states.Goals as goal
 
 pub next-requires-clause-joint : goal.next-requires-clause-joint

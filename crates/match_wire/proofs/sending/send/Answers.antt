@@ -1,4 +1,4 @@
-use Rattle.std.proofs.Common.{ℕ, ◌+◌, ◌-◌, ◌<◌, ◌≤◌, rules, List, length, take, drop, Option, subst, sym, ap, ◌∙◌, ◌++◌, arith}
+use Rattle.std.proofs.Common.{ℕ, ◌+◌, ◌-◌, rules, List, length, take, drop, Option, subst, sym, ap, ◌∙◌, ◌++◌}
 use Rattle.std.proofs.lemmas.List.{take_rest}
 use Rattle.std.specs.Io.KnownBytes.{Appends}
 use Rattle.std.proofs.KnownBytes.{Appends-trans}
@@ -16,7 +16,7 @@ Appends_more a b c output t n before now =
 pub loop-turn-preserved : goal.loop-turn-preserved
 loop-turn-preserved g c = record {
   within = search rules;
-  stands = Appends_more _ _ _ c.args.text.now c.loop-turn.taken c.in-Ok.count c.loop-turn.invariant.stands c.in-Ok.ensures.bytes;
+  stands = Appends_more _ _ _ c.args.text.now c.loop-turn.taken c.in_ok-taken.field-0 c.loop-turn.invariant.stands c.in_ok-taken.ensures.bytes;
   kept = search rules;
   called = one_more_call c.loop-turn.turn _ c.loop-turn.stream.calls _ c.loop-turn.invariant.called c.write_turn.ensures.called;
 }
