@@ -1,20 +1,11 @@
--- Texts that stand in the places of the expressions that they are printed from.
-use Rattle.std.proofs.Common.{◌≡◌, List, [], ◌∷◌, ◌++◌, map, refl, ap}
-use Rattle.game_core.specs.Bytes.{space, left_parenthesis, right_parenthesis}
-use Rattle.game_core.specs.Expression.{list}
-use Rattle.game_core.specs.Canonical.{canonical, members, later}
-use Rattle.kif_text.specs.View.{view, views}
-use Rattle.kif_text.specs.declared.expr.Expr.{Expr}
-use Rattle.match_wire.specs.MessageText.{as_printed}
+-- The text of START, put together part by part.
+use Rattle.std.proofs.Common.{◌≡◌, ℕ, List, [], ◌∷◌, ◌++◌, append_assoc, append-nil}
+use Rattle.game_core.specs.Bytes.{space}
 
-later_printed : (xs : List Expr) → later (as_printed (map (λ x. canonical (view x)) xs)) ≡ later (views xs)
-later_printed [] = refl
-later_printed (x ∷ xs) = ap (λ t. space ∷ (canonical (view x) ++ t)) (later_printed xs)
+regrouped : (word a b d s p e : List ℕ) → (((((word ++ a) ++ b) ++ d) ++ s) ++ p) ++ e ≡ (word ++ (a ++ (b ++ (d ++ (s ++ (p ++ [])))))) ++ e
+regrouped word a b d s p e = simp (append_assoc, append-nil)
 
-pub members_printed : (xs : List Expr) → members (as_printed (map (λ x. canonical (view x)) xs)) ≡ members (views xs)
-members_printed [] = refl
-members_printed (x ∷ xs) = ap (λ t. canonical (view x) ++ t) (later_printed xs)
-
--- the text of a list, by its members' texts
-pub list_printed : (xs : List Expr) → canonical (list (as_printed (map (λ x. canonical (view x)) xs))) ≡ canonical (list (views xs))
-list_printed xs = ap (λ t. left_parenthesis ∷ (t ++ right_parenthesis ∷ [])) (members_printed xs)
+pub start_joined : (word id role rules s p : List ℕ) (e : ℕ)
+    → (((((word ++ space ∷ id) ++ space ∷ role) ++ space ∷ rules) ++ space ∷ s) ++ space ∷ p) ++ e ∷ []
+    ≡ (word ++ space ∷ (id ++ space ∷ (role ++ space ∷ (rules ++ space ∷ (s ++ space ∷ (p ++ [])))))) ++ e ∷ []
+start_joined word id role rules s p e = regrouped word (space ∷ id) (space ∷ role) (space ∷ rules) (space ∷ s) (space ∷ p) (e ∷ [])

@@ -1,9 +1,10 @@
 //! The texts of messages.
-ghost use Rattle.std.specs.Prelude.{◌≡◌, ◌<◌, length, map, option_map, IfOk};
+ghost use Rattle.std.specs.Prelude.{◌≡◌, ◌<◌, ◌∷◌, ◌++◌, length, option_map, IfOk, OnOk};
 ghost use Rattle.std.specs.Fmt.{decimal};
+ghost use Rattle.game_core.specs.Bytes.{space};
 ghost use Rattle.game_core.specs.Canonical.{canonical};
 ghost use Rattle.game_core.specs.Expression.{list};
-ghost use Rattle.kif_text.specs.View.{view, views};
+ghost use Rattle.kif_text.specs.View.{views};
 ghost use Rattle.match_wire.specs.MessageValue.{info, message_form, moves_form};
 ghost use Rattle.match_wire.specs.MessageText.{as_printed, message_text};
 
@@ -13,6 +14,14 @@ use kif_text::{Expr, print};
 use match_book::Owed;
 use std::alloc::{AllocError, Global};
 
+/// Adds a space and the word.
+fn push_word(text: &mut Vec<u8>, word: &[u8]) -> Result<(), AllocError>
+    ensures { OnOk result (text.new.items ≡ text.old.items ++ space ∷ word.now) }
+{
+    text.push(b' ')?;
+    text.extend_from_slice(word)
+}
+
 /// The text of a list whose members have these texts.
 fn list_text(alloc: Global, members: &[Text]) -> Result<Text, AllocError>
     ensures { IfOk result (λ t. t ≡ canonical (list (as_printed members.now))) }
@@ -21,29 +30,11 @@ fn list_text(alloc: Global, members: &[Text]) -> Result<Text, AllocError>
     if let Some((first, others)) = members.split_first() {
         bytes.extend_from_slice(first.as_slice())?;
         for member in others {
-            bytes.push(b' ')?;
-            bytes.extend_from_slice(member.as_slice())?;
+            push_word(&mut bytes, member.as_slice())?;
         }
     }
     bytes.push(b')')?;
     Ok(Text { bytes })
-}
-
-/// The texts of expressions.
-fn printed(alloc: Global, exprs: &[Expr]) -> Result<Vec<Text>, AllocError>
-    ensures { IfOk result (λ v. v.items ≡ map (λ x. canonical (view x)) exprs.now) }
-{
-    let mut texts = Vec::with_capacity(alloc, exprs.len())?;
-    for expr in exprs {
-        texts.push(print(alloc, expr)?)?;
-    }
-    Ok(texts)
-}
-
-fn number_text(alloc: Global, number: u32) -> Result<Text, AllocError>
-    ensures { IfOk result (λ t. t ≡ decimal number) }
-{
-    Ok(Text::from_string(format!(in alloc; "{number}")?))
 }
 
 /// The moves in a list, or `NIL`.
@@ -56,13 +47,42 @@ fn moves_text(alloc: Global, moves: &Option<Texts>) -> Result<Text, AllocError>
     }
 }
 
-/// The rules in a list.
-#[tactic(auto, using(crate::proofs::Printed::list_printed))]
-fn rules_text(alloc: Global, rules: &[Expr]) -> Result<Text, AllocError>
-    ensures { IfOk result (λ t. t ≡ canonical (list (views rules.now))) }
+/// Adds a space and the number.
+fn push_number(alloc: Global, text: &mut Vec<u8>, number: u32) -> Result<(), AllocError>
+    ensures { OnOk result (text.new.items ≡ text.old.items ++ space ∷ decimal number) }
 {
-    let sentences = printed(alloc, rules)?;
-    list_text(alloc, sentences.as_slice())
+    let digits = number.to_string(alloc)?;
+    push_word(text, digits.as_bytes())
+}
+
+/// Adds a space and the rules in a list.
+fn push_rules(alloc: Global, text: &mut Vec<u8>, rules: &[Expr]) -> Result<(), AllocError>
+    ensures { OnOk result (text.new.items ≡ text.old.items ++ space ∷ canonical (list (views rules.now))) }
+{
+    text.extend_from_slice(b" (")?;
+    if let Some((first, others)) = rules.split_first() {
+        text.extend_from_slice(print(alloc, first)?.as_slice())?;
+        for rule in others {
+            push_word(text, print(alloc, rule)?.as_slice())?;
+        }
+    }
+    text.push(b')')?;
+    Ok(())
+}
+
+/// The text of START, written in one piece: the rules may be long.
+fn start_text(alloc: Global, brief: &Brief, role: usize) -> Result<Text, AllocError>
+    requires { role < length brief.now.roles }
+    ensures { IfOk result (λ t. t ≡ message_text brief.now role Owed.Start) }
+{
+    let mut bytes = Vec::from_slice(alloc, b"(START")?;
+    push_word(&mut bytes, brief.id.as_slice())?;
+    push_word(&mut bytes, brief.roles.at(role).as_slice())?;
+    push_rules(alloc, &mut bytes, brief.rules.as_slice())?;
+    push_number(alloc, &mut bytes, brief.start)?;
+    push_number(alloc, &mut bytes, brief.play)?;
+    bytes.push(b')')?;
+    Ok(Text { bytes })
 }
 
 /// The text of the message that is owed to a role of the match.
@@ -70,25 +90,22 @@ pub fn message(alloc: Global, brief: &Brief, role: usize, owed: &Owed) -> Result
     requires { role < length brief.now.roles }
     ensures { IfOk result (λ t. t ≡ message_text brief.now role owed.now) }
 {
-    let id = brief.id.copy(alloc)?;
     match owed {
-        Owed::Start => {
-            let keyword = Text::from_slice(alloc, b"START")?;
-            let name = brief.roles.at(role).copy(alloc)?;
-            let rules = rules_text(alloc, brief.rules.as_slice())?;
-            let start = number_text(alloc, brief.start)?;
-            let play = number_text(alloc, brief.play)?;
-            list_text(alloc, &[keyword, id, name, rules, start, play])
-        }
+        Owed::Start => start_text(alloc, brief, role),
         Owed::Play(moves) => {
             let keyword = Text::from_slice(alloc, b"PLAY")?;
+            let id = brief.id.copy(alloc)?;
             list_text(alloc, &[keyword, id, moves_text(alloc, moves)?])
         }
         Owed::Stop(moves) => {
             let keyword = Text::from_slice(alloc, b"STOP")?;
+            let id = brief.id.copy(alloc)?;
             list_text(alloc, &[keyword, id, moves_text(alloc, moves)?])
         }
-        Owed::Abort => list_text(alloc, &[Text::from_slice(alloc, b"ABORT")?, id]),
+        Owed::Abort => {
+            let keyword = Text::from_slice(alloc, b"ABORT")?;
+            list_text(alloc, &[keyword, brief.id.copy(alloc)?])
+        }
     }
 }
 

@@ -340,6 +340,23 @@ fn the_request_is_written_and_read_back(rt: HostRuntime) -> Result<(), Fail> {
     Ok(())
 }
 
+/// A message has more bytes than writes: START holds the rules of the game.
+#[test]
+fn a_long_request_is_written_and_read_back(rt: HostRuntime) -> Result<(), Fail> {
+    let alloc = rt.alloc();
+    let body = run_of(alloc, "(START m1 red (", 1_000_000, "r", ") 10 5)")?;
+    for step in [7, 4096] {
+        let mut stream = Counted::new(memory(alloc, READY)?.by_steps(step));
+        let answer = exchange(alloc, &mut stream, b"ann", &body);
+        is_answer(&rt, answer, Ok("READY"), READY);
+        assert_eq!(rt; stream.faults(), 0);
+        let written = stream.end().output;
+        let read = request_from(alloc, MemoryStream::new(alloc, written).by_steps(step));
+        assert!(rt; read.is_ok_and(|text| text.as_slice() == body.as_slice()));
+    }
+    Ok(())
+}
+
 #[test]
 fn the_reply_is_written_and_read_back(rt: HostRuntime) -> Result<(), Fail> {
     let text = "HTTP/1.0 200 OK|Content-Type: text/acl|Content-Length: 5||READY";
@@ -385,6 +402,19 @@ fn heads_at_their_limits(rt: HostRuntime) -> Result<(), Fail> {
         Err(WireFault::BadHead),
         "a bad byte in a long head",
     );
+    // 20 bytes before the value: the bad byte is the last of 16,384, or the one behind them.
+    for (count, want) in [
+        (16_363, Err(WireFault::BadHead)),
+        (16_364, Err(WireFault::TooLong)),
+    ] {
+        let reply = run_of(alloc, "HTTP/1.0 200 OK|A: ", count, "b", "\x01||READY")?;
+        is_answer(
+            &rt,
+            exchange_with(alloc, MemoryStream::new(alloc, reply)),
+            want,
+            "a bad byte at the limit of a head",
+        );
+    }
     Ok(())
 }
 

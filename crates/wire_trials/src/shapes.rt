@@ -157,6 +157,28 @@ fn what_is_no_json(rt: HostRuntime) -> Result<(), Fail> {
     Ok(())
 }
 
+/// The record, nested this deep by lists at a further key. The record itself is one level.
+fn record_of_depth(alloc: Global, depth: usize) -> Result<String, AllocError> {
+    let mut cause = String::from_str(alloc, r#"null,"deep":"#)?;
+    for _ in 1..depth {
+        cause.push('[')?;
+    }
+    for _ in 1..depth {
+        cause.push(']')?;
+    }
+    record_with(alloc, Key::Cause, Some(cause.as_str()))
+}
+
+#[test]
+fn nesting_at_its_limit(rt: HostRuntime) -> Result<(), Fail> {
+    let alloc = rt.alloc();
+    for (depth, want) in [(127, Ok(())), (128, Err(VerifyFault::NotJson))] {
+        let text = record_of_depth(alloc, depth)?;
+        assert_eq!(rt; checked(alloc, text.as_bytes())?, want, "{depth} deep");
+    }
+    Ok(())
+}
+
 #[test]
 fn every_key_is_asked_for(rt: HostRuntime) -> Result<(), Fail> {
     let alloc = rt.alloc();
