@@ -13,7 +13,8 @@ use Rattle.match_book.specs.declared.judgement.Substitution.TheVariants.{TimeOut
 use Rattle.match_book.proofs.Judgements.{first-contains, Contains-move}
 use Rattle.match_wire.specs.RecordParts.{IsErrorText, MayBeGiven}
 use Rattle.match_wire.specs.Replaying.{GoesOn, IsRightMove, NamesNone, DeniesOne, IsWrongError, text_at}
-use Rattle.match_wire.specs.ReplaySteps.{IsPlaceOf, IsRightJoint}
+use Rattle.match_wire.specs.ReplaySteps.{all_moves, IsPlaceOf, IsRightJoint}
+use Rattle.match_wire.proofs.RecordShapes.{at_each_role}
 
 -- ---- members
 
@@ -53,9 +54,9 @@ pub first-judged : {S M : Type 0} (g : Rules S M) (moves : List M) (m : M) (e : 
 first-judged g moves m e (inl empty) first not = (first-contains moves m first, inl empty)
 first-judged g moves m e (inr reason) first not = (first-contains moves m first, inr (first, (reason.0, reason.1, may-stand g moves e reason.0 reason.1 reason.2 not)))
 
--- the place of a move, in an equal list
-pub found-place : {S M : Type 0} (g : Rules S M) (moves items : List M) (x : List ℕ) (o : Option ℕ) (p : ℕ) → items ≡ moves → o ≡ Some p → IsPlaceOf g items x o → (p < length moves) × HoldsAt (λ m. g.move_text m ≡ x) moves p
-found-place {S} {M} g moves items x o p same at place = subst (λ (ms : List M). IsPlaceOf g ms x (Some p)) same (subst (λ q. IsPlaceOf g items x q) at place)
+-- the place of a move that was found
+pub found-place : {S M : Type 0} (g : Rules S M) (moves : List M) (x : List ℕ) (o : Option ℕ) (p : ℕ) → o ≡ Some p → IsPlaceOf g moves x o → (p < length moves) × HoldsAt (λ m. g.move_text m ≡ x) moves p
+found-place g moves x o p at place = subst (λ q. IsPlaceOf g moves x q) at place
 
 pub not-empty : (e : List ℕ) → false ≡ (length e == 0) → e ≢ []
 not-empty e some empty = let w : false ≡ (length {A = ℕ} [] == 0) = some ∙ ap (λ l. length l == 0) empty in absurd cc
@@ -124,6 +125,10 @@ judged-not_wrong {S} {M} g laws s r m text e is_state role named judged wrong =
         illegal-judged g laws (g.legal s r) denies.0 e stands.1.0 (Contains-move g laws s r denies.0 is_state role denies.1) denies.1 stands.1.1 stands.1.2 denies.2
 
 -- ---- the joint move of a turn
+
+-- the moves that stand in a role's place
+pub moves-at : {S M : Type 0} (g : Rules S M) (s : S) (lists : List (List M)) (r : ℕ) (x : List M) → lists ≡ all_moves g s → r < g.roles → x ≡ slice_index_or lists r x → x ≡ g.legal s r
+moves-at g s lists r x same within at = at ∙ ap (λ ls. slice_index_or ls r x) same ∙ at_each_role g.roles (g.legal s) r x within
 
 pub none-below : {S M : Type 0} (g : Rules S M) (s : S) (moves errors : List (List ℕ)) (q : ℕ) → q < 0 → IsRightMove g (g.legal s q) (text_at moves q) (text_at errors q)
 none-below g s moves errors q lt = absurd (omega arith)

@@ -1,15 +1,37 @@
 //! One turn of a record, in the state before it.
-ghost use Rattle.std.specs.Prelude.{◌≡◌, ◌<◌, ◌↔◌, All, IfOk, IsTrue, length};
+ghost use Rattle.std.specs.Prelude.{◌≡◌, ◌≢◌, ◌↔◌, All, AllPairs, IfOk, IsTrue, MatchOption, length};
 ghost use Rattle.game_core.specs.Play.{IsJoint};
 ghost use Rattle.match_wire.specs.RecordParts.{IsErrorText};
 ghost use Rattle.match_wire.specs.Replaying.{GoesOn, DeniesOne};
-ghost use Rattle.match_wire.specs.ReplaySteps.{IsPlaceOf, IsRecorded, IsJointAnswer, IsTurnAnswer};
+ghost use Rattle.match_wire.specs.ReplaySteps.{all_moves, IsPlaceOf, IsRecorded, IsJointAnswer, IsTurnAnswer};
 
 use crate::error_texts::ILLEGAL;
 use crate::verify_fault::VerifyFault;
 use game_core::{Game, Joint, Text};
-use match_book::first_without_move;
 use std::alloc::{AllocError, Global};
+use std::marker::Model;
+
+/// The legal moves of one role. Contracts see the list.
+#[derive(Drop)]
+struct RoleMoves<M> {
+    items: Vec<M>,
+}
+
+impl<M> Model for RoleMoves<M> {
+    ghost use Rattle.std.specs.Prelude.{List};
+
+    ghost Value = { List M };
+
+    ghost view = { λ r. r.items.items };
+}
+
+impl<M> RoleMoves<M> {
+    fn as_slice(&self) -> &[M]
+        ensures { result.now ≡ self.now }
+    {
+        self.items.as_slice()
+    }
+}
 
 /// What a recorded move is.
 #[derive(Drop)]
@@ -57,47 +79,59 @@ fn denies_one<G: Game>(
     }
 }
 
-/// What the move is that a record shows for the role by this text and this error.
+/// What the move is that a record shows by this text and this error, where these moves are legal.
 fn recorded_move<G: Game>(
     alloc: Global,
     game: &G,
-    state: &G::State,
-    role: usize,
+    moves: &[G::Move],
     text: &[u8],
     error: &[u8],
 ) -> Result<RecordedMove<G::Move>, AllocError>
-    requires state { (G.rules game.now).IsState state.now }
-    requires role { role < (G.rules game.now).roles }
+    requires moves { All (λ m. (G.rules game.now).IsMove m) moves.now }
+    requires differ { AllPairs (λ m n. m ≢ n) moves.now }
     requires error { IsErrorText error.now }
-    ensures { IfOk result (λ o. IsRecorded (G.rules game.now) ((G.rules game.now).legal state.now role) text.now error.now o) }
+    ensures { IfOk result (λ o. IsRecorded (G.rules game.now) moves.now text.now error.now o) }
 {
-    let mut moves = game.legal(alloc, state, role)?;
-    let Some(place) = place_of(alloc, game, moves.as_slice(), text)? else {
+    let Some(place) = place_of(alloc, game, moves, text)? else {
         return Ok(RecordedMove::NoMove);
     };
     if !error.is_empty() {
         if place > 0 {
             return Ok(RecordedMove::WrongError);
         }
-        if denies_one(alloc, game, moves.as_slice(), error)? {
+        if denies_one(alloc, game, moves, error)? {
             return Ok(RecordedMove::WrongError);
         }
     }
-    Ok(RecordedMove::Right(moves.swap_remove(place)))
+    Ok(RecordedMove::Right(game.copy_move(alloc, &moves[place])?))
 }
 
-/// Whether the state is not terminal and each role has a legal move.
-fn goes_on<G: Game>(alloc: Global, game: &G, state: &G::State) -> Result<bool, AllocError>
+/// The legal moves of each role, where the state is not terminal and each role has one.
+fn legal_moves<G: Game>(
+    alloc: Global,
+    game: &G,
+    state: &G::State,
+) -> Result<Option<Vec<RoleMoves<G::Move>>>, AllocError>
     requires { (G.rules game.now).IsState state.now }
-    ensures { IfOk result (λ b. IsTrue b ↔ GoesOn (G.rules game.now) state.now) }
+    ensures { IfOk result (λ o. MatchOption o (¬ GoesOn (G.rules game.now) state.now)
+        (λ lists. GoesOn (G.rules game.now) state.now × (lists.items ≡ all_moves (G.rules game.now) state.now))) }
 {
     if game.terminal(alloc, state)? {
-        return Ok(false);
+        return Ok(None);
     }
-    Ok(first_without_move(alloc, game, state)?.is_none())
+    let mut lists = Vec::new(alloc);
+    for role in 0..game.roles() {
+        let items = game.legal(alloc, state, role)?;
+        if items.is_empty() {
+            return Ok(None);
+        }
+        lists.push(RoleMoves { items })?;
+    }
+    Ok(Some(lists))
 }
 
-/// The joint move of these texts, or the fault of the lowest role at fault.
+/// The joint move of these texts, or the fault of the lowest role at fault. Each role's moves are asked for
+/// once: a game may take long to find them.
 fn recorded_joint<G: Game>(
     alloc: Global,
     game: &G,
@@ -107,17 +141,20 @@ fn recorded_joint<G: Game>(
     errors: &[Text],
 ) -> Result<Joint<G::Move>, VerifyFault>
     requires state { (G.rules game.now).IsState state.now }
-    requires goes_on { GoesOn (G.rules game.now) state.now }
     requires moves { length moves.now ≡ (G.rules game.now).roles }
     requires errors { length errors.now ≡ (G.rules game.now).roles }
     requires error_texts { All IsErrorText errors.now }
     ensures { IsJointAnswer (G.rules game.now) state.now moves.now errors.now turn result }
 {
+    let Some(lists) = legal_moves(alloc, game, state)? else {
+        return Err(VerifyFault::WrongEnd);
+    };
     let mut joint = Vec::new(alloc);
     for role in 0..game.roles() {
+        let legal = lists[role].as_slice();
         let text = moves[role].as_slice();
         let error = errors[role].as_slice();
-        match recorded_move(alloc, game, state, role, text, error)? {
+        match recorded_move(alloc, game, legal, text, error)? {
             RecordedMove::Right(taken) => joint.push(taken)?,
             RecordedMove::NoMove => return Err(VerifyFault::Illegal(turn, role)),
             RecordedMove::WrongError => return Err(VerifyFault::NotFirst(turn, role)),
@@ -141,9 +178,6 @@ pub fn replay_turn<G: Game>(
     requires error_texts { All IsErrorText errors.now }
     ensures { IsTurnAnswer (G.rules game.now) state.now moves.now errors.now turn result }
 {
-    if !goes_on(alloc, game, state)? {
-        return Err(VerifyFault::WrongEnd);
-    }
     let joint = recorded_joint(alloc, game, state, turn, moves, errors)?;
     Ok(game.next(alloc, state, joint.as_slice())?)
 }

@@ -1,4 +1,4 @@
-use Rattle.std.proofs.Common.{◌≡◌, ◌∙◌, [], sym, ap, codes, slice_index_or}
+use Rattle.std.proofs.Common.{◌≡◌, [], sym, codes, slice_index_or}
 use Rattle.std.specs.Fmt.{decimal}
 use Rattle.std.proofs.lemmas.Option.{get_or_from_slice_get}
 use Rattle.game_core.specs.Bytes.{right_parenthesis}
