@@ -1,10 +1,8 @@
 -- The arguments of a relation, by the number of a list's members.
-use Rattle.std.proofs.Common.{◌≡◌, ◌≢◌, ◌<◌, ℕ, List, [], ◌∷◌, length, get_or, None, Some, Option, refl, arith}
-use Rattle.std.specs.Option.{option_zip}
+use Rattle.std.proofs.Common.{◌≡◌, ◌≢◌, ◌<◌, List, [], ◌∷◌, length, get_or, None, Some, Option, refl, arith}
 use Rattle.game_core.specs.Expression.{Expression}
 use Rattle.kif_text.specs.View.{view, views}
 use Rattle.kif_text.specs.declared.expr.Expr.{Expr}
-use Rattle.ground_rules.specs.Terms.{term_text}
 use Rattle.ground_rules.specs.Sentences.{TextLiterals}
 use Rattle.ground_rules.specs.declared.sentence.Atomic.{Atomic}
 use Rattle.ground_rules.specs.Reading.{one_argument, two_arguments, both, sentence, read_atomic, read_literals, without_first, read_rule}
@@ -21,18 +19,6 @@ two_arguments-none read (f ∷ []) ne = refl
 two_arguments-none read (f ∷ x ∷ []) ne = refl
 two_arguments-none read (f ∷ x ∷ y ∷ []) ne = absurd (ne (omega arith))
 two_arguments-none read (f ∷ x ∷ y ∷ z ∷ xs) ne = refl
-
-zipped : {A B : Type 0} (o : Option A) (p : Option B) → option_zip o p ≡ both (λ x y. (x, y)) o p
-zipped None p = refl
-zipped (Some x) None = refl
-zipped (Some x) (Some y) = refl
-
-pub two_arguments-are : {A : Type 0} (read : Expression → Option A) (xs : List Expr) (d e : Expr) (o : Option (List ℕ)) (p : Option A) → length xs ≡ 3 → o ≡ term_text (view (get_or xs 1 d)) → p ≡ read (view (get_or xs 2 e)) → option_zip o p ≡ two_arguments read (views xs)
-two_arguments-are read [] d e o p size is is' = absurd (omega arith)
-two_arguments-are read (f ∷ []) d e o p size is is' = absurd (omega arith)
-two_arguments-are read (f ∷ x ∷ []) d e o p size is is' = absurd (omega arith)
-two_arguments-are read (f ∷ x ∷ y ∷ []) d e o p size is is' = rw (is, is') (zipped (term_text (view x)) (read (view y)))
-two_arguments-are read (f ∷ x ∷ y ∷ z ∷ xs) d e o p size is is' = absurd (omega arith)
 
 pub rule-none : (xs : List Expr) → length xs < 2 → None ≡ read_rule (views xs)
 rule-none [] lt = refl

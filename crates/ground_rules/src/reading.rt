@@ -64,9 +64,13 @@ fn two_terms(alloc: Global, members: &[Expr]) -> Result<Option<(Text, Text)>, Al
     if members.len() != 3 {
         return Ok(None);
     }
-    let first = term_text(alloc, &members[1])?;
-    let second = term_text(alloc, &members[2])?;
-    Ok(first.zip(second))
+    let Some(first) = term_text(alloc, &members[1])? else {
+        return Ok(None);
+    };
+    let Some(second) = term_text(alloc, &members[2])? else {
+        return Ok(None);
+    };
+    Ok(Some((first, second)))
 }
 
 /// The two members after the first, if they are a term and a goal value.
