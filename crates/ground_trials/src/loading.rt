@@ -2,10 +2,11 @@
 use game_core::{Game, Text};
 use ground_rules::{GroundGame, LoadFault, load};
 use kif_text::{Expr, print, read_all};
-use std::alloc::Global;
+use std::alloc::{AllocError, Global};
 use std::test::Fail;
 
-fn load_text(alloc: Global, text: &str) -> Result<Result<GroundGame, LoadFault>, Fail> {
+/// The game of the text, or why it is none.
+pub fn load_text(alloc: Global, text: &str) -> Result<Result<GroundGame, LoadFault>, Fail> {
     let sentences = read_all(alloc, text.as_bytes())?;
     Ok(load(alloc, &sentences))
 }
@@ -25,12 +26,18 @@ fn names_the_first_fault(rt: HostRuntime) -> Result<(), Fail> {
             "(role a) (<= p (or fact q)) (<= q (not (not p)))",
             Some(LoadFault::Cyclic),
         ),
+        ("(role a) (<= p (distinct a a) p)", Some(LoadFault::Cyclic)),
+        (
+            "(role a) (<= p (or (distinct a b) p))",
+            Some(LoadFault::Cyclic),
+        ),
         ("(role a) (<= p q) (<= p r) (<= q r) (<= r s)", None),
         (
             "(role a) (<= p (not q)) (<= q p ?x)",
             Some(LoadFault::Variable(2)),
         ),
         ("(role a) (?p b) (p a?)", Some(LoadFault::Variable(1))),
+        ("(role a) ((a ?x))", Some(LoadFault::Variable(1))),
         (
             "(role a) (true x) (or) (p ?x)",
             Some(LoadFault::Variable(3)),
@@ -68,6 +75,14 @@ fn names_the_first_fault(rt: HostRuntime) -> Result<(), Fail> {
             Some(LoadFault::Depends),
         ),
         (
+            "(role a) (<= (legal a x) (distinct a a) (does a x))",
+            Some(LoadFault::Depends),
+        ),
+        (
+            "(role a) (<= (init s) (or (distinct a b) (true s)))",
+            Some(LoadFault::Depends),
+        ),
+        (
             "(role a) (<= (init s) p) (<= p (true s))",
             Some(LoadFault::Depends),
         ),
@@ -100,9 +115,17 @@ fn knows_the_forms_of_a_sentence(rt: HostRuntime) -> Result<(), Fail> {
         "(p ())",
         "(p ((a) b))",
         "role",
+        "init",
+        "true",
+        "next",
+        "does",
         "legal",
-        "not",
+        "goal",
         "<=",
+        "not",
+        "or",
+        "distinct",
+        "and",
         "(terminal)",
         "(terminal a)",
         "(role a b)",
@@ -114,6 +137,8 @@ fn knows_the_forms_of_a_sentence(rt: HostRuntime) -> Result<(), Fail> {
         "(goal a +5)",
         "(goal a (5))",
         "(goal a)",
+        "(goal b 00)",
+        "(<= p (goal b 00))",
         "(and p q)",
         "(distinct a b)",
         "(not p)",
@@ -144,6 +169,7 @@ fn knows_the_forms_of_a_sentence(rt: HostRuntime) -> Result<(), Fail> {
         "(goal a 0)",
         "(goal a 10)",
         "(goal a 100)",
+        "(<= p (goal a 1))",
         "(base x)",
         "(p a? |b\" c.d)",
     ] {
@@ -171,6 +197,29 @@ fn refuses_an_atom_that_no_text_spells(rt: HostRuntime) -> Result<(), Fail> {
     Ok(())
 }
 
+/// So many lists, each but the last with the next as its last member, and an atom in the last.
+fn nested(alloc: Global, lists: usize) -> Result<Expr, AllocError> {
+    let mut expr = Expr::Atom(Text::from_slice(alloc, b"a")?);
+    for _ in 0..lists {
+        let mut members = Vec::new(alloc);
+        members.push(Expr::Atom(Text::from_slice(alloc, b"p")?))?;
+        members.push(expr)?;
+        expr = Expr::List(members);
+    }
+    Ok(expr)
+}
+
+#[test]
+fn loads_a_sentence_of_64_lists(rt: HostRuntime) -> Result<(), Fail> {
+    let alloc = rt.alloc();
+    for (lists, fault) in [(64, None), (65, Some(LoadFault::BadForm(1)))] {
+        let mut sentences = read_all(alloc, b"(role a)")?;
+        sentences.push(nested(alloc, lists)?)?;
+        assert_eq!(rt; load(alloc, &sentences).err(), fault, "for {lists} lists");
+    }
+    Ok(())
+}
+
 /// Adds what stands before and behind each number, so many times.
 fn add_numbered(text: &mut String, count: usize, before: &str, behind: &str) -> Result<(), Fail> {
     for number in 0..count {
@@ -187,6 +236,7 @@ fn counts_roles_moves_and_sentences(rt: HostRuntime) -> Result<(), Fail> {
     for (first, count, before, behind, last, fault) in [
         ("", 16, "(role ", ")", "", None),
         ("", 17, "(role ", ")", "", Some(LoadFault::TooLarge)),
+        ("", 8193, "(p ", ")", "", Some(LoadFault::NoRole)),
         (
             "",
             17,
@@ -278,11 +328,40 @@ fn loads_the_largest_description(rt: HostRuntime) -> Result<(), Fail> {
 
 #[test]
 fn folds_the_description(rt: HostRuntime) -> Result<(), Fail> {
-    let game = load_text(rt.alloc(), "(ROLE A) (<= (Role b))")??;
-    assert_eq!(rt; game.description().len(), 2);
+    let game = load_text(rt.alloc(), "(ROLE A) (<= (Role b)) (role (B c))")??;
+    assert_eq!(rt; game.description().len(), 3);
     let text = print(rt.alloc(), &game.description()[0])?;
     assert_eq!(rt; text.as_slice(), b"(role a)".as_slice());
-    assert_eq!(rt; game.roles(), 2);
+    assert_eq!(rt; game.roles(), 3);
     assert_eq!(rt; game.role_name(1), b"b".as_slice());
+    assert_eq!(rt; game.role_name(2), b"(b c)".as_slice());
+    Ok(())
+}
+
+#[test]
+fn says_why_a_description_is_refused(rt: HostRuntime) -> Result<(), Fail> {
+    use LoadFault::{
+        BadForm, Cyclic, Depends, Memory, Misplaced, NoRole, RoleTwice, TooLarge, Variable,
+    };
+    let table = [
+        (Variable(0), "sentence 0 has a variable"),
+        (
+            BadForm(1),
+            "sentence 1 has not the form of a fact or a rule",
+        ),
+        (
+            Misplaced(8192),
+            "an atomic sentence of sentence 8192 stands where it may not",
+        ),
+        (NoRole, "the description has no role"),
+        (RoleTwice, "two role facts have the same name"),
+        (TooLarge, "the description is too large"),
+        (Cyclic, "a derived atom depends on itself"),
+        (Depends, "a head depends on what it may not depend on"),
+        (Memory, "want of memory"),
+    ];
+    for (fault, wanted) in table {
+        assert_eq!(rt; format!(in rt.alloc(); "{fault}")?.as_str(), wanted);
+    }
     Ok(())
 }

@@ -1,9 +1,8 @@
 //! Games of descriptions, played.
 ghost use Rattle.std.specs.Prelude.{◌<◌, All, IfOk};
 
+use crate::loading::load_text;
 use game_core::{Game, Joint, Text, play_list};
-use ground_rules::{GroundGame, load};
-use kif_text::read_all;
 use std::alloc::Global;
 use std::process::Abort;
 use std::test::Fail;
@@ -72,11 +71,6 @@ const BUTTONS: &str = "(role robot) (legal robot a) (legal robot b) (legal robot
 
 /// The game has one move, in each state.
 const ONE_MOVE: &str = "(role a) (legal a go) (init s) (next s)";
-
-fn load_text(alloc: Global, text: &str) -> Result<GroundGame, Fail> {
-    let sentences = read_all(alloc, text.as_bytes())?;
-    Ok(load(alloc, &sentences)?)
-}
 
 /// The texts with a semicolon between them.
 fn joined(alloc: Global, texts: &[Text]) -> Result<String, Fail> {
@@ -214,7 +208,7 @@ fn turns_lead_to_states(rt: HostRuntime) -> Result<(), Fail> {
         (BUTTONS, "a/b/c/a/b", "q;r"),
         (BUTTONS, "a/b/c/a/b/a", "p;q;r"),
     ] {
-        let game = load_text(alloc, description)?;
+        let game = load_text(alloc, description)??;
         let reached = play(&rt, alloc, &game, turns)?;
         assert_eq!(rt; state_line(alloc, &game, &reached)?.as_str(), state);
     }
@@ -224,30 +218,66 @@ fn turns_lead_to_states(rt: HostRuntime) -> Result<(), Fail> {
 #[test]
 fn states_have_ends_and_goals(rt: HostRuntime) -> Result<(), Fail> {
     let alloc = rt.alloc();
-    for (description, turns, ends, goal) in [
-        (COUNTDOWN, "", false, None),
-        (COUNTDOWN, "(take 1);noop/noop;(take 2)", true, Some(0)),
-        (COUNTDOWN, "(take 2);noop/noop;(take 1)", true, Some(0)),
-        (ROUNDS, "rock;paper", false, Some(0)),
-        (ROUNDS, "rock;scissors/rock;rock", true, Some(100)),
-        (ROUNDS, "rock;scissors/rock;paper", true, Some(50)),
-        (BUTTONS, "a", false, None),
-        (BUTTONS, "a/b/c/a/b/a", true, Some(100)),
-        (ONE_MOVE, "go", false, None),
-        ("(role a) (goal a 1) (goal a 2)", "", false, None),
+    for (description, turns, role, ends, goal) in [
+        (COUNTDOWN, "", 0, false, None),
+        (COUNTDOWN, "", 1, false, None),
+        (COUNTDOWN, "(take 1);noop/noop;(take 2)", 0, true, Some(0)),
+        (
+            COUNTDOWN,
+            "(take 1);noop/noop;(take 2)",
+            1,
+            true,
+            Some(100),
+        ),
+        (COUNTDOWN, "(take 2);noop/noop;(take 1)", 0, true, Some(0)),
+        (
+            COUNTDOWN,
+            "(take 1);noop/noop;(take 1)/(take 1);noop",
+            0,
+            true,
+            Some(100),
+        ),
+        (
+            COUNTDOWN,
+            "(take 1);noop/noop;(take 1)/(take 1);noop",
+            1,
+            true,
+            Some(0),
+        ),
+        (ROUNDS, "rock;paper", 0, false, Some(0)),
+        (ROUNDS, "rock;scissors/rock;rock", 0, true, Some(100)),
+        (ROUNDS, "rock;scissors/rock;paper", 0, true, Some(50)),
+        (BUTTONS, "a", 0, false, None),
+        (BUTTONS, "a/b/c/a/b/a", 0, true, Some(100)),
+        (ONE_MOVE, "go", 0, false, None),
+        ("(role a) (goal a 1) (goal a 2)", "", 0, false, None),
         (
             "(role solo) (init done) (<= terminal (true done)) (goal solo 50) (legal solo rest)",
             "",
+            0,
             true,
             Some(50),
         ),
     ] {
-        let game = load_text(alloc, description)?;
+        let game = load_text(alloc, description)??;
         let reached = play(&rt, alloc, &game, turns)?;
-        assert!(rt; game.roles() > 0);
+        assert!(rt; role < game.roles());
         assert_eq!(rt; game.terminal(alloc, &reached)?, ends);
-        assert_eq!(rt; game.goal(alloc, &reached, 0)?, goal);
+        assert_eq!(rt; game.goal(alloc, &reached, role)?, goal);
     }
+    Ok(())
+}
+
+#[test]
+fn copies_a_state(rt: HostRuntime) -> Result<(), Fail> {
+    let alloc = rt.alloc();
+    let game = load_text(alloc, COUNTDOWN)??;
+    let reached = play(&rt, alloc, &game, "(take 1);noop")?;
+    let copied = game.copy_state(alloc, &reached)?;
+    assert_eq!(rt;
+        state_line(alloc, &game, &copied)?.as_str(),
+        "(heap 2);(turn blue)"
+    );
     Ok(())
 }
 
@@ -272,7 +302,7 @@ fn roles_have_legal_moves(rt: HostRuntime) -> Result<(), Fail> {
             "z;x",
         ),
     ] {
-        let game = load_text(alloc, description)?;
+        let game = load_text(alloc, description)??;
         let reached = play(&rt, alloc, &game, turns)?;
         assert!(rt; role < game.roles());
         assert_eq!(rt; legal_line(alloc, &game, &reached, role)?.as_str(), moves);
@@ -312,7 +342,7 @@ fn literals_are_true_or_false(rt: HostRuntime) -> Result<(), Fail> {
         let text = format!(in alloc;
             "(role a) (init s) (legal a go) (legal a stay) fact (<= (next hit) {body}) (<= later (not soon)) (<= soon never)"
         )?;
-        let game = load_text(alloc, text.as_str())?;
+        let game = load_text(alloc, text.as_str())??;
         let reached = play(&rt, alloc, &game, "go")?;
         let state = if holds { "hit" } else { "" };
         assert_eq!(rt;
@@ -330,7 +360,7 @@ fn states_are_in_byte_order(rt: HostRuntime) -> Result<(), Fail> {
     let game = load_text(
         alloc,
         "(role a) (init c) (init (a b)) (init b) (init ab) (init a) (init c)",
-    )?;
+    )??;
     let state = begin(alloc, &game)?;
     assert_eq!(rt;
         state_line(alloc, &game, &state)?.as_str(),
@@ -342,7 +372,7 @@ fn states_are_in_byte_order(rt: HostRuntime) -> Result<(), Fail> {
 #[test]
 fn plays_ten_thousand_turns(rt: HostRuntime) -> Result<(), Fail> {
     let alloc = rt.alloc();
-    let game = load_text(alloc, ONE_MOVE)?;
+    let game = load_text(alloc, ONE_MOVE)??;
     let state = begin(alloc, &game)?;
     let mut turns = Vec::new(alloc);
     'turns: for _ in 0..10_000 {
