@@ -9,7 +9,7 @@ ghost use Rattle.ground_rules.specs.Terms.{are_terms_in_any};
 use crate::evaluate::evaluate;
 use crate::loading::Parts;
 use crate::lookups::{init_mentions, next_mentions};
-use crate::names::{copy_texts, place_of_head};
+use crate::names::{into_texts, place_of_head};
 use crate::numbered::Rule;
 use crate::row::is_set;
 use crate::sentence::Derived;
@@ -150,16 +150,17 @@ impl GroundGame {
             rules,
         } = parts;
         let heads = names.heads.as_slice();
-        let terms = copy_texts(alloc, &names.terms)?;
+        let atoms = heads.len();
         let init = init_mentions(alloc, heads, &names.terms)?;
         let next = next_mentions(alloc, heads, &names.terms)?;
         let terminal = place_of_head(alloc, &names.heads, &Derived::Terminal)?;
+        let terms = into_texts(alloc, names.terms)?;
         Ok(GroundGame {
             description,
             roles,
             terms,
             rules,
-            atoms: heads.len(),
+            atoms,
             init,
             next,
             terminal,

@@ -58,13 +58,10 @@ pub fn role_names(alloc: Global, rules: &[Rule]) -> Result<IndexSet<Vec<u8>>, Lo
 {
     let mut names = IndexSet::new(alloc);
     for rule in rules {
-        match role_name(&rule.head) {
-            Some(name) => {
-                if !add_text(alloc, &mut names, name)? {
-                    return Err(LoadFault::RoleTwice);
-                }
+        if let Some(name) = role_name(&rule.head) {
+            if !add_text(alloc, &mut names, name)? {
+                return Err(LoadFault::RoleTwice);
             }
-            None => {}
         }
     }
     if names.is_empty() {
@@ -102,15 +99,11 @@ pub fn head_terms(alloc: Global, rules: &[Rule]) -> Result<IndexSet<Vec<u8>>, Al
     Ok(terms)
 }
 
-/// The texts of a set in memory of their own.
-pub fn copy_texts(alloc: Global, set: &IndexSet<Vec<u8>>) -> Result<Vec<Text>, AllocError>
-    ensures { IfOk result (λ v. v.items ≡ texts set.now.keys) }
+/// The texts of a set, which are moved out of it.
+pub fn into_texts(alloc: Global, set: IndexSet<Vec<u8>>) -> Result<Vec<Text>, AllocError>
+    ensures { IfOk result (λ v. v.items ≡ texts set.keys) }
 {
-    let mut copies = Vec::with_capacity(alloc, set.len())?;
-    for bytes in set.as_slice() {
-        copies.push(Text::from_slice(alloc, bytes)?)?;
-    }
-    Ok(copies)
+    set.into_iter().map(|bytes| Text { bytes }).collect(alloc)
 }
 
 /// The place of the text in the set, or the number of texts.
