@@ -8,6 +8,7 @@ use Rattle.kif_text.specs.View.{view, expressions}
 use Rattle.ground_rules.specs.declared.sentence.Derived.{Derived}
 use Rattle.ground_rules.specs.declared.sentence.Derived.TheVariants.{Legal, Terminal}
 use Rattle.ground_rules.specs.declared.ground_game.GroundGame.{GroundGame}
+use Rattle.ground_rules.specs.declared.lookups.StateHead.TheVariants.{Init as InitHead, Next as NextHead}
 use Rattle.ground_rules.specs.Bools.{and-left, and-right, or-left}
 use Rattle.ground_rules.specs.Names.{text-same}
 use Rattle.ground_rules.specs.Literals.{Rule}
@@ -16,22 +17,22 @@ use Rattle.ground_rules.specs.Described.{Description, is_among, role_names, are_
 use Rattle.ground_rules.specs.Roles.{RoleTable}
 use Rattle.ground_rules.specs.Tables.{are_roles, names}
 use Rattle.ground_rules.specs.Sizes.{have_few_moves}
-use Rattle.ground_rules.specs.Resolved.{NameTable, atom_number, role_table, init_mentions, next_mentions, head_terms}
+use Rattle.ground_rules.specs.Resolved.{NameTable, atom_number, role_table, state_mentions, head_terms}
 use Rattle.ground_rules.specs.Numbered.{rules_of}
 use Rattle.ground_rules.specs.LoadedGameLaws.{loaded_game_laws}
 use Rattle.ground_rules.specs.Loading.{AreSentences, description_of}
-use Rattle.ground_rules.specs.Prepared.{IsPrepared, IsTableOf}
+use Rattle.ground_rules.specs.GameParts.{AreGameParts, IsTableOf}
 use Rattle.ground_rules.specs.Loaded.{IsLoaded}
 use Rattle.ground_rules.proofs.GameOf.{EachIs, each-new, heads-stand, picked-in, IsBuilt, game-of}
 use Rattle.ground_rules.proofs.Mentions.{AreIn, texts_by, legal_pick, legal-picks}
-use Rattle.ground_rules.proofs.Menus.{HeadFrom, role-tables, head-terms, terms-spelled, names-spelled}
+use Rattle.ground_rules.proofs.LawfulTables.{HeadFrom, role-tables, head-terms, terms-spelled, names-spelled}
 use Rattle.ground_rules.proofs.HeadsRead.{heads-read}
 
 some-length : {A : Type 0} (xs : List A) → xs ≢ [] → 1 ≤ length xs
 some-length [] ne = absurd (ne refl)
 some-length (x ∷ xs) ne = omega arith
 
-pub some-role : (n : ℕ) (d : Description) (t : NameTable) (roles : List RoleTable) (rules : List (Rule ℕ ℕ)) → IsPrepared n d t roles rules → 1 ≤ length roles
+pub some-role : (n : ℕ) (d : Description) (t : NameTable) (roles : List RoleTable) (rules : List (Rule ℕ ℕ)) → AreGameParts n d t roles rules → 1 ≤ length roles
 some-role n d t roles rules p =
     let some = some-length (role_names d) p.sound.roles.some' in
     omega (arith, some, ap length p.table.roles, ap length p.tables, length-map t.roles (role_table t))
@@ -39,7 +40,7 @@ some-role n d t roles rules p =
 at_most : (m n : ℕ) → nat_le m n ≡ true → m ≤ n
 at_most m n h = grind (arith, nat_tests)
 
-pub few-roles : (n : ℕ) (d : Description) (t : NameTable) (roles : List RoleTable) (rules : List (Rule ℕ ℕ)) → IsPrepared n d t roles rules → length roles ≤ max_roles
+pub few-roles : (n : ℕ) (d : Description) (t : NameTable) (roles : List RoleTable) (rules : List (Rule ℕ ℕ)) → AreGameParts n d t roles rules → length roles ≤ max_roles
 few-roles n d t roles rules p =
     let few = at_most (length (role_names d)) max_roles (and-right _ (nat_le (length (role_names d)) max_roles) (and-left _ (have_few_moves (role_names d) d) p.sound.small)) in
     omega (arith, few, ap length p.table.roles, ap length p.tables, length-map t.roles (role_table t))
@@ -48,7 +49,7 @@ table-names : (t : NameTable) (rs : List (List ℕ)) → names (map (role_table 
 table-names t [] = refl
 table-names t (x ∷ rs) = ap (λ xs. x ∷ xs) (table-names t rs)
 
-pub names-are : (n : ℕ) (d : Description) (t : NameTable) (roles : List RoleTable) (rules : List (Rule ℕ ℕ)) → IsPrepared n d t roles rules → names roles ≡ role_names d
+pub names-are : (n : ℕ) (d : Description) (t : NameTable) (roles : List RoleTable) (rules : List (Rule ℕ ℕ)) → AreGameParts n d t roles rules → names roles ≡ role_names d
 names-are n d t roles rules p = ap names p.tables ∙ table-names t t.roles ∙ p.table.roles
 
 heads-from : (xs : List Expression) (t : NameTable) → IsTableOf (description_of xs) t → EachIs (HeadFrom (expressions xs)) t.heads
@@ -60,26 +61,26 @@ has-terms d t table u h = table.terms u ∙ h
 one-about : (role u : List ℕ) → is_among (u ∷ []) u ≡ true
 one-about role u = or-left _ _ (text-same u u refl)
 
-pub tables-pass : (n : ℕ) (xs : List Expression) (t : NameTable) (roles : List RoleTable) (rules : List (Rule ℕ ℕ)) (terms : List (List ℕ)) → IsPrepared n (description_of xs) t roles rules → terms ≡ t.terms → are_roles (length terms) roles ≡ true
+pub tables-pass : (n : ℕ) (xs : List Expression) (t : NameTable) (roles : List RoleTable) (rules : List (Rule ℕ ℕ)) (terms : List (List ℕ)) → AreGameParts n (description_of xs) t roles rules → terms ≡ t.terms → are_roles (length terms) roles ≡ true
 tables-pass n xs t roles rules terms p e =
     let d = description_of xs in
     let inside : (role : List ℕ) → AreIn t.terms (texts_by (legal_pick role) t.heads) = λ role.
     subst (λ (hs : List Derived). AreIn t.terms (texts_by (legal_pick role) hs)) (sym p.table.heads') (picked-in d t.terms (legal_pick role) (Legal role) (legal-picks role) (one-about role) (has-terms d t p.table)) in
     ap (λ ts. are_roles (length ts) roles) e ∙ ap (are_roles (length t.terms)) p.tables ∙ role-tables (expressions xs) t t.roles (heads-from xs t p.table) (heads-stand t d p.table.heads') inside
 
-pub names-pass : (n : ℕ) (d : Description) (t : NameTable) (roles : List RoleTable) (rules : List (Rule ℕ ℕ)) → IsPrepared n d t roles rules → are_different (names roles) ≡ true
+pub names-pass : (n : ℕ) (d : Description) (t : NameTable) (roles : List RoleTable) (rules : List (Rule ℕ ℕ)) → AreGameParts n d t roles rules → are_different (names roles) ≡ true
 names-pass n d t roles rules p = ap are_different (names-are n d t roles rules p) ∙ p.sound.roles.differ
 
-pub names-read : (n : ℕ) (xs : List Expression) (t : NameTable) (roles : List RoleTable) (rules : List (Rule ℕ ℕ)) → IsPrepared n (description_of xs) t roles rules → are_terms_in_any (expressions xs) (names roles) ≡ true
+pub names-read : (n : ℕ) (xs : List Expression) (t : NameTable) (roles : List RoleTable) (rules : List (Rule ℕ ℕ)) → AreGameParts n (description_of xs) t roles rules → are_terms_in_any (expressions xs) (names roles) ≡ true
 names-read n xs t roles rules p = ap (are_terms_in_any (expressions xs)) (names-are n (description_of xs) t roles rules p) ∙ names-spelled (expressions xs) (description_of xs) (heads-read xs)
 
-pub terms-read : (n : ℕ) (xs : List Expression) (t : NameTable) (roles : List RoleTable) (rules : List (Rule ℕ ℕ)) (terms : List (List ℕ)) → IsPrepared n (description_of xs) t roles rules → terms ≡ t.terms → are_terms_in_any (expressions xs) terms ≡ true
+pub terms-read : (n : ℕ) (xs : List Expression) (t : NameTable) (roles : List RoleTable) (rules : List (Rule ℕ ℕ)) (terms : List (List ℕ)) → AreGameParts n (description_of xs) t roles rules → terms ≡ t.terms → are_terms_in_any (expressions xs) terms ≡ true
 terms-read n xs t roles rules terms p e =
     ap (are_terms_in_any (expressions xs)) e
     ∙ terms-spelled (expressions xs) t.terms (λ u h. head-terms (expressions xs) (description_of xs) u (heads-read xs) (sym (p.table.terms u) ∙ h))
 
-pub loaded : (t : NameTable) (g : GroundGame) → (xs : List Expression) → xs ≡ map view g.description.items → AreSentences xs → IsPrepared (length xs) (description_of xs) t g.roles.items (rules_of g.rules.items)
-    → g.terms.items ≡ t.terms → g.init.items ≡ init_mentions t.terms 0 t.heads → g.next.items ≡ next_mentions t.terms 0 t.heads → g.terminal ≡ atom_number t Terminal → g.atoms ≡ length t.heads → IsLoaded xs g
+pub loaded : (t : NameTable) (g : GroundGame) → (xs : List Expression) → xs ≡ map view g.description.items → AreSentences xs → AreGameParts (length xs) (description_of xs) t g.roles.items (rules_of g.rules.items)
+    → g.terms.items ≡ t.terms → g.init.items ≡ state_mentions InitHead t.terms 0 t.heads → g.next.items ≡ state_mentions NextHead t.terms 0 t.heads → g.terminal ≡ atom_number t Terminal → g.atoms ≡ length t.heads → IsLoaded xs g
 loaded t g xs same sentences p terms init next terminal atoms =
     let d = description_of xs in
     let lawful = loaded_game_laws g g.some_role g.few_roles g.tables g.names_differ g.names_spelled g.terms_ordered g.terms_spelled in

@@ -9,6 +9,7 @@ use Rattle.ground_rules.specs.declared.sentence.Derived.{Derived}
 use Rattle.ground_rules.specs.declared.sentence.Derived.TheVariants.{Init, Next, Legal, Terminal}
 use Rattle.ground_rules.specs.declared.tables.GroundMove.{GroundMove}
 use Rattle.ground_rules.specs.declared.ground_game.GroundGame.{GroundGame}
+use Rattle.ground_rules.specs.declared.lookups.StateHead.TheVariants.{Init as InitHead, Next as NextHead}
 use Rattle.ground_rules.specs.Bools.{or-left, or-right, bool-same}
 use Rattle.ground_rules.specs.Names.{text-sound, text-same, derived-sound}
 use Rattle.ground_rules.specs.Literals.{Rule}
@@ -21,13 +22,13 @@ use Rattle.ground_rules.specs.Tables.{marked, chosen, only_goal, picked, are_in_
 use Rattle.ground_rules.specs.LoadedGame.{loaded_game, row_of, role_at, terms_of}
 use Rattle.ground_rules.specs.LoadedGameLaws.{ordered-different, marked-size}
 use Rattle.ground_rules.specs.Keys.{place}
-use Rattle.ground_rules.specs.Resolved.{NameTable, atom_number, term_number, role_number, resolved_rules, terms_in, head_terms, role_table, init_mentions, next_mentions}
+use Rattle.ground_rules.specs.Resolved.{NameTable, atom_number, term_number, role_number, resolved_rules, terms_in, head_terms, role_table, mentions_by, state_term, state_mentions}
 use Rattle.ground_rules.proofs.NameLists.{among-any, among-left, among-right}
 use Rattle.ground_rules.proofs.TablePlaces.{place-within}
 use Rattle.ground_rules.proofs.Transfer.{Agrees, fit-is-row}
 use Rattle.ground_rules.proofs.HeadTables.{heads-there, heads-once}
 use Rattle.ground_rules.proofs.Situations.{picked-bit, makes-bit, text_of}
-use Rattle.ground_rules.proofs.Mentions.{IsByRow, StandFrom, IsPick, AreIn, texts_by, with_text, mentions_by, hits-by, marked-bit, chosen-texts, init_pick, next_pick, legal_pick, init-picks, next-picks, legal-picks, init-mentions, next-mentions, legal-mentions, moves-texts}
+use Rattle.ground_rules.proofs.Mentions.{IsByRow, StandFrom, IsPick, AreIn, texts_by, with_text, hits-by, marked-bit, chosen-texts, legal_pick, init-picks, next-picks, legal-picks, legal-mentions, moves-texts}
 use Rattle.ground_rules.proofs.Goals.{goal-answer}
 
 -- the game's parts are those that the description gives
@@ -36,8 +37,8 @@ pub record IsBuilt (d : Description) (table : NameTable) (rank : ℕ → ℕ) (g
   pub roles : table.roles ≡ role_names d
   pub terms : g.terms.items ≡ table.terms
   pub role_tables : g.roles.items ≡ map (role_table table) table.roles
-  pub init : g.init.items ≡ init_mentions table.terms 0 table.heads
-  pub next : g.next.items ≡ next_mentions table.terms 0 table.heads
+  pub init : g.init.items ≡ state_mentions InitHead table.terms 0 table.heads
+  pub next : g.next.items ≡ state_mentions NextHead table.terms 0 table.heads
   pub terminal : g.terminal ≡ atom_number table Terminal
   pub atoms : g.atoms ≡ length table.heads
   pub moved : IsPermutation (resolved_rules table d) (rules_of g.rules.items)
@@ -284,9 +285,9 @@ game-of d table rank g built lawful = record {
   roles = all-names g ∙ game-names d table rank g built ∙ built.roles;
   initial = λ v fits t.
       let read = read-row d table rank g (situation [] [] []) [] [] v built (agrees-empty table) fits in
-      ap (λ ms. is_among (picked (marked (unset (length g.terms.items)) (row_of g [] []) ms) g.terms.items) t) (built.init ∙ init-mentions table.terms 0 table.heads)
-      ∙ ap (λ ts. is_among (picked (marked (unset (length ts)) (row_of g [] []) (mentions_by init_pick table.terms 0 table.heads)) ts) t) built.terms
-      ∙ set-is d table v (row_of g [] []) init_pick Init t read built.heads' init-picks one-about built.has_terms built.ordered;
+      ap (λ ms. is_among (picked (marked (unset (length g.terms.items)) (row_of g [] []) ms) g.terms.items) t) (built.init)
+      ∙ ap (λ ts. is_among (picked (marked (unset (length ts)) (row_of g [] []) (mentions_by (state_term InitHead) table.terms 0 table.heads)) ts) t) built.terms
+      ∙ set-is d table v (row_of g [] []) (state_term InitHead) Init t read built.heads' init-picks one-about built.has_terms built.ordered;
   legal = λ s r v is within fits.
       let read = read-row d table rank g (at_rest (loaded_game g) s) s [] v built (agrees-rest d table rank g s built is) fits in
       let name = (role_at g r).name in
@@ -297,9 +298,9 @@ game-of d table rank g built lawful = record {
       ∙ ap (filter (λ m. v (Legal name m))) (sym (moves-texts name table.heads) ∙ ap (moves_in name) built.heads');
   next = λ s joint v is lawful' fits t.
       let read = read-row d table rank g (at_turn (loaded_game g) s joint) s (terms_of joint) v built (agrees-turn d table rank g s joint built lawful is lawful') fits in
-      ap (λ ms. is_among (picked (marked (unset (length g.terms.items)) (row_of g s (terms_of joint)) ms) g.terms.items) t) (built.next ∙ next-mentions table.terms 0 table.heads)
-      ∙ ap (λ ts. is_among (picked (marked (unset (length ts)) (row_of g s (terms_of joint)) (mentions_by next_pick table.terms 0 table.heads)) ts) t) built.terms
-      ∙ set-is d table v (row_of g s (terms_of joint)) next_pick Next t read built.heads' next-picks one-about built.has_terms built.ordered;
+      ap (λ ms. is_among (picked (marked (unset (length g.terms.items)) (row_of g s (terms_of joint)) ms) g.terms.items) t) (built.next)
+      ∙ ap (λ ts. is_among (picked (marked (unset (length ts)) (row_of g s (terms_of joint)) (mentions_by (state_term NextHead) table.terms 0 table.heads)) ts) t) built.terms
+      ∙ set-is d table v (row_of g s (terms_of joint)) (state_term NextHead) Next t read built.heads' next-picks one-about built.has_terms built.ordered;
   terminal = λ s v is fits.
       let read = read-row d table rank g (at_rest (loaded_game g) s) s [] v built (agrees-rest d table rank g s built is) fits in
       ap (bit (row_of g s [])) built.terminal ∙ sym (read.by Terminal);

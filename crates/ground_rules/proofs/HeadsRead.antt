@@ -21,7 +21,7 @@ use Rattle.ground_rules.specs.Reading.{both, is_digit, goal_number, goal_value, 
 use Rattle.ground_rules.specs.Places.{place, place_head, is_head_of, are_placed}
 use Rattle.ground_rules.specs.Loading.{rule_in, description_of}
 use Rattle.ground_rules.proofs.GameOf.{EachIs}
-use Rattle.ground_rules.proofs.Menus.{HeadFrom}
+use Rattle.ground_rules.proofs.LawfulTables.{HeadFrom}
 
 text-by : (x : Expression) (t : List ℕ) (b : Bool) → is_ground_term x ≡ b → (if b then Some (canonical x) else None) ≡ Some t → (is_ground_term x ≡ true) × (canonical x ≡ t)
 text-by x t true is e = (is, some-is (canonical x) t e)

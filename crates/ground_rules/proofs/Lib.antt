@@ -9,10 +9,10 @@ pub mod Goals
 pub mod HeadTables
 pub mod HeadsRead
 pub mod KeyEquality
+pub mod LawfulTables
 pub mod Limits
 pub mod LiteralLists
 pub mod Mentions
-pub mod Menus
 pub mod NameLists
 pub mod Numberings
 pub mod Pass

@@ -6,10 +6,10 @@ use Rattle.ground_rules.specs.declared.sentence.Derived.{Derived}
 use Rattle.ground_rules.specs.Bools.{and-both}
 use Rattle.ground_rules.specs.Described.{Description, each_once, role_names, heads, moves_in}
 use Rattle.ground_rules.specs.Sizes.{max_sentences, max_atomic_sentences, max_moves, same_atomic, atomics, have_few_moves, is_small}
-use Rattle.ground_rules.specs.Prepared.{is_small_so_far, have_few_moves_by}
-use Rattle.ground_rules.specs.Resolved.{NameTable, role_table}
+use Rattle.ground_rules.specs.GameParts.{is_small_so_far, have_few_moves_by}
+use Rattle.ground_rules.specs.Resolved.{NameTable, role_table, with_mention, mentions_by}
 use Rattle.ground_rules.specs.declared.tables.Mention.{Mention}
-use Rattle.ground_rules.proofs.Mentions.{mentions_by, with_mention, texts_by, with_text, legal_pick, legal-mentions, moves-texts}
+use Rattle.ground_rules.proofs.Mentions.{texts_by, with_text, legal_pick, legal-mentions, moves-texts}
 use Rattle.std.proofs.Common.{Option, Some, None, ◌+◌, suc}
 
 left-false : (x y : Bool) → x ≡ false → (x && y) ≡ false

@@ -5,6 +5,7 @@ use Rattle.std.proofs.lemmas.List.{length-replicate}
 use Rattle.std.specs.List.{list_any}
 use Rattle.ground_rules.specs.declared.sentence.Derived.{Derived}
 use Rattle.ground_rules.specs.declared.sentence.Derived.TheVariants.{Role, Init, Next, Legal, Goal, Terminal, Other}
+use Rattle.ground_rules.specs.declared.lookups.StateHead.TheVariants.{Init as InitHead, Next as NextHead}
 use Rattle.ground_rules.specs.declared.tables.Mention.{Mention}
 use Rattle.ground_rules.specs.Bools.{bool-same}
 use Rattle.ground_rules.specs.Names.{text-sound, text-same, number-sound, number-same}
@@ -12,7 +13,7 @@ use Rattle.ground_rules.specs.Described.{moves_in}
 use Rattle.ground_rules.specs.Tables.{marked, chosen}
 use Rattle.ground_rules.specs.Numbered.{bit, unset}
 use Rattle.ground_rules.specs.Keys.{place}
-use Rattle.ground_rules.specs.Resolved.{NameTable, atom_number, init_mentions, next_mentions, legal_mentions}
+use Rattle.ground_rules.specs.Resolved.{NameTable, atom_number, with_mention, mentions_by, state_term, legal_mentions}
 use Rattle.ground_rules.proofs.TablePlaces.{place-at, place-one}
 use Rattle.ground_rules.proofs.Situations.{text-decides, text_of}
 
@@ -85,14 +86,6 @@ pub record IsPick (pick : Derived → Option (List ℕ)) (make : List ℕ → De
   pub made : (a : Derived) (t : List ℕ) → pick a ≡ Some t → a ≡ make t
   pub picked : (t : List ℕ) → pick (make t) ≡ Some t
 
-abbrev pub with_mention : List (List ℕ) → ℕ → Option (List ℕ) → List Mention → List Mention
-with_mention terms n (Some t) ms = record { term = place bytes_eq terms t; atom = n } ∷ ms
-with_mention terms n None ms = ms
-
-abbrev pub mentions_by : (Derived → Option (List ℕ)) → List (List ℕ) → ℕ → List Derived → List Mention
-mentions_by pick terms n [] = []
-mentions_by pick terms n (a ∷ as') = with_mention terms n (pick a) (mentions_by pick terms (n + 1) as')
-
 abbrev pub with_text : Option (List ℕ) → List (List ℕ) → List (List ℕ)
 with_text (Some t) ts = t ∷ ts
 with_text None ts = ts
@@ -155,24 +148,6 @@ chosen-texts names v row pick make terms n (a ∷ as') by is stand within =
         let at : bit row n ≡ v (make s) = ap (bit row) (sym stand.0) ∙ sym (by a) ∙ ap v (is.made a s e) in
         rw (← at) (by-bit s (filter (λ (h : Mention). bit row h.atom) (mentions_by pick terms (n + 1) as')) (filter (λ m. v (make m)) (texts_by pick as')) (bit row n) (place-at bytes_eq text-decides terms s [] within.0) (rest within.1))
 
-abbrev pub init_pick : Derived → Option (List ℕ)
-init_pick (Role r) = None
-init_pick (Init t) = Some t
-init_pick (Next t) = None
-init_pick (Legal r m) = None
-init_pick (Goal r n) = None
-init_pick Terminal = None
-init_pick (Other t) = None
-
-abbrev pub next_pick : Derived → Option (List ℕ)
-next_pick (Role r) = None
-next_pick (Init t) = None
-next_pick (Next t) = Some t
-next_pick (Legal r m) = None
-next_pick (Goal r n) = None
-next_pick Terminal = None
-next_pick (Other t) = None
-
 abbrev pub legal_pick : List ℕ → Derived → Option (List ℕ)
 legal_pick role (Role r) = None
 legal_pick role (Init t) = None
@@ -185,10 +160,10 @@ legal_pick role (Other t) = None
 some-is : (s t : List ℕ) → ◌≡◌ {A = Option (List ℕ)} (Some s) (Some t) → s ≡ t
 some-is s t e = cc
 
-pub init-picks : IsPick init_pick Init
+pub init-picks : IsPick (state_term InitHead) Init
 init-picks = record { made = made; picked = λ t. refl }
   where
-    made : (a : Derived) (t : List ℕ) → init_pick a ≡ Some t → a ≡ Init t
+    made : (a : Derived) (t : List ℕ) → state_term InitHead a ≡ Some t → a ≡ Init t
     made (Role r) t e = absurd cc
     made (Init s) t e = ap Init (some-is s t e)
     made (Next s) t e = absurd cc
@@ -197,10 +172,10 @@ init-picks = record { made = made; picked = λ t. refl }
     made Terminal t e = absurd cc
     made (Other s) t e = absurd cc
 
-pub next-picks : IsPick next_pick Next
+pub next-picks : IsPick (state_term NextHead) Next
 next-picks = record { made = made; picked = λ t. refl }
   where
-    made : (a : Derived) (t : List ℕ) → next_pick a ≡ Some t → a ≡ Next t
+    made : (a : Derived) (t : List ℕ) → state_term NextHead a ≡ Some t → a ≡ Next t
     made (Role r) t e = absurd cc
     made (Init s) t e = absurd cc
     made (Next s) t e = ap Next (some-is s t e)
@@ -224,26 +199,6 @@ legal-made role (Other s) t e = absurd cc
 
 pub legal-picks : (role : List ℕ) → IsPick (legal_pick role) (Legal role)
 legal-picks role = record { made = legal-made role; picked = λ t. rw (text-same role role refl) refl }
-
-pub init-mentions : (terms : List (List ℕ)) (n : ℕ) (hs : List Derived) → init_mentions terms n hs ≡ mentions_by init_pick terms n hs
-init-mentions terms n [] = refl
-init-mentions terms n (Role r ∷ hs) = init-mentions terms (n + 1) hs
-init-mentions terms n (Init t ∷ hs) = ap (λ ms. record { term = place bytes_eq terms t; atom = n } ∷ ms) (init-mentions terms (n + 1) hs)
-init-mentions terms n (Next t ∷ hs) = init-mentions terms (n + 1) hs
-init-mentions terms n (Legal r m ∷ hs) = init-mentions terms (n + 1) hs
-init-mentions terms n (Goal r k ∷ hs) = init-mentions terms (n + 1) hs
-init-mentions terms n (Terminal ∷ hs) = init-mentions terms (n + 1) hs
-init-mentions terms n (Other t ∷ hs) = init-mentions terms (n + 1) hs
-
-pub next-mentions : (terms : List (List ℕ)) (n : ℕ) (hs : List Derived) → next_mentions terms n hs ≡ mentions_by next_pick terms n hs
-next-mentions terms n [] = refl
-next-mentions terms n (Role r ∷ hs) = next-mentions terms (n + 1) hs
-next-mentions terms n (Init t ∷ hs) = next-mentions terms (n + 1) hs
-next-mentions terms n (Next t ∷ hs) = ap (λ ms. record { term = place bytes_eq terms t; atom = n } ∷ ms) (next-mentions terms (n + 1) hs)
-next-mentions terms n (Legal r m ∷ hs) = next-mentions terms (n + 1) hs
-next-mentions terms n (Goal r k ∷ hs) = next-mentions terms (n + 1) hs
-next-mentions terms n (Terminal ∷ hs) = next-mentions terms (n + 1) hs
-next-mentions terms n (Other t ∷ hs) = next-mentions terms (n + 1) hs
 
 legal-by : (terms : List (List ℕ)) (n : ℕ) (m : List ℕ) (b : Bool) (xs ys : List Mention) → xs ≡ ys → (if b then record { term = place bytes_eq terms m; atom = n } ∷ xs else xs) ≡ with_mention terms n (if b then Some m else None) ys
 legal-by terms n m true xs ys e = ap (λ ms. record { term = place bytes_eq terms m; atom = n } ∷ ms) e

@@ -17,7 +17,7 @@ pub mod Loading
 pub mod Exposed
 pub mod Dependence
 pub mod Barred
-pub mod Prepared
+pub mod GameParts
 pub mod Loaded
 pub mod TermTexts
 pub mod Roles

@@ -1,5 +1,6 @@
 -- Literals and rules, over the names of derived atoms and the names of terms.
 -- In a description these are sentences and canonical texts; in the loaded game they are numbers.
+use Rattle.std.specs.Prelude.{List, [], ◌∷◌}
 
 mutual
   pub data Literal (A T : Type 0) : Type 0 where
@@ -16,6 +17,10 @@ mutual
   pub data Literals (A T : Type 0) : Type 0 where
     End : Literals A T
     More : Literal A T → Literals A T → Literals A T
+
+abbrev pub literals : {A T : Type 0} → List (Literal A T) → Literals A T
+literals [] = End
+literals (l ∷ ls) = More l (literals ls)
 
 -- a head and its literals; a fact has none
 pub record Rule (A T : Type 0) : Type 0 where

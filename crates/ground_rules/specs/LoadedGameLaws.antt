@@ -16,7 +16,7 @@ use Rattle.ground_rules.specs.Names.{text-sound, text-same}
 use Rattle.ground_rules.specs.Described.{is_among, are_different}
 use Rattle.ground_rules.specs.Roles.{RoleTable, no_role}
 use Rattle.ground_rules.specs.Numbered.{bit, unset}
-use Rattle.ground_rules.specs.Tables.{are_roles, names, has_term, is_menu, are_goals, marked, chosen, only, picked, comes_before, comes_before_all, are_in_order}
+use Rattle.ground_rules.specs.Tables.{are_roles, names, has_term, have_distinct_terms, are_goals, marked, chosen, only, picked, comes_before, comes_before_all, are_in_order}
 use Rattle.ground_rules.specs.Terms.{are_terms_in_any}
 use Rattle.ground_rules.specs.TermTexts.{IsTermText, term-text-folded, term-text-no-question, term-text-at}
 use Rattle.ground_rules.specs.LoadedGame.{loaded_game, role_at, row_of, terms_of}
@@ -33,15 +33,15 @@ pub marked-size : (n : ℕ) (row : List Bool) (ms : List Mention) → length (ma
 marked-size n row ms = marked-length (unset n) row ms ∙ length-replicate n false
 
 -- the tables of each role pass the tests
-role-menu : (terms : ℕ) (rs : List RoleTable) (r : ℕ) → are_roles terms rs ≡ true → is_menu terms (slice_index_or rs r no_role).legal ≡ true
-role-menu terms [] r h = refl
-role-menu terms (x ∷ rs) zero h = and-left (is_menu terms x.legal) _ h
-role-menu terms (x ∷ rs) (suc r) h = role-menu terms rs r (and-right (are_goals x.goals) _ (and-right (is_menu terms x.legal) _ h))
+role-legal : (terms : ℕ) (rs : List RoleTable) (r : ℕ) → are_roles terms rs ≡ true → have_distinct_terms terms (slice_index_or rs r no_role).legal ≡ true
+role-legal terms [] r h = refl
+role-legal terms (x ∷ rs) zero h = and-left (have_distinct_terms terms x.legal) _ h
+role-legal terms (x ∷ rs) (suc r) h = role-legal terms rs r (and-right (are_goals x.goals) _ (and-right (have_distinct_terms terms x.legal) _ h))
 
 role-goals : (terms : ℕ) (rs : List RoleTable) (r : ℕ) → are_roles terms rs ≡ true → are_goals (slice_index_or rs r no_role).goals ≡ true
 role-goals terms [] r h = refl
-role-goals terms (x ∷ rs) zero h = and-left (are_goals x.goals) _ (and-right (is_menu terms x.legal) _ h)
-role-goals terms (x ∷ rs) (suc r) h = role-goals terms rs r (and-right (are_goals x.goals) _ (and-right (is_menu terms x.legal) _ h))
+role-goals terms (x ∷ rs) zero h = and-left (are_goals x.goals) _ (and-right (have_distinct_terms terms x.legal) _ h)
+role-goals terms (x ∷ rs) (suc r) h = role-goals terms rs r (and-right (are_goals x.goals) _ (and-right (have_distinct_terms terms x.legal) _ h))
 
 abbrev moves_of : List Mention → List GroundMove
 moves_of hs = map (λ h. record { term = h.term }) hs
@@ -55,7 +55,7 @@ are-by terms m fs false ok rest k d lt = rest k d lt
 are-by terms m fs true ok rest zero d lt = ok
 are-by terms m fs true ok rest (suc k) d lt = rest k d (omega (arith, lt))
 
-chosen-are : (terms : ℕ) (row : List Bool) (hs : List Mention) → is_menu terms hs ≡ true → (k : ℕ) (d : GroundMove) → k < length (chosen row hs) → (slice_index_or (chosen row hs) k d).term < terms
+chosen-are : (terms : ℕ) (row : List Bool) (hs : List Mention) → have_distinct_terms terms hs ≡ true → (k : ℕ) (d : GroundMove) → k < length (chosen row hs) → (slice_index_or (chosen row hs) k d).term < terms
 chosen-are terms row [] h k d lt = absurd (omega (arith, lt))
 chosen-are terms row (m ∷ hs) h k d lt =
     let tail = and-right (nat_lt m.term terms) _ h in
@@ -81,7 +81,7 @@ differ-by m fs true avoid rest zero (suc j) d before within e = avoid j d (omega
 differ-by m fs true avoid rest (suc i) zero d before within e = omega (arith, before)
 differ-by m fs true avoid rest (suc i) (suc j) d before within e = rest i j d (omega (arith, before)) (omega (arith, within)) e
 
-chosen-differ : (terms : ℕ) (row : List Bool) (hs : List Mention) → is_menu terms hs ≡ true → AllPairs (λ (x y : GroundMove). x ≢ y) (chosen row hs)
+chosen-differ : (terms : ℕ) (row : List Bool) (hs : List Mention) → have_distinct_terms terms hs ≡ true → AllPairs (λ (x y : GroundMove). x ≢ y) (chosen row hs)
 chosen-differ terms row [] h i j d before within e = omega (arith, within)
 chosen-differ terms row (m ∷ hs) h i j d before within e =
     let tail = and-right (nat_lt m.term terms) _ h in
@@ -200,8 +200,8 @@ loaded_game_laws g some few tables names_differ names_spelled terms_ordered term
   role_names_differ = λ q r low high e. one-place (names g.roles.items) q r names_differ (omega (arith, names-length g.roles.items, low)) (omega (arith, names-length g.roles.items, high)) (sym (name-at g.roles.items q low) ∙ (e ∙ name-at g.roles.items r high));
   initial_is_state = marked-size (length g.terms.items) (row_of g [] []) g.init.items;
   next_is_state = λ s joint is lawful. marked-size (length g.terms.items) (row_of g s (terms_of joint)) g.next.items;
-  legal_are_moves = λ s r is within. chosen-are (length g.terms.items) _ (role_at g r).legal (role-menu _ g.roles.items r tables);
-  legal_differ = λ s r is within. chosen-differ (length g.terms.items) _ (role_at g r).legal (role-menu _ g.roles.items r tables);
+  legal_are_moves = λ s r is within. chosen-are (length g.terms.items) _ (role_at g r).legal (role-legal _ g.roles.items r tables);
+  legal_differ = λ s r is within. chosen-differ (length g.terms.items) _ (role_at g r).legal (role-legal _ g.roles.items r tables);
   move_texts_folded = λ m is. term-text-folded (slice_index_or g.terms.items m.term []) (term-text-at (views g.description.items) g.terms.items m.term [] terms_spelled is);
   one_move_for_each_text = λ m n im in' e. same-move m n (one-place g.terms.items m.term n.term (ordered-different g.terms.items terms_ordered) im in' e);
   no_question = λ m is. term-text-no-question (slice_index_or g.terms.items m.term []) (term-text-at (views g.description.items) g.terms.items m.term [] terms_spelled is);

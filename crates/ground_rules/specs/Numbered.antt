@@ -1,14 +1,10 @@
--- What numbered rules stand for, and the pass over them. Only private clauses cite this module.
+-- What numbered rules stand for, and the pass over them. The loaded game's answers (LoadedGame) cite this module.
 use Rattle.std.specs.Prelude.{ℕ, ◌<◌, ◌≤◌, Bool, true, false, nat_eq, if◌then◌else◌, List, [], ◌∷◌, map, slice_index_or, slice_set, slice_get, Option, Some, None, replicate, box_value}
-use Rattle.ground_rules.specs.Literals.{Literal, Literals, Holds, InState, Does, Not, Or, End, More, Rule, AllAtomsAre}
+use Rattle.ground_rules.specs.Literals.{Literal, Literals, literals, Holds, InState, Does, Not, Or, End, Rule, AllAtomsAre}
 use Rattle.ground_rules.specs.Fit.{Situation, all_true}
 use Rattle.ground_rules.specs.declared.numbered.Literal.{Literal as CodeLiteral, fold-Literal}
 use Rattle.ground_rules.specs.declared.numbered.Literal.TheOpen.{Literal-F}
 use Rattle.ground_rules.specs.declared.numbered.Rule.{Rule as CodeRule}
-
-abbrev pub literals : {A T : Type 0} → List (Literal A T) → Literals A T
-literals [] = End
-literals (l ∷ ls) = More l (literals ls)
 
 -- a literal that is always true, or always false
 abbrev pub known : {A T : Type 0} → Bool → Literal A T

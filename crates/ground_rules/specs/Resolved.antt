@@ -1,7 +1,9 @@
 -- Numbers in the place of names. Only private clauses cite this module.
-use Rattle.std.specs.Prelude.{ℕ, ◌+◌, not, bytes_eq, nat_lt, nat_eq, if◌then◌else◌, List, [], ◌∷◌, ◌++◌, map}
+use Rattle.std.specs.Prelude.{ℕ, ◌+◌, not, bytes_eq, nat_lt, nat_eq, if◌then◌else◌, List, [], ◌∷◌, ◌++◌, map, Option, Some, None}
 use Rattle.ground_rules.specs.declared.sentence.Derived.{Derived}
 use Rattle.ground_rules.specs.declared.sentence.Derived.TheVariants.{Init, Next, Legal, Goal}
+use Rattle.ground_rules.specs.declared.lookups.StateHead.{StateHead}
+use Rattle.ground_rules.specs.declared.lookups.StateHead.TheVariants.{Init as InitHead, Next as NextHead}
 use Rattle.ground_rules.specs.declared.tables.Mention.{Mention}
 use Rattle.ground_rules.specs.declared.tables.GoalHead.{GoalHead}
 use Rattle.ground_rules.specs.Literals.{Literal, Literals, Holds, InState, Does, Distinct, Not, Or, End, More, Rule}
@@ -61,17 +63,26 @@ abbrev pub head_terms : Description → List (List ℕ)
 head_terms [] = []
 head_terms (r ∷ rs) = terms_in r.head ++ head_terms rs
 
--- what the heads, numbered from n on, say of terms and of a role
-abbrev pub init_mentions : List (List ℕ) → ℕ → List Derived → List Mention
-init_mentions terms n [] = []
-init_mentions terms n (Init t ∷ as') = record { term = place bytes_eq terms t; atom = n } ∷ init_mentions terms (n + 1) as'
-init_mentions terms n (a ∷ as') = init_mentions terms (n + 1) as'
+-- with a mention of the term in the head numbered n, if there is one
+abbrev pub with_mention : List (List ℕ) → ℕ → Option (List ℕ) → List Mention → List Mention
+with_mention terms n (Some t) ms = record { term = place bytes_eq terms t; atom = n } ∷ ms
+with_mention terms n None ms = ms
 
-abbrev pub next_mentions : List (List ℕ) → ℕ → List Derived → List Mention
-next_mentions terms n [] = []
-next_mentions terms n (Next t ∷ as') = record { term = place bytes_eq terms t; atom = n } ∷ next_mentions terms (n + 1) as'
-next_mentions terms n (a ∷ as') = next_mentions terms (n + 1) as'
+-- the mentions in the heads, numbered from n on, of which pick gives the terms
+abbrev pub mentions_by : (Derived → Option (List ℕ)) → List (List ℕ) → ℕ → List Derived → List Mention
+mentions_by pick terms n [] = []
+mentions_by pick terms n (a ∷ as') = with_mention terms n (pick a) (mentions_by pick terms (n + 1) as')
 
+-- the term in a head of this kind
+abbrev pub state_term : StateHead → Derived → Option (List ℕ)
+state_term InitHead (Init t) = Some t
+state_term NextHead (Next t) = Some t
+state_term kind a = None
+
+abbrev pub state_mentions : StateHead → List (List ℕ) → ℕ → List Derived → List Mention
+state_mentions kind terms n hs = mentions_by (state_term kind) terms n hs
+
+-- what the heads, numbered from n on, say of a role
 abbrev pub legal_mentions : List (List ℕ) → List ℕ → ℕ → List Derived → List Mention
 legal_mentions terms role n [] = []
 legal_mentions terms role n (Legal r m ∷ as') = if bytes_eq r role then record { term = place bytes_eq terms m; atom = n } ∷ legal_mentions terms role (n + 1) as' else legal_mentions terms role (n + 1) as'

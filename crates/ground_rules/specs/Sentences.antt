@@ -1,6 +1,6 @@
 -- The literals and rules that sentences in memory are.
-use Rattle.std.specs.Prelude.{ℕ, List, [], ◌∷◌, map, box_value}
-use Rattle.ground_rules.specs.Literals.{Literal, Literals, Holds, InState, Does, Distinct, Not, Or, End, More, Rule}
+use Rattle.std.specs.Prelude.{ℕ, List, map, box_value}
+use Rattle.ground_rules.specs.Literals.{Literal, Literals, literals, Holds, InState, Does, Distinct, Not, Or, Rule}
 use Rattle.ground_rules.specs.declared.sentence.Derived.{Derived}
 use Rattle.ground_rules.specs.declared.sentence.Atomic.{Atomic}
 use Rattle.ground_rules.specs.declared.sentence.Atomic.TheVariants.{Derived as IsDerived, InState as IsInState, Does as IsDoes}
@@ -24,10 +24,6 @@ abbrev pub literal_of : Atomic → TextLiteral
 literal_of (IsDerived a) = Holds a
 literal_of (IsInState t) = InState t
 literal_of (IsDoes r m) = Does r m
-
-abbrev pub literals : List TextLiteral → TextLiterals
-literals [] = End
-literals (l ∷ ls) = More l (literals ls)
 
 -- one level, with each literal inside already seen
 abbrev pub view_step : Literal-F TextLiteral → TextLiteral

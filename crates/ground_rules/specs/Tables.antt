@@ -1,4 +1,4 @@
--- Answers from a row of truth values, and the tests that a game's laws rest on. Only private clauses cite this module.
+-- Answers from a row of truth values, and the tests that a game's laws rest on. The loaded game's answers (LoadedGame) and the ghost fields of GroundGame cite this module.
 use Rattle.std.specs.Prelude.{ℕ, Bool, true, false, not, ◌&&◌, ◌||◌, if◌then◌else◌, List, [], ◌∷◌, map, filter, slice_set, Option, Some, None, nat_lt, nat_le, nat_eq}
 use Rattle.game_core.specs.Play.{max_goal}
 use Rattle.ground_rules.specs.declared.tables.Mention.{Mention}
@@ -40,9 +40,9 @@ has_term t [] = false
 has_term t (h ∷ hs) = nat_eq t h.term || has_term t hs
 
 -- the terms of the heads differ, and are below the number of terms
-abbrev pub is_menu : ℕ → List Mention → Bool
-is_menu terms [] = true
-is_menu terms (h ∷ hs) = nat_lt h.term terms && (not (has_term h.term hs) && is_menu terms hs)
+abbrev pub have_distinct_terms : ℕ → List Mention → Bool
+have_distinct_terms terms [] = true
+have_distinct_terms terms (h ∷ hs) = nat_lt h.term terms && (not (has_term h.term hs) && have_distinct_terms terms hs)
 
 abbrev pub are_goals : List GoalHead → Bool
 are_goals [] = true
@@ -50,7 +50,7 @@ are_goals (h ∷ hs) = nat_le h.value max_goal && are_goals hs
 
 abbrev pub are_roles : ℕ → List RoleTable → Bool
 are_roles terms [] = true
-are_roles terms (r ∷ rs) = is_menu terms r.legal && (are_goals r.goals && are_roles terms rs)
+are_roles terms (r ∷ rs) = have_distinct_terms terms r.legal && (are_goals r.goals && are_roles terms rs)
 
 abbrev pub names : List RoleTable → List (List ℕ)
 names rs = map (λ r. r.name) rs

@@ -10,7 +10,7 @@ use std::alloc::{AllocError, Global};
 /// Whether the literal is true, by the row of the derived atoms, the state's row by term, and the
 /// terms of the moves by role.
 #[cycle(holds)]
-pub fn holds(literal: &Literal, row: &[bool], state: &[bool], joint: &[usize]) -> bool
+fn holds(literal: &Literal, row: &[bool], state: &[bool], joint: &[usize]) -> bool
     ensures { result ≡ truth (numbered state.now joint.now) (bit row.now) (view literal.now) }
 {
     match literal {

@@ -19,8 +19,10 @@ pub enum LoadFault {
     /// `true` and `does` only in bodies, `role` only in bodies and as a fact.
     #[error("an atomic sentence of sentence {0} stands where it may not")]
     Misplaced(usize),
+    /// There is no `role` fact.
     #[error("the description has no role")]
     NoRole,
+    /// Two `role` facts name the same role.
     #[error("two role facts have the same name")]
     RoleTwice,
     /// More than 8,192 sentences, 16,384 distinct atomic sentences, 16 roles, or 4,096 distinct

@@ -7,8 +7,8 @@ ghost use Rattle.ground_rules.specs.Described.{are_different};
 ghost use Rattle.ground_rules.specs.Terms.{are_terms_in_any};
 
 use crate::evaluate::evaluate;
-use crate::loading::Parts;
-use crate::lookups::{init_mentions, next_mentions};
+use crate::loading::GameParts;
+use crate::lookups::{StateHead, state_mentions};
 use crate::names::{into_texts, place_of_head};
 use crate::numbered::Rule;
 use crate::row::is_set;
@@ -130,29 +130,29 @@ impl GroundGame {
     ghost use Rattle.ground_rules.specs.Numbered.{rules_of};
     ghost use Rattle.ground_rules.specs.Resolved.{table_of};
     ghost use Rattle.ground_rules.specs.Loading.{AreSentences, description_of};
-    ghost use Rattle.ground_rules.specs.Prepared.{IsPrepared};
+    ghost use Rattle.ground_rules.specs.GameParts.{AreGameParts};
     ghost use Rattle.ground_rules.specs.Loaded.{IsLoaded};
     ghost use Rattle.ground_rules.specs.LoadedGame.{sentences_of};
 
-    /// The game of a description, from the parts that were prepared from it.
+    /// The game of a description, from its parts.
     pub(crate) fn new(
         alloc: Global,
         description: Vec<Expr>,
-        parts: Parts,
+        parts: GameParts,
     ) -> Result<GroundGame, AllocError>
         requires sentences { AreSentences (map expression description.items) }
-        requires prepared { IsPrepared (length (map expression description.items)) (description_of (map expression description.items)) (table_of parts.names) parts.roles.items (rules_of parts.rules.items) }
+        requires parts { AreGameParts (length (map expression description.items)) (description_of (map expression description.items)) (table_of parts.names) parts.roles.items (rules_of parts.rules.items) }
         ensures { IfOk result (IsLoaded (map expression description.items)) }
     {
-        let Parts {
+        let GameParts {
             names,
             roles,
             rules,
         } = parts;
         let heads = names.heads.as_slice();
         let atoms = heads.len();
-        let init = init_mentions(alloc, heads, &names.terms)?;
-        let next = next_mentions(alloc, heads, &names.terms)?;
+        let init = state_mentions(alloc, heads, &names.terms, StateHead::Init)?;
+        let next = state_mentions(alloc, heads, &names.terms, StateHead::Next)?;
         let terminal = place_of_head(alloc, &names.heads, &Derived::Terminal)?;
         let terms = into_texts(alloc, names.terms)?;
         Ok(GroundGame {

@@ -1,4 +1,7 @@
 //! Atomic sentences as keys of sets.
+//!
+//! A key is compared and hashed, which a `Text` can't be; so `DerivedKey` and `AtomicKey` double
+//! `Derived` and `Atomic`, with a `Vec` of bytes for each text.
 ghost use Rattle.std.specs.Prelude.{◌≡◌, IfOk};
 
 use crate::sentence::{Atomic, Derived};
@@ -34,6 +37,7 @@ fn bytes_of(alloc: Global, text: &Text) -> Result<Vec<u8>, AllocError>
 impl DerivedKey {
     ghost use Rattle.ground_rules.specs.Keys.{derived_of};
 
+    /// The key of the atom, with texts of its own.
     pub fn of(alloc: Global, atom: &Derived) -> Result<DerivedKey, AllocError>
         ensures { IfOk result (λ k. derived_of k ≡ atom.now) }
     {
@@ -55,6 +59,7 @@ impl DerivedKey {
 impl AtomicKey {
     ghost use Rattle.ground_rules.specs.Keys.{atomic_of};
 
+    /// The key of the sentence, with texts of its own.
     pub fn of(alloc: Global, atomic: &Atomic) -> Result<AtomicKey, AllocError>
         ensures { IfOk result (λ k. atomic_of k ≡ atomic.now) }
     {

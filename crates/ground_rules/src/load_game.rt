@@ -6,7 +6,7 @@ ghost use Rattle.ground_rules.specs.Loaded.{IsLoadAnswer};
 
 use crate::fault::LoadFault;
 use crate::ground_game::GroundGame;
-use crate::loading::prepare;
+use crate::loading::game_parts;
 use crate::rules::{folded, read_rules};
 use kif_text::Expr;
 use std::alloc::Global;
@@ -19,6 +19,6 @@ pub fn load(alloc: Global, sentences: &[Expr]) -> Result<GroundGame, LoadFault>
 {
     let description = folded(alloc, sentences)?;
     let rules = read_rules(alloc, &description)?;
-    let parts = prepare(alloc, description.len(), &rules)?;
+    let parts = game_parts(alloc, description.len(), &rules)?;
     Ok(GroundGame::new(alloc, description, parts)?)
 }

@@ -1,4 +1,4 @@
-//! What a description is made into on the way to its game.
+//! From a description to the parts of its game.
 ghost use Rattle.std.specs.Prelude.{◌≡◌, ◌⊎◌, ℕ, true, false, IfOk, IfErr, map, length, slice_index};
 ghost use Rattle.std.specs.List.Sorted.{IsPermutation, IsNonDecreasingBy};
 ghost use Rattle.game_core.specs.Expression.{folded};
@@ -12,7 +12,7 @@ ghost use Rattle.ground_rules.specs.Barred.{barred_by, has_barred};
 ghost use Rattle.ground_rules.specs.Loading.{HasRoles, IsDescriptionFault};
 ghost use Rattle.ground_rules.specs.Described.{Description};
 ghost use Rattle.ground_rules.specs.Dependence.{HasBarredHead};
-ghost use Rattle.ground_rules.specs.Prepared.{IsTestOf, IsTableOf, is_small_so_far, have_few_moves_by, AreRankedOf, IsPrepared};
+ghost use Rattle.ground_rules.specs.GameParts.{IsTestOf, IsTableOf, is_small_so_far, have_few_moves_by, AreRankedOf, AreGameParts};
 
 use crate::dependence::dependence;
 use crate::fault::LoadFault;
@@ -162,9 +162,9 @@ fn has_barred_head(
     Ok(has_barred(names.heads.as_slice(), &on_moves, &on_given))
 }
 
-/// What is made of a description on the way to its game.
+/// What a game is made from: the tables of names, and roles and rules with numbers for their names.
 #[derive(Drop)]
-pub struct Parts {
+pub struct GameParts {
     pub names: Names,
     pub roles: Vec<Role>,
     /// In the order of a ranking of their heads.
@@ -172,8 +172,8 @@ pub struct Parts {
 }
 
 /// The parts of the game of a description of so many sentences, or the first of its faults.
-pub fn prepare(alloc: Global, sentences: usize, rules: &[Rule]) -> Result<Parts, LoadFault>
-    ensures prepared { IfOk result (λ p. IsPrepared sentences (rules_of rules.now) (table_of p.names) p.roles.items (numbered_rules p.rules.items)) }
+pub fn game_parts(alloc: Global, sentences: usize, rules: &[Rule]) -> Result<GameParts, LoadFault>
+    ensures parts { IfOk result (λ p. AreGameParts sentences (rules_of rules.now) (table_of p.names) p.roles.items (numbered_rules p.rules.items)) }
     ensures fault { IfErr result (IsDescriptionFault sentences (rules_of rules.now)) }
 {
     let names = names_of(alloc, sentences, rules)?;
@@ -185,7 +185,7 @@ pub fn prepare(alloc: Global, sentences: usize, rules: &[Rule]) -> Result<Parts,
     if has_barred_head(alloc, &names, &ranked)? {
         return Err(LoadFault::Depends);
     }
-    Ok(Parts {
+    Ok(GameParts {
         names,
         roles,
         rules: ranked,

@@ -1,7 +1,8 @@
 //! The tables of a game, from the heads of its rules.
 ghost use Rattle.std.specs.Prelude.{◌≡◌, IfOk, map};
+ghost use Rattle.std.specs.Option.{option_copied};
 ghost use Rattle.ground_rules.specs.Keys.{derived_of, texts};
-ghost use Rattle.ground_rules.specs.Resolved.{init_mentions, next_mentions, legal_mentions, goal_heads};
+ghost use Rattle.ground_rules.specs.Resolved.{state_term, state_mentions, legal_mentions, goal_heads};
 
 use crate::keys::DerivedKey;
 use crate::names::place_of_text;
@@ -9,35 +10,37 @@ use crate::tables::{GoalHead, Mention};
 use indexmap::IndexSet;
 use std::alloc::{AllocError, Global};
 
-/// The `init` heads, each with its term and its place among the heads.
-pub fn init_mentions(
-    alloc: Global,
-    heads: &[DerivedKey],
-    terms: &IndexSet<Vec<u8>>,
-) -> Result<Vec<Mention>, AllocError>
-    ensures { IfOk result (λ v. v.items ≡ init_mentions (texts terms.now.keys) 0 (map derived_of heads.now)) }
-{
-    let mut mentions = Vec::new(alloc);
-    for (atom, head) in heads.iter().enumerate() {
-        if let DerivedKey::Init(term) = head {
-            let term = place_of_text(terms, term);
-            mentions.push(Mention { term, atom })?;
-        }
-    }
-    Ok(mentions)
+/// Which heads give the terms of a state: those of the first state, or of the state after a turn.
+#[derive(Clone, Copy)]
+pub enum StateHead {
+    Init,
+    Next,
 }
 
-/// The `next` heads, each with its term and its place among the heads.
-pub fn next_mentions(
+/// The term in the head, if it is of this kind.
+fn state_term(head: &DerivedKey, kind: StateHead) -> Option<&[u8]>
+    ensures { option_copied result ≡ state_term kind (derived_of head.now) }
+{
+    match (kind, head) {
+        (StateHead::Init, DerivedKey::Init(term)) | (StateHead::Next, DerivedKey::Next(term)) => {
+            Some(term.as_slice())
+        }
+        _ => None,
+    }
+}
+
+/// The heads of this kind, each with its term and its place among the heads.
+pub fn state_mentions(
     alloc: Global,
     heads: &[DerivedKey],
     terms: &IndexSet<Vec<u8>>,
+    kind: StateHead,
 ) -> Result<Vec<Mention>, AllocError>
-    ensures { IfOk result (λ v. v.items ≡ next_mentions (texts terms.now.keys) 0 (map derived_of heads.now)) }
+    ensures { IfOk result (λ v. v.items ≡ state_mentions kind (texts terms.now.keys) 0 (map derived_of heads.now)) }
 {
     let mut mentions = Vec::new(alloc);
     for (atom, head) in heads.iter().enumerate() {
-        if let DerivedKey::Next(term) = head {
+        if let Some(term) = state_term(head, kind) {
             let term = place_of_text(terms, term);
             mentions.push(Mention { term, atom })?;
         }

@@ -21,6 +21,7 @@ impl Model for Needs {
 }
 
 impl Needs {
+    /// The atoms.
     pub fn as_slice(&self) -> &[usize]
         ensures { result.now ≡ self.now }
     {

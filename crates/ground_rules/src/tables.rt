@@ -39,18 +39,21 @@ impl Model for Role {
 }
 
 impl Role {
+    /// The role's name.
     pub fn name(&self) -> &[u8]
         ensures { result.now ≡ self.now.name }
     {
         self.name.as_slice()
     }
 
+    /// The role's legal heads.
     pub fn legal(&self) -> &[Mention]
         ensures { result.now ≡ self.now.legal }
     {
         self.legal.as_slice()
     }
 
+    /// The role's goal heads.
     pub fn goals(&self) -> &[GoalHead]
         ensures { result.now ≡ self.now.goals }
     {

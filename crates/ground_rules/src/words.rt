@@ -24,6 +24,7 @@ pub enum Word {
 impl Word {
     ghost use Rattle.ground_rules.specs.Words.{word_of};
 
+    /// What the word with these bytes stands for.
     pub fn of(bytes: &[u8]) -> Word
         ensures { result ≡ word_of bytes.now }
     {

@@ -3,8 +3,9 @@ use Rattle.std.proofs.lemmas.List.{length-map}
 use Rattle.kif_text.specs.View.{view as expression}
 use Rattle.ground_rules.specs.Numbered.{rules_of}
 use Rattle.ground_rules.specs.Tables.{are_in_order}
+use Rattle.ground_rules.specs.declared.lookups.StateHead.TheVariants.{Init as InitHead, Next as NextHead}
 use Rattle.ground_rules.specs.Keys.{derived_of}
-use Rattle.ground_rules.specs.Resolved.{table_of, init_mentions, next_mentions}
+use Rattle.ground_rules.specs.Resolved.{table_of, state_mentions}
 use Rattle.ground_rules.specs.Loading.{description_of}
 use Rattle.ground_rules.proofs.Assembled.{some-role, few-roles, tables-pass, names-pass, names-read, terms-read, loaded}
 use Rattle.ground_rules.proofs.ground_game.GroundGame.new.Goals as goal
@@ -17,7 +18,7 @@ invariant_of-result c =
     let t = table_of c.args.parts.names in
     let roles = c.args.parts.roles.items in
     let rules = rules_of c.args.parts.rules.items in
-    let p = c.requires.prepared in
+    let p = c.requires.parts in
     record {
       some_role = some-role n d t roles rules p;
       few_roles = few-roles n d t roles rules p;
@@ -32,8 +33,8 @@ pub returns : goal.returns
 returns c =
     let t = table_of c.args.parts.names in
     let keys = c.as_slice-heads.ensures.keys in
-    loaded t _ (map expression c.args.description.items) refl c.requires.sentences c.requires.prepared c.in_ok-terms.ensures
-    (c.in_ok-init.ensures ∙ ap (λ ks. init_mentions t.terms 0 (map derived_of ks)) keys)
-    (c.in_ok-next.ensures ∙ ap (λ ks. next_mentions t.terms 0 (map derived_of ks)) keys)
+    loaded t _ (map expression c.args.description.items) refl c.requires.sentences c.requires.parts c.in_ok-terms.ensures
+    (c.in_ok-init.ensures ∙ ap (λ ks. state_mentions InitHead t.terms 0 (map derived_of ks)) keys)
+    (c.in_ok-next.ensures ∙ ap (λ ks. state_mentions NextHead t.terms 0 (map derived_of ks)) keys)
     c.in_ok-terminal.ensures
     (ap length keys ∙ sym (length-map c.args.parts.names.heads.keys derived_of))

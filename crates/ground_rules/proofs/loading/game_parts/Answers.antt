@@ -4,9 +4,9 @@ use Rattle.ground_rules.specs.Sentences.{rules_of}
 use Rattle.ground_rules.specs.Numbered.{rules_of as numbered_rules}
 use Rattle.ground_rules.specs.Resolved.{table_of}
 use Rattle.ground_rules.specs.Sizes.{is_small}
-use Rattle.ground_rules.specs.Prepared.{have_few_moves_by, AreRankedOf}
+use Rattle.ground_rules.specs.GameParts.{have_few_moves_by, AreRankedOf}
 use Rattle.ground_rules.proofs.Limits.{small-by-moves}
-use Rattle.ground_rules.proofs.loading.prepare.Goals as goal
+use Rattle.ground_rules.proofs.loading.game_parts.Goals as goal
 
 pub returns-then-not-have_few_moves-clause-fault : goal.returns-then-not-have_few_moves-clause-fault
 returns-then-not-have_few_moves-clause-fault c =
@@ -38,8 +38,8 @@ returns-then-branch-clause-fault c =
     let test = c.in_ok-has_barred_head.ensures d table c.in_ok-ranked.ensures.acyclic ranked in
     (c.in_ok-names.ensures.roles, small ∙ c.if-not-have_few_moves.false, c.in_ok-ranked.ensures.acyclic, test.yes c.if-branch.true)
 
-pub returns-clause-prepared : goal.returns-clause-prepared
-returns-clause-prepared c =
+pub returns-clause-parts : goal.returns-clause-parts
+returns-clause-parts c =
     let d = rules_of c.args.rules.now in
     let t = table_of c.in_ok-names.names in
     let table = c.in_ok-names.ensures.table in

@@ -10,12 +10,12 @@ use Rattle.ground_rules.specs.Bools.{and-both, or-elim, or-left, or-right, not-f
 use Rattle.ground_rules.specs.Names.{number-sound, text-same, text-sound}
 use Rattle.ground_rules.specs.Terms.{is_term_in_any, are_terms_in_any}
 use Rattle.ground_rules.specs.Described.{Description, is_among, role_names, name_in}
-use Rattle.ground_rules.specs.Tables.{has_term, is_menu, are_goals, are_roles}
+use Rattle.ground_rules.specs.Tables.{has_term, have_distinct_terms, are_goals, are_roles}
 use Rattle.ground_rules.specs.Keys.{place}
-use Rattle.ground_rules.specs.Resolved.{NameTable, atom_number, goal_heads, role_table, terms_in, head_terms}
+use Rattle.ground_rules.specs.Resolved.{NameTable, atom_number, goal_heads, role_table, terms_in, head_terms, with_mention, mentions_by}
 use Rattle.ground_rules.proofs.TablePlaces.{place-one}
 use Rattle.ground_rules.proofs.Situations.{text-decides}
-use Rattle.ground_rules.proofs.Mentions.{StandFrom, IsPick, AreIn, texts_by, with_text, with_mention, mentions_by, legal_pick, legal-picks, legal-mentions}
+use Rattle.ground_rules.proofs.Mentions.{StandFrom, IsPick, AreIn, texts_by, with_text, legal_pick, legal-picks, legal-mentions}
 use Rattle.ground_rules.proofs.GameOf.{EachIs}
 
 is-false : (b : Bool) → (b ≡ true → ⊥) → b ≡ false
@@ -39,11 +39,11 @@ no-term names pick make terms t m n (a ∷ as') is lt stand within at = by-pick 
         let g = ap (atom_number names) (is.made a s e) in
         omega (arith, f, g, at, stand.0, lt))) rest
 
-menu : (names : NameTable) (pick : Derived → Option (List ℕ)) (make : List ℕ → Derived) (terms : List (List ℕ)) (n : ℕ) (hs : List Derived) → IsPick pick make → StandFrom names n hs → AreIn terms (texts_by pick hs) → is_menu (length terms) (mentions_by pick terms n hs) ≡ true
-menu names pick make terms n [] is stand inside = refl
-menu names pick make terms n (a ∷ as') is stand inside = by-pick (pick a) refl inside (menu names pick make terms (n + 1) as' is stand.1)
+distinct-terms : (names : NameTable) (pick : Derived → Option (List ℕ)) (make : List ℕ → Derived) (terms : List (List ℕ)) (n : ℕ) (hs : List Derived) → IsPick pick make → StandFrom names n hs → AreIn terms (texts_by pick hs) → have_distinct_terms (length terms) (mentions_by pick terms n hs) ≡ true
+distinct-terms names pick make terms n [] is stand inside = refl
+distinct-terms names pick make terms n (a ∷ as') is stand inside = by-pick (pick a) refl inside (distinct-terms names pick make terms (n + 1) as' is stand.1)
   where
-    by-pick : (o : Option (List ℕ)) → pick a ≡ o → AreIn terms (with_text o (texts_by pick as')) → (AreIn terms (texts_by pick as') → is_menu (length terms) (mentions_by pick terms (n + 1) as') ≡ true) → is_menu (length terms) (with_mention terms n o (mentions_by pick terms (n + 1) as')) ≡ true
+    by-pick : (o : Option (List ℕ)) → pick a ≡ o → AreIn terms (with_text o (texts_by pick as')) → (AreIn terms (texts_by pick as') → have_distinct_terms (length terms) (mentions_by pick terms (n + 1) as') ≡ true) → have_distinct_terms (length terms) (with_mention terms n o (mentions_by pick terms (n + 1) as')) ≡ true
     by-pick None e inside rest = rest inside
     by-pick (Some s) e inside rest =
         let at : atom_number names (make s) ≡ n = ap (atom_number names) (sym (is.made a s e)) ∙ stand.0 in
@@ -80,7 +80,7 @@ goals xs role n (Other t ∷ hs) h = goals xs role (n + 1) hs h.1
 pub role-tables : (xs : Expressions) (table : NameTable) (rs : List (List ℕ)) → EachIs (HeadFrom xs) table.heads → StandFrom table 0 table.heads → ((role : List ℕ) → AreIn table.terms (texts_by (legal_pick role) table.heads)) → are_roles (length table.terms) (map (role_table table) rs) ≡ true
 role-tables xs table [] from stand inside = refl
 role-tables xs table (r ∷ rs) from stand inside =
-    and-both _ _ (ap (is_menu (length table.terms)) (legal-mentions table.terms r 0 table.heads) ∙ menu table (legal_pick r) (Legal r) table.terms 0 table.heads (legal-picks r) stand (inside r))
+    and-both _ _ (ap (have_distinct_terms (length table.terms)) (legal-mentions table.terms r 0 table.heads) ∙ distinct-terms table (legal_pick r) (Legal r) table.terms 0 table.heads (legal-picks r) stand (inside r))
     (and-both _ _ (goals xs r 0 table.heads from) (role-tables xs table rs from stand inside))
 
 -- the texts of heads that were read are those of terms

@@ -1,4 +1,4 @@
--- What is made of a description on the way to its game. Only private clauses cite this module.
+-- The parts that the game of a description is made from. Only private clauses cite this module.
 use Rattle.std.specs.Prelude.{ℕ, ◌≡◌, Bool, true, false, ◌&&◌, nat_le, List, map, length}
 use Rattle.std.specs.List.{list_all}
 use Rattle.std.specs.List.Sorted.{IsPermutation}
@@ -37,7 +37,7 @@ pub record IsTestOf (b : Bool) (P : Type 0) : Type 0 where
   pub yes : b ≡ true → P
   pub no : b ≡ false → ¬ P
 
-pub record IsPrepared (n : ℕ) (d : Description) (t : NameTable) (roles : List RoleTable) (rules : List (Rule ℕ ℕ)) : Type 0 where
+pub record AreGameParts (n : ℕ) (d : Description) (t : NameTable) (roles : List RoleTable) (rules : List (Rule ℕ ℕ)) : Type 0 where
   pub sound : IsSound n d
   pub table : IsTableOf d t
   pub tables : roles ≡ map (role_table t) t.roles
