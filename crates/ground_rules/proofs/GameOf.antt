@@ -285,7 +285,7 @@ game-of d table rank g built lawful = record {
   roles = all-names g ∙ game-names d table rank g built ∙ built.roles;
   initial = λ v fits t.
       let read = read-row d table rank g (situation [] [] []) [] [] v built (agrees-empty table) fits in
-      ap (λ ms. is_among (picked (marked (unset (length g.terms.items)) (row_of g [] []) ms) g.terms.items) t) (built.init)
+      ap (λ ms. is_among (picked (marked (unset (length g.terms.items)) (row_of g [] []) ms) g.terms.items) t) built.init
       ∙ ap (λ ts. is_among (picked (marked (unset (length ts)) (row_of g [] []) (mentions_by (state_term InitHead) table.terms 0 table.heads)) ts) t) built.terms
       ∙ set-is d table v (row_of g [] []) (state_term InitHead) Init t read built.heads' init-picks one-about built.has_terms built.ordered;
   legal = λ s r v is within fits.
@@ -298,7 +298,7 @@ game-of d table rank g built lawful = record {
       ∙ ap (filter (λ m. v (Legal name m))) (sym (moves-texts name table.heads) ∙ ap (moves_in name) built.heads');
   next = λ s joint v is lawful' fits t.
       let read = read-row d table rank g (at_turn (loaded_game g) s joint) s (terms_of joint) v built (agrees-turn d table rank g s joint built lawful is lawful') fits in
-      ap (λ ms. is_among (picked (marked (unset (length g.terms.items)) (row_of g s (terms_of joint)) ms) g.terms.items) t) (built.next)
+      ap (λ ms. is_among (picked (marked (unset (length g.terms.items)) (row_of g s (terms_of joint)) ms) g.terms.items) t) built.next
       ∙ ap (λ ts. is_among (picked (marked (unset (length ts)) (row_of g s (terms_of joint)) (mentions_by (state_term NextHead) table.terms 0 table.heads)) ts) t) built.terms
       ∙ set-is d table v (row_of g s (terms_of joint)) (state_term NextHead) Next t read built.heads' next-picks one-about built.has_terms built.ordered;
   terminal = λ s v is fits.

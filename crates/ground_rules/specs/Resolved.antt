@@ -63,7 +63,7 @@ abbrev pub head_terms : Description → List (List ℕ)
 head_terms [] = []
 head_terms (r ∷ rs) = terms_in r.head ++ head_terms rs
 
--- with a mention of the term in the head numbered n, if there is one
+-- the mentions behind one of the term in the head numbered n, where it has one
 abbrev pub with_mention : List (List ℕ) → ℕ → Option (List ℕ) → List Mention → List Mention
 with_mention terms n (Some t) ms = record { term = place bytes_eq terms t; atom = n } ∷ ms
 with_mention terms n None ms = ms

@@ -222,13 +222,7 @@ fn states_have_ends_and_goals(rt: HostRuntime) -> Result<(), Fail> {
         (COUNTDOWN, "", 0, false, None),
         (COUNTDOWN, "", 1, false, None),
         (COUNTDOWN, "(take 1);noop/noop;(take 2)", 0, true, Some(0)),
-        (
-            COUNTDOWN,
-            "(take 1);noop/noop;(take 2)",
-            1,
-            true,
-            Some(100),
-        ),
+        (COUNTDOWN, "(take 1);noop/noop;(take 2)", 1, true, Some(100)),
         (COUNTDOWN, "(take 2);noop/noop;(take 1)", 0, true, Some(0)),
         (
             COUNTDOWN,
