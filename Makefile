@@ -1,4 +1,4 @@
-# The program is proved and built by `rt`, the command of the Rattle kit. Nothing else has to be installed.
+# The program is proved and built by `rt`, the command of the Rattle kit. `make match` and `make test` also need Python 3.10 or later.
 
 PROGRAM := bin/ggp_manager
 
@@ -6,17 +6,17 @@ PROGRAM := bin/ggp_manager
 
 # A match of Countdown through the program: each line of a script, and its reply.
 demo: build
-	@examples/side-by-side examples/countdown.script $(PROGRAM) desk --countdown 3
+	@examples/side-by-side examples/games/countdown.script $(PROGRAM) desk --countdown 3
 
 # A match over HTTP between two players on this computer: what they are asked and answer, and the record.
 match: build
 	@examples/play-a-match $(PROGRAM) examples/games/tictactoe.kif
 
-# The gate: every proof from nothing, the edits that must fail, the tests, the programs.
+# The gate: every proof from nothing, wrong edits that the prover must refuse, the tests, the programs.
 test:
 	@.ci/gate
 
-# Every proof, over what earlier checks kept.
+# Every proof. What has not changed since the last check is not proved again.
 check:
 	@rt all check
 
