@@ -5,3 +5,4 @@ pub mod LawfulSteps
 pub mod NewMatches
 pub mod FollowedMatches
 pub mod FollowedHistories
+pub mod Replies

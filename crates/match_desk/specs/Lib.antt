@@ -5,3 +5,4 @@ pub mod StepLaws
 pub mod Accepted
 pub mod Headline
 pub mod Slots
+pub mod Given

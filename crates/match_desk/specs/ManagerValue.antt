@@ -1,5 +1,5 @@
 -- What a manager is, as a plain value.
-use Rattle.std.specs.Prelude.{◌≡◌, ◌≢◌, ◌≤◌, ℕ, Bool, true, List, [], length, Option, Some, option_map, option_and_then, find, slice_get, bytes_eq, All, AllPairs}
+use Rattle.std.specs.Prelude.{◌≡◌, ◌≢◌, ◌≤◌, ℕ, Bool, List, [], length, Option, Some, option_map, option_and_then, find, slice_get, bytes_eq, All, AllPairs}
 use Rattle.game_core.specs.Play.{Rules}
 use Rattle.match_book.specs.MatchValue.{MatchValue, GameMatch}
 use Rattle.match_book.specs.Lawful.{IsLawfulMatch}

@@ -1,5 +1,5 @@
 -- What a manager replies to a call, and what the call makes of it.
-use Rattle.std.specs.Prelude.{ℕ, Bool, nat_lt, if◌then◌else◌, List, map, Option, Some, None, option_map, unwrap_or}
+use Rattle.std.specs.Prelude.{ℕ, Bool, true, false, nat_lt, if◌then◌else◌, List, map, Option, Some, None, option_map, unwrap_or}
 use Rattle.game_core.specs.Play.{Rules}
 use Rattle.match_book.specs.MatchValue.{MatchValue}
 use Rattle.match_book.specs.Phase.{stage, status, is_live}
@@ -18,6 +18,15 @@ use Rattle.match_desk.specs.declared.call.Reply.{Reply}
 use Rattle.match_desk.specs.declared.call.Reply.TheVariants.{Opened, Due, Taken, Status, Aborting, Refused}
 use Rattle.match_desk.specs.declared.call.Refusal.{Refusal}
 use Rattle.match_desk.specs.declared.call.Refusal.TheVariants.{NoMatch, NoRole, Over, Stale, Twice, Ended}
+
+-- whether the reply refuses its call
+abbrev pub is_refused : Reply → Bool
+is_refused Opened = false
+is_refused (Due d) = false
+is_refused Taken = false
+is_refused (Status s) = false
+is_refused Aborting = false
+is_refused (Refused reason) = true
 
 -- the setup that an `Open` asks for
 abbrev pub setup_of : List ℕ → ℕ → ℕ → List (List ℕ) → Setup

@@ -3,7 +3,7 @@ use game_core::{Text, Texts};
 use match_book::{Due, Status};
 use thiserror::Error;
 
-/// A call on the desk. Games and roles are numbered from 0; a match goes by its id, compared byte for byte.
+/// A call on the desk. Games and roles are numbered from 0; a match is named by its id, compared byte for byte.
 #[derive(Drop)]
 pub enum Call {
     /// Opens a match of a game. The clocks are in seconds, the players in the order of the roles.

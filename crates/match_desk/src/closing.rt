@@ -1,4 +1,4 @@
-//! The closing of a desk of matches over which many threads shared one manager behind a lock.
+//! The closing of a desk of matches through which many threads shared one manager behind a lock.
 ghost use Rattle.std.specs.Prelude.{◌≡◌, ◌<◌, ◌↔◌, ℕ, length, slice_index, sum, IsOk, IfOk, IfErr, Contains};
 ghost use Rattle.call_history.specs.History.{IsReplay};
 ghost use Rattle.call_history.specs.Lines.{HasAll, IsLowestMissing};
@@ -15,8 +15,8 @@ use std::sync::ledger::Ledger;
 /// Closes a desk of matches, where all its lines are handed in.
 ///
 /// Then the kept history, replayed call by call on a manager of one thread from the games without a match, gives every kept reply
-/// and the manager as it stands, and holds as many calls as the lines made. Each match is lawful, so that its state, as
-/// `Match::state` gives it, is the game's after its recorded joint moves; these were legal. For each recorded move the history
+/// and the manager as it stands, and holds as many calls as the lines made. Each match is lawful, and its recorded joint moves
+/// were legal; that its state is the game's after them is the promise of `Match::state`. For each recorded move the history
 /// took exactly one answer of its role, and the move and its error are the judgement of that answer: the error is empty exactly
 /// where the answer named the move, so each substituted move stands among the errors.
 pub fn close_desk<G: Game, L: Ledger>(

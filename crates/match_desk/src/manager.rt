@@ -1,18 +1,19 @@
 //! The manager of all matches.
-ghost use Rattle.std.specs.Prelude.{◌≡◌, [], IfOk, IfSome, OnOk, OnErr, length, slice_get, is_some, option_copied, option_map, option_and_then};
+ghost use Rattle.std.specs.Prelude.{◌≡◌, [], false, None, IfOk, IfSome, OnOk, OnErr, length, slice_get, is_some, option_copied, option_map, option_and_then};
 ghost use Rattle.match_book.specs.Steps.{after_answer, after_abort};
 ghost use Rattle.match_desk.specs.ManagerValue.{game_of, game_match, match_of, match_with_id, IsLawfulManager};
 ghost use Rattle.match_desk.specs.Opening.{opening_refusal, after_opening};
-ghost use Rattle.match_desk.specs.Steps.{setup_of, next_reply, answer_reply, query_reply, abort_reply, reply_of, refused_or, with_change};
+ghost use Rattle.match_desk.specs.Given.{answer_given};
+ghost use Rattle.match_desk.specs.Steps.{setup_of, next_reply, answer_reply, query_reply, abort_reply, reply_of, refused_or, is_refused, with_change};
 ghost use Rattle.match_desk.specs.declared.call.Reply.TheVariants.{Opened};
 
 use crate::call::{Call, Refusal, Reply};
-use crate::opening::{Opening, copy_texts};
-use crate::slot::{self, Slot, missed};
+use crate::opening::Opening;
+use crate::slot::{self, GivenAnswer, Slot};
 use call_history::Object;
 use game_core::Game;
 use indexmap::IndexMap;
-use match_book::{Answer, Match, are_clocks, are_names, is_name};
+use match_book::{Match, are_clocks, are_names, is_name};
 use std::alloc::{AllocError, Global};
 use std::marker::Model;
 
@@ -151,6 +152,7 @@ impl<G: Game> Manager<G> {
     fn open(&mut self, alloc: Global, opening: &Opening<'_>) -> Result<(), AllocError>
         ensures ok { OnOk result (self.new ≡ after_opening G.rules self.old opening.now.game (setup_of opening.now.id.now opening.now.start opening.now.play opening.now.players.now)) }
         ensures err { OnErr result (self.new ≡ self.old) }
+        ensures accepted { OnErr result (opening_refusal G.rules self.old opening.now.game (setup_of opening.now.id.now opening.now.start opening.now.play opening.now.players.now) ≡ None) }
     {
         if self.opening_refusal(opening).is_some() {
             return Ok(());
@@ -170,7 +172,8 @@ impl<G: Game> Manager<G> {
 
     /// What is due to a role of a match.
     fn next_reply(&self, alloc: Global, id: &[u8], role: usize) -> Result<Reply, AllocError>
-        ensures { IfOk result (λ r. r ≡ reply_of G.rules self.now id.now (next_reply role)) }
+        ensures reply { IfOk result (λ r. r ≡ reply_of G.rules self.now id.now (next_reply role)) }
+        ensures accepted { OnErr result (is_refused (reply_of G.rules self.now id.now (next_reply role)) ≡ false) }
     {
         match self.game_and_match(id) {
             Some((game, held)) => slot::next_reply(alloc, game, held, role),
@@ -215,16 +218,17 @@ impl<G: Game> Manager<G> {
         id: &[u8],
         role: usize,
         round: u64,
-        answer: Answer,
+        given: &GivenAnswer<'_>,
     ) -> Result<(), AllocError>
-        ensures ok { OnOk result (self.new ≡ with_change G.rules self.old id.now (λ g m. after_answer g m role round answer)) }
+        ensures ok { OnOk result (self.new ≡ with_change G.rules self.old id.now (λ g m. after_answer g m role round (answer_given given.now))) }
         ensures err { OnErr result (self.new ≡ self.old) }
+        ensures accepted { OnErr result (is_refused (reply_of G.rules self.old id.now (answer_reply role round)) ≡ false) }
     {
         let Some(slot) = self.matches.get_mut(id) else {
             return Ok(());
         };
         let game = &self.games[slot.game];
-        slot::take_answer(alloc, game, &mut slot.held, role, round, answer)
+        slot::take_answer(alloc, game, &mut slot.held, role, round, given)
     }
 
     /// Aborts a match.
@@ -254,7 +258,11 @@ impl<G: Game> Object for Manager<G> {
 
     ghost opening = { opening };
 
-    fn answer(&self, alloc: Global, call: &Call) -> Result<Reply, AllocError> {
+    fn answer(&self, alloc: Global, call: &Call) -> Result<Reply, AllocError>
+        ensures reply { IfOk result (λ r. r ≡ reply G.rules self.now call.now) }
+        // A refused call wants no memory.
+        ensures accepted { OnErr result (is_refused (reply G.rules self.now call.now) ≡ false) }
+    {
         match call {
             Call::Open {
                 id,
@@ -262,13 +270,7 @@ impl<G: Game> Object for Manager<G> {
                 start,
                 play,
                 players,
-            } => Ok(self.open_reply(&Opening {
-                id,
-                game: *game,
-                start: *start,
-                play: *play,
-                players,
-            })),
+            } => Ok(self.open_reply(&Opening::new(id, *game, *start, *play, players))),
             Call::Next { id, role } => self.next_reply(alloc, id.as_slice(), *role),
             Call::Submit {
                 id,
@@ -287,7 +289,12 @@ impl<G: Game> Object for Manager<G> {
         }
     }
 
-    fn apply(&mut self, alloc: Global, call: &Call) -> Result<(), AllocError> {
+    fn apply(&mut self, alloc: Global, call: &Call) -> Result<(), AllocError>
+        ensures ok { OnOk result (self.new ≡ after G.rules self.old call.now) }
+        ensures err { OnErr result (self.new ≡ self.old) }
+        // A refused call wants no memory.
+        ensures accepted { OnErr result (is_refused (reply G.rules self.old call.now) ≡ false) }
+    {
         match call {
             Call::Open {
                 id,
@@ -295,31 +302,25 @@ impl<G: Game> Object for Manager<G> {
                 start,
                 play,
                 players,
-            } => self.open(
-                alloc,
-                &Opening {
-                    id,
-                    game: *game,
-                    start: *start,
-                    play: *play,
-                    players,
-                },
-            ),
+            } => self.open(alloc, &Opening::new(id, *game, *start, *play, players)),
             Call::Submit {
                 id,
                 role,
                 round,
                 text,
             } => {
-                let answer = Answer::Text(text.copy(alloc)?);
-                self.take_answer(alloc, id.as_slice(), *role, *round, answer)
+                let given = GivenAnswer::Text(text);
+                self.take_answer(alloc, id.as_slice(), *role, *round, &given)
             }
             Call::Miss {
                 id,
                 role,
                 round,
                 broken,
-            } => self.take_answer(alloc, id.as_slice(), *role, *round, missed(*broken)),
+            } => {
+                let given = GivenAnswer::Missed { broken: *broken };
+                self.take_answer(alloc, id.as_slice(), *role, *round, &given)
+            }
             Call::Abort { id } => {
                 self.take_abort(id.as_slice());
                 Ok(())
@@ -336,13 +337,7 @@ impl<G: Game> Object for Manager<G> {
                 start,
                 play,
                 players,
-            } => Call::Open {
-                id: id.copy(alloc)?,
-                game: *game,
-                start: *start,
-                play: *play,
-                players: copy_texts(alloc, players.as_slice())?,
-            },
+            } => Opening::new(id, *game, *start, *play, players).to_call(alloc)?,
             Call::Next { id, role } => Call::Next {
                 id: id.copy(alloc)?,
                 role: *role,

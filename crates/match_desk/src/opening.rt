@@ -1,12 +1,14 @@
 //! What an `Open` asks for.
 ghost use Rattle.std.specs.Prelude.{◌≡◌, IfOk};
 ghost use Rattle.match_desk.specs.Steps.{setup_of};
+ghost use Rattle.match_desk.specs.declared.call.Call.TheVariants.{Open};
 
+use crate::call::Call;
 use game_core::{Text, Texts};
 use match_book::Setup;
 use std::alloc::{AllocError, Global};
 
-/// The parts of an `Open`.
+/// The parts of an `Open`, as the call has them.
 #[derive(Clone, Copy)]
 pub struct Opening<'a> {
     pub id: &'a Text,
@@ -28,6 +30,38 @@ pub fn copy_texts(alloc: Global, texts: &[Text]) -> Result<Texts, AllocError>
 }
 
 impl<'a> Opening<'a> {
+    pub fn new(id: &'a Text, game: usize, start: u32, play: u32, players: &'a Texts) -> Opening<'a>
+        ensures { result ≡ record { id = id.entry; game = game; start = start; play = play; players = players.entry } }
+    {
+        Opening {
+            id,
+            game,
+            start,
+            play,
+            players,
+        }
+    }
+
+    /// The call that asks for it, in memory of its own.
+    pub fn to_call(&self, alloc: Global) -> Result<Call, AllocError>
+        ensures { IfOk result (λ call. call ≡ Open self.now.id.now self.now.game self.now.start self.now.play self.now.players.now) }
+    {
+        let Opening {
+            id,
+            game,
+            start,
+            play,
+            players,
+        } = *self;
+        Ok(Call::Open {
+            id: id.copy(alloc)?,
+            game,
+            start,
+            play,
+            players: copy_texts(alloc, players.as_slice())?,
+        })
+    }
+
     /// The setup of the match that is asked for.
     pub fn setup(&self, alloc: Global) -> Result<Setup, AllocError>
         ensures { IfOk result (λ setup. setup ≡ setup_of self.now.id.now self.now.start self.now.play self.now.players.now) }

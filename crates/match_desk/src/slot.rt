@@ -1,10 +1,11 @@
 //! One match of the desk.
-ghost use Rattle.std.specs.Prelude.{◌≡◌, IfOk, OnErr, OnOk};
-ghost use Rattle.match_book.specs.Steps.{after_answer, after_abort};
-ghost use Rattle.match_desk.specs.Steps.{next_reply, answer_reply, query_reply, abort_reply, missed};
+ghost use Rattle.std.specs.Prelude.{◌≡◌, false, None, IfOk, OnErr, OnOk};
+ghost use Rattle.match_book.specs.Steps.{refusal, after_answer, after_abort};
+ghost use Rattle.match_desk.specs.Given.{answer_given};
+ghost use Rattle.match_desk.specs.Steps.{next_reply, answer_reply, query_reply, abort_reply, missed, is_refused};
 
 use crate::call::{Refusal, Reply};
-use game_core::Game;
+use game_core::{Game, Text};
 use match_book::{Answer, AnswerFault, Match, OwedFault, Phase};
 use std::alloc::{AllocError, Global};
 
@@ -15,6 +16,25 @@ pub struct Slot<G: Game> {
     pub held: Match<G>,
 }
 
+/// An answer as a call gives it: its text is the call's own.
+#[derive(Clone, Copy)]
+pub enum GivenAnswer<'a> {
+    Text(&'a Text),
+    Missed { broken: bool },
+}
+
+impl<'a> GivenAnswer<'a> {
+    /// The answer, in memory of its own.
+    fn to_answer(&self, alloc: Global) -> Result<Answer, AllocError>
+        ensures { IfOk result (λ answer. answer ≡ answer_given self.now) }
+    {
+        match self {
+            GivenAnswer::Text(text) => Ok(Answer::Text(text.copy(alloc)?)),
+            GivenAnswer::Missed { broken } => Ok(missed(*broken)),
+        }
+    }
+}
+
 /// What is due to a role, as a reply.
 pub fn next_reply<G: Game>(
     alloc: Global,
@@ -23,7 +43,8 @@ pub fn next_reply<G: Game>(
     role: usize,
 ) -> Result<Reply, AllocError>
     requires { held.now.game ≡ game.now }
-    ensures { IfOk result (λ r. r ≡ next_reply role (G.rules game.now) held.now.value) }
+    ensures reply { IfOk result (λ r. r ≡ next_reply role (G.rules game.now) held.now.value) }
+    ensures accepted { OnErr result (is_refused (next_reply role (G.rules game.now) held.now.value) ≡ false) }
 {
     match held.owed(alloc, game, role) {
         Ok(due) => Ok(Reply::Due(due)),
@@ -37,11 +58,13 @@ pub fn answer_reply<G: Game>(held: &Match<G>, role: usize, round: u64) -> Reply
     ensures { result ≡ answer_reply role round (G.rules held.now.game) held.now.value }
 {
     let refusal = match held.refusal(role, round) {
-        None | Some(AnswerFault::Memory) => return Reply::Taken,
+        None => return Reply::Taken,
         Some(AnswerFault::NoRole) => Refusal::NoRole,
         Some(AnswerFault::Over) => Refusal::Over,
         Some(AnswerFault::Stale(now)) => Refusal::Stale(now),
         Some(AnswerFault::Twice) => Refusal::Twice,
+        // A match refuses no answer for want of memory.
+        Some(AnswerFault::Memory) => unreachable!(),
     };
     Reply::Refused(refusal)
 }
@@ -70,17 +93,21 @@ pub fn take_answer<G: Game>(
     held: &mut Match<G>,
     role: usize,
     round: u64,
-    answer: Answer,
+    given: &GivenAnswer<'_>,
 ) -> Result<(), AllocError>
     requires { held.old.game ≡ game.now }
     ensures game { held.new.game ≡ held.old.game }
-    ensures ok { OnOk result (held.new.value ≡ after_answer (G.rules held.old.game) held.old.value role round answer) }
+    ensures ok { OnOk result (held.new.value ≡ after_answer (G.rules held.old.game) held.old.value role round (answer_given given.now)) }
     ensures err { OnErr result (held.new ≡ held.old) }
+    ensures accepted { OnErr result (refusal (G.rules held.old.game) held.old.value role round ≡ None) }
 {
-    match held.answer(alloc, game, role, round, answer) {
-        Err(AnswerFault::Memory) => Err(AllocError),
-        _ => Ok(()),
+    // An answer that is refused wants no memory, so the copy comes after the test.
+    if held.refusal(role, round).is_some() {
+        return Ok(());
     }
+    let answer = given.to_answer(alloc)?;
+    held.answer(alloc, game, role, round, answer)
+        .map_err(|_| AllocError)
 }
 
 /// Aborts the match, where it is neither stopping nor aborting.

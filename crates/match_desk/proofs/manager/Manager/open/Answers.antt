@@ -1,4 +1,4 @@
-use Rattle.std.proofs.Common.{◌∙◌}
+use Rattle.std.proofs.Common.{◌∙◌, Result, Ok, Err, OnErr}
 use Rattle.std.specs.Prelude.{bytes_eq}
 use Rattle.indexmap.proofs.CallerLemmas.{insert_entry-new}
 use Rattle.match_desk.specs.Opening.{opening_refusal}
@@ -32,3 +32,12 @@ returns-clause-ok g c =
     (index-none g.G.Game.rules g.met.G.Game.laws c.self.inside.games.items c.self.inside.matches.entries c.self.invariant c.args.self.now c.self.view_is c.args.opening.now.game (setup_of c.args.opening.now.id.now c.args.opening.now.start c.args.opening.now.play c.args.opening.now.players.now)
     (not_refused c.opening_refusal.result (opening_refusal g.G.Game.rules c.args.self.now c.args.opening.now.game (setup_of c.args.opening.now.id.now c.args.opening.now.start c.args.opening.now.play c.args.opening.now.players.now)) c.if-is_some.ensures c.opening_refusal.ensures)
     c.in_ok-id.id.items (c.in_ok-id.ensures.items ∙ c.as_slice.ensures)))
+
+on_err : {T E P : Type 0} (r : Result T E) → P → OnErr r P
+on_err (Ok v) p = tt
+on_err (Err e) p = p
+
+pub returns-in_err-insert-clause-accepted : goal.returns-in_err-insert-clause-accepted
+returns-in_err-insert-clause-accepted g c =
+    on_err c.from_residual-in_err-insert.result
+    (not_refused c.opening_refusal.result (opening_refusal g.G.Game.rules c.args.self.now c.args.opening.now.game (setup_of c.args.opening.now.id.now c.args.opening.now.start c.args.opening.now.play c.args.opening.now.players.now)) c.if-is_some.ensures c.opening_refusal.ensures)
