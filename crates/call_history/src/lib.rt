@@ -1,4 +1,4 @@
-//! Objects that answer calls, the history of their calls, and a desk over which many threads share
+//! Objects that answer calls, the history of their calls, and a desk through which many threads share
 //! an object behind a lock.
 //!
 //! The history that is kept replays on one thread: each kept reply is the one that the plain object

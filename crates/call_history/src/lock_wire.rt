@@ -27,6 +27,7 @@ impl<'a, O: Object, L: Ledger, R: Wait> Model for LockWire<'a, O, L, R> {
 }
 
 impl<'a, O: Object, L: Ledger, R: Wait> LockWire<'a, O, L, R> {
+    /// A wire that makes the line's calls on this desk, and waits for the lock by this runtime.
     pub fn new(rt: &'a R, desk: &'a LockDesk<O, L>, line: LockLine<L>) -> LockWire<'a, O, L, R>
         ensures { result ≡ line }
     {

@@ -34,8 +34,8 @@ impl From<CallFault> for AskFault {
 /// A way to make calls one after another and to take the reply of each. It stands for one line of a
 /// desk, and goes on doing so.
 ///
-/// A wire may tell the calls that went out over it and the replies that came: as one over memory
-/// does, and one over rings. One over a lock does not.
+/// A wire may tell the calls that went out over it and the replies that came. One over a lock tells
+/// neither.
 pub trait Wire {
     type Call: Drop;
 
