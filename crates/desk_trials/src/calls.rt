@@ -229,11 +229,22 @@ fn answers_each_call(rt: HostRuntime) -> Result<(), Fail> {
     };
     assert_eq!(rt; status(&stands), Some(expected));
     assert!(rt; matches!(ask(&mut desk, abort(alloc, "m"))?, Reply::Aborting));
+    let held = desk.object().find(b"m").ok_or("no match")?;
+    assert_eq!(rt; held.status().phase, Phase::Aborting);
+    Ok(())
+}
 
+#[test]
+fn reads_matches_and_games(rt: HostRuntime) -> Result<(), Fail> {
+    let alloc = rt.alloc();
+    let mut desk = desk(alloc, [3].as_slice())?;
+    ask(&mut desk, open(alloc, "m", 0, (10, 5), "ann bob"))?;
+    ask(&mut desk, miss(alloc, "m", 0, 0, true))?;
     let manager = desk.object();
     let held = manager.find(b"m").ok_or("no match")?;
-    assert_eq!(rt; held.status().phase, Phase::Aborting);
+    assert_eq!(rt; held.status().phase, Phase::Starting);
     assert_eq!(rt; held.start_mark(0), Some(b"CE".as_slice()));
+    assert_eq!(rt; held.start_mark(1), None);
     let first = manager.match_at(0).ok_or("no first match")?;
     assert_eq!(rt; first.setup().start, 10);
     assert_eq!(rt; first.setup().play, 5);

@@ -4,7 +4,7 @@ use call_history::{
     CloseFault, Closed, Entry, LockDesk, LockLine, MAX_ENTRIES, Object, Unclosed, open_lock,
 };
 use game_core::{Countdown, Text, Texts};
-use match_book::{Due, Owed};
+use match_book::{Due, Match, Owed, Setup};
 use match_desk::{Call, Manager, Refusal, Reply, close_desk};
 use std::alloc::{AllocError, Global};
 use std::marker::Brand;
@@ -49,17 +49,19 @@ fn query(alloc: Global, number: u32) -> Result<Call, AllocError> {
     Ok(Call::Query { id })
 }
 
-fn are_same_texts(some: &Option<Texts>, other: &Option<Texts>) -> bool {
+fn are_same_texts(some: &Texts, other: &Texts) -> bool {
+    let (some, other) = (some.as_slice(), other.as_slice());
+    some.len() == other.len()
+        && some
+            .iter()
+            .zip(other)
+            .all(|(one, same)| one.as_slice() == same.as_slice())
+}
+
+fn are_same_moves(some: &Option<Texts>, other: &Option<Texts>) -> bool {
     match (some, other) {
         (None, None) => true,
-        (Some(some), Some(other)) => {
-            let (some, other) = (some.as_slice(), other.as_slice());
-            some.len() == other.len()
-                && some
-                    .iter()
-                    .zip(other)
-                    .all(|(one, same)| one.as_slice() == same.as_slice())
-        }
+        (Some(some), Some(other)) => are_same_texts(some, other),
         _ => false,
     }
 }
@@ -67,8 +69,8 @@ fn are_same_texts(some: &Option<Texts>, other: &Option<Texts>) -> bool {
 fn is_same_message(some: &Owed, other: &Owed) -> bool {
     match (some, other) {
         (Owed::Start, Owed::Start) => true,
-        (Owed::Play(some), Owed::Play(other)) => are_same_texts(some, other),
-        (Owed::Stop(some), Owed::Stop(other)) => are_same_texts(some, other),
+        (Owed::Play(some), Owed::Play(other)) => are_same_moves(some, other),
+        (Owed::Stop(some), Owed::Stop(other)) => are_same_moves(some, other),
         (Owed::Abort, Owed::Abort) => true,
         _ => false,
     }
@@ -101,8 +103,37 @@ fn is_same_reply(some: &Reply, other: &Reply) -> bool {
     }
 }
 
-/// Makes the calls of a history again on one thread: each reply is the kept one, and the matches stand as
-/// they were left.
+fn is_same_setup(some: &Setup, other: &Setup) -> bool {
+    some.id.as_slice() == other.id.as_slice()
+        && some.start == other.start
+        && some.play == other.play
+        && are_same_texts(&some.players, &other.players)
+}
+
+/// The roles of Countdown.
+const ROLES: usize = 2;
+
+/// The two matches have the same setup, the same turns and the same marks, and stand alike.
+fn check_match<R: Abort>(rt: &R, held: &Match<Countdown>, kept: &Match<Countdown>) {
+    assert!(rt; is_same_setup(held.setup(), kept.setup()));
+    assert_eq!(rt; held.status(), kept.status());
+    assert_eq!(rt; held.cause(), kept.cause());
+    assert_eq!(rt; held.state(), kept.state());
+    for role in 0..ROLES {
+        assert_eq!(rt; held.start_mark(role), kept.start_mark(role));
+        assert_eq!(rt; held.end_mark(role), kept.end_mark(role));
+        assert_eq!(rt; held.goal_of(role), kept.goal_of(role));
+    }
+    for turn in 0..held.status().turns as usize {
+        for role in 0..ROLES {
+            assert_eq!(rt; held.move_at(turn, role), kept.move_at(turn, role));
+            assert_eq!(rt; held.error_at(turn, role), kept.error_at(turn, role));
+        }
+    }
+}
+
+/// Makes the calls of a history again on one thread: each reply is the kept one, and the matches are
+/// those that were left.
 fn check_replay<R: Abort>(
     rt: &R,
     alloc: Global,
@@ -119,39 +150,33 @@ fn check_replay<R: Abort>(
     for place in 0..replayed.matches() {
         let held = replayed.match_at(place).ok_or("no match")?;
         let kept = closed.object.match_at(place).ok_or("no match")?;
-        assert_eq!(rt; held.setup().id.as_slice(), kept.setup().id.as_slice());
-        assert_eq!(rt; held.status(), kept.status());
-        assert_eq!(rt; held.state(), kept.state());
+        check_match(rt, held, kept);
     }
     Ok(())
 }
 
 const CALLS_OF_A_LINE: u32 = 10;
 
-/// Whether this is the call of a turn, 0 to 9, of a line: line 0 opens the matches 1 to 3 and then asks for
-/// match 1, and each other line asks for the match of its number.
-fn is_call_of<R: Abort>(
-    rt: &R,
-    alloc: Global,
-    line: u32,
-    turn: u32,
-    call: &Call,
-) -> Result<(), Fail> {
-    let opens = line == 0 && turn < 3;
-    let number = if opens { turn % 3 + 1 } else { line.max(1) };
-    let expected = id_of(alloc, number)?;
-    match call {
-        Call::Open { id, .. } => {
-            assert!(rt; opens);
-            assert_eq!(rt; id.as_slice(), expected.as_slice());
-        }
-        Call::Query { id } => {
-            assert!(rt; !opens);
-            assert_eq!(rt; id.as_slice(), expected.as_slice());
-        }
-        _ => panic!(rt; "a call that no line makes"),
+/// How many matches line 0 opens.
+const OPENED: u32 = 3;
+
+/// The call of a turn, 0 to 9, of a line: line 0 opens the matches 1 to 3 and then asks for match 1, and each
+/// other line asks for the match of its number.
+fn call_of(alloc: Global, line: u32, turn: u32) -> Result<Call, AllocError> {
+    if line == 0 && turn < OPENED {
+        open(alloc, turn + 1)
+    } else {
+        query(alloc, line.max(1))
     }
-    Ok(())
+}
+
+/// Whether both open the same match, or both ask for it.
+fn is_same_call(some: &Call, other: &Call) -> bool {
+    match (some, other) {
+        (Call::Open { id, .. }, Call::Open { id: same, .. }) => id.as_slice() == same.as_slice(),
+        (Call::Query { id }, Call::Query { id: same }) => id.as_slice() == same.as_slice(),
+        _ => false,
+    }
 }
 
 /// Makes the ten calls of a line, and gives the line back with the replies.
@@ -165,11 +190,7 @@ fn make_ten_calls<L: Ledger, R: Wait>(
     let number = line.number();
     let mut replies = Vec::new(alloc);
     for turn in 0..CALLS_OF_A_LINE {
-        let call = if number == 0 && turn < 3 {
-            open(alloc, turn + 1).ok()?
-        } else {
-            query(alloc, number.max(1)).ok()?
-        };
+        let call = call_of(alloc, number, turn).ok()?;
         let reply = desk.ask(rt, &mut line, call).ok()?;
         replies.push(reply).ok()?;
     }
@@ -187,7 +208,7 @@ fn check_line<R: Abort>(
     let mut turn = 0;
     for entry in history.iter().filter(|entry| entry.line == number) {
         assert!(rt; turn < CALLS_OF_A_LINE);
-        is_call_of(rt, alloc, number, turn, &entry.call)?;
+        assert!(rt; is_same_call(&entry.call, &call_of(alloc, number, turn)?));
         let reply = replies.get(turn as usize).ok_or("no reply")?;
         assert!(rt; is_same_reply(&entry.reply, reply));
         turn += 1;
@@ -227,7 +248,7 @@ fn run_four_lines<L: Ledger + Send + Sync, R: Threads + Wait + Abort + Sync>(
     let closed = close_without_the_last(rt, desk, lines)?;
     assert_eq!(rt; closed.history.len(), 40);
     assert_eq!(rt; closed.made_by_line.as_slice(), [10, 10, 10, 10].as_slice());
-    assert_eq!(rt; closed.object.matches(), 3);
+    assert_eq!(rt; closed.object.matches(), OPENED as usize);
     check_replay(rt, alloc, 3, &closed)?;
     for (number, got) in (0..4).zip(replies.iter()) {
         check_line(rt, alloc, closed.history.as_slice(), number, got.as_slice())?;
