@@ -4,11 +4,11 @@ use Rattle.std.specs.Prelude.{nat_le, nat_lt}
 use Rattle.std.specs.Io.KnownBytes.{Consumes}
 use Rattle.std.proofs.KnownBytes.{Consumes-trans, Consumes-kept}
 use Rattle.std.proofs.lemmas.Bool.{false≢true}
-use Rattle.game_core.specs.Counting.{Counting, one_more}
+use Rattle.game_core.specs.Counting.{Counting, CallsMade, one_more}
 use Rattle.match_wire.specs.HttpHead.{HeadIs, IsKnown}
 use Rattle.match_wire.specs.Looks.{Looks, look_from, look_past}
 use Rattle.match_wire.specs.Exchange.{Gives}
-use Rattle.match_wire.specs.WireFaults.{fault_of, ReadStops, WantsMore, CallsMade}
+use Rattle.match_wire.specs.WireFaults.{fault_of, ReadStops, WantsMore}
 use Rattle.match_wire.specs.Turns.{Grows, TurnStops}
 use Rattle.match_wire.specs.declared.head.HttpKind.{HttpKind}
 use Rattle.match_wire.specs.declared.head.Head.{Head}

@@ -1,7 +1,7 @@
 -- What each fault of reading or writing a message says.
-use Rattle.std.specs.Prelude.{◌≡◌, ◌≢◌, ◌⊎◌, ℕ, ◌+◌, ◌<◌, ◌≤◌, Bool, false, List, [], ⊤}
+use Rattle.std.specs.Prelude.{◌≡◌, ◌≢◌, ◌⊎◌, ℕ, ◌<◌, Bool, false, List, [], ⊤}
 use Rattle.std.specs.declared.io.ErrorKind.TheVariants.{Interrupted}
-use Rattle.game_core.specs.Counting.{Counting, last_count}
+use Rattle.game_core.specs.Counting.{Counting, CallsMade, last_count}
 use Rattle.match_wire.specs.Looks.{Looks}
 use Rattle.match_wire.specs.declared.head.HttpKind.{HttpKind}
 use Rattle.match_wire.specs.declared.look.Look.TheVariants.{More, Refused}
@@ -25,10 +25,6 @@ most_turns = 200000
 -- a failure was counted, but at the last count
 abbrev pub HasFailed : ℕ → ℕ → Type 0
 HasFailed old new = new < last_count → old < new
-
--- so many reads and writes were made, but at the last count
-abbrev pub CallsMade : ℕ → ℕ → ℕ → Type 0
-CallsMade turns old new = new < last_count → turns + old ≤ new
 
 -- nothing was given yet, or what was given asks for more
 abbrev pub WantsMore : HttpKind → List ℕ → Type 0

@@ -1,7 +1,8 @@
 use Rattle.std.proofs.Common.{◌≤◌}
 use Rattle.std.specs.Io.KnownBytes.{Consumes}
 use Rattle.match_wire.specs.HttpHead.{IsKnown}
-use Rattle.match_wire.specs.WireFaults.{WantsMore, CallsMade}
+use Rattle.game_core.specs.Counting.{CallsMade}
+use Rattle.match_wire.specs.WireFaults.{WantsMore}
 use Rattle.match_wire.proofs.receiving.receive.Given as goal
 
 abbrev pub invariant-loop-turn : goal.invariant-loop-turn

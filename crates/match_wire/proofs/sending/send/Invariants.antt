@@ -1,6 +1,6 @@
 use Rattle.std.proofs.Common.{◌≤◌, length, take}
 use Rattle.std.specs.Io.KnownBytes.{Appends}
-use Rattle.match_wire.specs.WireFaults.{CallsMade}
+use Rattle.game_core.specs.Counting.{CallsMade}
 use Rattle.match_wire.proofs.sending.send.Given as goal
 
 abbrev pub invariant-loop-turn : goal.invariant-loop-turn
