@@ -63,6 +63,45 @@ fn info_tells_what_a_player_answers(rt: HostRuntime) -> Result<(), Fail> {
     Ok(())
 }
 
+/// The request of an INFO to the player `zed`.
+const INFO_REQUEST: &[u8] =
+    b"POST / HTTP/1.0\r\nAccept: text/delim\r\nSender: GAMESERVER\r\nReceiver: zed\r\nContent-Type: text/acl\r\nContent-Length: 6\r\n\r\n(INFO)";
+
+/// Takes the bytes of an INFO, however many reads they come in, and answers it.
+fn hear_info(alloc: Global, listener: &TcpListener) -> Option<Vec<u8>> {
+    let (mut stream, _) = listener.accept().ok()?;
+    let mut heard = Vec::new(alloc);
+    let mut chunk = [0; 256];
+    for _ in 0..INFO_REQUEST.len() {
+        if heard.len() >= INFO_REQUEST.len() {
+            break;
+        }
+        let count = stream.read(&mut chunk).ok()?;
+        heard.extend_from_slice(&chunk[..count]).ok()?;
+    }
+    stream.write_all(b"HTTP/1.0 200 OK\r\n\r\nREADY").ok()?;
+    Some(heard)
+}
+
+#[test]
+fn requests_name_their_player(rt: HostRuntime) -> Result<(), Fail> {
+    let (listener, port) = listen(&rt)?;
+    let player = format!(in rt.alloc(); "zed@127.0.0.1:{port}")?;
+    let (rt, alloc) = (&rt, rt.alloc());
+    let (listener, player) = (&listener, player.as_str());
+    let (heard, outcome) = thread::join(
+        rt,
+        move || hear_info(alloc, listener),
+        move || outcome_of(rt, rt, alloc, &["info", player], b""),
+    );
+    let heard = heard.ok_or("no message was taken")?;
+    let outcome = outcome?;
+    assert!(rt; heard.as_slice() == INFO_REQUEST);
+    assert!(rt; outcome.output.as_slice() == b"ready\n".as_slice());
+    assert_eq!(rt; outcome.status, 0);
+    Ok(())
+}
+
 #[test]
 fn closed_connections_are_no_answer(rt: HostRuntime) -> Result<(), Fail> {
     let (listener, port) = listen(&rt)?;
