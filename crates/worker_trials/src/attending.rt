@@ -1,12 +1,12 @@
 //! Worked examples, over a wire and a player in memory that tell what came.
 ghost use Rattle.std.specs.Prelude.{◌≡◌, ◌+◌, ◌<◌, length, IfOk};
 
-use match_workers::{AttendFault, Player, attend};
 use call_history::{AskFault, Wire};
 use game_core::{Text, Texts};
 use match_book::{Answer, Due, Owed};
 use match_desk::{Call, Refusal, Reply};
 use match_wire::Brief;
+use match_workers::{AttendFault, Player, attend};
 use std::alloc::{AllocError, Global};
 use std::collections::VecDeque;
 use std::process::Abort;

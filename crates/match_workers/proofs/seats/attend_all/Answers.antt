@@ -8,11 +8,20 @@ pub scoped-requires : goal.scoped-requires
 scoped-requires g c =
     let b = c.type_bounds in
     record {
-      at = λ a. (search rules, (search rules, (search rules, (
-        param_send 0 _ (arg_send _ no _ b.send-O),
-        param_send 1 _ (arg_send _ no _ b.send-L),
-        param_send 2 _ (arg_send _ no _ b.send-P),
+      at = λ a. (
         search rules,
-        search rules,
-      ))));
+        (
+          search rules,
+          (
+            search rules,
+            (
+              param_send 0 _ (arg_send _ no _ b.send-O),
+              param_send 1 _ (arg_send _ no _ b.send-L),
+              param_send 2 _ (arg_send _ no _ b.send-P),
+              search rules,
+              search rules,
+            ),
+          ),
+        ),
+      );
     }
