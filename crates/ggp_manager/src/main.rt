@@ -1,4 +1,4 @@
-//! The referee of General Game Playing: the program.
+//! A referee for General Game Playing: the program.
 #![tactic(auto)]
 
 mod addresses;

@@ -17,7 +17,7 @@ use std::alloc::{AllocError, Global};
 use std::sync::Wait;
 use std::thread::Threads;
 
-/// How often a role may ask what is due to it. With the pause of a player at rest that is some hours.
+/// How often a role may ask what is due to it. With the pause of a player at rest that is under three hours.
 const TURNS: u64 = 100_000;
 
 impl From<RefereeFault> for Fault {
