@@ -5,3 +5,5 @@ pub mod Script
 pub mod ScriptFaults
 pub mod Faults
 pub mod Commands
+pub mod Checks
+pub mod Games

@@ -3,8 +3,8 @@ use Rattle.std.specs.Prelude.{◌≡◌, ℕ, ◌<◌, ◌≤◌, List, length, 
 use Rattle.std.specs.Io.KnownBytes.{Appends}
 use Rattle.game_core.specs.Counting.{Counting, one_more}
 use Rattle.ggp_manager.specs.Streams.{StopsReading}
-use Rattle.ggp_manager.specs.declared.script.ScriptFault.{ScriptFault}
-use Rattle.ggp_manager.specs.declared.script.ScriptFault.TheVariants.{ReadFault, TooLong, Memory, WriteFault}
+use Rattle.ggp_manager.specs.declared.script_fault.ScriptFault.{ScriptFault}
+use Rattle.ggp_manager.specs.declared.script_fault.ScriptFault.TheVariants.{ReadFault, TooLong, Memory, WriteFault}
 
 -- how many bytes a script has at most
 abbrev pub max_script : ℕ

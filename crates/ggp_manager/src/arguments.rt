@@ -23,7 +23,7 @@ pub enum Task<'a> {
 /// Where a game comes from.
 #[derive(Clone, Copy, Debug, PartialEq, Eq)]
 pub enum GameSource<'a> {
-    /// Countdown, with a heap of this size.
+    /// Countdown, with a heap of this size, in or out of its range.
     Countdown(u8),
     /// A ground description.
     Rules(&'a str),
@@ -153,7 +153,7 @@ fn program<'a>(alloc: Global) -> Result<Command<'a>, AllocError> {
 fn game_source<'a>(found: &ArgMatches<'a>) -> Option<GameSource<'a>> {
     match (found.get_str("countdown"), found.get_str("rules")) {
         (Some(size), None) => {
-            let size = decimal(size, 100).filter(|size| *size > 0)?;
+            let size = decimal(size, u64::from(u8::MAX))?;
             Some(GameSource::Countdown(u8::try_from(size).ok()?))
         }
         (None, Some(rules)) => Some(GameSource::Rules(rules)),

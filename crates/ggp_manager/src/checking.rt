@@ -2,7 +2,7 @@
 ghost use Rattle.std.specs.Prelude.{◌≡◌, ℕ, List, IfErr, OnOk};
 ghost use Rattle.std.specs.Io.KnownBytes.{Consumes, Appends, IsAtEnd};
 ghost use Rattle.match_wire.specs.LawfulRecord.{IsLawfulRecord};
-ghost use Rattle.ggp_manager.specs.Commands.{lawful_line, RefusesOnly};
+ghost use Rattle.ggp_manager.specs.Checks.{lawful_line, CheckFails};
 
 use crate::fault::Fault;
 use crate::streams::{InputFault, read_to_end, write_all};
@@ -55,9 +55,10 @@ pub fn check_record<G: Game, R: Read, W: Write>(
         × IsAtEnd (R.remaining reader.new.stream)
         × IsLawfulRecord (G.rules game.now) text
         × Appends (W.contents writer.old.stream) (W.contents writer.new.stream) lawful_line) }
-    ensures unlawful { IfErr result (λ fault. (text : List ℕ)
+    ensures no_fault { OnOk result ((reader.new.faults ≡ reader.old.faults) × (writer.new.faults ≡ writer.old.faults)) }
+    ensures fails { IfErr result (λ fault. (text : List ℕ)
         × Consumes (R.remaining reader.old.stream) (R.remaining reader.new.stream) text
-        × RefusesOnly (G.rules game.now) text fault) }
+        × CheckFails W.contents (G.rules game.now) fault text reader.old reader.new writer.old writer.new) }
 {
     let record = read_to_end(alloc, reader, MAX_RECORD)?;
     verify(alloc, game, &record)?;

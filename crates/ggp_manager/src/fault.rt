@@ -54,6 +54,11 @@ impl Fault {
 }
 
 impl From<AllocError> for Fault {
+    ghost use Rattle.std.specs.Prelude.{◌≡◌};
+    ghost use Rattle.ggp_manager.specs.declared.fault.Fault.TheVariants.{Memory};
+
+    ghost from_gives = { λ _ given. given ≡ Memory };
+
     fn from(_: AllocError) -> Fault {
         Fault::Memory
     }

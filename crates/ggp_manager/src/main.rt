@@ -18,6 +18,7 @@ mod record_tests;
 mod reply_lines;
 mod running;
 mod script;
+mod script_fault;
 mod script_lines;
 mod socket_player;
 #[cfg(test)]

@@ -1,13 +1,15 @@
 //! A match between players on the network, from its plan to its record.
-ghost use Rattle.std.specs.Prelude.{◌≡◌, IfOk, length, vec_len};
+ghost use Rattle.std.specs.Prelude.{◌≡◌, ◌≢◌, IfOk, IfErr, length, vec_len};
 ghost use Rattle.kif_text.specs.View.{views};
-ghost use Rattle.ggp_manager.specs.Commands.{IsEndedRecord};
+ghost use Rattle.match_desk.specs.ManagerValue.{ManagerValue};
+ghost use Rattle.ggp_manager.specs.Commands.{IsEndedRecord, HasNoEndedMatch};
 
 use crate::arguments::MatchPlan;
 use crate::fault::Fault;
 use crate::games::described_game;
 use crate::socket_player::Reach;
 use game_core::{Game, Text, Texts};
+use ground_rules::GroundGame;
 use kif_text::{Expr, copy};
 use match_book::{Phase, Setup};
 use match_desk::Manager;
@@ -78,7 +80,8 @@ fn copies(alloc: Global, sentences: &[Expr]) -> Result<Vec<Expr>, AllocError>
 
 /// The record of the desk's match, where that has come to its end.
 fn ended_record<G: Game>(alloc: Global, manager: &Manager<G>) -> Result<Text, Fault>
-    ensures { IfOk result (IsEndedRecord G.rules manager.now) }
+    ensures ended { IfOk result (IsEndedRecord G.rules manager.now) }
+    ensures not_ended { IfErr result (λ fault. fault ≢ Fault.Memory → (fault ≡ Fault.MatchNotEnded) × HasNoEndedMatch G.rules manager.now) }
 {
     if manager.matches() == 0 {
         return Err(Fault::MatchNotEnded);
@@ -104,6 +107,7 @@ where
     R: Threads + Wait + Sync,
     P: Player + Drop + Send,
     S: Reach<P>,
+    ensures { IfOk result (λ text. (d : ManagerValue _ _) × IsEndedRecord ⟦<GroundGame as Game>⟧.rules d text) }
 {
     let game = described_game(alloc, plan.rules)?;
     let rules = copies(alloc, game.description())?;

@@ -9,15 +9,15 @@ ghost use Rattle.ggp_manager.specs.ScriptFaults.{ScriptFails};
 
 use crate::lines::first_line;
 use crate::reply_lines::push_reply;
+use crate::script_fault::ScriptFault;
 use crate::script_lines::call_of;
-use crate::streams::{InputFault, WriteFault, read_to_end, write_all};
+use crate::streams::{read_to_end, write_all};
 use call_history::Object;
 use game_core::{Counted, Game};
 use match_desk::{Call, Manager, Reply};
 use match_wire::record_json;
 use std::alloc::{AllocError, Global};
 use std::io::{Read, Write};
-use thiserror::Error;
 
 /// How many bytes a script has at most.
 const MAX_SCRIPT: usize = 1_048_576;
@@ -74,24 +74,6 @@ fn answer_input<O: Object<Call = Call, Reply = Reply>>(
     Ok(Answers { text, bad_lines })
 }
 
-/// Why a script was not answered: the first of these to come. After the first three nothing was
-/// written, and after a failed write a prefix of the output was.
-#[derive(Clone, Copy, Debug, PartialEq, Eq, Error)]
-pub enum ScriptFault {
-    /// A read failed, interruptions included, or 200,000 reads came to no end.
-    #[error("the script can't be read")]
-    ReadFault,
-    /// The script has more than 1,048,576 bytes.
-    #[error("the script is too long")]
-    TooLong,
-    /// Want of memory.
-    #[error("want of memory")]
-    Memory,
-    /// A write failed, or took none of some bytes.
-    #[error("the answers can't be written")]
-    WriteFault,
-}
-
 /// Reads a whole script, answers each of its lines on a manager of these games, and writes the
 /// answers and then the record of each match in order of opening. The number of bad lines is answered.
 pub fn run_script<R: Read, W: Write, G: Game + Drop>(
@@ -110,20 +92,10 @@ pub fn run_script<R: Read, W: Write, G: Game + Drop>(
         × Consumes (R.remaining reader.old.stream) (R.remaining reader.new.stream) given
         × ScriptFails W.contents (script_output G.rules games.items given) fault (length given) reader.old reader.new writer.old writer.new) }
 {
-    let input = match read_to_end(alloc, reader, MAX_SCRIPT) {
-        Ok(input) => input,
-        Err(InputFault::ReadFault) => return Err(ScriptFault::ReadFault),
-        Err(InputFault::TooLong) => return Err(ScriptFault::TooLong),
-        Err(InputFault::Memory) => return Err(ScriptFault::Memory),
-    };
-    let answers = match answer_script(alloc, games, &input) {
-        Ok(answers) => answers,
-        Err(_) => return Err(ScriptFault::Memory),
-    };
-    match write_all(writer, answers.text.as_slice()) {
-        Ok(()) => Ok(answers.bad_lines),
-        Err(WriteFault) => Err(ScriptFault::WriteFault),
-    }
+    let input = read_to_end(alloc, reader, MAX_SCRIPT)?;
+    let answers = answer_script(alloc, games, &input)?;
+    write_all(writer, answers.text.as_slice())?;
+    Ok(answers.bad_lines)
 }
 
 /// Writes the record of each match in order of opening, each with a line feed.

@@ -1,11 +1,13 @@
 //! Streams that fail, and the faults that the commands then show.
 use crate::arguments::ArgumentFault;
 use crate::command::report;
+use crate::contact::ContactFault;
 use crate::fault::Fault;
-use crate::script::ScriptFault;
+use crate::script_fault::ScriptFault;
 use crate::tests::{outcome_of, run_command, strings};
 use game_core::Counted;
 use match_desk::Refusal;
+use match_wire::WireFault;
 use std::alloc::AllocError;
 use std::io;
 use std::io::{ErrorKind, Read, Write};
@@ -158,6 +160,10 @@ fn faults_have_their_lines_and_statuses(rt: HostRuntime) -> Result<(), Fail> {
     assert_eq!(rt; Fault::from(ScriptFault::Memory), Fault::Memory);
     assert_eq!(rt; Fault::from(ArgumentFault::Memory), Fault::Memory);
     assert_eq!(rt; Fault::from(AllocError), Fault::Memory);
+    let unreached = ContactFault::from(io::Error::from(ErrorKind::OutOfMemory));
+    assert_eq!(rt; Fault::from(unreached), Fault::Memory);
+    let unanswered = ContactFault::from(WireFault::Memory);
+    assert_eq!(rt; Fault::from(unanswered), Fault::Memory);
     Ok(())
 }
 

@@ -1,16 +1,17 @@
 -- What a judgement keeps.
 use Rattle.std.proofs.Common.{◌≡◌, ◌≢◌, ℕ, zero, suc, ◌<◌, Bool, true, false, Option, Some, None, List, [], ◌∷◌, length, slice_index_or, refl, arith, ap, sym, subst, inl, inr, Contains}
-use Rattle.std.specs.Prelude.{IsSome, slice_get, if◌then◌else◌, ◌==◌}
+use Rattle.std.proofs.lemmas.Slice.Eq.{bytes_eq-Decides}
+use Rattle.std.specs.Prelude.{IsSome, slice_get, bytes_eq, if◌then◌else◌, ◌==◌}
 use Rattle.game_core.specs.Play.{Rules, IsLawful}
 use Rattle.match_book.specs.AnswerReading.{answer_reading}
-use Rattle.match_book.specs.Judgement.{is_same_text, move_named, error_text, substitute, taken_or_substituted, judged_reading, judgement, IsJudged, MayStand}
+use Rattle.match_book.specs.Judgement.{move_named, error_text, substitute, taken_or_substituted, judged_reading, judgement, IsJudged, MayStand}
 use Rattle.match_book.specs.declared.judgement.Judgement.{Judgement}
 use Rattle.match_book.specs.declared.judgement.Substitution.{Substitution}
 use Rattle.match_book.specs.declared.judgement.Substitution.TheVariants.{TimeOut, ConnectionError, Unreadable, Illegal}
 use Rattle.match_book.specs.declared.answer.Answer.{Answer}
 use Rattle.match_book.specs.declared.answer.Answer.TheVariants.{Text, Silent, Broken}
 use Rattle.match_book.proofs.AnswerReadings.{answer_reading-folded, answer_reading-short}
-use Rattle.match_book.proofs.NamedMoves.{is_same_text-self, is_same_text-same}
+use Rattle.match_book.proofs.NamedMoves.{same_text}
 
 none_here : {M : Type 0} (b : Bool) (m : M) (o : Option M) → b ≡ true → (if b then Some m else o) ≡ None → ⊥
 none_here true m o is e = absurd cc
@@ -22,12 +23,12 @@ none_later false m o e = e
 
 pub move_named-none : {S M : Type 0} (g : Rules S M) (moves : List M) (x : List ℕ) → move_named g moves x ≡ None → (k : ℕ) (d : M) → k < length moves → g.move_text (slice_index_or moves k d) ≢ x
 move_named-none g [] x e k d lt = absurd (omega arith)
-move_named-none g (m ∷ ms) x e zero d lt = λ w. none_here (is_same_text (g.move_text m) x) m (move_named g ms x) (rw w (is_same_text-self x)) e
-move_named-none g (m ∷ ms) x e (suc k) d lt = move_named-none g ms x (none_later (is_same_text (g.move_text m) x) m (move_named g ms x) e) k d (omega arith)
+move_named-none g (m ∷ ms) x e zero d lt = λ w. none_here (bytes_eq (g.move_text m) x) m (move_named g ms x) (rw w (same_text x)) e
+move_named-none g (m ∷ ms) x e (suc k) d lt = move_named-none g ms x (none_later (bytes_eq (g.move_text m) x) m (move_named g ms x) e) k d (omega arith)
 
 move_named-some : {S M : Type 0} (g : Rules S M) (moves : List M) (x : List ℕ) (m : M) → move_named g moves x ≡ Some m → Contains moves m
 move_named-some g [] x m e = absurd cc
-move_named-some g (y ∷ ys) x m e = step (is_same_text (g.move_text y) x) e (move_named-some g ys x m)
+move_named-some g (y ∷ ys) x m e = step (bytes_eq (g.move_text y) x) e (move_named-some g ys x m)
   where
     step : (b : Bool) → (if b then Some y else move_named g ys x) ≡ Some m → (move_named g ys x ≡ Some m → Contains ys m) → Contains (y ∷ ys) m
     step true e later = let w : y ≡ m = cc in (0, omega arith, w)
@@ -36,10 +37,10 @@ move_named-some g (y ∷ ys) x m e = step (is_same_text (g.move_text y) x) e (mo
 -- the move that a text names has that text
 pub move_named-text : {S M : Type 0} (g : Rules S M) (moves : List M) (x : List ℕ) (m : M) → move_named g moves x ≡ Some m → g.move_text m ≡ x
 move_named-text g [] x m e = absurd cc
-move_named-text {S} {M} g (y ∷ ys) x m e = step (is_same_text (g.move_text y) x) refl (move_named g ys x) (move_named-text g ys x m) e
+move_named-text {S} {M} g (y ∷ ys) x m e = step (bytes_eq (g.move_text y) x) refl (move_named g ys x) (move_named-text g ys x m) e
   where
-    step : (b : Bool) → is_same_text (g.move_text y) x ≡ b → (o : Option M) → (o ≡ Some m → g.move_text m ≡ x) → (if b then Some y else o) ≡ Some m → g.move_text m ≡ x
-    step true same o later e = let w : y ≡ m = cc in subst (λ (z : M). g.move_text z ≡ x) w (is_same_text-same (g.move_text y) x same)
+    step : (b : Bool) → bytes_eq (g.move_text y) x ≡ b → (o : Option M) → (o ≡ Some m → g.move_text m ≡ x) → (if b then Some y else o) ≡ Some m → g.move_text m ≡ x
+    step true same o later e = let w : y ≡ m = cc in subst (λ (z : M). g.move_text z ≡ x) w ((bytes_eq-Decides (g.move_text y) x).0 same)
     step false other o later e = later e
 
 pub substitute-is : {M : Type 0} (moves : List M) (why : Substitution) (j : Judgement M) → substitute moves why ≡ Some j → (slice_get moves 0 ≡ Some j.taken) × (j.error ≡ error_text why)

@@ -1,5 +1,5 @@
 -- What an answer counts as while the match is played.
-use Rattle.std.specs.Prelude.{◌≡◌, ◌≢◌, ℕ, ◌≤◌, ◌==◌, Bool, true, false, if◌then◌else◌, List, [], ◌∷◌, ◌++◌, length, Option, Some, None, option_map, find, slice_get, codes, Contains, All, ◌⊎◌}
+use Rattle.std.specs.Prelude.{◌≡◌, ◌≢◌, ℕ, ◌≤◌, List, [], ◌++◌, length, Option, Some, None, option_map, find, slice_get, bytes_eq, codes, Contains, All, ◌⊎◌}
 use Rattle.game_core.specs.Canonical.{IsFoldedText}
 use Rattle.game_core.specs.Play.{Rules}
 use Rattle.match_book.specs.AnswerReading.{answer_reading, max_reading}
@@ -21,15 +21,9 @@ error_text (Illegal x) = codes "IL " ++ x
 abbrev pub substitute : {M : Type 0} → List M → Substitution → Option (Judgement M)
 substitute moves why = option_map (λ m. record { taken = m; error = error_text why }) (slice_get moves 0)
 
-abbrev pub is_same_text : List ℕ → List ℕ → Bool
-is_same_text [] [] = true
-is_same_text [] (y ∷ ys) = false
-is_same_text (x ∷ xs) [] = false
-is_same_text (x ∷ xs) (y ∷ ys) = if x == y then is_same_text xs ys else false
-
 -- the one of these moves that has this text
 abbrev pub move_named : {S M : Type 0} → Rules S M → List M → List ℕ → Option M
-move_named g moves x = find (λ m. is_same_text (g.move_text m) x) moves
+move_named g moves x = find (λ m. bytes_eq (g.move_text m) x) moves
 
 -- a move that is named is taken as it is
 abbrev pub taken_or_substituted : {M : Type 0} → List M → List ℕ → Option M → Option (Judgement M)

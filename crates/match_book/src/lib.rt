@@ -24,6 +24,6 @@ pub use judgement::Judgement;
 pub use matches::Match;
 pub use names::{MAX_CLOCK, are_clocks, are_names, is_clock, is_name};
 pub use phase::{Cause, Phase, Stage, Status};
-pub use settlement::{MAX_TURNS, Settlement, first_without_move, settle};
+pub use settlement::{MAX_TURNS, Settlement, settle};
 pub use setup::Setup;
 pub use turn::Turn;

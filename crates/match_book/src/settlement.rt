@@ -18,7 +18,7 @@ pub struct Settlement {
 }
 
 /// The lowest role without a legal move, if there is one.
-pub fn first_without_move<G: Game>(
+fn first_without_move<G: Game>(
     alloc: Global,
     game: &G,
     state: &G::State,

@@ -1,4 +1,4 @@
-use Rattle.std.proofs.Common.{rules, ◌≡◌, ap, sym, subst, ◌∙◌, List, ℕ, true}
+use Rattle.std.proofs.Common.{rules, ◌≡◌, ap, sym, subst, ◌∙◌, true}
 use Rattle.std.specs.Prelude.{option_copied, slice_get}
 use Rattle.match_book.specs.Phase.{is_last, is_over}
 use Rattle.match_book.specs.declared.phase.Status.{Status}
@@ -7,8 +7,8 @@ use Rattle.match_wire.specs.LawfulRecord.{IsLawfulRecord}
 use Rattle.ggp_manager.proofs.Records.{same_game}
 use Rattle.ggp_manager.proofs.running.ended_record.Goals as goal
 
-pub returns-in_ok-record_json-in-Finished : goal.returns-in_ok-record_json-in-Finished
-returns-in_ok-record_json-in-Finished g c =
+pub returns-in_ok-record_json-in-Finished-clause-ended : goal.returns-in_ok-record_json-in-Finished-clause-ended
+returns-in_ok-record_json-in-Finished-clause-ended g c =
     let rules-of = g.G.Game.rules in
     let d = c.args.manager.now in
     let held = c.unwrap-held.result.now in

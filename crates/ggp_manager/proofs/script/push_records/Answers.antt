@@ -1,4 +1,4 @@
-use Rattle.std.proofs.Common.{◌≡◌, ◌+◌, ◌++◌, ◌∷◌, [], ap, sym, ◌∙◌, take}
+use Rattle.std.proofs.Common.{◌+◌, ◌++◌, ◌∷◌, [], ap, sym, ◌∙◌, take}
 use Rattle.std.specs.Prelude.{option_copied}
 use Rattle.game_core.specs.Bytes.{line_feed}
 use Rattle.ggp_manager.specs.Script.{records}

@@ -1,0 +1,21 @@
+-- Games that are described in text.
+use Rattle.std.specs.Prelude.{◌≢◌, ℕ, List, map}
+use Rattle.game_core.specs.Expression.{Expression, Expressions, folded}
+use Rattle.kif_text.specs.Spelling.{SpellsAll}
+use Rattle.kif_text.specs.View.{expressions}
+use Rattle.ground_rules.specs.declared.fault.LoadFault.{LoadFault}
+use Rattle.ground_rules.specs.declared.fault.LoadFault.TheVariants.{Memory}
+use Rattle.ground_rules.specs.declared.ground_game.GroundGame.{GroundGame}
+use Rattle.ground_rules.specs.Loading.{IsLoadFault}
+use Rattle.ground_rules.specs.Loaded.{IsLoaded}
+
+-- the text spells sentences, and the game is what they describe without their capitals
+pub record IsDescribed (text : List ℕ) (game : GroundGame) : Type 0 where
+  pub sentences : List Expression
+  pub spelled : SpellsAll text (expressions sentences)
+  pub loaded : IsLoaded (map folded sentences) game
+
+-- the text spells no sentences, or sentences that have a fault
+pub data DescribesNone (text : List ℕ) : Type 0 where
+  unread : ((xs : Expressions) → ¬ SpellsAll text xs) → DescribesNone text
+  faulty : (sentences : List Expression) (fault : LoadFault) → SpellsAll text (expressions sentences) → fault ≢ Memory → IsLoadFault (map folded sentences) fault → DescribesNone text
