@@ -123,6 +123,7 @@ fn open_match<G: Game, L: Ledger, R: Wait>(
 }
 
 /// Attends the seats of a match on its desk.
+// A function of its own: that a manager may go to other threads is shown here, apart from all else.
 fn attend_match<G, L, P, R>(
     desk: &LockDesk<Manager<G>, L>,
     workers: Workers<'_, P, L, R>,
