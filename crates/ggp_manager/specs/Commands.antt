@@ -6,6 +6,9 @@ use Rattle.match_book.specs.Phase.{is_over}
 use Rattle.match_desk.specs.ManagerValue.{ManagerValue, game_match}
 use Rattle.match_wire.specs.RecordTree.{record_text}
 use Rattle.match_wire.specs.LawfulRecord.{IsLawfulRecord}
+use Rattle.ggp_manager.specs.Games.{DescribesNone}
+use Rattle.ggp_manager.specs.declared.fault.Fault.{Fault}
+use Rattle.ggp_manager.specs.declared.fault.Fault.TheVariants.{Memory, BadDescription, Refused, MatchNotEnded}
 
 -- the text is the record of this desk's first match, which is over, and it is a lawful record of that match's game
 pub record IsEndedRecord {G S M : Type 0} (rules : G → Rules S M) (d : ManagerValue G M) (text : List ℕ) : Type 0 where
@@ -18,3 +21,11 @@ pub record IsEndedRecord {G S M : Type 0} (rules : G → Rules S M) (d : Manager
 -- this desk has no first match, or one that is not over
 abbrev pub HasNoEndedMatch : {G S M : Type 0} → (G → Rules S M) → ManagerValue G M → Type 0
 HasNoEndedMatch rules d = IfSome (option_and_then (game_match d) (slice_get d.matches 0)) (λ held. is_over (rules held.game) held.value ≡ false)
+
+-- What a match between players may fail by, and where by its description: the text of its rules describes no game.
+abbrev pub RunFails : List ℕ → Fault → Type 0
+RunFails text BadDescription = DescribesNone text
+RunFails text (Refused reason) = Unit {0}
+RunFails text MatchNotEnded = Unit {0}
+RunFails text Memory = Unit {0}
+RunFails text fault = ⊥

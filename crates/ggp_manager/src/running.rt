@@ -2,7 +2,7 @@
 ghost use Rattle.std.specs.Prelude.{◌≡◌, ◌≢◌, IfOk, IfErr, length, vec_len};
 ghost use Rattle.kif_text.specs.View.{views};
 ghost use Rattle.match_desk.specs.ManagerValue.{ManagerValue};
-ghost use Rattle.ggp_manager.specs.Commands.{IsEndedRecord, HasNoEndedMatch};
+ghost use Rattle.ggp_manager.specs.Commands.{IsEndedRecord, HasNoEndedMatch, RunFails};
 
 use crate::arguments::MatchPlan;
 use crate::fault::Fault;
@@ -107,7 +107,8 @@ where
     R: Threads + Wait + Sync,
     P: Player + Drop + Send,
     S: Reach<P>,
-    ensures { IfOk result (λ text. (d : ManagerValue _ _) × IsEndedRecord ⟦<GroundGame as Game>⟧.rules d text) }
+    ensures ended { IfOk result (λ text. (d : ManagerValue _ _) × IsEndedRecord ⟦<GroundGame as Game>⟧.rules d text) }
+    ensures fails { IfErr result (RunFails plan.now.rules.now) }
 {
     let game = described_game(alloc, plan.rules)?;
     let rules = copies(alloc, game.description())?;
