@@ -58,7 +58,7 @@ pub fn check_record<G: Game, R: Read, W: Write>(
     ensures no_fault { OnOk result ((reader.new.faults ≡ reader.old.faults) × (writer.new.faults ≡ writer.old.faults)) }
     ensures fails { IfErr result (λ fault. (text : List ℕ)
         × Consumes (R.remaining reader.old.stream) (R.remaining reader.new.stream) text
-        × CheckFails W.contents (G.rules game.now) fault text reader.old reader.new writer.old writer.new) }
+        × CheckFails R.remaining W.contents (G.rules game.now) fault text reader.old reader.new writer.old writer.new) }
 {
     let record = read_to_end(alloc, reader, MAX_RECORD)?;
     verify(alloc, game, &record)?;

@@ -90,7 +90,7 @@ pub fn run_script<R: Read, W: Write, G: Game + Drop>(
     ensures no_fault { OnOk result ((reader.new.faults ≡ reader.old.faults) × (writer.new.faults ≡ writer.old.faults)) }
     ensures fails { IfErr result (λ fault. (given : List ℕ)
         × Consumes (R.remaining reader.old.stream) (R.remaining reader.new.stream) given
-        × ScriptFails W.contents (script_output G.rules games.items given) fault (length given) reader.old reader.new writer.old writer.new) }
+        × ScriptFails R.remaining W.contents (script_output G.rules games.items given) fault (length given) reader.old reader.new writer.old writer.new) }
 {
     let input = read_to_end(alloc, reader, MAX_SCRIPT)?;
     let answers = answer_script(alloc, games, &input)?;
