@@ -3,8 +3,8 @@ use Rattle.kif_text.specs.declared.fault.KifFault.{KifFault}
 use Rattle.kif_text.specs.declared.fault.KifFault.TheVariants.{Memory as KifMemory}
 use Rattle.ground_rules.specs.declared.fault.LoadFault.{LoadFault}
 use Rattle.ground_rules.specs.declared.fault.LoadFault.TheVariants.{Memory as LoadMemory}
-use Rattle.match_wire.specs.declared.verify_fault.VerifyFault.{VerifyFault}
-use Rattle.match_wire.specs.declared.verify_fault.VerifyFault.TheVariants.{Memory as CheckMemory}
+use Rattle.match_record.specs.declared.verify_fault.VerifyFault.{VerifyFault}
+use Rattle.match_record.specs.declared.verify_fault.VerifyFault.TheVariants.{Memory as CheckMemory}
 use Rattle.match_workers.specs.declared.refereeing.RefereeFault.{RefereeFault}
 use Rattle.match_workers.specs.declared.refereeing.RefereeFault.TheVariants.{Refused as MatchRefused, Unclosed, Full, Memory as RefereeMemory}
 use Rattle.ggp_manager.specs.declared.streams.InputFault.{InputFault}

@@ -1,27 +1,15 @@
--- Digits, and the numbers that they write.
-use Rattle.std.proofs.Common.{◌≡◌, ◌≢◌, ℕ, zero, suc, ◌+◌, ◌-◌, ◌*◌, cond, Option, Some, None, take, ◌<◌, Bool, true, false, List, [], ◌∷◌, ◌++◌, reverse, length, get_or, refl, sym, ap, subst, ◌∙◌, arith}
-use Rattle.std.specs.Prelude.{◌&&◌, ◌==◌, ⊤, nat_lt, nat_le}
+-- Digits without leading zeros are those of one number.
+use Rattle.std.proofs.Common.{◌≡◌, ◌≢◌, ℕ, ◌+◌, ◌*◌, ◌<◌, true, List, [], ◌∷◌, ◌++◌, reverse, get_or, refl, sym, ap, subst, ◌∙◌, arith}
+use Rattle.std.specs.Prelude.{◌==◌, ⊤}
 use Rattle.std.specs.List.{list_all}
 use Rattle.std.specs.Char.{is_ascii_digit, digit_value}
 use Rattle.std.specs.Str.{bytes_eq}
 use Rattle.std.specs.Str.Parse.{digits_value}
 use Rattle.std.proofs.lemmas.Bool.Decides.{nat_tests, same_from_decides, Decides-eqb, Decides-like}
-use Rattle.std.proofs.lemmas.Int.Digits.{digits_value_push, digits_value_more}
-use Rattle.std.proofs.lemmas.Str.Parse.{digits_value-take-le}
+use Rattle.std.proofs.lemmas.Int.Digits.{digits_value_push}
 use Rattle.std.proofs.lemmas.List.{reverse-append, reverse-reverse}
 use Rattle.std.proofs.lemmas.Slice.Eq.{bytes_eq-Decides}
-use Rattle.match_wire.specs.BodyLength.{are_digits}
-
-pub both : (a b : Bool) → (a && b) ≡ true → (a ≡ true) × (b ≡ true)
-both true true e = (refl, refl)
-both true false e = (refl, e)
-both false b e = absurd (cc)
-
-pub numeral_parts : (value : List ℕ) → are_digits value ≡ true → (0 < length value) × (list_all is_ascii_digit value ≡ true)
-numeral_parts value e =
-    let parts = both (nat_lt 0 (length value)) (list_all is_ascii_digit value) e in
-    let some : nat_lt 0 (length value) ≡ true = parts.0 in
-    (grind (arith, nat_tests), parts.1)
+use Rattle.match_record.proofs.Numerals.{parts as both}
 
 digit_small : (b : ℕ) → is_ascii_digit b ≡ true → digit_value b < 10
 digit_small b e = grind (arith, nat_tests)
@@ -122,29 +110,3 @@ pub same_number : (xs ys : List ℕ) → list_all is_ascii_digit xs ≡ true →
 same_number xs ys e f first other =
     same_from_decides (bytes_eq xs ys) (digits_value 10 xs == digits_value 10 ys) (bytes_eq-Decides xs ys)
     (Decides-like (digits_value 10 xs == digits_value 10 ys) (one_number xs ys e f first other) (λ same. ap (digits_value 10) same) (Decides-eqb (digits_value 10 xs) (digits_value 10 ys)))
-
--- ---- the number so far
-
-digit_at : (digits : List ℕ) (i : ℕ) → list_all is_ascii_digit digits ≡ true → i < length digits → is_ascii_digit (get_or digits i 0) ≡ true
-digit_at [] i e within = absurd (omega arith)
-digit_at (x ∷ xs) zero e within = (both (is_ascii_digit x) (list_all is_ascii_digit xs) e).0
-digit_at (x ∷ xs) (suc i) e within = digit_at xs i (both (is_ascii_digit x) (list_all is_ascii_digit xs) e).1 (omega arith)
-
-digit_less : (b : ℕ) → is_ascii_digit b ≡ true → b - 48 ≡ digit_value b
-digit_less b e = grind (arith, nat_tests)
-
--- one more digit
-pub next_number : (digits : List ℕ) (i n r : ℕ) → are_digits digits ≡ true → i < length digits → n ≡ digits_value 10 (take i digits)
-    → r ≡ get_or digits i 0 - 48 → n * 10 + r ≡ digits_value 10 (take (i + 1) digits)
-next_number digits i n r e within so_far more =
-    let last : r ≡ digit_value (get_or digits i 0) = more ∙ digit_less (get_or digits i 0) (digit_at digits i (numeral_parts digits e).1 within) in
-    (λ j. so_far j * 10 + last j) ∙ sym (digits_value_more 10 digits i within)
-
--- the number so far is too great, and so is the whole one
-pub too_great : (digits : List ℕ) (i n most : ℕ) → n ≡ digits_value 10 (take i digits) → most < n
-    → ◌≡◌ {A = Option ℕ} None (cond (nat_le (digits_value 10 digits) most) (Some (digits_value 10 digits)) None)
-too_great digits i n most so_far above =
-    let least = digits_value-take-le 10 digits i (omega arith) in
-    let great : most < digits_value 10 digits = omega arith in
-    let test : nat_le (digits_value 10 digits) most ≡ false = grind (arith, nat_tests) in
-    rw test refl

@@ -1,10 +1,8 @@
 pub mod Forms
 pub mod Seconds
 pub mod Printed
-pub mod Numerals
+pub mod Clocks
 pub mod ReadBack
-pub mod Ascii
-pub mod RecordParts
 pub mod Lengths
 pub mod FieldSteps
 pub mod Heads
@@ -13,15 +11,3 @@ pub mod Stays
 pub mod Found
 pub mod Turning
 pub mod WrittenTexts
-pub mod ErrorWords
-pub mod JsonData
-pub mod KeyFormats
-pub mod LawfulParts
-pub mod OneRecord
-pub mod PlainNumerals
-pub mod RecordShapes
-pub mod RecordedMoves
-pub mod Replays
-pub mod RecordEnds
-pub mod LawfulRecords
-pub mod CheckedRecords

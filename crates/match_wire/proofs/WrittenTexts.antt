@@ -13,14 +13,16 @@ use Rattle.std.proofs.lemmas.Str.{IsUtf8-from_ascii}
 use Rattle.std.proofs.lemmas.Str.Parse.{digit_from_value}
 use Rattle.httparse.specs.Grammar.{is_token_byte, is_uri_byte, is_value_byte, is_ows, skip_ows, trim_ows, Field, IsField, print_field, crlf, ResponseHead, print_response, RequestHead, print_request}
 use Rattle.httparse.proofs.TrimLemmas.{trim_ows_space}
-use Rattle.match_wire.specs.BodyLength.{BodyLength, said, are_digits, agreed}
+use Rattle.match_wire.specs.BodyLength.{BodyLength, said, agreed}
 use Rattle.match_wire.specs.HttpHead.{reply_parts, request_parts, most_body}
 use Rattle.match_wire.specs.HttpText.{line_end, line, field, described_body, reply_text, request_text}
 use Rattle.match_wire.specs.Carried.{Follows}
 use Rattle.match_wire.specs.WireLaws.{ReplyIsCarried, RequestIsCarried}
 use Rattle.match_wire.specs.declared.head.HttpKind.{HttpKind}
 use Rattle.match_wire.specs.declared.head.HttpKind.TheVariants.{Reply, Request}
-use Rattle.match_wire.proofs.Lengths.{both, all_reverse}
+use Rattle.match_wire.proofs.Lengths.{all_reverse}
+use Rattle.match_record.specs.Numerals.{are_digits}
+use Rattle.match_record.proofs.Numerals.{parts as both}
 
 -- ---- the length
 

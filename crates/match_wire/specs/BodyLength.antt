@@ -1,9 +1,10 @@
 -- What the fields of a head say of the length of the body.
-use Rattle.std.specs.Prelude.{ℕ, Bool, ◌&&◌, ◌==◌, nat_lt, if◌then◌else◌, List, [], ◌∷◌, length, map, filter, codes, Option, Some, None}
+use Rattle.std.specs.Prelude.{ℕ, Bool, ◌&&◌, ◌==◌, if◌then◌else◌, List, [], ◌∷◌, map, filter, codes, Option, Some, None}
 use Rattle.std.specs.List.{list_all, list_any}
-use Rattle.std.specs.Char.{is_ascii_digit, to_ascii_lowercase}
+use Rattle.std.specs.Char.{to_ascii_lowercase}
 use Rattle.std.specs.Str.{bytes_eq}
 use Rattle.std.specs.Str.Parse.{digits_value}
+use Rattle.match_record.specs.Numerals.{are_digits}
 
 -- a name, and a value without the white space around it
 abbrev pub Header : Type 0
@@ -18,10 +19,6 @@ transfer_encoding = codes "transfer-encoding"
 
 abbrev pub content_length : List ℕ
 content_length = codes "content-length"
-
--- one or more decimal digits
-abbrev pub are_digits : List ℕ → Bool
-are_digits value = nat_lt 0 (length value) && list_all is_ascii_digit value
 
 -- digits that write this number
 abbrev pub writes_number : ℕ → List ℕ → Bool

@@ -5,9 +5,7 @@ use Rattle.std.specs.Char.{is_ascii_digit}
 use Rattle.std.specs.Str.Parse.{digits_value}
 use Rattle.game_core.specs.Expression.{Expression, atom, list}
 use Rattle.match_book.specs.Names.{is_clock}
-
-abbrev pub digit_zero : ℕ
-digit_zero = 48
+use Rattle.match_record.specs.Numerals.{digit_zero}
 
 -- a decimal number that begins with no zero
 abbrev pub is_numeral : List ℕ → Bool

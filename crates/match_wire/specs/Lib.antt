@@ -1,10 +1,13 @@
+pub use Rattle.match_record.specs.RecordTree
+pub use Rattle.match_record.specs.RecordParts
+pub use Rattle.match_record.specs.LawfulRecord
+pub use Rattle.match_record.specs.Verified
 pub mod Clock
 pub mod MessageValue
 pub mod MessageText
 pub mod MessageReading
 pub mod InfoReading
 pub mod MessageLaws
-pub mod RecordTree
 pub mod BodyLength
 pub mod HttpText
 pub mod HttpHead
@@ -14,10 +17,3 @@ pub mod WireFaults
 pub mod Exchange
 pub mod Turns
 pub mod WireLaws
-pub mod JsonValues
-pub mod LawfulRecord
-pub mod RecordParts
-pub mod Replaying
-pub mod ReplaySteps
-pub mod Shown
-pub mod Verified

@@ -3,11 +3,13 @@ ghost use Rattle.std.specs.Prelude.{◌≡◌, All, IsTrue, IfOk, IfSome, MatchR
 ghost use Rattle.std.specs.Char.{to_ascii_lowercase};
 ghost use Rattle.std.specs.Option.{option_copied};
 ghost use Rattle.httparse.specs.Spans.{IsHeaderWithin, header_bytes};
-ghost use Rattle.match_wire.specs.BodyLength.{agrees, body_length, has_name, are_digits, length_of, wrong};
+ghost use Rattle.match_record.specs.Numerals.{are_digits};
+ghost use Rattle.match_wire.specs.BodyLength.{agrees, body_length, has_name, length_of, wrong};
 
-use crate::numeral::{are_digits, is_same_number};
+use crate::numeral::is_same_number;
 use crate::wire_fault::Refusal;
 use httparse::spans::HeaderSpan;
+use match_record::numeral::are_digits;
 
 const CONTENT_LENGTH: &[u8] = b"content-length";
 

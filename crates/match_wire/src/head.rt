@@ -5,10 +5,10 @@ ghost use Rattle.match_wire.specs.BodyLength.{body_length};
 ghost use Rattle.match_wire.specs.HttpHead.{HeadIs, IsKnown, StartsWithin, framed_by, front, most_body};
 
 use crate::body_length::said_length;
-use crate::numeral::number_up_to;
 use crate::wire_fault::Refusal;
 use httparse::Status;
 use httparse::spans::{EMPTY_HEADER_SPAN, HeaderSpan, parse_request, parse_response};
+use match_record::numeral::number_up_to;
 
 /// Which message is read.
 #[derive(Clone, Copy, Debug, PartialEq, Eq)]

@@ -1,10 +1,11 @@
-//! What holds of the definitions, whatever the match.
-ghost use Rattle.game_core.specs.Play.{Rules};
-ghost use Rattle.match_wire.specs.LawfulRecord.{HoldsOnePartsAtMost, LawfulPartsHaveShape, RecordTreeHoldsParts, RecordsAreLawful, RefusedIsUnlawful};
+//! What holds of messages and exchanges, whatever the match. The laws of records are handed on from `match_record`.
 ghost use Rattle.match_wire.specs.MessageLaws.{MessagesReadBack, OwedMessagesReadBack};
 ghost use Rattle.match_wire.specs.WireLaws.{LooksStay, FoundIsCarried, CarriedIsFound, CarriesOneAtMost, CarriedHasNoFault, ReplyIsCarried, RequestIsCarried};
 
-use game_core::Game;
+pub use match_record::laws::{
+    holds_one_parts_at_most, lawful_parts_have_shape, record_tree_holds_parts, records_are_lawful,
+    refused_is_unlawful,
+};
 
 /// The text of a message is read back as the message, with role, rules and moves folded, where its id and
 /// its clocks are lawful, its moves are none or at least one, its expressions are such as texts spell, and
@@ -52,29 +53,4 @@ pub fn reply_is_carried()
 /// The request that `exchange` writes carries its body.
 pub fn request_is_carried()
     ensures { RequestIsCarried }
-{}
-
-/// The record tree of a match holds, at each of its keys, what the match says there.
-pub fn record_tree_holds_parts<G: Game>(game: &G)
-    ensures { RecordTreeHoldsParts (G.rules game.now) }
-{}
-
-/// A text that is read as the record tree of a lawful match is a lawful record.
-pub fn records_are_lawful<G: Game>(game: &G)
-    ensures { RecordsAreLawful (G.rules game.now) }
-{}
-
-/// What a lawful match says has the shape that is asked of a record.
-pub fn lawful_parts_have_shape<G: Game>(game: &G)
-    ensures { LawfulPartsHaveShape (G.rules game.now) }
-{}
-
-/// A tree holds what one record says at most, where that is of the shape.
-pub fn holds_one_parts_at_most<G: Game>(game: &G)
-    ensures { HoldsOnePartsAtMost (G.rules game.now) }
-{}
-
-/// A text that is refused for its shape is no lawful record.
-pub fn refused_is_unlawful<G: Game>(game: &G)
-    ensures { RefusedIsUnlawful (G.rules game.now) }
 {}

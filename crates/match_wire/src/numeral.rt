@@ -1,17 +1,9 @@
-//! Numbers in decimal digits, of any size.
-ghost use Rattle.std.specs.Prelude.{◌≡◌, ◌≢◌, ◌^◌, ◌<◌, ◌==◌, IsTrue, Some, None, if◌then◌else◌, nat_le, slice_index};
+//! Numbers in decimal digits, compared whatever their leading zeros.
+ghost use Rattle.std.specs.Prelude.{◌≡◌, ◌≢◌, ◌==◌, IsTrue, slice_index};
 ghost use Rattle.std.specs.List.{list_all};
 ghost use Rattle.std.specs.Char.{is_ascii_digit};
 ghost use Rattle.std.specs.Str.Parse.{digits_value};
-ghost use Rattle.httparse.specs.Ascii.{digit_zero};
-ghost use Rattle.match_wire.specs.BodyLength.{are_digits};
-
-/// Whether a value is one or more decimal digits.
-pub(crate) fn are_digits(value: &[u8]) -> bool
-    ensures { result ≡ are_digits value.now }
-{
-    !value.is_empty() && value.iter().all(|byte| byte.is_ascii_digit())
-}
+ghost use Rattle.match_record.specs.Numerals.{are_digits, digit_zero};
 
 fn without_leading_zeros(digits: &[u8]) -> &[u8]
     requires { IsTrue (list_all is_ascii_digit digits.now) }
@@ -33,20 +25,4 @@ pub(crate) fn is_same_number(one: &[u8], other: &[u8]) -> bool
     ensures { result ≡ (digits_value 10 one.now == digits_value 10 other.now) }
 {
     without_leading_zeros(one) == without_leading_zeros(other)
-}
-
-/// The number that the digits write, if it is at most `most`.
-pub(crate) fn number_up_to(digits: &[u8], most: usize) -> Option<usize>
-    requires numeral { IsTrue (are_digits digits.now) }
-    requires small { most < 2 ^ 32 }
-    ensures { result ≡ (if nat_le (digits_value 10 digits.now) most then Some (digits_value 10 digits.now) else None) }
-{
-    let mut number = 0;
-    for digit in digits {
-        number = number * 10 + usize::from(*digit - b'0');
-        if number > most {
-            return None;
-        }
-    }
-    Some(number)
 }

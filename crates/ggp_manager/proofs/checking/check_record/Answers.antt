@@ -6,8 +6,8 @@ use Rattle.game_core.specs.Counting.{Counting}
 use Rattle.game_core.specs.Play.{Rules}
 use Rattle.match_wire.specs.LawfulRecord.{IsLawfulRecord}
 use Rattle.match_wire.specs.Verified.{FailsFirst}
-use Rattle.match_wire.specs.declared.verify_fault.VerifyFault.{VerifyFault}
-use Rattle.match_wire.specs.declared.verify_fault.VerifyFault.TheVariants.{NotJson, BadShape, Illegal, NotFirst, WrongState, WrongGoals, WrongEnd, Memory}
+use Rattle.match_record.specs.declared.verify_fault.VerifyFault.{VerifyFault}
+use Rattle.match_record.specs.declared.verify_fault.VerifyFault.TheVariants.{NotJson, BadShape, Illegal, NotFirst, WrongState, WrongGoals, WrongEnd, Memory}
 use Rattle.ggp_manager.specs.Checks.{CheckFails, max_record}
 use Rattle.ggp_manager.specs.Faults.{check_fault}
 use Rattle.ggp_manager.proofs.checking.check_record.Goals as goal

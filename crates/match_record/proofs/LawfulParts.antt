@@ -1,0 +1,207 @@
+-- The parts of a lawful match have the shape of a record, and stand in its record tree.
+use Rattle.std.proofs.Common.{◌≡◌, ℕ, zero, suc, ◌<◌, ◌≤◌, Bool, true, false, Option, Some, None, List, [], ◌∷◌, ◌++◌, length, get_or, map, inl, inr, refl, sym, ap, ◌∙◌, subst, arith, length-append, if◌then◌else◌, nat_le, ◌==◌}
+use Rattle.std.specs.Prelude.{All, IfSome, slice_index_or, is_none, option_to_list}
+use Rattle.std.specs.Option.{option_or}
+use Rattle.std.proofs.lemmas.List.Elements.{All-from_get_or, All-map, All-append}
+use Rattle.serde_json.specs.Find.{get}
+use Rattle.game_core.specs.Play.{Rules, IsLawful, max_goal}
+use Rattle.match_book.specs.Judgement.{IsJudged, MayStand}
+use Rattle.match_book.specs.Lawful.{IsLawfulTurn, AreLawful}
+use Rattle.match_book.specs.MatchValue.{MatchValue, state_after}
+use Rattle.match_book.specs.Phase.{stage, settled, after_the_end, before_the_end, has_no_goal, cause_in, cause, goal_in}
+use Rattle.match_book.specs.Roles.{lowest_role, every_role, is_there}
+use Rattle.match_book.specs.declared.judgement.Substitution.{Substitution}
+use Rattle.match_book.specs.declared.judgement.Substitution.TheVariants.{TimeOut, ConnectionError, Unreadable, Illegal}
+use Rattle.match_book.specs.declared.phase.Cause.TheVariants.{Asked, TooLong}
+use Rattle.match_book.specs.declared.phase.Stage.{Stage}
+use Rattle.match_book.specs.declared.phase.Stage.TheVariants.{Starting, Playing, Stopping, Aborting}
+use Rattle.match_book.specs.declared.turn.Turn.{Turn}
+use Rattle.match_book.proofs.LawfulTurns.{state_after-is_state}
+use Rattle.match_book.proofs.RoleTests.{lowest_role-none}
+use Rattle.match_record.specs.LawfulRecord.{RecordTreeHoldsParts, RecordsAreLawful, LawfulPartsHaveShape}
+use Rattle.match_record.specs.RecordParts.{parts_of, key_text, key_tree, IsShapedAt, IsErrorText, MayBeGiven, NamesRole, AreErrors, AreGoals}
+use Rattle.match_record.specs.RecordTree.{prefixes, goals_from, record_tree, list_tree, texts_tree}
+use Rattle.match_record.proofs.JsonData.{length_map}
+use Rattle.match_record.proofs.KeyFormats.{at_each_key}
+
+-- ---- causes
+
+lowest_below : (n : ℕ) (p : ℕ → Bool) (r : ℕ) → lowest_role n p ≡ Some r → r < n
+lowest_below zero p r is = absurd cc
+lowest_below (suc n) p r is = go (lowest_role n p) (p n) refl is (lowest_below n p)
+  where
+    go : (o : Option ℕ) (b : Bool) → lowest_role n p ≡ o → option_or o (if b then Some n else None) ≡ Some r → ((k : ℕ) → lowest_role n p ≡ Some k → k < n) → r < suc n
+    go (Some k) b lower found below = let same : k ≡ r = cc in omega (arith, below k lower)
+    go None true lower found below = let same : n ≡ r = cc in omega arith
+    go None false lower found below = absurd cc
+
+settled_names : {S M : Type 0} (g : Rules S M) (t : ℕ) (s : S) → IfSome (cause_in (settled g t s)) (NamesRole g.roles)
+unfolding settled
+settled_names g t s = go (g.terminal s) (nat_le 10000 t) (lowest_role g.roles (has_no_goal g s)) (lowest_role g.roles (λ r. length (g.legal s r) == 0)) (lowest_below g.roles (has_no_goal g s)) (lowest_below g.roles (λ r. length (g.legal s r) == 0))
+  where
+    go : (ended long : Bool) (goal move : Option ℕ) → ((r : ℕ) → goal ≡ Some r → r < g.roles) → ((r : ℕ) → move ≡ Some r → r < g.roles)
+        → IfSome (cause_in (if ended then after_the_end goal else (if long then Aborting TooLong else before_the_end move))) (NamesRole g.roles)
+    go true long None move goal_below move_below = tt
+    go true long (Some r) move goal_below move_below = goal_below r refl
+    go false true goal move goal_below move_below = tt
+    go false false goal None goal_below move_below = tt
+    go false false goal (Some r) goal_below move_below = move_below r refl
+
+cause_names : {S M : Type 0} (g : Rules S M) (m : MatchValue M) → IfSome (cause g m) (NamesRole g.roles)
+unfolding stage
+cause_names g m = go m.abort_asked (every_role g.roles (is_there m.start_marks)) (settled g (length m.turns) (state_after g m.turns)) (settled_names g (length m.turns) (state_after g m.turns))
+  where
+    go : (asked started : Bool) (at : Stage) → IfSome (cause_in at) (NamesRole g.roles) → IfSome (cause_in (if asked then Aborting Asked else (if started then at else Starting))) (NamesRole g.roles)
+    go true started at named = tt
+    go false true at named = named
+    go false false at named = tt
+
+-- ---- goals
+
+stopping : {S M : Type 0} (g : Rules S M) (t : ℕ) (s : S) → settled g t s ≡ Stopping → lowest_role g.roles (has_no_goal g s) ≡ None
+unfolding settled
+stopping g t s is = go (g.terminal s) (nat_le 10000 t) (lowest_role g.roles (has_no_goal g s)) (lowest_role g.roles (λ r. length (g.legal s r) == 0)) is
+  where
+    go : (ended long : Bool) (goal move : Option ℕ) → (if ended then after_the_end goal else (if long then Aborting TooLong else before_the_end move)) ≡ Stopping → goal ≡ None
+    go true long None move h = refl
+    go true long (Some r) move h = absurd cc
+    go false true goal move h = absurd cc
+    go false false goal None h = absurd cc
+    go false false goal (Some r) h = absurd cc
+
+stage_stopping : {S M : Type 0} (g : Rules S M) (m : MatchValue M) → stage g m ≡ Stopping → lowest_role g.roles (has_no_goal g (state_after g m.turns)) ≡ None
+unfolding stage
+stage_stopping g m is = go m.abort_asked (every_role g.roles (is_there m.start_marks)) (settled g (length m.turns) (state_after g m.turns)) is (stopping g (length m.turns) (state_after g m.turns))
+  where
+    go : (asked started : Bool) (at : Stage) → (if asked then Aborting Asked else (if started then at else Starting)) ≡ Stopping → (at ≡ Stopping → lowest_role g.roles (has_no_goal g (state_after g m.turns)) ≡ None)
+        → lowest_role g.roles (has_no_goal g (state_after g m.turns)) ≡ None
+    go true started at h goals = absurd cc
+    go false true at h goals = goals h
+    go false false at h goals = absurd cc
+
+no_goals : (n : ℕ) (goal : ℕ → Option ℕ) → ((r : ℕ) → goal r ≡ None) → goals_from n goal ≡ []
+no_goals zero goal none = refl
+no_goals (suc n) goal none = ap (λ gs. gs ++ option_to_list (goal n)) (no_goals n goal none) ∙ ap option_to_list (none n)
+
+-- the role has a goal within the range
+abbrev HasGoal : (ℕ → Option ℕ) → ℕ → Type 0
+HasGoal goal r = (v : ℕ) × (goal r ≡ Some v) × (v ≤ max_goal)
+
+one_goal : (v : ℕ) → v ≤ max_goal → All (λ goal. goal ≤ max_goal) (v ∷ [])
+one_goal v small = All-from_get_or (λ goal. goal ≤ max_goal) (v ∷ []) v (λ i below. only i below)
+  where
+    only : (i : ℕ) → i < 1 → get_or (v ∷ []) i v ≤ max_goal
+    only zero below = small
+    only (suc i) below = absurd (omega arith)
+
+all_goals : (n : ℕ) (goal : ℕ → Option ℕ) → ((r : ℕ) → r < n → HasGoal goal r) → (length (goals_from n goal) ≡ n) × All (λ goal. goal ≤ max_goal) (goals_from n goal)
+all_goals zero goal has = (refl, λ k d below. absurd (omega arith))
+all_goals (suc n) goal has =
+    let earlier = all_goals n goal (λ r below. has r (omega arith)) in
+    let last = has n (omega arith) in
+    let pushed : goals_from (suc n) goal ≡ goals_from n goal ++ last.0 ∷ [] = ap (λ o. goals_from n goal ++ option_to_list o) last.1 in (
+      ap length pushed ∙ length-append (goals_from n goal) (last.0 ∷ []) ∙ omega (arith, earlier.0),
+      subst (λ (gs : List ℕ). All (λ v. v ≤ max_goal) gs) (sym pushed) (All-append (λ v. v ≤ max_goal) (goals_from n goal) (last.0 ∷ []) earlier.1 (one_goal last.0 last.2)),
+    )
+
+given_goal : (o : Option ℕ) → is_none o ≡ false → (v : ℕ) × (o ≡ Some v)
+given_goal None is = absurd cc
+given_goal (Some v) is = (v, refl)
+
+goals_shape : {S M : Type 0} (g : Rules S M) → IsLawful g → (s : S) → g.IsState s → (at : Stage) → (at ≡ Stopping → lowest_role g.roles (has_no_goal g s) ≡ None) → AreGoals g.roles (goals_from g.roles (goal_in at g s))
+goals_shape g laws s is_state Starting stops = inl (no_goals g.roles (goal_in Starting g s) (λ r. refl))
+goals_shape g laws s is_state Playing stops = inl (no_goals g.roles (goal_in Playing g s) (λ r. refl))
+goals_shape g laws s is_state (Aborting c) stops = inl (no_goals g.roles (goal_in (Aborting c) g s) (λ r. refl))
+goals_shape g laws s is_state Stopping stops =
+    inr
+    (all_goals g.roles (goal_in Stopping g s)
+    (λ r below. let found = given_goal (g.goal s r) (lowest_role-none g.roles r (has_no_goal g s) (stops refl) below) in (found.0, found.1, laws.goal_in_range s r found.0 is_state below found.1)))
+
+-- ---- turns
+
+some_member : {A : Type 0} (xs : List A) (k : ℕ) → k < length xs → A
+some_member [] k below = absurd (omega arith)
+some_member (x ∷ xs) k below = x
+
+given : {S M : Type 0} (g : Rules S M) (moves : List M) (why : Substitution) → MayStand g moves why → MayBeGiven why
+given g moves TimeOut may = tt
+given g moves ConnectionError may = tt
+given g moves Unreadable may = tt
+given g moves (Illegal x) may = (may.0, may.1)
+
+judged_error : {S M : Type 0} (g : Rules S M) (moves : List M) (m : M) (e : List ℕ) → IsJudged g moves m e → IsErrorText e
+judged_error g moves m e (there, inl empty) = inl empty
+judged_error g moves m e (there, inr (first, (why, same, may))) = inr (why, same, given g moves why may)
+
+turn_errors : {S M : Type 0} (g : Rules S M) (before : List (Turn M)) (t : Turn M) → IsLawfulTurn g before t → All IsErrorText t.errors
+turn_errors g before t lawful =
+    All-from_get_or IsErrorText t.errors []
+    (λ r below.
+    let within : r < g.roles = omega (arith, lawful.one_error) in
+    judged_error g (g.legal (state_after g before) r) _ (get_or t.errors r []) (lawful.judged r (some_member t.moves r (omega (arith, lawful.joint.width, lawful.one_error))) within))
+
+turns_errors : {S M : Type 0} (g : Rules S M) (turns : List (Turn M)) → AreLawful g turns → AreErrors g.roles (map (λ t. t.errors) turns)
+turns_errors g turns lawful =
+    All-map (λ texts. (length texts ≡ g.roles) × All IsErrorText texts) (λ t. t.errors) turns
+    (λ k d below. let turn = lawful k d below in (turn.one_error, turn_errors g _ (slice_index_or turns k d) turn))
+
+turns_moves : {S M : Type 0} (g : Rules S M) (turns : List (Turn M)) → AreLawful g turns → All (λ texts. length texts ≡ g.roles) (map (λ t. map g.move_text t.moves) turns)
+turns_moves g turns lawful = All-map (λ texts. length texts ≡ g.roles) (λ t. map g.move_text t.moves) turns (λ k d below. length_map g.move_text (slice_index_or turns k d).moves ∙ (lawful k d below).joint.width)
+
+length_prefixes : {A : Type 0} (xs : List A) → length (prefixes xs) ≡ suc (length xs)
+length_prefixes [] = refl
+length_prefixes (x ∷ xs) = ap suc (length_map (λ front. x ∷ front) (prefixes xs) ∙ length_prefixes xs)
+
+-- ---- the whole
+
+pub lawful_parts_have_shape : {S M : Type 0} (g : Rules S M) → IsLawful g → LawfulPartsHaveShape g
+lawful_parts_have_shape g laws m lawful setup = record {
+  keys =
+      at_each_key (λ key. IsShapedAt g key (parts_of g m))
+      (record {
+        cause = cause_names g m;
+        end_marks = lawful.one_end_mark;
+        errors = turns_errors g m.turns lawful.turns;
+        goals = goals_shape g laws (state_after g m.turns) (state_after-is_state g laws m.turns lawful.turns) (stage g m) (stage_stopping g m);
+        id = setup.id;
+        moves = (turns_moves g m.turns lawful.turns, subst (λ (n : ℕ). n ≤ 10000) (sym (length_map (λ t. map g.move_text t.moves) m.turns)) lawful.few_turns);
+        phase = tt;
+        play = setup.play;
+        players = (lawful.one_player, setup.players);
+        roles = refl;
+        start = setup.start;
+        start_marks = lawful.one_start_mark;
+        states = tt;
+      });
+  as_many_errors = length_map (λ t. t.errors) m.turns ∙ sym (length_map (λ t. map g.move_text t.moves) m.turns);
+  one_state_more =
+      length_map (λ front. g.state_text (state_after g front)) (prefixes m.turns) ∙ length_prefixes m.turns
+      ∙ ap suc (sym (length_map (λ t. map g.move_text t.moves) m.turns));
+}
+
+map_twice : {A B C : Type 0} (f : B → C) (h : A → B) (xs : List A) → map (λ x. f (h x)) xs ≡ map f (map h xs)
+map_twice f h [] = refl
+map_twice f h (x ∷ xs) = ap (λ ys. f (h x) ∷ ys) (map_twice f h xs)
+
+pub record_tree_holds_parts : {S M : Type 0} (g : Rules S M) → RecordTreeHoldsParts g
+unfolding record_tree
+record_tree_holds_parts g m =
+    at_each_key (λ key. get (key_text key) (record_tree g m) ≡ Some (key_tree key (parts_of g m)))
+    (record {
+      cause = refl;
+      end_marks = refl;
+      errors = ap (λ ds. Some (list_tree ds)) (map_twice texts_tree (λ t. t.errors) m.turns);
+      goals = refl;
+      id = refl;
+      moves = ap (λ ds. Some (list_tree ds)) (map_twice texts_tree (λ t. map g.move_text t.moves) m.turns);
+      phase = refl;
+      play = refl;
+      players = refl;
+      roles = refl;
+      start = refl;
+      start_marks = refl;
+      states = ap (λ ds. Some (list_tree ds)) (map_twice texts_tree (λ front. g.state_text (state_after g front)) (prefixes m.turns));
+    })
+
+pub records_are_lawful : {S M : Type 0} (g : Rules S M) → RecordsAreLawful g
+records_are_lawful g text m lawful setup json = (record_tree g m, m, record { json = json; setup = setup; lawful = lawful; holds = record_tree_holds_parts g m })

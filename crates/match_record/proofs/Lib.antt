@@ -1,0 +1,16 @@
+pub mod Numerals
+pub mod Digits
+pub mod Ascii
+pub mod RecordParts
+pub mod ErrorWords
+pub mod JsonData
+pub mod KeyFormats
+pub mod LawfulParts
+pub mod OneRecord
+pub mod PlainNumerals
+pub mod RecordShapes
+pub mod RecordedMoves
+pub mod Replays
+pub mod RecordEnds
+pub mod LawfulRecords
+pub mod CheckedRecords

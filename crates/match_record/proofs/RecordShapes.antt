@@ -1,0 +1,76 @@
+-- The shapes of a record's lists.
+use Rattle.std.proofs.Common.{◌≡◌, ℕ, zero, suc, ◌<◌, ◌≤◌, ◌==◌, ◌||◌, Bool, true, false, not, List, [], ◌∷◌, ◌++◌, length, get_or, inl, inr, refl, sym, ap, ◌∙◌, arith, length-append}
+use Rattle.std.specs.Prelude.{All, ◌⊎◌}
+use Rattle.std.proofs.lemmas.Bool.Decides.{Decides-eqb, nat_tests}
+use Rattle.std.proofs.lemmas.Slice.Eq.{bytes_eq-Decides}
+use Rattle.std.specs.Str.{bytes_eq}
+use Rattle.game_core.specs.Play.{max_goal}
+use Rattle.match_record.specs.RecordParts.{AreGoals}
+use Rattle.match_record.specs.RecordTree.{each_role}
+
+-- ---- goals
+
+pub goals_small : (roles : ℕ) (goals : List ℕ) → AreGoals roles goals → All (λ goal. goal ≤ max_goal) goals
+goals_small roles goals (inl none) = λ k d below. absurd (omega (arith, ap length none))
+goals_small roles goals (inr each) = each.1
+
+pub other_count : (roles n : ℕ) (goals : List ℕ) → n ≡ length goals → (n == 0 || n == roles) ≡ false → AreGoals roles goals → ⊥
+other_count roles n goals many other (inl none) = let empty : n ≡ 0 = many ∙ ap length none in grind (arith, nat_tests)
+other_count roles n goals many other (inr each) = let wide : n ≡ roles = many ∙ each.0 in grind (arith, nat_tests)
+
+none_left : (goals : List ℕ) → length goals ≡ 0 → goals ≡ []
+none_left [] is = refl
+none_left (x ∷ xs) is = absurd (omega arith)
+
+pub goals_counted : (roles n : ℕ) (goals : List ℕ) → n ≡ length goals → (n == 0 || n == roles) ≡ true → All (λ goal. goal ≤ max_goal) goals → AreGoals roles goals
+goals_counted roles n goals many counted small = go (n == 0) refl counted
+  where
+    go : (b : Bool) → (n == 0) ≡ b → (b || n == roles) ≡ true → AreGoals roles goals
+    go true is h = inl (none_left goals (sym many ∙ (Decides-eqb n 0).0 is))
+    go false is h = inr (sym many ∙ (Decides-eqb n roles).0 h, small)
+
+-- ---- what each role has
+
+pub length_each_role : {A : Type 0} (n : ℕ) (f : ℕ → A) → length (each_role n f) ≡ n
+length_each_role zero f = refl
+length_each_role (suc n) f = simp length-append (omega (arith, length_each_role n f))
+
+at_append : {A : Type 0} (xs : List A) (y d : A) → get_or (xs ++ y ∷ []) (length xs) d ≡ y
+at_append [] y d = refl
+at_append (x ∷ xs) y d = at_append xs y d
+
+at_front : {A : Type 0} (xs ys : List A) (i : ℕ) (d : A) → i < length xs → get_or (xs ++ ys) i d ≡ get_or xs i d
+at_front [] ys i d below = absurd (omega arith)
+at_front (x ∷ xs) ys zero d below = refl
+at_front (x ∷ xs) ys (suc i) d below = at_front xs ys i d (omega arith)
+
+lower_or_last : (r n : ℕ) → r < suc n → (r < n) ⊎ (r ≡ n)
+lower_or_last r n below = go (r == n) refl
+  where
+    go : (b : Bool) → (r == n) ≡ b → (r < n) ⊎ (r ≡ n)
+    go true is = inr ((Decides-eqb r n).0 is)
+    go false is = inl (grind (arith, nat_tests))
+
+pub at_each_role : {A : Type 0} (n : ℕ) (f : ℕ → A) (r : ℕ) (d : A) → r < n → get_or (each_role n f) r d ≡ f r
+at_each_role zero f r d below = absurd (omega arith)
+at_each_role {A} (suc n) f r d below = go (lower_or_last r n below) (at_each_role n f r d)
+  where
+    go : (r < n) ⊎ (r ≡ n) → (r < n → get_or (each_role n f) r d ≡ f r) → get_or (each_role n f ++ f n ∷ []) r d ≡ f r
+    go (inl lower) earlier = at_front (each_role n f) (f n ∷ []) r d (omega (arith, length_each_role n f)) ∙ earlier lower
+    go (inr last) earlier = ap (λ i. get_or (each_role n f ++ f n ∷ []) i d) (last ∙ sym (length_each_role n f)) ∙ at_append (each_role n f) (f n) d ∙ ap f (sym last)
+
+-- ---- compared texts
+
+pub same_when_equal : (xs ys : List ℕ) → not (bytes_eq xs ys) ≡ false → xs ≡ ys
+same_when_equal xs ys is = (bytes_eq-Decides xs ys).0 (go (bytes_eq xs ys) is)
+  where
+    go : (b : Bool) → not b ≡ false → b ≡ true
+    go true h = refl
+    go false h = absurd cc
+
+pub apart_when_not : (xs ys : List ℕ) → not (bytes_eq xs ys) ≡ true → xs ≡ ys → ⊥
+apart_when_not xs ys is same = go (bytes_eq xs ys) is ((bytes_eq-Decides xs ys).1 same)
+  where
+    go : (b : Bool) → not b ≡ true → b ≡ true → ⊥
+    go true h equal = cc
+    go false h equal = cc

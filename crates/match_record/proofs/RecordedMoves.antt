@@ -1,0 +1,177 @@
+-- A recorded move and its error, and the joint move of a turn.
+use Rattle.std.proofs.Common.{◌≡◌, ◌≢◌, ℕ, zero, suc, ◌+◌, ◌<◌, ◌≤◌, true, false, Option, Some, None, List, [], ◌∷◌, ◌++◌, length, take, map, refl, sym, ap, ◌∙◌, subst, arith, inl, inr, ◌⊎◌, Contains, codes, eqb}
+use Rattle.std.specs.Prelude.{AllPairs, IsTrue, is_some, slice_index_or, slice_get, ◌↔◌, ◌==◌}
+use Rattle.std.specs.List.{HoldsAt}
+use Rattle.std.proofs.lemmas.List.{append_cancel_left, length_push, map_push, take_more, take_all, get_or_push, get_or_append_left}
+use Rattle.std.proofs.lemmas.Bool.Decides.{nat_tests}
+use Rattle.std.proofs.lemmas.List.Elements.{Contains-get_or}
+use Rattle.std.proofs.lemmas.Option.{get_or_from_slice_get, slice_get_read}
+use Rattle.game_core.specs.Play.{Rules, IsLawful}
+use Rattle.match_book.specs.Judgement.{error_text, MayStand, IsJudged}
+use Rattle.match_book.specs.declared.judgement.Substitution.{Substitution}
+use Rattle.match_book.specs.declared.judgement.Substitution.TheVariants.{TimeOut, ConnectionError, Unreadable, Illegal}
+use Rattle.match_book.proofs.Judgements.{first-contains, Contains-move}
+use Rattle.match_record.specs.RecordParts.{IsErrorText, MayBeGiven}
+use Rattle.match_record.specs.Replaying.{GoesOn, IsRightMove, NamesNone, DeniesOne, IsWrongError, text_at}
+use Rattle.match_record.specs.ReplaySteps.{all_moves, IsPlaceOf, IsRightJoint}
+use Rattle.match_record.proofs.RecordShapes.{at_each_role}
+
+-- ---- members
+
+pub element-at : {A : Type 0} (xs : List A) (k : ℕ) → k < length xs → (x : A) × (slice_index_or xs k x ≡ x)
+element-at [] k lt = absurd (omega arith)
+element-at (x ∷ xs) zero lt = (x, refl)
+element-at (x ∷ xs) (suc k) lt = element-at xs k (omega arith)
+
+named-none : {S M : Type 0} (g : Rules S M) (moves : List M) (x : List ℕ) (m : M) → NamesNone g moves x → Contains moves m → g.move_text m ≢ x
+named-none {S} {M} g moves x m none among = subst (λ (n : M). g.move_text n ≢ x) among.2 (none among.0 m among.1)
+
+-- ---- errors
+
+illegal_text : (x y : List ℕ) → error_text (Illegal x) ≡ error_text (Illegal y) → x ≡ y
+illegal_text x y same = append_cancel_left (codes "IL ") x y same
+
+-- an error without the first three bytes denies nothing
+pub denies-none : {S M : Type 0} (g : Rules S M) (moves : List M) (e : List ℕ) → ((rest : List ℕ) → e ≢ codes "IL " ++ rest) → IsTrue false ↔ DeniesOne g moves e
+denies-none g moves e other = (λ w. absurd cc, λ d. absurd (other (g.move_text d.0) d.2))
+
+pub denies-place : {S M : Type 0} (g : Rules S M) (moves : List M) (e x : List ℕ) (o : Option ℕ) → e ≡ codes "IL " ++ x → IsPlaceOf g moves x o → IsTrue (is_some o) ↔ DeniesOne g moves e
+denies-place g moves e x None is none = (λ w. absurd cc, λ d. absurd (named-none g moves x d.0 none d.1 (illegal_text (g.move_text d.0) x (sym d.2 ∙ is))))
+denies-place {S} {M} g moves e x (Some p) is place =
+    let m = element-at moves p place.0 in
+    let text : g.move_text m.0 ≡ x = subst (λ (n : M). g.move_text n ≡ x) m.1 (place.1 m.0) in
+    (λ _. (m.0, (p, place.0, m.1), is ∙ ap (λ y. error_text (Illegal y)) (sym text)), λ _. refl)
+
+may-stand : {S M : Type 0} (g : Rules S M) (moves : List M) (e : List ℕ) (why : Substitution) → e ≡ error_text why → MayBeGiven why → ¬ (DeniesOne g moves e) → MayStand g moves why
+may-stand g moves e TimeOut is given not = tt
+may-stand g moves e ConnectionError is given not = tt
+may-stand g moves e Unreadable is given not = tt
+may-stand g moves e (Illegal x) is given not =
+    (given.0, given.1, λ k d lt w. not (slice_index_or moves k d, Contains-get_or moves k d lt, is ∙ ap (λ y. error_text (Illegal y)) (sym w)))
+
+-- an error of a record may stand beside the first move, where it denies no legal move
+pub first-judged : {S M : Type 0} (g : Rules S M) (moves : List M) (m : M) (e : List ℕ) → IsErrorText e → slice_get moves 0 ≡ Some m → ¬ (DeniesOne g moves e) → IsJudged g moves m e
+first-judged g moves m e (inl empty) first not = (first-contains moves m first, inl empty)
+first-judged g moves m e (inr reason) first not = (first-contains moves m first, inr (first, (reason.0, reason.1, may-stand g moves e reason.0 reason.1 reason.2 not)))
+
+-- the place of a move that was found
+pub found-place : {S M : Type 0} (g : Rules S M) (moves : List M) (x : List ℕ) (o : Option ℕ) (p : ℕ) → o ≡ Some p → IsPlaceOf g moves x o → (p < length moves) × HoldsAt (λ m. g.move_text m ≡ x) moves p
+found-place g moves x o p at place = subst (λ q. IsPlaceOf g moves x q) at place
+
+pub not-empty : (e : List ℕ) → false ≡ (length e == 0) → e ≢ []
+not-empty e some empty = let w : false ≡ (length {A = ℕ} [] == 0) = some ∙ ap (λ l. length l == 0) empty in absurd cc
+
+pub is-empty : (e : List ℕ) → true ≡ (length e == 0) → e ≡ []
+is-empty [] none = refl
+is-empty (x ∷ xs) none = let w = longer (length xs) in absurd cc
+  where
+    longer : (n : ℕ) → (suc n == 0) ≡ false
+    longer n = grind (arith, nat_tests)
+
+-- a move that is taken as it is recorded
+pub right-move : {S M : Type 0} (g : Rules S M) (moves : List M) (m : M) (text e : List ℕ) (p : ℕ) → IsErrorText e → (p < length moves) × HoldsAt (λ n. g.move_text n ≡ text) moves p → m ≡ slice_index_or moves p m
+    → (e ≡ []) ⊎ ((p ≤ 0) × ¬ (DeniesOne g moves e)) → (g.move_text m ≡ text) × IsJudged g moves m e
+right-move {S} {M} g moves m text e p error place taken may =
+    (subst (λ (n : M). g.move_text n ≡ text) (sym taken) (place.1 m), judged may)
+  where
+    judged : (e ≡ []) ⊎ ((p ≤ 0) × ¬ (DeniesOne g moves e)) → IsJudged g moves m e
+    judged (inl empty) = ((p, place.0, sym taken), inl empty)
+    judged (inr first) =
+        let zeroth : p ≡ 0 = omega (arith, first.0) in
+        let within : 0 < length moves = omega (arith, place.0) in
+        first-judged g moves m e error (slice_get_read moves (length moves) 0 m refl within (taken ∙ ap (λ k. slice_index_or moves k m) zeroth)) first.1
+
+-- a move that is not the first
+pub later-move : {S M : Type 0} (g : Rules S M) (moves : List M) (text e : List ℕ) (p : ℕ) → AllPairs (λ m n. m ≢ n) moves → p < length moves → HoldsAt (λ m. g.move_text m ≡ text) moves p → 0 < p → e ≢ [] → IsWrongError g moves text e
+later-move {S} {M} g moves text e p apart within named later some =
+    let m = element-at moves p within in (
+      m.0,
+      (p, within, m.1),
+      subst (λ (n : M). g.move_text n ≡ text) m.1 (named m.0),
+      inl (some, λ first. apart 0 p m.0 later within (get_or_from_slice_get moves 0 m.0 m.0 first ∙ sym m.1)),
+    )
+
+-- a move whose error denies a legal one
+pub denied-move : {S M : Type 0} (g : Rules S M) (moves : List M) (text e : List ℕ) (p : ℕ) → p < length moves → HoldsAt (λ m. g.move_text m ≡ text) moves p → DeniesOne g moves e → IsWrongError g moves text e
+denied-move {S} {M} g moves text e p within named denies =
+    let m = element-at moves p within in
+    (m.0, (p, within, m.1), subst (λ (n : M). g.move_text n ≡ text) m.1 (named m.0), inr denies)
+
+-- ---- a right move is no faulty one
+
+-- one begins with another byte than `I`, the other with this
+first-apart : (xs ys : List ℕ) → xs ≡ ys → eqb (slice_index_or xs 0 0) 73 ≡ false → eqb (slice_index_or ys 0 0) 73 ≡ true → ⊥
+first-apart xs ys same one other = let w : eqb (slice_index_or xs 0 0) 73 ≡ eqb (slice_index_or ys 0 0) 73 = ap (λ l. eqb (slice_index_or l 0 0) 73) same in absurd cc
+
+illegal-judged : {S M : Type 0} (g : Rules S M) → IsLawful g → (moves : List M) (n : M) (e : List ℕ) (why : Substitution) → g.IsMove n → Contains moves n → e ≡ error_text why → MayStand g moves why → e ≡ error_text (Illegal (g.move_text n)) → ⊥
+illegal-judged g laws moves n e TimeOut is among reason may denies = first-apart (error_text TimeOut) (error_text (Illegal (g.move_text n))) (sym reason ∙ denies) refl refl
+illegal-judged g laws moves n e ConnectionError is among reason may denies = first-apart (error_text ConnectionError) (error_text (Illegal (g.move_text n))) (sym reason ∙ denies) refl refl
+illegal-judged g laws moves n e Unreadable is among reason may denies = laws.no_question n is (sym (illegal_text (codes "?") (g.move_text n) (sym reason ∙ denies)))
+illegal-judged g laws moves n e (Illegal x) is among reason may denies = named-none g moves x n may.2 among (sym (illegal_text x (g.move_text n) (sym reason ∙ denies)))
+
+pub judged-not_wrong : {S M : Type 0} (g : Rules S M) → IsLawful g → (s : S) (r : ℕ) (m : M) (text e : List ℕ) → g.IsState s → r < g.roles → g.move_text m ≡ text → IsJudged g (g.legal s r) m e → ¬ (IsWrongError g (g.legal s r) text e)
+judged-not_wrong {S} {M} g laws s r m text e is_state role named judged wrong =
+    let of_game = Contains-move g laws s r m is_state role judged.0 in
+    let other = Contains-move g laws s r wrong.0 is_state role wrong.1 in
+    let same : wrong.0 ≡ m = laws.one_move_for_each_text wrong.0 m other of_game (wrong.2 ∙ sym named) in
+    by (subst (λ (n : M). ((e ≢ []) × (slice_get (g.legal s r) 0 ≢ Some n)) ⊎ DeniesOne g (g.legal s r) e) same wrong.3) judged.1
+  where
+    by : ((e ≢ []) × (slice_get (g.legal s r) 0 ≢ Some m)) ⊎ DeniesOne g (g.legal s r) e
+        → (e ≡ []) ⊎ ((slice_get (g.legal s r) 0 ≡ Some m) × ((why : Substitution) × (e ≡ error_text why) × MayStand g (g.legal s r) why)) → ⊥
+    by (inl apart) (inl empty) = apart.0 empty
+    by (inl apart) (inr stands) = apart.1 stands.0
+    by (inr denies) (inl empty) = let w : [] ≡ error_text (Illegal (g.move_text denies.0)) = sym empty ∙ denies.2 in absurd cc
+    by (inr denies) (inr stands) =
+        illegal-judged g laws (g.legal s r) denies.0 e stands.1.0 (Contains-move g laws s r denies.0 is_state role denies.1) denies.1 stands.1.1 stands.1.2 denies.2
+
+-- ---- the joint move of a turn
+
+-- the moves that stand in a role's place
+pub moves-at : {S M : Type 0} (g : Rules S M) (s : S) (lists : List (List M)) (r : ℕ) (x : List M) → lists ≡ all_moves g s → r < g.roles → x ≡ slice_index_or lists r x → x ≡ g.legal s r
+moves-at g s lists r x same within at = at ∙ ap (λ ls. slice_index_or ls r x) same ∙ at_each_role g.roles (g.legal s) r x within
+
+pub none-below : {S M : Type 0} (g : Rules S M) (s : S) (moves errors : List (List ℕ)) (q : ℕ) → q < 0 → IsRightMove g (g.legal s q) (text_at moves q) (text_at errors q)
+none-below g s moves errors q lt = absurd (omega arith)
+
+pub record SoFar {S M : Type 0} (g : Rules S M) (s : S) (moves errors : List (List ℕ)) (r : ℕ) (joint : List M) : Type 0 where
+  pub wide : length joint ≡ r
+  pub texts : map g.move_text joint ≡ take r moves
+  pub judged : (q : ℕ) (d : M) → q < r → IsJudged g (g.legal s q) (slice_index_or joint q d) (text_at errors q)
+  pub right : (q : ℕ) → q < r → IsRightMove g (g.legal s q) (text_at moves q) (text_at errors q)
+
+below_or_last : (k n : ℕ) → k < n + 1 → (k ≡ n) ⊎ (k < n)
+below_or_last k n lt = grind arith
+
+-- one role more
+pub SoFar-more : {S M : Type 0} (g : Rules S M) (s : S) (moves errors : List (List ℕ)) (r : ℕ) (joint : List M) (m : M) (text error : List ℕ) → SoFar g s moves errors r joint → r < length moves → text ≡ text_at moves r → error ≡ text_at errors r
+    → g.move_text m ≡ text → IsJudged g (g.legal s r) m error → SoFar g s moves errors (r + 1) (joint ++ m ∷ [])
+SoFar-more {S} {M} g s moves errors r joint m text error far within text_is error_is named judged =
+    let here : IsJudged g (g.legal s r) m (text_at errors r) = subst (λ (e : List ℕ). IsJudged g (g.legal s r) m e) error_is judged in
+    record {
+      wide = length_push joint m ∙ ap (λ n. n + 1) far.wide;
+      texts = map_push g.move_text joint m ∙ ap (λ ts. ts ++ g.move_text m ∷ []) far.texts ∙ ap (λ t. take r moves ++ t ∷ []) (named ∙ text_is) ∙ sym (take_more moves r [] within);
+      judged = λ q d lt.
+          elim (below_or_last q r lt) [
+            | inl last ↦
+                subst (λ (k : ℕ). IsJudged g (g.legal s k) (slice_index_or (joint ++ m ∷ []) k d) (text_at errors k)) (sym last)
+                (subst (λ (n : M). IsJudged g (g.legal s r) n (text_at errors r)) (sym (get_or_push joint m d r far.wide)) here)
+            | inr below ↦
+                let inside : q < length joint = omega (arith, far.wide) in
+                subst (λ (n : M). IsJudged g (g.legal s q) n (text_at errors q)) (sym (get_or_append_left joint (m ∷ []) d q inside)) (far.judged q d below)
+          ];
+      right = λ q lt.
+          elim (below_or_last q r lt) [
+            | inl last ↦ subst (λ (k : ℕ). IsRightMove g (g.legal s k) (text_at moves k) (text_at errors k)) (sym last) (m, named ∙ text_is, here)
+            | inr below ↦ far.right q below
+          ];
+    }
+
+-- all roles
+pub SoFar-all : {S M : Type 0} (g : Rules S M) (s : S) (moves errors : List (List ℕ)) (r : ℕ) (joint : List M) → SoFar g s moves errors r joint → GoesOn g s → r ≡ g.roles → length moves ≡ g.roles → IsRightJoint g s moves errors joint
+SoFar-all g s moves errors r joint far goes_on all wide =
+    record {
+      goes_on = goes_on;
+      joint = record { width = far.wide ∙ all; legal = λ q d lt. (far.judged q d (omega arith)).0 };
+      texts = far.texts ∙ take_all r moves (omega arith);
+      judged = λ q d lt. far.judged q d (omega arith);
+    }

@@ -1,0 +1,42 @@
+use Rattle.std.proofs.Common.{Some, Option, Bor, subst, sym, ◌∙◌}
+use Rattle.std.specs.Prelude.{option_map}
+use Rattle.serde_json.specs.Data.{Data}
+use Rattle.serde_json.specs.View.{view, items_view}
+use Rattle.serde_json.specs.declared.value.Value.{Value}
+use Rattle.match_book.specs.Marks.{mark_text}
+use Rattle.match_book.specs.declared.answer.Mark.{Mark}
+use Rattle.match_record.specs.RecordTree.{text_or_null}
+use Rattle.match_record.specs.Shown.{Shows, AnyShape}
+use Rattle.match_record.proofs.JsonData.{found_array, shown_length, members_shown, member_not_shown, member_more, members_all}
+use Rattle.match_record.proofs.record_reading.marks_in.Goals as goal
+
+abbrev mark_tree : Option Mark → Data
+mark_tree mark = text_or_null (option_map mark_text mark)
+
+abbrev data_in : Option (Bor Value) → Option Data
+data_in found = option_map (λ v. view v.now) found
+
+pub returns-in-None : goal.returns-in-None
+returns-in-None c =
+    let is_array = found_array (data_in c.args.found) (items_view c.in-Some.members.now) c.in-Some.ensures in
+    let unread = subst (λ o. Shows mark_tree AnyShape (Some (view c.member-item.result)) o) c.in-None.is c.mark_in.ensures in
+    λ marks shown wide.
+    member_not_shown mark_tree AnyShape (data_in c.args.found) c.in-Some.members.now c.loop-member.member-index c.member-item.result c.loop-member-test.true c.member-item.is is_array unread marks shown (λ k d below. tt)
+
+pub loop-member-preserved : goal.loop-member-preserved
+loop-member-preserved c =
+    member_more mark_tree c.in-Some.members.now c.loop-member.member-index c.member-item.result c.loop-member.items.items c.push.new.self.items c.in-Some-mark_in.mark c.loop-member-test.true c.member-item.is c.loop-member.invariant c.in-Some-mark_in.ensures.0
+    c.in_ok-push-in-Some-mark_in.ensures.items
+
+pub returns-then-members-roles : goal.returns-then-members-roles
+returns-then-members-roles c =
+    let is_array = found_array (data_in c.args.found) (items_view c.in-Some.members.now) c.in-Some.ensures in
+    λ marks shown wide. c.if-members-roles.true (shown_length mark_tree (data_in c.args.found) c.in-Some.members.now marks is_array shown ∙ wide)
+
+pub returns : goal.returns
+returns c =
+    let is_array = found_array (data_in c.args.found) (items_view c.in-Some.members.now) c.in-Some.ensures in
+    let shown =
+    members_shown mark_tree (data_in c.args.found) c.in-Some.members.now c.loop-member.items.items is_array
+    (members_all mark_tree c.in-Some.members.now c.loop-member.member-index c.loop-member.items.items c.loop-member-test.false c.loop-member.invariant) in
+    (shown, sym (shown_length mark_tree (data_in c.args.found) c.in-Some.members.now c.loop-member.items.items is_array shown) ∙ c.if-members-roles.false)

@@ -1,0 +1,12 @@
+use Rattle.std.proofs.Common.{Bool, sym, subst}
+use Rattle.std.specs.Prelude.{IsTrue, ◌↔◌}
+use Rattle.match_record.specs.Replaying.{DeniesOne}
+use Rattle.match_record.proofs.RecordedMoves.{denies-place}
+use Rattle.match_record.proofs.recorded_turn.denies_one.Goals as goal
+
+pub returns-in_ok-place_of-in-Some : goal.returns-in_ok-place_of-in-Some
+returns-in_ok-place_of-in-Some g c =
+    let game = g.G.Game.rules c.args.game.now in
+    let moves = c.args.moves.now in
+    let e = c.args.error.now in
+    subst (λ (b : Bool). IsTrue b ↔ DeniesOne game moves e) (sym c.is_some.ensures) (denies-place game moves e c.in-Some.read.now c.in_ok-place_of-in-Some.field-0 c.in-Some.ensures c.in_ok-place_of-in-Some.ensures)

@@ -1,0 +1,38 @@
+use Rattle.std.proofs.Common.{inl, inr, ◌∙◌}
+use Rattle.std.proofs.lemmas.List.{get_or_read}
+use Rattle.match_record.proofs.RecordedMoves.{found-place, later-move, denied-move, right-move, not-empty, is-empty}
+use Rattle.match_record.proofs.recorded_turn.recorded_move.Goals as goal
+use Rattle.match_record.proofs.recorded_turn.recorded_move.Goals.{then-not-is_empty+else-place-gt0+in_ok-denies_one+else-branch, else-not-is_empty}
+
+pub returns-then-place-gt0 : goal.returns-then-place-gt0
+returns-then-place-gt0 g c =
+    let game = g.G.Game.rules c.args.game.now in
+    let legal = c.args.moves.now in
+    let place = found-place game legal c.args.text.now c.in_ok-place.field-0 c.in-Some.place c.in-Some.is c.in_ok-place.ensures in
+    later-move game legal c.args.text.now c.args.error.now c.in-Some.place c.requires.differ place.0 place.1 c.if-place-gt0.true (not-empty c.args.error.now c.if-not-is_empty.ensures)
+
+pub returns-then-branch : goal.returns-then-branch
+returns-then-branch g c =
+    let game = g.G.Game.rules c.args.game.now in
+    let legal = c.args.moves.now in
+    let place = found-place game legal c.args.text.now c.in_ok-place.field-0 c.in-Some.place c.in-Some.is c.in_ok-place.ensures in
+    denied-move game legal c.args.text.now c.args.error.now c.in-Some.place place.0 place.1 (c.in_ok-denies_one.ensures.0 c.if-branch.true)
+
+pub returns : goal.returns
+returns g c =
+    let game = g.G.Game.rules c.args.game.now in
+    let legal = c.args.moves.now in
+    let place = found-place game legal c.args.text.now c.in_ok-place.field-0 c.in-Some.place c.in-Some.is c.in_ok-place.ensures in
+    right-move game legal c.in_ok-copy_move.field-0 c.args.text.now c.args.error.now c.in-Some.place c.requires.error place
+    (c.in_ok-copy_move.ensures ∙ get_or_read legal c.in-Some.place c.index-moves-place.result place.0 c.index-moves-place.is c.in_ok-copy_move.field-0)
+    (elim c.if-not-is_empty.branch [
+      | then-not-is_empty+else-place-gt0+in_ok-denies_one+else-branch w ↦
+          inr (
+            w.if-place-gt0.false,
+            λ denies.
+                let yes = w.in_ok-denies_one.ensures.1 denies in
+                let no = w.if-branch.false in
+                absurd cc,
+          )
+      | else-not-is_empty w ↦ inl (is-empty c.args.error.now w.if-not-is_empty.ensures)
+    ])

@@ -1,0 +1,83 @@
+-- Which texts are lawful records of a game, and which have not even the shape of one.
+use Rattle.std.specs.Prelude.{◌≡◌, ◌≢◌, ℕ, suc, List, [], ◌∷◌, length, Some, IsUtf8, ◌⊎◌}
+use Rattle.serde_json.specs.Data.{Data}
+use Rattle.serde_json.specs.Find.{get}
+use Rattle.serde_json.specs.Read.{read}
+use Rattle.game_core.specs.Play.{Rules}
+use Rattle.match_book.specs.Lawful.{IsLawfulMatch}
+use Rattle.match_book.specs.MatchValue.{MatchValue}
+use Rattle.match_book.specs.Names.{IsLawfulSetup}
+use Rattle.match_record.specs.RecordParts.{parts_of, key_text, key_tree, Holds, IsShapedAt, HasShape}
+use Rattle.match_record.specs.RecordTree.{record_tree}
+use Rattle.match_record.specs.declared.record_parts.Key.{Key}
+use Rattle.match_record.specs.declared.record_parts.Key.TheVariants.{Cause, EndMarks, Errors, GoalValues, MatchId, Moves, Phase, PlayClock, Players, Roles, StartClock, StartMarks, States}
+use Rattle.match_record.specs.declared.record_parts.RecordParts.{RecordParts}
+use Rattle.match_record.specs.declared.verify_fault.VerifyFault.{VerifyFault}
+use Rattle.match_record.specs.declared.verify_fault.VerifyFault.TheVariants.{NotJson, BadShape, Illegal, NotFirst, WrongState, WrongGoals, WrongEnd, Memory}
+
+-- the bytes are a JSON text of this tree
+pub record IsJson (text : List ℕ) (tree : Data) : Type 0 where
+  pub utf8 : IsUtf8 text
+  pub is_read : read text ≡ Some tree
+
+-- The text is JSON whose keys hold what the record of some lawful match says. Other keys may stand beside them.
+pub record IsRecordOf {S M : Type 0} (g : Rules S M) (text : List ℕ) (tree : Data) (m : MatchValue M) : Type 0 where
+  pub json : IsJson text tree
+  pub setup : IsLawfulSetup m.setup
+  pub lawful : IsLawfulMatch g m
+  pub holds : Holds tree (parts_of g m)
+
+abbrev pub IsLawfulRecord : {S M : Type 0} → Rules S M → List ℕ → Type 0
+IsLawfulRecord {S} {M} g text = (tree : Data) × (m : MatchValue M) × IsRecordOf g text tree m
+
+-- what stands at the key is of the shape that it asks for
+abbrev pub IsShaped : {S M : Type 0} → Rules S M → Data → Key → Type 0
+IsShaped g tree key = (p : RecordParts) × IsShapedAt g key p × (get (key_text key) tree ≡ Some (key_tree key p))
+
+-- the keys, in their order
+abbrev pub keys : List Key
+keys = Cause ∷ EndMarks ∷ Errors ∷ GoalValues ∷ MatchId ∷ Moves ∷ Phase ∷ PlayClock ∷ Players ∷ Roles ∷ StartClock ∷ StartMarks ∷ States ∷ []
+
+-- the first of these that fails
+abbrev pub IsFirstWithout : {A : Type 0} → (A → Type 0) → List A → A → Type 0
+IsFirstWithout Passes [] x = ⊥
+IsFirstWithout Passes (k ∷ ks) x = ((x ≡ k) × ¬ Passes k) ⊎ (Passes k × IsFirstWithout Passes ks x)
+
+-- the key whose list has not as many members as the moves ask for: errors first, then states
+abbrev pub HasWrongLength : RecordParts → Key → Type 0
+HasWrongLength p key = ((key ≡ Errors) × (length p.errors ≢ length p.moves)) ⊎ ((key ≡ States) × (length p.errors ≡ length p.moves) × (length p.states ≢ suc (length p.moves)))
+
+-- the first key that is not shaped; or each is shaped, and this one is of a wrong length
+abbrev pub IsMisshapen : {S M : Type 0} → Rules S M → Data → Key → Type 0
+IsMisshapen g tree key = IsFirstWithout (IsShaped g tree) keys key ⊎ ((p : RecordParts) × Holds tree p × ((at : Key) → IsShapedAt g at p) × HasWrongLength p key)
+
+-- why a text is refused before its turns are replayed
+abbrev pub HasNoShape : {S M : Type 0} → Rules S M → List ℕ → VerifyFault → Type 0
+HasNoShape g text NotJson = (tree : Data) → ¬ IsJson text tree
+HasNoShape g text (BadShape key) = (tree : Data) × IsJson text tree × IsMisshapen g tree key
+HasNoShape g text (Illegal turn role) = ⊥
+HasNoShape g text (NotFirst turn role) = ⊥
+HasNoShape g text (WrongState turn) = ⊥
+HasNoShape g text WrongGoals = ⊥
+HasNoShape g text WrongEnd = ⊥
+HasNoShape g text Memory = Unit {0}
+
+-- the record tree of a match holds what the match's parts say
+abbrev pub RecordTreeHoldsParts : {S M : Type 0} → Rules S M → Type 0
+RecordTreeHoldsParts {S} {M} g = (m : MatchValue M) → Holds (record_tree g m) (parts_of g m)
+
+-- a text that is read as the record tree of a lawful match is a lawful record
+abbrev pub RecordsAreLawful : {S M : Type 0} → Rules S M → Type 0
+RecordsAreLawful {S} {M} g = (text : List ℕ) (m : MatchValue M) → IsLawfulMatch g m → IsLawfulSetup m.setup → IsJson text (record_tree g m) → IsLawfulRecord g text
+
+-- a tree holds one record's parts at most, of those that have the shape
+abbrev pub HoldsOnePartsAtMost : {S M : Type 0} → Rules S M → Type 0
+HoldsOnePartsAtMost g = (tree : Data) (p q : RecordParts) → HasShape g p → HasShape g q → Holds tree p → Holds tree q → p ≡ q
+
+-- the parts of a lawful match are of the shape
+abbrev pub LawfulPartsHaveShape : {S M : Type 0} → Rules S M → Type 0
+LawfulPartsHaveShape {S} {M} g = (m : MatchValue M) → IsLawfulMatch g m → IsLawfulSetup m.setup → HasShape g (parts_of g m)
+
+-- a text that is refused for its shape is no lawful record
+abbrev pub RefusedIsUnlawful : {S M : Type 0} → Rules S M → Type 0
+RefusedIsUnlawful g = (text : List ℕ) (fault : VerifyFault) → fault ≢ Memory → HasNoShape g text fault → ¬ IsLawfulRecord g text

@@ -1,0 +1,31 @@
+//! The record of a match, and its check.
+//!
+//! `record_json` writes the record of a match: one JSON object of thirteen keys, which holds the recorded
+//! turns alone. `verify` checks a text against a game: it passes exactly where the text is the record of some
+//! lawful match, and else the first test that fails is named. The turns are replayed by the rules, and no state
+//! of the record is trusted. `laws` says what holds of records, whatever the match.
+//! `numeral` reads numbers in decimal digits, as a record's cause has them and the head of a message too.
+//!
+//! Free functions take the allocator first.
+#![tactic(auto)]
+
+mod ending;
+mod error_texts;
+mod json_values;
+pub mod laws;
+pub mod numeral;
+mod record;
+mod record_parts;
+mod record_reading;
+mod record_words;
+mod recorded_turn;
+mod replaying;
+mod trees;
+mod verify_fault;
+mod verifying;
+
+pub use record::record_json;
+pub use record_parts::Key;
+pub use trees::phase_text;
+pub use verify_fault::VerifyFault;
+pub use verifying::verify;

@@ -1,0 +1,246 @@
+//! The record of a match.
+ghost use Rattle.std.specs.Prelude.{◌≡◌, ◌<◌, ◌++◌, IfOk, OnOk, Some, length, map, option_map, option_to_list, slice_get};
+ghost use Rattle.serde_json.specs.Data.{number, unsigned};
+ghost use Rattle.serde_json.specs.Read.{read};
+ghost use Rattle.serde_json.specs.View.{view};
+ghost use Rattle.match_book.specs.Lawful.{IsLawfulMatch};
+ghost use Rattle.match_book.specs.Names.{IsLawfulSetup};
+ghost use Rattle.match_record.specs.LawfulRecord.{IsLawfulRecord};
+ghost use Rattle.match_record.specs.RecordTree.{record_text, record_tree, marks_tree, moves_tree, errors_tree, goals_tree, states_tree, texts_tree, each_role};
+
+use crate::trees::{cause_tree, phase_text, text_or_null, text_tree, texts_tree};
+use game_core::{Game, Text};
+use match_book::Match;
+use serde_json::{Map, Value, put};
+use std::alloc::{AllocError, Global};
+
+/// The marks of the answers to START.
+fn start_marks<G: Game>(alloc: Global, game: &G, held: &Match<G>) -> Result<Value, AllocError>
+    requires game { held.now.game ≡ game.now }
+    requires lawful { IsLawfulMatch (G.rules game.now) held.now.value }
+    ensures { IfOk result (λ v. view v ≡ marks_tree held.now.value.start_marks) }
+{
+    let mut marks = Vec::new(alloc);
+    for role in 0..game.roles() {
+        marks.push(text_or_null(alloc, held.start_mark(role))?)?;
+    }
+    Ok(Value::Array(marks))
+}
+
+/// The marks of the answers to STOP or ABORT.
+fn end_marks<G: Game>(alloc: Global, game: &G, held: &Match<G>) -> Result<Value, AllocError>
+    requires game { held.now.game ≡ game.now }
+    requires lawful { IsLawfulMatch (G.rules game.now) held.now.value }
+    ensures { IfOk result (λ v. view v ≡ marks_tree held.now.value.end_marks) }
+{
+    let mut marks = Vec::new(alloc);
+    for role in 0..game.roles() {
+        marks.push(text_or_null(alloc, held.end_mark(role))?)?;
+    }
+    Ok(Value::Array(marks))
+}
+
+/// The names of the roles.
+fn role_names<G: Game>(alloc: Global, game: &G) -> Result<Value, AllocError>
+    ensures { IfOk result (λ v. view v ≡ texts_tree (each_role (G.rules game.now).roles (G.rules game.now).role_name)) }
+{
+    let mut names = Vec::new(alloc);
+    for role in 0..game.roles() {
+        names.push(text_tree(alloc, game.role_name(role))?)?;
+    }
+    Ok(Value::Array(names))
+}
+
+/// Adds a goal, if there is one.
+fn push_goal(goals: &mut Vec<Value>, goal: Option<u8>) -> Result<(), AllocError>
+    ensures { OnOk result (map view goals.new.items ≡ map view goals.old.items ++ map (λ n. number (unsigned n)) (option_to_list goal)) }
+{
+    if let Some(goal) = goal {
+        goals.push(Value::from(goal))?;
+    }
+    Ok(())
+}
+
+/// The roles' goals: none before the match stops.
+fn goals<G: Game>(alloc: Global, game: &G, held: &Match<G>) -> Result<Value, AllocError>
+    requires game { held.now.game ≡ game.now }
+    requires lawful { IsLawfulMatch (G.rules game.now) held.now.value }
+    ensures { IfOk result (λ v. view v ≡ goals_tree (G.rules game.now) held.now.value) }
+{
+    let mut goals = Vec::new(alloc);
+    for role in 0..game.roles() {
+        push_goal(&mut goals, held.goal_of(role))?;
+    }
+    Ok(Value::Array(goals))
+}
+
+/// The texts of the moves of a turn.
+fn moves_at<G: Game>(
+    alloc: Global,
+    game: &G,
+    held: &Match<G>,
+    turn: usize,
+) -> Result<Value, AllocError>
+    requires game { held.now.game ≡ game.now }
+    requires lawful { IsLawfulMatch (G.rules game.now) held.now.value }
+    requires turn { turn < length held.now.value.turns }
+    ensures { IfOk result (λ v. Some (view v) ≡ option_map (λ t. texts_tree (map (G.rules game.now).move_text t.moves)) (slice_get held.now.value.turns turn)) }
+{
+    let mut moves = Vec::new(alloc);
+    for role in 0..game.roles() {
+        let text = game.move_text(alloc, held.move_at(turn, role))?;
+        moves.push(text_tree(alloc, text.as_slice())?)?;
+    }
+    Ok(Value::Array(moves))
+}
+
+/// The errors of a turn.
+fn errors_at<G: Game>(
+    alloc: Global,
+    game: &G,
+    held: &Match<G>,
+    turn: usize,
+) -> Result<Value, AllocError>
+    requires game { held.now.game ≡ game.now }
+    requires lawful { IsLawfulMatch (G.rules game.now) held.now.value }
+    requires turn { turn < length held.now.value.turns }
+    ensures { IfOk result (λ v. Some (view v) ≡ option_map (λ t. texts_tree t.errors) (slice_get held.now.value.turns turn)) }
+{
+    let mut errors = Vec::new(alloc);
+    for role in 0..game.roles() {
+        errors.push(text_tree(alloc, held.error_at(turn, role))?)?;
+    }
+    Ok(Value::Array(errors))
+}
+
+fn turns<G: Game>(held: &Match<G>) -> usize
+    ensures { result ≡ length held.now.value.turns }
+{
+    held.status().turns as usize
+}
+
+/// The texts of the moves of each recorded turn.
+fn moves<G: Game>(alloc: Global, game: &G, held: &Match<G>) -> Result<Value, AllocError>
+    requires game { held.now.game ≡ game.now }
+    requires lawful { IsLawfulMatch (G.rules game.now) held.now.value }
+    ensures { IfOk result (λ v. view v ≡ moves_tree (G.rules game.now) held.now.value.turns) }
+{
+    let mut moves = Vec::new(alloc);
+    for turn in 0..turns(held) {
+        moves.push(moves_at(alloc, game, held, turn)?)?;
+    }
+    Ok(Value::Array(moves))
+}
+
+/// The errors of each recorded turn.
+fn errors<G: Game>(alloc: Global, game: &G, held: &Match<G>) -> Result<Value, AllocError>
+    requires game { held.now.game ≡ game.now }
+    requires lawful { IsLawfulMatch (G.rules game.now) held.now.value }
+    ensures { IfOk result (λ v. view v ≡ errors_tree held.now.value.turns) }
+{
+    let mut errors = Vec::new(alloc);
+    for turn in 0..turns(held) {
+        errors.push(errors_at(alloc, game, held, turn)?)?;
+    }
+    Ok(Value::Array(errors))
+}
+
+/// The texts of a state.
+fn state_tree<G: Game>(alloc: Global, game: &G, state: &G::State) -> Result<Value, AllocError>
+    requires { (G.rules game.now).IsState state.now }
+    ensures { IfOk result (λ v. view v ≡ texts_tree ((G.rules game.now).state_text state.now)) }
+{
+    let texts = game.state_text(alloc, state)?;
+    texts_tree(alloc, texts.as_slice())
+}
+
+/// The joint move of a turn.
+fn joint_at<G: Game>(
+    alloc: Global,
+    game: &G,
+    held: &Match<G>,
+    turn: usize,
+) -> Result<Vec<G::Move>, AllocError>
+    requires game { held.now.game ≡ game.now }
+    requires lawful { IsLawfulMatch (G.rules game.now) held.now.value }
+    requires turn { turn < length held.now.value.turns }
+    ensures { IfOk result (λ v. Some v.items ≡ option_map (λ t. t.moves) (slice_get held.now.value.turns turn)) }
+{
+    let mut joint = Vec::new(alloc);
+    for role in 0..game.roles() {
+        joint.push(game.copy_move(alloc, held.move_at(turn, role))?)?;
+    }
+    Ok(joint)
+}
+
+/// The texts of the state before the first turn and of the state after each turn. The turns are replayed once.
+fn states<G: Game>(alloc: Global, game: &G, held: &Match<G>) -> Result<Value, AllocError>
+    requires game { held.now.game ≡ game.now }
+    requires lawful { IsLawfulMatch (G.rules game.now) held.now.value }
+    ensures { IfOk result (λ v. view v ≡ states_tree (G.rules game.now) held.now.value.turns) }
+{
+    let mut state = game.initial(alloc)?;
+    let mut states = Vec::new(alloc);
+    states.push(state_tree(alloc, game, &state)?)?;
+    for turn in 0..turns(held) {
+        let joint = joint_at(alloc, game, held, turn)?;
+        state = game.next(alloc, &state, joint.as_slice())?;
+        states.push(state_tree(alloc, game, &state)?)?;
+    }
+    Ok(Value::Array(states))
+}
+
+/// The record as a tree.
+fn record_tree<G: Game>(alloc: Global, game: &G, held: &Match<G>) -> Result<Value, AllocError>
+    requires game { held.now.game ≡ game.now }
+    requires lawful { IsLawfulMatch (G.rules game.now) held.now.value }
+    requires setup { IsLawfulSetup held.now.value.setup }
+    ensures { IfOk result (λ v. view v ≡ record_tree (G.rules game.now) held.now.value) }
+{
+    let setup = held.setup();
+    let cause = cause_tree(alloc, held.cause())?;
+    let end_marks = end_marks(alloc, game, held)?;
+    let errors = errors(alloc, game, held)?;
+    let goals = goals(alloc, game, held)?;
+    let id = text_tree(alloc, setup.id.as_slice())?;
+    let moves = moves(alloc, game, held)?;
+    let phase = text_tree(alloc, phase_text(held.status().phase))?;
+    let play_clock = Value::from(setup.play);
+    let players = texts_tree(alloc, setup.players.as_slice())?;
+    let roles = role_names(alloc, game)?;
+    let start_clock = Value::from(setup.start);
+    let start_marks = start_marks(alloc, game, held)?;
+    let states = states(alloc, game, held)?;
+    let mut members = Map::new(alloc);
+    put(&mut members, alloc, "cause", cause)?;
+    put(&mut members, alloc, "endMarks", end_marks)?;
+    put(&mut members, alloc, "errors", errors)?;
+    put(&mut members, alloc, "goalValues", goals)?;
+    put(&mut members, alloc, "matchId", id)?;
+    put(&mut members, alloc, "moves", moves)?;
+    put(&mut members, alloc, "phase", phase)?;
+    put(&mut members, alloc, "playClock", play_clock)?;
+    put(&mut members, alloc, "players", players)?;
+    put(&mut members, alloc, "roles", roles)?;
+    put(&mut members, alloc, "startClock", start_clock)?;
+    put(&mut members, alloc, "startMarks", start_marks)?;
+    put(&mut members, alloc, "states", states)?;
+    Ok(Value::Object(members))
+}
+
+/// The record of a match as JSON text: one object without white space, whose keys stand in byte order.
+/// It holds the recorded turns alone, and nothing of the turn that is open.
+pub fn record_json<G: Game>(alloc: Global, game: &G, held: &Match<G>) -> Result<Text, AllocError>
+    requires game { held.now.game ≡ game.now }
+    requires setup { IsLawfulSetup held.now.value.setup }
+    ensures text { IfOk result (λ t. t ≡ record_text (G.rules game.now) held.now.value) }
+    // So a reader of JSON finds the tree again.
+    ensures reads_back { IfOk result (λ t. read t ≡ Some (record_tree (G.rules game.now) held.now.value)) }
+    // And `verify` refuses it for want of memory alone.
+    ensures lawful { IfOk result (IsLawfulRecord (G.rules game.now)) }
+{
+    // This reader says that the match is lawful.
+    let _state = held.state();
+    let tree = record_tree(alloc, game, held)?;
+    Ok(Text::from_string(tree.to_string(alloc)?))
+}

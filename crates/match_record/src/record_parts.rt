@@ -1,0 +1,143 @@
+//! What a record says, value by value.
+ghost use Rattle.std.specs.Prelude.{◌≡◌, ◌<◌, Some, length, slice_get};
+
+use game_core::{Text, Texts};
+use match_book::{Cause, Mark, Phase};
+use std::marker::Model;
+
+/// The keys of a record, in their order.
+#[derive(Clone, Copy, Debug, PartialEq, Eq)]
+pub enum Key {
+    Cause,
+    EndMarks,
+    Errors,
+    GoalValues,
+    MatchId,
+    Moves,
+    Phase,
+    PlayClock,
+    Players,
+    Roles,
+    StartClock,
+    StartMarks,
+    States,
+}
+
+impl Key {
+    ghost use Rattle.match_record.specs.RecordParts.{key_text};
+
+    /// The key as it stands in the text.
+    pub fn text(self) -> &'static str
+        ensures { result.now ≡ key_text self }
+    {
+        match self {
+            Key::Cause => "cause",
+            Key::EndMarks => "endMarks",
+            Key::Errors => "errors",
+            Key::GoalValues => "goalValues",
+            Key::MatchId => "matchId",
+            Key::Moves => "moves",
+            Key::Phase => "phase",
+            Key::PlayClock => "playClock",
+            Key::Players => "players",
+            Key::Roles => "roles",
+            Key::StartClock => "startClock",
+            Key::StartMarks => "startMarks",
+            Key::States => "states",
+        }
+    }
+}
+
+/// One list of texts for each turn, or for each state.
+#[derive(Drop)]
+pub struct TextLists {
+    pub items: Vec<Texts>,
+}
+
+impl Model for TextLists {
+    ghost use Rattle.std.specs.Prelude.{List, ℕ};
+
+    ghost Value = { List (List (List ℕ)) };
+
+    ghost view = { λ t. t.items.items };
+}
+
+impl TextLists {
+    /// How many lists there are.
+    pub fn count(&self) -> usize
+        ensures { result ≡ length self.now }
+    {
+        self.items.len()
+    }
+
+    /// The texts at this place, numbered from 0.
+    pub fn at(&self, place: usize) -> &[Text]
+        requires { place < length self.now }
+        ensures { slice_get self.now place ≡ Some result.now }
+    {
+        self.items[place].as_slice()
+    }
+}
+
+/// One mark, or none, for each role.
+#[derive(Drop)]
+pub struct Marks {
+    pub items: Vec<Option<Mark>>,
+}
+
+impl Model for Marks {
+    ghost use Rattle.std.specs.Prelude.{List, Option};
+    ghost use Rattle.match_book.specs.declared.answer.Mark.{Mark};
+
+    ghost Value = { List (Option Mark) };
+
+    ghost view = { λ m. m.items.items };
+}
+
+impl Marks {
+    pub fn as_slice(&self) -> &[Option<Mark>]
+        ensures { result.now ≡ self.now }
+    {
+        self.items.as_slice()
+    }
+}
+
+/// One goal for each role, or none at all.
+#[derive(Drop)]
+pub struct Goals {
+    pub items: Vec<u8>,
+}
+
+impl Model for Goals {
+    ghost use Rattle.std.specs.Prelude.{List, ℕ};
+
+    ghost Value = { List ℕ };
+
+    ghost view = { λ g. g.items.items };
+}
+
+impl Goals {
+    pub fn as_slice(&self) -> &[u8]
+        ensures { result.now ≡ self.now }
+    {
+        self.items.as_slice()
+    }
+}
+
+/// What a record says: one field for each of its keys.
+#[derive(Drop)]
+pub struct RecordParts {
+    pub cause: Option<Cause>,
+    pub end_marks: Marks,
+    pub errors: TextLists,
+    pub goals: Goals,
+    pub id: Text,
+    pub moves: TextLists,
+    pub phase: Phase,
+    pub play: u32,
+    pub players: Texts,
+    pub roles: Texts,
+    pub start: u32,
+    pub start_marks: Marks,
+    pub states: TextLists,
+}

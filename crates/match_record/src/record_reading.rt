@@ -1,0 +1,315 @@
+//! A record, read from its text.
+ghost use Rattle.std.specs.Prelude.{◌≡◌, ◌≤◌, ◌<◌, ◌^◌, ◌==◌, ◌||◌, ◌↔◌, ◌⊎◌, All, IfErr, IfOk, IsTrue, MatchResult, Ok, Some, None, length, option_map, true};
+ghost use Rattle.serde_json.specs.Data.{Data, number, string, unsigned};
+ghost use Rattle.serde_json.specs.Find.{get};
+ghost use Rattle.serde_json.specs.View.{view};
+ghost use Rattle.game_core.specs.Play.{max_goal};
+ghost use Rattle.match_book.specs.Names.{is_clock, is_name};
+ghost use Rattle.match_record.specs.LawfulRecord.{HasNoShape, IsFirstWithout, IsJson, IsShaped, keys};
+ghost use Rattle.match_record.specs.RecordParts.{AreErrors, AreGoals, AreMoves, ArePlayers, HasShape, Holds, IsShapedAt, goal_values_tree, key_text, text_lists_tree};
+ghost use Rattle.match_record.specs.RecordTree.{each_role, marks_tree, texts_tree};
+ghost use Rattle.match_record.specs.Shown.{Shows};
+ghost use Rattle.match_record.specs.declared.record_parts.Key.{Key};
+ghost use Rattle.match_record.specs.declared.verify_fault.VerifyFault.TheVariants.{BadShape, Memory, NotJson};
+
+use crate::error_texts::are_errors;
+use crate::json_values::{bytes_in, members_in, text_lists_in, texts_in, whole_in};
+use crate::record_parts::{Goals, Key, Marks, RecordParts, TextLists};
+use crate::record_words::{cause_in, mark_in, phase_in};
+use crate::verify_fault::VerifyFault;
+use game_core::{Game, Text, Texts};
+use match_book::{MAX_CLOCK, MAX_TURNS, are_names, is_clock, is_name};
+use serde_json::Value;
+use std::alloc::{AllocError, Global};
+
+/// The highest goal.
+const MAX_GOAL: u64 = 100;
+
+/// A mark, or null, for each role.
+fn marks_in(alloc: Global, found: Option<&Value>, roles: usize) -> Result<Option<Marks>, AllocError>
+    ensures { IfOk result (λ o. Shows marks_tree (λ marks. length marks ≡ roles) (option_map (λ v. view v.now) found.entry) o) }
+{
+    let Some(members) = members_in(found) else {
+        return Ok(None);
+    };
+    if members.len() != roles {
+        return Ok(None);
+    }
+    let mut items = Vec::with_capacity(alloc, roles)?;
+    for member in members {
+        match mark_in(Some(member)) {
+            Some(mark) => items.push(mark)?,
+            None => return Ok(None),
+        }
+    }
+    Ok(Some(Marks { items }))
+}
+
+fn goal_in(found: Option<&Value>) -> Option<u8>
+    ensures { Shows (λ goal. number (unsigned goal)) (λ goal. goal ≤ max_goal) (option_map (λ v. view v.now) found.entry) result }
+{
+    let goal = whole_in(found)?;
+    if goal <= MAX_GOAL {
+        Some(goal as u8)
+    } else {
+        None
+    }
+}
+
+/// Whether there may be as many goals.
+fn is_goal_count(goals: usize, roles: usize) -> bool
+    ensures { result ≡ (goals == 0 || goals == roles) }
+{
+    goals == 0 || goals == roles
+}
+
+/// No goal, or one for each role.
+fn goals_in(alloc: Global, found: Option<&Value>, roles: usize) -> Result<Option<Goals>, AllocError>
+    ensures { IfOk result (λ o. Shows goal_values_tree (AreGoals roles) (option_map (λ v. view v.now) found.entry) o) }
+{
+    let Some(members) = members_in(found) else {
+        return Ok(None);
+    };
+    if !is_goal_count(members.len(), roles) {
+        return Ok(None);
+    }
+    let mut items = Vec::with_capacity(alloc, members.len())?;
+    for member in members {
+        match goal_in(Some(member)) {
+            Some(goal) => items.push(goal)?,
+            None => return Ok(None),
+        }
+    }
+    Ok(Some(Goals { items }))
+}
+
+/// A lawful id.
+fn id_in(alloc: Global, found: Option<&Value>) -> Result<Option<Text>, AllocError>
+    ensures { IfOk result (λ o. Shows string (λ id. is_name id ≡ true) (option_map (λ v. view v.now) found.entry) o) }
+{
+    match bytes_in(found) {
+        Some(bytes) if is_name(bytes) => Ok(Some(Text::from_slice(alloc, bytes)?)),
+        _ => Ok(None),
+    }
+}
+
+/// A lawful clock.
+fn clock_in(found: Option<&Value>) -> Option<u32>
+    ensures { Shows (λ seconds. number (unsigned seconds)) (λ seconds. is_clock seconds ≡ true) (option_map (λ v. view v.now) found.entry) result }
+{
+    let seconds = whole_in(found)?;
+    if seconds > u64::from(MAX_CLOCK) {
+        return None;
+    }
+    let seconds = seconds as u32;
+    if is_clock(seconds) {
+        Some(seconds)
+    } else {
+        None
+    }
+}
+
+/// One error for each role in each turn.
+fn errors_in(
+    alloc: Global,
+    found: Option<&Value>,
+    roles: usize,
+) -> Result<Option<TextLists>, AllocError>
+    ensures { IfOk result (λ o. Shows text_lists_tree (AreErrors roles) (option_map (λ v. view v.now) found.entry) o) }
+{
+    let Some(errors) = text_lists_in(alloc, found)? else {
+        return Ok(None);
+    };
+    if are_errors(alloc, errors.items.as_slice(), roles)? {
+        Ok(Some(errors))
+    } else {
+        Ok(None)
+    }
+}
+
+/// Whether each turn has one text for each role.
+fn are_wide(turns: &[Texts], roles: usize) -> bool
+    ensures { IsTrue result ↔ All (λ texts. length texts ≡ roles) turns.now }
+{
+    turns.iter().all(|turn| turn.as_slice().len() == roles)
+}
+
+fn are_moves(turns: &[Texts], roles: usize) -> bool
+    ensures { IsTrue result ↔ AreMoves roles turns.now }
+{
+    turns.len() <= MAX_TURNS && are_wide(turns, roles)
+}
+
+/// One text for each role in each turn, and not too many turns.
+fn moves_in(
+    alloc: Global,
+    found: Option<&Value>,
+    roles: usize,
+) -> Result<Option<TextLists>, AllocError>
+    ensures { IfOk result (λ o. Shows text_lists_tree (AreMoves roles) (option_map (λ v. view v.now) found.entry) o) }
+{
+    let Some(moves) = text_lists_in(alloc, found)? else {
+        return Ok(None);
+    };
+    if are_moves(moves.items.as_slice(), roles) {
+        Ok(Some(moves))
+    } else {
+        Ok(None)
+    }
+}
+
+fn are_players(names: &[Text], roles: usize) -> bool
+    ensures { IsTrue result ↔ ArePlayers roles names.now }
+{
+    names.len() == roles && are_names(names)
+}
+
+/// A lawful name for each role.
+fn players_in(
+    alloc: Global,
+    found: Option<&Value>,
+    roles: usize,
+) -> Result<Option<Texts>, AllocError>
+    ensures { IfOk result (λ o. Shows texts_tree (ArePlayers roles) (option_map (λ v. view v.now) found.entry) o) }
+{
+    let Some(players) = texts_in(alloc, found)? else {
+        return Ok(None);
+    };
+    if are_players(players.as_slice(), roles) {
+        Ok(Some(players))
+    } else {
+        Ok(None)
+    }
+}
+
+/// Whether these are the names of the game's roles, in their order.
+fn are_role_names<G: Game>(game: &G, texts: &[Text]) -> bool
+    ensures { IsTrue result ↔ (texts.now ≡ each_role (G.rules game.now).roles (G.rules game.now).role_name) }
+{
+    if texts.len() != game.roles() {
+        return false;
+    }
+    for (role, text) in texts.iter().enumerate() {
+        if text.as_slice() != game.role_name(role) {
+            return false;
+        }
+    }
+    true
+}
+
+/// The names of the game's roles.
+fn roles_in<G: Game>(
+    alloc: Global,
+    game: &G,
+    found: Option<&Value>,
+) -> Result<Option<Texts>, AllocError>
+    ensures { IfOk result (λ o. Shows texts_tree (λ names. names ≡ each_role (G.rules game.now).roles (G.rules game.now).role_name) (option_map (λ v. view v.now) found.entry) o) }
+{
+    let Some(names) = texts_in(alloc, found)? else {
+        return Ok(None);
+    };
+    if are_role_names(game, names.as_slice()) {
+        Ok(Some(names))
+    } else {
+        Ok(None)
+    }
+}
+
+/// What stands at a key.
+fn at(tree: &Value, key: Key) -> Option<&Value>
+    ensures { option_map (λ v. view v.now) result ≡ get (key_text key) (view tree.now) }
+{
+    tree.get(key.text())
+}
+
+/// What was read at a key, if it was of the key's shape.
+fn shaped<T: Drop>(key: Key, read: Result<Option<T>, AllocError>) -> Result<T, VerifyFault>
+    ensures { MatchResult result (λ x. read ≡ Ok (Some x)) (λ fault. (fault ≡ Memory) ⊎ ((fault ≡ BadShape key) × (read ≡ Ok None))) }
+{
+    match read {
+        Ok(Some(value)) => Ok(value),
+        Ok(None) => Err(VerifyFault::BadShape(key)),
+        Err(_) => Err(VerifyFault::Memory),
+    }
+}
+
+/// What the keys of a tree hold, each of its shape.
+fn parts_in<G: Game>(alloc: Global, game: &G, tree: &Value) -> Result<RecordParts, VerifyFault>
+    ensures ok { IfOk result (λ p. Holds (view tree.now) p × ((key : Key) → IsShapedAt (G.rules game.now) key p)) }
+    ensures err { IfErr result (λ fault. (fault ≡ Memory) ⊎ ((key : Key) × (fault ≡ BadShape key) × IsFirstWithout (IsShaped (G.rules game.now) (view tree.now)) keys key)) }
+{
+    let roles = game.roles();
+    let cause = shaped(Key::Cause, Ok(cause_in(at(tree, Key::Cause), roles)))?;
+    let end_marks = shaped(
+        Key::EndMarks,
+        marks_in(alloc, at(tree, Key::EndMarks), roles),
+    )?;
+    let errors = shaped(Key::Errors, errors_in(alloc, at(tree, Key::Errors), roles))?;
+    let goals = shaped(
+        Key::GoalValues,
+        goals_in(alloc, at(tree, Key::GoalValues), roles),
+    )?;
+    let id = shaped(Key::MatchId, id_in(alloc, at(tree, Key::MatchId)))?;
+    let moves = shaped(Key::Moves, moves_in(alloc, at(tree, Key::Moves), roles))?;
+    let phase = shaped(Key::Phase, Ok(phase_in(at(tree, Key::Phase))))?;
+    let play = shaped(Key::PlayClock, Ok(clock_in(at(tree, Key::PlayClock))))?;
+    let players = shaped(
+        Key::Players,
+        players_in(alloc, at(tree, Key::Players), roles),
+    )?;
+    let role_names = shaped(Key::Roles, roles_in(alloc, game, at(tree, Key::Roles)))?;
+    let start = shaped(Key::StartClock, Ok(clock_in(at(tree, Key::StartClock))))?;
+    let start_marks = shaped(
+        Key::StartMarks,
+        marks_in(alloc, at(tree, Key::StartMarks), roles),
+    )?;
+    let states = shaped(Key::States, text_lists_in(alloc, at(tree, Key::States)))?;
+    Ok(RecordParts {
+        cause,
+        end_marks,
+        errors,
+        goals,
+        id,
+        moves,
+        phase,
+        play,
+        players,
+        roles: role_names,
+        start,
+        start_marks,
+        states,
+    })
+}
+
+/// The tree of a JSON text.
+fn tree_of(alloc: Global, text: &[u8]) -> Result<Value, VerifyFault>
+    ensures ok { IfOk result (λ v. IsJson text.now (view v)) }
+    ensures err { IfErr result (λ fault. (fault ≡ Memory) ⊎ ((fault ≡ NotJson) × ((tree : Data) → ¬ IsJson text.now tree))) }
+{
+    match Value::from_slice(alloc, text) {
+        Ok(tree) => Ok(tree),
+        Err(fault) if fault.is_memory() => Err(VerifyFault::Memory),
+        Err(_) => Err(VerifyFault::NotJson),
+    }
+}
+
+/// What a text says, if it has the shape of a record of the game.
+pub fn read_record<G: Game>(
+    alloc: Global,
+    game: &G,
+    text: &[u8],
+) -> Result<RecordParts, VerifyFault>
+    ensures ok { IfOk result (λ p. (tree : Data) × IsJson text.now tree × Holds tree p × HasShape (G.rules game.now) p) }
+    ensures err { IfErr result (HasNoShape (G.rules game.now) text.now) }
+{
+    let tree = tree_of(alloc, text)?;
+    let parts = parts_in(alloc, game, &tree)?;
+    let turns = parts.moves.count();
+    if parts.errors.count() != turns {
+        return Err(VerifyFault::BadShape(Key::Errors));
+    }
+    if parts.states.count() != turns + 1 {
+        return Err(VerifyFault::BadShape(Key::States));
+    }
+    Ok(parts)
+}

@@ -1,0 +1,127 @@
+//! The words of a record: marks, phases and causes.
+ghost use Rattle.std.specs.Prelude.{◌≡◌, ◌≢◌, ◌^◌, ◌<◌, ◌++◌, IfSome, List, MatchOption, Some, ℕ, option_map};
+ghost use Rattle.std.specs.Fmt.{decimal};
+ghost use Rattle.serde_json.specs.Data.{string};
+ghost use Rattle.serde_json.specs.View.{view};
+ghost use Rattle.match_book.specs.Marks.{mark_text};
+ghost use Rattle.match_record.specs.Numerals.{is_plain_numeral};
+ghost use Rattle.match_record.specs.RecordParts.{NamesRole, cause_tree};
+ghost use Rattle.match_record.specs.RecordTree.{cause_text, phase_text, text_or_null};
+ghost use Rattle.match_record.specs.Shown.{AnyShape, Shows};
+
+use crate::json_values::{bytes_in, is_null};
+use crate::numeral::{are_digits, number_up_to};
+use crate::trees::phase_text;
+use match_book::{Cause, Mark, Phase};
+use serde_json::Value;
+
+/// What stands behind this word, if the text begins with it.
+pub fn after<'a>(text: &'a [u8], word: &[u8]) -> Option<&'a [u8]>
+    ensures { MatchOption result ((rest : List ℕ) → text.now ≢ word.now ++ rest) (λ rest. text.now ≡ word.now ++ rest.now) }
+{
+    text.strip_prefix(word)
+}
+
+/// The mark that has this text.
+pub fn mark_of(text: &[u8]) -> Option<Mark>
+    ensures { Shows mark_text AnyShape (Some text.now) result }
+{
+    if text == Mark::Clear.text() {
+        Some(Mark::Clear)
+    } else if text == Mark::TimeOut.text() {
+        Some(Mark::TimeOut)
+    } else if text == Mark::ConnectionError.text() {
+        Some(Mark::ConnectionError)
+    } else {
+        None
+    }
+}
+
+/// A mark, or none where the value is null.
+pub fn mark_in(found: Option<&Value>) -> Option<Option<Mark>>
+    ensures { Shows (λ mark. text_or_null (option_map mark_text mark)) AnyShape (option_map (λ v. view v.now) found.entry) result }
+{
+    if is_null(found) {
+        return Some(None);
+    }
+    let mark = mark_of(bytes_in(found)?)?;
+    Some(Some(mark))
+}
+
+fn phase_of(text: &[u8]) -> Option<Phase>
+    ensures { Shows phase_text AnyShape (Some text.now) result }
+{
+    if text == phase_text(Phase::Starting) {
+        Some(Phase::Starting)
+    } else if text == phase_text(Phase::Playing) {
+        Some(Phase::Playing)
+    } else if text == phase_text(Phase::Stopping) {
+        Some(Phase::Stopping)
+    } else if text == phase_text(Phase::Finished) {
+        Some(Phase::Finished)
+    } else if text == phase_text(Phase::Aborting) {
+        Some(Phase::Aborting)
+    } else if text == phase_text(Phase::Aborted) {
+        Some(Phase::Aborted)
+    } else {
+        None
+    }
+}
+
+/// The phase that a text names.
+pub fn phase_in(found: Option<&Value>) -> Option<Phase>
+    ensures { Shows (λ phase. string (phase_text phase)) AnyShape (option_map (λ v. view v.now) found.entry) result }
+{
+    phase_of(bytes_in(found)?)
+}
+
+fn is_plain_numeral(digits: &[u8]) -> bool
+    ensures { result ≡ is_plain_numeral digits.now }
+{
+    are_digits(digits) && (digits.len() == 1 || digits[0] != b'0')
+}
+
+/// The number of a role, in decimal digits without leading zeros.
+fn role_of(digits: &[u8], roles: usize) -> Option<usize>
+    requires { roles < 2 ^ 32 }
+    ensures { Shows decimal (λ role. role < roles) (Some digits.now) result }
+{
+    if !is_plain_numeral(digits) {
+        return None;
+    }
+    let role = number_up_to(digits, roles)?;
+    if role < roles { Some(role) } else { None }
+}
+
+fn cause_of(text: &[u8], roles: usize) -> Option<Cause>
+    requires { roles < 2 ^ 32 }
+    ensures { Shows cause_text (NamesRole roles) (Some text.now) result }
+{
+    if text == b"asked".as_slice() {
+        return Some(Cause::Asked);
+    }
+    if text == b"toolong".as_slice() {
+        return Some(Cause::TooLong);
+    }
+    if let Some(digits) = after(text, b"nolegal ") {
+        let role = role_of(digits, roles)?;
+        return Some(Cause::NoLegal(role));
+    }
+    if let Some(digits) = after(text, b"nogoal ") {
+        let role = role_of(digits, roles)?;
+        return Some(Cause::NoGoal(role));
+    }
+    None
+}
+
+/// A cause that names a role of the game or none, or no cause where the value is null.
+pub fn cause_in(found: Option<&Value>, roles: usize) -> Option<Option<Cause>>
+    requires { roles < 2 ^ 32 }
+    ensures { Shows cause_tree (λ why. IfSome why (NamesRole roles)) (option_map (λ v. view v.now) found.entry) result }
+{
+    if is_null(found) {
+        return Some(None);
+    }
+    let cause = cause_of(bytes_in(found)?, roles)?;
+    Some(Some(cause))
+}

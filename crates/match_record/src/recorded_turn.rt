@@ -1,0 +1,193 @@
+//! One turn of a record, in the state before it.
+ghost use Rattle.std.specs.Prelude.{◌≡◌, ◌≢◌, ◌↔◌, All, AllPairs, IfOk, IsTrue, List, MatchOption, ℕ, length};
+ghost use Rattle.game_core.specs.Play.{IsJoint};
+ghost use Rattle.match_book.specs.Judgement.{error_text};
+ghost use Rattle.match_book.specs.declared.judgement.Substitution.TheVariants.{Illegal};
+ghost use Rattle.match_record.specs.RecordParts.{IsErrorText};
+ghost use Rattle.match_record.specs.Replaying.{GoesOn, DeniesOne};
+ghost use Rattle.match_record.specs.ReplaySteps.{all_moves, IsPlaceOf, IsRecorded, IsJointAnswer, IsTurnAnswer};
+
+use crate::error_texts::ILLEGAL;
+use crate::record_words::after;
+use crate::verify_fault::VerifyFault;
+use game_core::{Game, Joint, Text};
+use std::alloc::{AllocError, Global};
+use std::marker::Model;
+
+/// The legal moves of one role. Contracts see the list.
+#[derive(Drop)]
+struct RoleMoves<M> {
+    items: Vec<M>,
+}
+
+impl<M> Model for RoleMoves<M> {
+    ghost use Rattle.std.specs.Prelude.{List};
+
+    ghost Value = { List M };
+
+    ghost view = { λ r. r.items.items };
+}
+
+impl<M> RoleMoves<M> {
+    fn as_slice(&self) -> &[M]
+        ensures { result.now ≡ self.now }
+    {
+        self.items.as_slice()
+    }
+}
+
+/// What a recorded move is.
+#[derive(Drop)]
+enum RecordedMove<M> {
+    /// A legal move, and its error may stand beside it.
+    Right(M),
+    /// No legal move has the text.
+    NoMove,
+    /// The move is legal, and its error may not stand beside it.
+    WrongError,
+}
+
+/// The place of a move with this text, if there is one.
+fn place_of<G: Game>(
+    alloc: Global,
+    game: &G,
+    moves: &[G::Move],
+    wanted: &[u8],
+) -> Result<Option<usize>, AllocError>
+    requires { All (λ m. (G.rules game.now).IsMove m) moves.now }
+    ensures { IfOk result (λ o. IsPlaceOf (G.rules game.now) moves.now wanted.now o) }
+{
+    for (place, taken) in moves.iter().enumerate() {
+        let text = game.move_text(alloc, taken)?;
+        if text.as_slice() == wanted {
+            return Ok(Some(place));
+        }
+    }
+    Ok(None)
+}
+
+/// The answer that was not legal, if the error says so of one.
+fn denied_answer(error: &[u8]) -> Option<&[u8]>
+    ensures { MatchOption result ((x : List ℕ) → error.now ≢ error_text (Illegal x)) (λ x. error.now ≡ error_text (Illegal x.now)) }
+{
+    after(error, ILLEGAL)
+}
+
+/// Whether the error says that the answer was the text of one of these moves.
+fn denies_one<G: Game>(
+    alloc: Global,
+    game: &G,
+    moves: &[G::Move],
+    error: &[u8],
+) -> Result<bool, AllocError>
+    requires { All (λ m. (G.rules game.now).IsMove m) moves.now }
+    ensures { IfOk result (λ b. IsTrue b ↔ DeniesOne (G.rules game.now) moves.now error.now) }
+{
+    match denied_answer(error) {
+        Some(read) => Ok(place_of(alloc, game, moves, read)?.is_some()),
+        None => Ok(false),
+    }
+}
+
+/// What the move is that a record shows by this text and this error, where these moves are legal.
+fn recorded_move<G: Game>(
+    alloc: Global,
+    game: &G,
+    moves: &[G::Move],
+    text: &[u8],
+    error: &[u8],
+) -> Result<RecordedMove<G::Move>, AllocError>
+    requires moves { All (λ m. (G.rules game.now).IsMove m) moves.now }
+    requires differ { AllPairs (λ m n. m ≢ n) moves.now }
+    requires error { IsErrorText error.now }
+    ensures { IfOk result (λ o. IsRecorded (G.rules game.now) moves.now text.now error.now o) }
+{
+    let Some(place) = place_of(alloc, game, moves, text)? else {
+        return Ok(RecordedMove::NoMove);
+    };
+    if !error.is_empty() {
+        if place > 0 {
+            return Ok(RecordedMove::WrongError);
+        }
+        if denies_one(alloc, game, moves, error)? {
+            return Ok(RecordedMove::WrongError);
+        }
+    }
+    Ok(RecordedMove::Right(game.copy_move(alloc, &moves[place])?))
+}
+
+/// The legal moves of each role, where the state is not terminal and each role has one.
+fn legal_moves<G: Game>(
+    alloc: Global,
+    game: &G,
+    state: &G::State,
+) -> Result<Option<Vec<RoleMoves<G::Move>>>, AllocError>
+    requires { (G.rules game.now).IsState state.now }
+    ensures { IfOk result (λ o. MatchOption o (¬ GoesOn (G.rules game.now) state.now)
+        (λ lists. GoesOn (G.rules game.now) state.now × (lists.items ≡ all_moves (G.rules game.now) state.now))) }
+{
+    if game.terminal(alloc, state)? {
+        return Ok(None);
+    }
+    let mut lists = Vec::new(alloc);
+    for role in 0..game.roles() {
+        let items = game.legal(alloc, state, role)?;
+        if items.is_empty() {
+            return Ok(None);
+        }
+        lists.push(RoleMoves { items })?;
+    }
+    Ok(Some(lists))
+}
+
+/// The joint move of these texts, or the fault of the lowest role at fault. Each role's moves are asked for
+/// once: a game may take long to find them.
+fn recorded_joint<G: Game>(
+    alloc: Global,
+    game: &G,
+    state: &G::State,
+    turn: usize,
+    moves: &[Text],
+    errors: &[Text],
+) -> Result<Joint<G::Move>, VerifyFault>
+    requires state { (G.rules game.now).IsState state.now }
+    requires moves { length moves.now ≡ (G.rules game.now).roles }
+    requires errors { length errors.now ≡ (G.rules game.now).roles }
+    requires error_texts { All IsErrorText errors.now }
+    ensures { IsJointAnswer (G.rules game.now) state.now moves.now errors.now turn result }
+{
+    let Some(lists) = legal_moves(alloc, game, state)? else {
+        return Err(VerifyFault::WrongEnd);
+    };
+    let mut joint = Vec::new(alloc);
+    for role in 0..game.roles() {
+        let legal = lists[role].as_slice();
+        let text = moves[role].as_slice();
+        let error = errors[role].as_slice();
+        match recorded_move(alloc, game, legal, text, error)? {
+            RecordedMove::Right(taken) => joint.push(taken)?,
+            RecordedMove::NoMove => return Err(VerifyFault::Illegal(turn, role)),
+            RecordedMove::WrongError => return Err(VerifyFault::NotFirst(turn, role)),
+        }
+    }
+    Ok(Joint { moves: joint })
+}
+
+/// The state after a turn with these moves and errors, or the first fault of the turn.
+pub fn replay_turn<G: Game>(
+    alloc: Global,
+    game: &G,
+    state: &G::State,
+    turn: usize,
+    moves: &[Text],
+    errors: &[Text],
+) -> Result<G::State, VerifyFault>
+    requires state { (G.rules game.now).IsState state.now }
+    requires moves { length moves.now ≡ (G.rules game.now).roles }
+    requires errors { length errors.now ≡ (G.rules game.now).roles }
+    requires error_texts { All IsErrorText errors.now }
+    ensures { IsTurnAnswer (G.rules game.now) state.now moves.now errors.now turn result }
+{
+    let joint = recorded_joint(alloc, game, state, turn, moves, errors)?;
+    Ok(game.next(alloc, state, joint.as_slice())?)
+}

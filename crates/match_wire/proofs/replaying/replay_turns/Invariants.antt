@@ -1,8 +1,0 @@
-use Rattle.match_wire.specs.Replaying.{LeadsTo}
-use Rattle.match_wire.proofs.replaying.replay_turns.Given as goal
-
-abbrev pub invariant-loop-turn : goal.invariant-loop-turn
-invariant-loop-turn g l = record {
-  leads : LeadsTo (g.G.Game.rules l.game) l.parts l.turn l.state;
-  is_state : (g.G.Game.rules l.game).IsState l.state;
-}
