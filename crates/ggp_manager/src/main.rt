@@ -1,39 +1,8 @@
 //! A referee for General Game Playing: the program.
 #![tactic(auto)]
 
-mod addresses;
-mod arguments;
-mod checking;
-mod command;
-mod contact;
-#[cfg(test)]
-mod example_games;
-mod fault;
-mod games;
-mod lines;
-#[cfg(test)]
-mod network_tests;
-#[cfg(test)]
-mod record_tests;
-mod reply_lines;
-mod running;
-mod script;
-mod script_fault;
-mod script_lines;
-mod socket_player;
-#[cfg(test)]
-mod stalled_tests;
-#[cfg(test)]
-mod stream_tests;
-mod streams;
-#[cfg(test)]
-mod tests;
-mod words;
-
-use command::{command, report};
-use fault::Fault;
 use game_core::Counted;
-use socket_player::{SocketPlayer, Sockets};
+use ggp_commands::{Fault, SocketPlayer, Sockets, command, report};
 use std::io::ErrorKind;
 use std::process::ExitCode;
 use std::{env, io};
@@ -59,7 +28,7 @@ fn main(rt: HostRuntime) -> ExitCode {
     let mut reader = Counted::new(rt.stdin());
     let mut writer = Counted::new(rt.stdout());
     let reach = Sockets { rt: &rt };
-    let status = command::<_, SocketPlayer<'_>, _, _, _, _>(
+    let status = command::<_, SocketPlayer<'_, HostRuntime>, _, _, _, _>(
         &rt,
         rt.alloc(),
         &reach,

@@ -1,0 +1,19 @@
+//! Trials of the program's commands: scripts, records, command lines, failing streams, and players over loopback. Tests alone.
+#![tactic(auto)]
+
+#[cfg(test)]
+mod command_lines;
+#[cfg(test)]
+mod example_games;
+#[cfg(test)]
+mod network;
+#[cfg(test)]
+mod outcomes;
+#[cfg(test)]
+mod records;
+#[cfg(test)]
+mod scripts;
+#[cfg(test)]
+mod stalled;
+#[cfg(test)]
+mod streams;

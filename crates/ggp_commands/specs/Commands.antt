@@ -1,0 +1,31 @@
+-- What the command that plays a match writes.
+use Rattle.std.specs.Prelude.{◌≡◌, ℕ, true, false, List, Some, IfSome, slice_get, option_and_then}
+use Rattle.game_core.specs.Play.{Rules}
+use Rattle.match_book.specs.MatchValue.{GameMatch}
+use Rattle.match_book.specs.Phase.{is_over}
+use Rattle.match_desk.specs.ManagerValue.{ManagerValue, game_match}
+use Rattle.match_record.specs.RecordTree.{record_text}
+use Rattle.match_record.specs.LawfulRecord.{IsLawfulRecord}
+use Rattle.ggp_commands.specs.Games.{DescribesNone}
+use Rattle.ggp_commands.specs.declared.fault.Fault.{Fault}
+use Rattle.ggp_commands.specs.declared.fault.Fault.TheVariants.{Memory, BadDescription, Refused, MatchNotEnded}
+
+-- the text is the record of this desk's first match, which is over, and it is a lawful record of that match's game
+pub record IsEndedRecord {G S M : Type 0} (rules : G → Rules S M) (d : ManagerValue G M) (text : List ℕ) : Type 0 where
+  pub held : GameMatch G M
+  pub is_first : option_and_then (game_match d) (slice_get d.matches 0) ≡ Some held
+  pub over : is_over (rules held.game) held.value ≡ true
+  pub is_record : text ≡ record_text (rules held.game) held.value
+  pub lawful : IsLawfulRecord (rules held.game) text
+
+-- this desk has no first match, or one that is not over
+abbrev pub HasNoEndedMatch : {G S M : Type 0} → (G → Rules S M) → ManagerValue G M → Type 0
+HasNoEndedMatch rules d = IfSome (option_and_then (game_match d) (slice_get d.matches 0)) (λ held. is_over (rules held.game) held.value ≡ false)
+
+-- What a match between players may fail by, and where by its description: the text of its rules describes no game.
+abbrev pub RunFails : List ℕ → Fault → Type 0
+RunFails text BadDescription = DescribesNone text
+RunFails text (Refused reason) = Unit {0}
+RunFails text MatchNotEnded = Unit {0}
+RunFails text Memory = Unit {0}
+RunFails text fault = ⊥

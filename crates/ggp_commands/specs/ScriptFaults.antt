@@ -1,0 +1,21 @@
+-- What a fault of a script says of its streams.
+use Rattle.std.specs.Prelude.{◌≡◌, ℕ, ◌<◌, ◌≤◌, List, length, take, Option}
+use Rattle.std.specs.Io.KnownBytes.{Appends, IsAtEnd}
+use Rattle.game_core.specs.Counting.{Counting, one_more}
+use Rattle.ggp_commands.specs.Streams.{StopsReading}
+use Rattle.ggp_commands.specs.declared.script_fault.ScriptFault.{ScriptFault}
+use Rattle.ggp_commands.specs.declared.script_fault.ScriptFault.TheVariants.{ReadFault, TooLong, Memory, WriteFault}
+
+-- how many bytes a script has at most
+abbrev pub max_script : ℕ
+max_script = 1048576
+
+-- Of a script of which so many bytes were given, whose output is known: what the fault says of the reader before and after,
+-- and of the writer. Nothing was written but at a failed write, which leaves a prefix of the output.
+abbrev pub ScriptFails : {R W : Type 0} → (R → Option (List ℕ)) → (W → Option (List ℕ)) → List ℕ → ScriptFault → ℕ → Counting R → Counting R → Counting W → Counting W → Type 0
+ScriptFails remaining contents output ReadFault given reader reader' writer writer' = (given ≤ max_script) × StopsReading given reader reader' × (writer' ≡ writer)
+ScriptFails remaining contents output TooLong given reader reader' writer writer' = (max_script < given) × (reader'.faults ≡ reader.faults) × (writer' ≡ writer)
+ScriptFails remaining contents output Memory given reader reader' writer writer' = (given ≤ max_script) × (reader'.faults ≡ reader.faults) × (writer' ≡ writer)
+ScriptFails remaining contents output WriteFault given reader reader' writer writer' =
+    (reader'.faults ≡ reader.faults) × IsAtEnd (remaining reader'.stream) × (writer'.faults ≡ one_more writer.faults)
+    × ((taken : ℕ) × (taken ≤ length output) × Appends (contents writer.stream) (contents writer'.stream) (take taken output))

@@ -1,0 +1,71 @@
+//! Why a command ends with a fault.
+
+use crate::reply_lines::refusal_word;
+use match_desk::Refusal;
+use match_record::VerifyFault;
+use std::alloc::{AllocError, AllocFailed};
+use thiserror::Error;
+
+/// A fault of the program. Its text is what standard error shows behind the program's name.
+#[derive(Clone, Copy, Debug, PartialEq, Eq, Error)]
+pub enum Fault {
+    #[error("wrong use")]
+    WrongUse,
+    #[error("want of memory")]
+    Memory,
+    /// The text of the rules is not KIF, or is no ground description.
+    #[error("bad description")]
+    BadDescription,
+    /// Standard input failed.
+    #[error("read fault")]
+    ReadFault,
+    /// The input has more bytes than it may have.
+    #[error("input too long")]
+    InputTooLong,
+    /// Standard output failed.
+    #[error("write fault")]
+    WriteFault,
+    /// The player can't be reached, or its answer can't be taken.
+    #[error("no answer")]
+    NoAnswer,
+    /// The match was not opened.
+    #[error("refused {}", refusal_word(*.0))]
+    Refused(Refusal),
+    /// The match has neither finished nor been aborted.
+    #[error("match not ended")]
+    MatchNotEnded,
+    /// The record is not lawful: the first test that it fails.
+    #[error("not lawful: {0}")]
+    NotLawful(VerifyFault),
+    /// So many lines of a script were bad. All output is there.
+    #[error("bad lines {0}")]
+    BadLines(u64),
+}
+
+impl Fault {
+    /// The program's status.
+    pub fn status(self) -> u8 {
+        match self {
+            Fault::WrongUse => 2,
+            Fault::Memory => 3,
+            _ => 1,
+        }
+    }
+}
+
+impl From<AllocError> for Fault {
+    ghost use Rattle.std.specs.Prelude.{◌≡◌};
+    ghost use Rattle.ggp_commands.specs.declared.fault.Fault.TheVariants.{Memory};
+
+    ghost from_gives = { λ _ given. given ≡ Memory };
+
+    fn from(_: AllocError) -> Fault {
+        Fault::Memory
+    }
+}
+
+impl<T: Drop> From<AllocFailed<T>> for Fault {
+    fn from(_: AllocFailed<T>) -> Fault {
+        Fault::Memory
+    }
+}

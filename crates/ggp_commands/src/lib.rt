@@ -1,0 +1,34 @@
+//! The commands of the program `ggp_manager`: a script on a desk, a match between players, the check of a record, a question
+//! to a player.
+//!
+//! `command` reads the words of a command line and does what they ask for, over any streams, any runtime and any
+//! players that can be reached; a fault is one line on the stream for errors and a status. `Sockets` reaches players
+//! over HTTP. What is left to the program is its runtime.
+//!
+//! Free functions take the allocator first, behind a handle for threads, waiting or the network.
+#![tactic(auto)]
+
+mod addresses;
+mod arguments;
+mod checking;
+mod commands;
+mod contact;
+mod fault;
+mod games;
+mod lines;
+mod reply_lines;
+mod running;
+mod script;
+mod script_fault;
+mod script_lines;
+mod socket_player;
+mod streams;
+mod words;
+
+pub use addresses::{PlayerAddress, player_address};
+pub use arguments::ArgumentFault;
+pub use commands::{command, report};
+pub use contact::ContactFault;
+pub use fault::Fault;
+pub use script_fault::ScriptFault;
+pub use socket_player::{Reach, SocketPlayer, Sockets};

@@ -1,0 +1,119 @@
+//! A match between players on the network, from its plan to its record.
+ghost use Rattle.std.specs.Prelude.{◌≡◌, ◌≢◌, IfOk, IfErr, length, vec_len};
+ghost use Rattle.kif_text.specs.View.{views};
+ghost use Rattle.match_desk.specs.ManagerValue.{ManagerValue};
+ghost use Rattle.ggp_commands.specs.Commands.{IsEndedRecord, HasNoEndedMatch, RunFails};
+
+use crate::arguments::MatchPlan;
+use crate::fault::Fault;
+use crate::games::described_game;
+use crate::socket_player::Reach;
+use game_core::{Game, Text, Texts};
+use ground_rules::GroundGame;
+use kif_text::{Expr, copy};
+use match_book::{Phase, Setup};
+use match_desk::Manager;
+use match_record::record_json;
+use match_workers::{Player, RefereeFault, referee};
+use std::alloc::{AllocError, Global};
+use std::sync::Wait;
+use std::thread::Threads;
+
+/// How often a role may ask what is due to it. With the pause of a player at rest that is under three hours.
+const TURNS: u64 = 100_000;
+
+impl From<RefereeFault> for Fault {
+    ghost use Rattle.std.specs.Prelude.{◌≡◌};
+    ghost use Rattle.ggp_commands.specs.Faults.{referee_fault};
+
+    ghost from_gives = { λ fault given. given ≡ referee_fault fault };
+
+    fn from(fault: RefereeFault) -> Fault {
+        match fault {
+            RefereeFault::Refused(refusal) => Fault::Refused(refusal),
+            RefereeFault::Unclosed | RefereeFault::Full => Fault::MatchNotEnded,
+            RefereeFault::Memory => Fault::Memory,
+        }
+    }
+}
+
+fn setup_of(alloc: Global, plan: &MatchPlan<'_>) -> Result<Setup, AllocError>
+    ensures players { IfOk result (λ s. length s.players ≡ vec_len plan.now.players) }
+    ensures start { IfOk result (λ s. s.start ≡ plan.now.start) }
+    ensures play { IfOk result (λ s. s.play ≡ plan.now.play) }
+{
+    let mut items = Vec::with_capacity(alloc, plan.players.len())?;
+    for player in &plan.players {
+        items.push(Text::from_slice(alloc, player.name.as_bytes())?)?;
+    }
+    Ok(Setup {
+        id: Text::from_slice(alloc, plan.id.as_bytes())?,
+        start: plan.start,
+        play: plan.play,
+        players: Texts { items },
+    })
+}
+
+fn players_of<P: Drop, S: Reach<P>>(
+    alloc: Global,
+    reach: &S,
+    plan: &MatchPlan<'_>,
+) -> Result<Vec<P>, AllocError>
+    ensures { IfOk result (λ v. vec_len v ≡ vec_len plan.now.players) }
+{
+    let mut players = Vec::with_capacity(alloc, plan.players.len())?;
+    for address in &plan.players {
+        players.push(reach.player(alloc, address)?)?;
+    }
+    Ok(players)
+}
+
+fn copies(alloc: Global, sentences: &[Expr]) -> Result<Vec<Expr>, AllocError>
+    ensures { IfOk result (λ copies. views copies.items ≡ views sentences.now) }
+{
+    let mut rules = Vec::with_capacity(alloc, sentences.len())?;
+    for sentence in sentences {
+        rules.push(copy(alloc, sentence)?)?;
+    }
+    Ok(rules)
+}
+
+/// The record of the desk's match, where that has come to its end.
+fn ended_record<G: Game>(alloc: Global, manager: &Manager<G>) -> Result<Text, Fault>
+    ensures ended { IfOk result (IsEndedRecord G.rules manager.now) }
+    ensures not_ended { IfErr result (λ fault. fault ≢ Fault.Memory → (fault ≡ Fault.MatchNotEnded) × HasNoEndedMatch G.rules manager.now) }
+{
+    if manager.matches() == 0 {
+        return Err(Fault::MatchNotEnded);
+    }
+    let game = manager.game_of_match(0).unwrap();
+    let held = manager.match_at(0).unwrap();
+    match held.status().phase {
+        Phase::Finished | Phase::Aborted => Ok(record_json(alloc, game, held)?),
+        Phase::Starting | Phase::Playing | Phase::Stopping | Phase::Aborting => {
+            Err(Fault::MatchNotEnded)
+        }
+    }
+}
+
+/// Referees the match between its players, and gives its record.
+pub fn played_record<R, P, S>(
+    rt: &R,
+    alloc: Global,
+    reach: &S,
+    plan: &MatchPlan<'_>,
+) -> Result<Text, Fault>
+where
+    R: Threads + Wait + Sync,
+    P: Player + Drop + Send,
+    S: Reach<P>,
+    ensures ended { IfOk result (λ text. (d : ManagerValue _ _) × IsEndedRecord ⟦<GroundGame as Game>⟧.rules d text) }
+    ensures fails { IfErr result (RunFails plan.now.rules.now) }
+{
+    let game = described_game(alloc, plan.rules)?;
+    let rules = copies(alloc, game.description())?;
+    let setup = setup_of(alloc, plan)?;
+    let players: Vec<P> = players_of(alloc, reach, plan)?;
+    let refereed = referee(rt, alloc, game, setup, rules, players, TURNS)?;
+    ended_record(alloc, &refereed.closed.object)
+}
