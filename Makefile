@@ -1,27 +1,42 @@
-# The program is proved and built by `rt`, the command of the Rattle kit. `make match` and `make test` also need Python 3.10 or later.
+# The program is proved and built by `rt`, the command of the Rattle kit. The tools are written for Python 3.10 or later.
 
+PREFIX := /usr/local
 PROGRAM := bin/ggp_manager
+EDITED := $(if $(filter edits,$(firstword $(MAKECMDGOALS))),$(wordlist 2,$(words $(MAKECMDGOALS)),$(MAKECMDGOALS)))
 
-.PHONY: demo match test check build
+.PHONY: help demo match build install check edits test $(EDITED)
 
-# A match of Countdown through the program: each line of a script, and its reply.
-demo: build
-	@examples/side-by-side examples/games/countdown.script $(PROGRAM) desk --countdown 3
+help:
+	@echo 'make demo            a match of Countdown through the program, line by line'
+	@echo 'make match           a match over HTTP between two players on this computer, and its record'
+	@echo 'make build           proves the program and leaves it at $(PROGRAM)'
+	@echo 'make install         puts the proved program into $(PREFIX)/bin (PREFIX=DIR: into DIR/bin)'
+	@echo 'make check           proves every crate; what has not changed is not proved again'
+	@echo 'make edits [NAME..]  tries the wrong edits of the crates (all, or those named): the prover must refuse each'
+	@echo 'make test            the gate: every proof from nothing, wrong edits, the tests, the programs'
 
-# A match over HTTP between two players on this computer: what they are asked and answer, and the record.
-match: build
-	@examples/play-a-match $(PROGRAM) examples/games/tictactoe.kif
+# The program that `demo` and `match` run is the proved one where it is up to date, else one that is not proved yet.
+demo:
+	@program=$$(tools/program) && examples/side-by-side examples/games/countdown.script "$$program" desk --countdown 3
 
-# The gate: every proof from nothing, wrong edits that the prover must refuse, the tests, the programs.
+match:
+	@program=$$(tools/program) && examples/play-a-match "$$program" examples/games/tictactoe.kif
+
+build:
+	@tools/prove build
+
+install: build
+	@install -D -m 755 $(PROGRAM) $(DESTDIR)$(PREFIX)/bin/ggp_manager
+	@echo '$(DESTDIR)$(PREFIX)/bin/ggp_manager'
+
+check:
+	@tools/prove check
+
+edits:
+	@tools/edits $(EDITED)
+
+# The names behind `edits` are no targets of their own.
+$(EDITED): ; @:
+
 test:
 	@.ci/gate
-
-# Every proof. What has not changed since the last check is not proved again.
-check:
-	@rt all check
-
-# The proved program, as LLVM builds it.
-build:
-	@mkdir -p bin
-	@cd crates/ggp_manager && rt run -- desk --countdown 3 < /dev/null > ../../bin/build.log 2>&1 || { cat ../../bin/build.log; exit 1; }
-	@cp crates/ggp_manager/out/ggp_manager $(PROGRAM)

@@ -1,5 +1,6 @@
-ghost use Rattle.std.specs.Prelude.{◌≡◌, [], IfOk};
+ghost use Rattle.std.specs.Prelude.{◌≡◌, ◌<◌, [], IfOk};
 
+use crate::replies::{are_same_texts, is_same_reply};
 use call_history::{
     CloseFault, Closed, Entry, LockDesk, LockLine, MAX_ENTRIES, Object, Unclosed, open_lock,
 };
@@ -31,17 +32,21 @@ fn id_of(alloc: Global, number: u32) -> Result<Text, AllocError> {
 }
 
 fn open(alloc: Global, number: u32) -> Result<Call, AllocError> {
-    let id = id_of(alloc, number)?;
-    let mut items = Vec::new(alloc);
-    items.push(Text::from_slice(alloc, b"ann")?)?;
-    items.push(Text::from_slice(alloc, b"bob")?)?;
     Ok(Call::Open {
-        id,
+        id: id_of(alloc, number)?,
         game: 0,
         start: 1,
         play: 1,
-        players: Texts { items },
+        players: players(alloc)?,
     })
+}
+
+fn players(alloc: Global) -> Result<Texts, AllocError> {
+    let mut items = Vec::new(alloc);
+    for name in [b"ann", b"bob"] {
+        items.push(Text::from_slice(alloc, name)?)?;
+    }
+    Ok(Texts { items })
 }
 
 fn query(alloc: Global, number: u32) -> Result<Call, AllocError> {
@@ -49,58 +54,9 @@ fn query(alloc: Global, number: u32) -> Result<Call, AllocError> {
     Ok(Call::Query { id })
 }
 
-fn are_same_texts(some: &Texts, other: &Texts) -> bool {
-    let (some, other) = (some.as_slice(), other.as_slice());
-    some.len() == other.len()
-        && some
-            .iter()
-            .zip(other)
-            .all(|(one, same)| one.as_slice() == same.as_slice())
-}
-
-fn are_same_moves(some: &Option<Texts>, other: &Option<Texts>) -> bool {
-    match (some, other) {
-        (None, None) => true,
-        (Some(some), Some(other)) => are_same_texts(some, other),
-        _ => false,
-    }
-}
-
-fn is_same_message(some: &Owed, other: &Owed) -> bool {
-    match (some, other) {
-        (Owed::Start, Owed::Start) => true,
-        (Owed::Play(some), Owed::Play(other)) => are_same_moves(some, other),
-        (Owed::Stop(some), Owed::Stop(other)) => are_same_moves(some, other),
-        (Owed::Abort, Owed::Abort) => true,
-        _ => false,
-    }
-}
-
-fn is_same_due(some: &Due, other: &Due) -> bool {
-    match (some, other) {
-        (
-            Due::Owe { round, owed },
-            Due::Owe {
-                round: now,
-                owed: message,
-            },
-        ) => { round == now && is_same_message(owed, message) }
-        (Due::Hold { round }, Due::Hold { round: now }) => round == now,
-        (Due::Over, Due::Over) => true,
-        _ => false,
-    }
-}
-
-fn is_same_reply(some: &Reply, other: &Reply) -> bool {
-    match (some, other) {
-        (Reply::Opened, Reply::Opened) => true,
-        (Reply::Due(some), Reply::Due(other)) => is_same_due(some, other),
-        (Reply::Taken, Reply::Taken) => true,
-        (Reply::Status(some), Reply::Status(other)) => some == other,
-        (Reply::Aborting, Reply::Aborting) => true,
-        (Reply::Refused(some), Reply::Refused(other)) => some == other,
-        _ => false,
-    }
+fn next(alloc: Global, number: u32, role: usize) -> Result<Call, AllocError> {
+    let id = id_of(alloc, number)?;
+    Ok(Call::Next { id, role })
 }
 
 fn is_same_setup(some: &Setup, other: &Setup) -> bool {
@@ -119,11 +75,29 @@ fn check_match<R: Abort>(rt: &R, held: &Match<Countdown>, kept: &Match<Countdown
     assert_eq!(rt; held.status(), kept.status());
     assert_eq!(rt; held.cause(), kept.cause());
     assert_eq!(rt; held.state(), kept.state());
+    check_marks(rt, held, kept);
+    check_turns(rt, held, kept);
+}
+
+fn check_marks<R: Abort>(rt: &R, held: &Match<Countdown>, kept: &Match<Countdown>) {
     for role in 0..ROLES {
-        assert_eq!(rt; held.start_mark(role), kept.start_mark(role));
-        assert_eq!(rt; held.end_mark(role), kept.end_mark(role));
-        assert_eq!(rt; held.goal_of(role), kept.goal_of(role));
+        assert_eq!(rt; marks(held, role), marks(kept, role));
     }
+}
+
+/// The marks of the role's answers to START and to STOP or ABORT, and its goal.
+fn marks(held: &Match<Countdown>, role: usize) -> (Option<&[u8]>, Option<&[u8]>, Option<u8>)
+    requires { role < ROLES }
+{
+    (
+        held.start_mark(role),
+        held.end_mark(role),
+        held.goal_of(role),
+    )
+}
+
+fn check_turns<R: Abort>(rt: &R, held: &Match<Countdown>, kept: &Match<Countdown>) {
+    assert_eq!(rt; held.status().turns, kept.status().turns);
     for turn in 0..held.status().turns as usize {
         for role in 0..ROLES {
             assert_eq!(rt; held.move_at(turn, role), kept.move_at(turn, role));
@@ -141,15 +115,43 @@ fn check_replay<R: Abort>(
     closed: &Closed<Manager<Countdown>>,
 ) -> Result<(), Fail> {
     let mut replayed = manager(alloc, heap)?;
-    for entry in closed.history.iter() {
-        let reply = replayed.answer(alloc, &entry.call)?;
-        assert!(rt; is_same_reply(&reply, &entry.reply));
-        replayed.apply(alloc, &entry.call)?;
+    replay(rt, alloc, &mut replayed, closed.history.as_slice())?;
+    check_matches(rt, &replayed, &closed.object)
+}
+
+fn replay<R: Abort>(
+    rt: &R,
+    alloc: Global,
+    manager: &mut Manager<Countdown>,
+    history: &[Entry<Call, Reply>],
+) -> Result<(), Fail> {
+    for entry in history {
+        assert!(rt; gives_reply(alloc, manager, entry)?);
+        manager.apply(alloc, &entry.call)?;
     }
-    assert_eq!(rt; replayed.matches(), closed.object.matches());
+    Ok(())
+}
+
+/// Whether the entry's call gets the entry's reply.
+fn gives_reply(
+    alloc: Global,
+    manager: &Manager<Countdown>,
+    entry: &Entry<Call, Reply>,
+) -> Result<bool, AllocError> {
+    let reply = manager.answer(alloc, &entry.call)?;
+    Ok(is_same_reply(&reply, &entry.reply))
+}
+
+/// The two managers hold the same matches.
+fn check_matches<R: Abort>(
+    rt: &R,
+    replayed: &Manager<Countdown>,
+    left: &Manager<Countdown>,
+) -> Result<(), Fail> {
+    assert_eq!(rt; replayed.matches(), left.matches());
     for place in 0..replayed.matches() {
         let held = replayed.match_at(place).ok_or("no match")?;
-        let kept = closed.object.match_at(place).ok_or("no match")?;
+        let kept = left.match_at(place).ok_or("no match")?;
         check_match(rt, held, kept);
     }
     Ok(())
@@ -179,6 +181,12 @@ fn is_same_call(some: &Call, other: &Call) -> bool {
     }
 }
 
+/// Whether the call is that of this turn of the line.
+fn is_call_of(alloc: Global, call: &Call, line: u32, turn: u32) -> Result<bool, AllocError> {
+    let made = call_of(alloc, line, turn)?;
+    Ok(is_same_call(call, &made))
+}
+
 /// Makes the ten calls of a line, and gives the line back with the replies.
 fn make_ten_calls<L: Ledger, R: Wait>(
     rt: &R,
@@ -187,14 +195,33 @@ fn make_ten_calls<L: Ledger, R: Wait>(
     line: LockLine<L>,
 ) -> Option<(LockLine<L>, Vec<Reply>)> {
     let mut line = line;
+    let replies = ten_replies(rt, alloc, desk, &mut line)?;
+    Some((line, replies))
+}
+
+fn ten_replies<L: Ledger, R: Wait>(
+    rt: &R,
+    alloc: Global,
+    desk: &LockDesk<Manager<Countdown>, L>,
+    line: &mut LockLine<L>,
+) -> Option<Vec<Reply>> {
     let number = line.number();
     let mut replies = Vec::new(alloc);
     for turn in 0..CALLS_OF_A_LINE {
-        let call = call_of(alloc, number, turn).ok()?;
-        let reply = desk.ask(rt, &mut line, call).ok()?;
+        let reply = ask(rt, desk, line, call_of(alloc, number, turn))?;
         replies.push(reply).ok()?;
     }
-    Some((line, replies))
+    Some(replies)
+}
+
+/// Makes the call of the line.
+fn ask<L: Ledger, R: Wait>(
+    rt: &R,
+    desk: &LockDesk<Manager<Countdown>, L>,
+    line: &mut LockLine<L>,
+    call: Result<Call, AllocError>,
+) -> Option<Reply> {
+    desk.ask(rt, line, call.ok()?).ok()
 }
 
 /// The entries of the line are its ten calls in order, with the replies that its thread got.
@@ -206,14 +233,27 @@ fn check_line<R: Abort>(
     replies: &[Reply],
 ) -> Result<(), Fail> {
     let mut turn = 0;
-    for entry in history.iter().filter(|entry| entry.line == number) {
-        assert!(rt; turn < CALLS_OF_A_LINE);
-        assert!(rt; is_same_call(&entry.call, &call_of(alloc, number, turn)?));
-        let reply = replies.get(turn as usize).ok_or("no reply")?;
-        assert!(rt; is_same_reply(&entry.reply, reply));
-        turn += 1;
+    for entry in history {
+        if entry.line == number {
+            assert!(rt; turn < CALLS_OF_A_LINE);
+            check_entry(rt, alloc, entry, turn, replies)?;
+            turn += 1;
+        }
     }
     assert_eq!(rt; turn, CALLS_OF_A_LINE);
+    Ok(())
+}
+
+fn check_entry<R: Abort>(
+    rt: &R,
+    alloc: Global,
+    entry: &Entry<Call, Reply>,
+    turn: u32,
+    replies: &[Reply],
+) -> Result<(), Fail> {
+    assert!(rt; is_call_of(alloc, &entry.call, entry.line, turn)?);
+    let reply = replies.get(turn as usize).ok_or("no reply")?;
+    assert!(rt; is_same_reply(&entry.reply, reply));
     Ok(())
 }
 
@@ -226,34 +266,69 @@ fn run_four_lines<L: Ledger + Send + Sync, R: Threads + Wait + Abort + Sync>(
     requires parts { blank.parts ≡ L.parts }
     requires one_each { blank.parts ≡ 4 }
 {
-    let opened = open_lock::<Manager<Countdown>, L>(
-        alloc,
-        blank,
-        manager(alloc, 3)?,
-        MAX_ENTRIES,
-        4,
-    );
+    let object = manager(alloc, 3)?;
+    let opened = open_lock::<Manager<Countdown>, L>(alloc, blank, object, MAX_ENTRIES, 4);
     let (desk, lines) = opened.ok().ok_or("no memory")?;
-    let shared = &desk;
-    let done = thread::map_vec(rt, lines, &|line| make_ten_calls(rt, alloc, shared, line))
+    let (closed, replies) = ask_and_close(rt, alloc, desk, lines)?;
+    check_four_lines(rt, alloc, &closed, replies.as_slice())
+}
+
+/// Makes the calls of each line in a thread of its own, and gives what is left with the replies of each.
+fn ask_and_close<L: Ledger + Send + Sync, R: Threads + Wait + Abort + Sync>(
+    rt: &R,
+    alloc: Global,
+    desk: LockDesk<Manager<Countdown>, L>,
+    lines: Vec<LockLine<L>>,
+) -> Result<(Closed<Manager<Countdown>>, Vec<Vec<Reply>>), Fail> {
+    let (lines, replies) = ask_in_four_threads(rt, alloc, &desk, lines)?;
+    let closed = close_without_the_last(rt, desk, lines)?;
+    Ok((closed, replies))
+}
+
+/// Gives the lines back with the replies of each.
+fn ask_in_four_threads<L: Ledger + Send + Sync, R: Threads + Wait + Sync>(
+    rt: &R,
+    alloc: Global,
+    desk: &LockDesk<Manager<Countdown>, L>,
+    lines: Vec<LockLine<L>>,
+) -> Result<(Vec<LockLine<L>>, Vec<Vec<Reply>>), Fail> {
+    let done = thread::map_vec(rt, lines, &|line| make_ten_calls(rt, alloc, desk, line))
         .ok()
         .ok_or("no memory")?;
     let mut lines = Vec::new(alloc);
     let mut replies = Vec::new(alloc);
     for one in done {
         let (line, got) = one.ok_or("a call was refused")?;
-        lines.push(line).ok().ok_or("no memory")?;
-        replies.push(got).ok().ok_or("no memory")?;
+        put(&mut lines, line)?;
+        put(&mut replies, got)?;
     }
-    let closed = close_without_the_last(rt, desk, lines)?;
-    assert_eq!(rt; closed.history.len(), 40);
-    assert_eq!(rt; closed.made_by_line.as_slice(), [10, 10, 10, 10].as_slice());
-    assert_eq!(rt; closed.object.matches(), OPENED as usize);
-    check_replay(rt, alloc, 3, &closed)?;
-    for (number, got) in (0..4).zip(replies.iter()) {
+    Ok((lines, replies))
+}
+
+fn put<T: Drop>(all: &mut Vec<T>, one: T) -> Result<(), Fail> {
+    all.push(one).ok().ok_or("no memory")?;
+    Ok(())
+}
+
+/// What four lines of ten calls each leave, with the replies that each thread got.
+fn check_four_lines<R: Abort>(
+    rt: &R,
+    alloc: Global,
+    closed: &Closed<Manager<Countdown>>,
+    replies: &[Vec<Reply>],
+) -> Result<(), Fail> {
+    check_counts(rt, closed);
+    check_replay(rt, alloc, 3, closed)?;
+    for (number, got) in (0..4).zip(replies) {
         check_line(rt, alloc, closed.history.as_slice(), number, got.as_slice())?;
     }
     Ok(())
+}
+
+fn check_counts<R: Abort>(rt: &R, closed: &Closed<Manager<Countdown>>) {
+    assert_eq!(rt; closed.history.len(), 40);
+    assert_eq!(rt; closed.made_by_line.as_slice(), [10, 10, 10, 10].as_slice());
+    assert_eq!(rt; closed.object.matches(), OPENED as usize);
 }
 
 /// Closes the desk: it stays open without the last line, and is closed with all.
@@ -267,6 +342,14 @@ fn close_without_the_last<L: Ledger, R: Abort>(
     let Err(unclosed) = close_desk(desk, lines) else {
         return Err(Fail::from("closed without a line"));
     };
+    close_with_the_last(rt, unclosed, last)
+}
+
+fn close_with_the_last<L: Ledger, R: Abort>(
+    rt: &R,
+    unclosed: Unclosed<Manager<Countdown>, L>,
+    last: LockLine<L>,
+) -> Result<Closed<Manager<Countdown>>, Fail> {
     let Unclosed {
         desk,
         mut lines,
@@ -336,20 +419,41 @@ fn make_many_calls<L: Ledger, R: Wait>(
     line: LockLine<L>,
 ) -> Option<LockLine<L>> {
     let mut line = line;
+    make_calls_in_turn(rt, alloc, desk, &mut line)?;
+    Some(line)
+}
+
+fn make_calls_in_turn<L: Ledger, R: Wait>(
+    rt: &R,
+    alloc: Global,
+    desk: &LockDesk<Manager<Countdown>, L>,
+    line: &mut LockLine<L>,
+) -> Option<()> {
     let number = line.number() % LINES;
     for place in 0..MATCHES_OF_A_LINE {
-        let call = open(alloc, number * MATCHES_OF_A_LINE + place).ok()?;
-        desk.ask(rt, &mut line, call).ok()?;
+        let opening = open(alloc, number * MATCHES_OF_A_LINE + place);
+        ask(rt, desk, line, opening)?;
     }
     for turn in 0..TURNS {
         let wanted = (turn * 5 + number * 7) % MATCHES;
-        let role = (turn % 2) as usize;
-        let id = id_of(alloc, wanted).ok()?;
-        let due = desk.ask(rt, &mut line, Call::Next { id, role }).ok()?;
-        let call = answer_to(alloc, &due, wanted, role, turn).ok()?;
-        desk.ask(rt, &mut line, call).ok()?;
+        ask_and_answer(rt, alloc, desk, line, wanted, turn)?;
     }
-    Some(line)
+    Some(())
+}
+
+/// Asks what the match owes to a role, and then answers or queries.
+fn ask_and_answer<L: Ledger, R: Wait>(
+    rt: &R,
+    alloc: Global,
+    desk: &LockDesk<Manager<Countdown>, L>,
+    line: &mut LockLine<L>,
+    wanted: u32,
+    turn: u32,
+) -> Option<()> {
+    let role = (turn % 2) as usize;
+    let due = ask(rt, desk, line, next(alloc, wanted, role))?;
+    ask(rt, desk, line, answer_to(alloc, &due, wanted, role, turn))?;
+    Some(())
 }
 
 fn run_many_calls<L: Ledger + Send + Sync, R: Threads + Wait + Abort + Sync>(
@@ -364,19 +468,47 @@ fn run_many_calls<L: Ledger + Send + Sync, R: Threads + Wait + Abort + Sync>(
     let object = manager(alloc, 100)?;
     let opened = open_lock::<Manager<Countdown>, L>(alloc, blank, object, MAX_ENTRIES, LINES);
     let (desk, lines) = opened.ok().ok_or("no memory")?;
-    let shared = &desk;
-    let done = thread::map_vec(rt, lines, &|line| make_many_calls(rt, alloc, shared, line))
+    let closed = ask_often_and_close(rt, alloc, desk, lines)?;
+    check_many_calls(rt, alloc, &closed)
+}
+
+fn ask_often_and_close<L: Ledger + Send + Sync, R: Threads + Wait + Sync>(
+    rt: &R,
+    alloc: Global,
+    desk: LockDesk<Manager<Countdown>, L>,
+    lines: Vec<LockLine<L>>,
+) -> Result<Closed<Manager<Countdown>>, Fail> {
+    let lines = ask_in_eight_threads(rt, alloc, &desk, lines)?;
+    let closed = close_desk(desk, lines).ok().ok_or("not closed")?;
+    Ok(closed)
+}
+
+/// Makes the calls of each line in a thread of its own, and gives the lines back.
+fn ask_in_eight_threads<L: Ledger + Send + Sync, R: Threads + Wait + Sync>(
+    rt: &R,
+    alloc: Global,
+    desk: &LockDesk<Manager<Countdown>, L>,
+    lines: Vec<LockLine<L>>,
+) -> Result<Vec<LockLine<L>>, Fail> {
+    let done = thread::map_vec(rt, lines, &|line| make_many_calls(rt, alloc, desk, line))
         .ok()
         .ok_or("no memory")?;
     let mut lines = Vec::new(alloc);
     for one in done {
-        let line = one.ok_or("a call was refused")?;
-        lines.push(line).ok().ok_or("no memory")?;
+        put(&mut lines, one.ok_or("a call was refused")?)?;
     }
-    let closed = close_desk(desk, lines).ok().ok_or("not closed")?;
+    Ok(lines)
+}
+
+/// What eight lines leave that together fill a history of 100,000 entries.
+fn check_many_calls<R: Abort>(
+    rt: &R,
+    alloc: Global,
+    closed: &Closed<Manager<Countdown>>,
+) -> Result<(), Fail> {
     assert_eq!(rt; closed.history.len(), 100_000);
     assert_eq!(rt; closed.object.matches(), MATCHES as usize);
-    check_replay(rt, alloc, 100, &closed)
+    check_replay(rt, alloc, 100, closed)
 }
 
 #[test]

@@ -1,9 +1,11 @@
 //! Whole matches between players in memory.
+use call_history::Closed;
 use game_core::{Countdown, Text, Texts};
 use match_book::{Answer, Phase, Setup};
-use match_desk::{Call, Refusal};
-use match_workers::{Player, RefereeFault, referee};
+use match_desk::{Call, Manager, Refusal};
+use match_workers::{Player, RefereeFault, Refereed, referee};
 use std::alloc::{AllocError, Global};
+use std::process::Abort;
 use std::sync::atomic::{AtomicU64, Ordering};
 use std::test::Fail;
 use std::thread;
@@ -81,35 +83,59 @@ fn setup(alloc: Global, id: &[u8], clock: u32, players: &[&[u8]]) -> Result<Setu
 fn roles_are_attended_at_once(rt: HostRuntime) -> Result<(), Fail> {
     let alloc = rt.alloc();
     let (red, blue) = (AtomicU64::new(0), AtomicU64::new(0));
-    let mut players = Vec::new(alloc);
-    players.push(ReadyPlayer {
-        clock: &rt,
-        alloc,
-        answers: &[b"READY", b"(take 1)", b"DONE"],
-        messages: &red,
-        awaited: &blue,
-    })?;
-    // Blue waits for nobody: it has itself been handed a message.
-    players.push(ReadyPlayer {
-        clock: &rt,
-        alloc,
-        answers: &[b"READY", b"noop", b"DONE"],
-        messages: &blue,
-        awaited: &blue,
-    })?;
+    let players = red_and_blue(&rt, alloc, &red, &blue)?;
     let game = Countdown::new(1).ok_or("no such game")?;
     let setup = setup(alloc, b"m", 1, &[b"ann", b"bob"])?;
     assert_eq!(rt; players.len(), setup.players.as_slice().len());
     let refereed = referee(&rt, alloc, game, setup, Vec::new(alloc), players, TURNS)?;
+    check_refereed(&rt, &refereed)
+}
+
+/// The players of red, who waits for blue, and of blue.
+fn red_and_blue<'a, C>(
+    clock: &'a C,
+    alloc: Global,
+    red: &'a AtomicU64,
+    blue: &'a AtomicU64,
+) -> Result<Vec<ReadyPlayer<'a, C>>, AllocError> {
+    let mut players = Vec::new(alloc);
+    players.push(ReadyPlayer {
+        clock,
+        alloc,
+        answers: &[b"READY", b"(take 1)", b"DONE"],
+        messages: red,
+        awaited: blue,
+    })?;
+    // Blue waits for nobody: it has itself been handed a message.
+    players.push(ReadyPlayer {
+        clock,
+        alloc,
+        answers: &[b"READY", b"noop", b"DONE"],
+        messages: blue,
+        awaited: blue,
+    })?;
+    Ok(players)
+}
+
+/// Both players were handed all their messages, and red has won.
+fn check_refereed<R: Abort>(rt: &R, refereed: &Refereed<Countdown>) -> Result<(), Fail> {
     assert_eq!(rt; refereed.ends.as_slice(), [Ok(3), Ok(3)].as_slice());
-    let closed = &refereed.closed;
-    let held = closed.object.match_at(0).ok_or("no match")?;
+    check_end(rt, &refereed.closed.object)?;
+    check_calls(rt, &refereed.closed)
+}
+
+fn check_end<R: Abort>(rt: &R, manager: &Manager<Countdown>) -> Result<(), Fail> {
+    let held = manager.match_at(0).ok_or("no match")?;
     assert_eq!(rt; held.status().phase, Phase::Finished);
     for (role, goal) in [(0, 100), (1, 0)] {
         assert_eq!(rt; held.start_mark(role), Some(b"".as_slice()));
         assert_eq!(rt; held.goal_of(role), Some(goal));
     }
-    // The calling thread opened the match, and each other call is a worker's.
+    Ok(())
+}
+
+/// The calling thread opened the match, and each other call is a worker's.
+fn check_calls<R: Abort>(rt: &R, closed: &Closed<Manager<Countdown>>) -> Result<(), Fail> {
     let first = closed.history.first().ok_or("no entry")?;
     assert!(rt; matches!(first.call, Call::Open { game: 0, .. }));
     assert_eq!(rt; first.line, 0);
