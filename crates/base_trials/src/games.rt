@@ -127,16 +127,41 @@ fn texts_and_joint_moves_are_read_by_place(rt: HostRuntime) -> Result<(), Fail> 
     Ok(())
 }
 
-/// A stream of which each call is answered with the next of these.
+#[test]
+fn says_why_a_play_is_refused(rt: HostRuntime) -> Result<(), Fail> {
+    let table = [
+        (
+            PlayFault::AfterEnd { turn: 1 },
+            "turn 1 comes after the end of the game",
+        ),
+        (
+            PlayFault::WrongWidth { turn: 2 },
+            "turn 2 has not one move for each role",
+        ),
+        (
+            PlayFault::Illegal { turn: 3, role: 4 },
+            "the move of role 4 in turn 3 is not legal",
+        ),
+        (PlayFault::Memory, "want of memory"),
+    ];
+    for (fault, wanted) in table {
+        assert_eq!(rt; format!(in rt.alloc(); "{fault}")?.as_str(), wanted);
+    }
+    Ok(())
+}
+
+/// A stream of which each call is answered with the next of these. It adds up how many bytes its calls may move.
 #[derive(Drop)]
 struct Script<'a> {
     answers: &'a [Result<usize, ErrorKind>],
+    asked: usize,
 }
 
 impl Script<'_> {
     fn answer(&mut self, most: usize) -> io::Result<usize>
         ensures { IfOk result (λ count. count ≤ most) }
     {
+        self.asked = self.asked.saturating_add(most);
         let Some((first, others)) = self.answers.split_first() else {
             return Ok(0);
         };
@@ -176,7 +201,10 @@ fn failures_are_counted_and_passed_on(rt: HostRuntime) {
         Ok(0),
         Err(ErrorKind::BrokenPipe),
     ];
-    let mut stream = Counted::new(Script { answers: &answers });
+    let mut stream = Counted::new(Script {
+        answers: &answers,
+        asked: 0,
+    });
     let mut buffer = [0; 4];
     let reads = [
         (Ok(2), 0),
@@ -198,5 +226,8 @@ fn failures_are_counted_and_passed_on(rt: HostRuntime) {
         assert_eq!(rt; stream.write(bytes).map_err(|e| e.kind()), wanted);
         assert_eq!(rt; stream.faults(), faults);
     }
-    assert_eq!(rt; stream.end().answers.len(), 0);
+    let script = stream.end();
+    assert_eq!(rt; script.answers.len(), 0);
+    // Each call is handed on whole: four reads into the buffer, and three writes of two bytes.
+    assert_eq!(rt; script.asked, 4 * 4 + 3 * 2);
 }

@@ -10,7 +10,7 @@ const WRONG_USE: Wanted<'_> = Wanted {
 };
 
 /// The words of command lines that ask for nothing that can be done.
-const WRONG_LINES: [&[&str]; 26] = [
+const WRONG_LINES: [&[&str]; 28] = [
     &[],
     &["desk"],
     &["frob"],
@@ -67,6 +67,8 @@ const WRONG_LINES: [&[&str]; 26] = [
         "ann@host:80",
     ],
     &["run", "--countdown", "3", "--id", "m", "ann@host:80"],
+    &["verify"],
+    &["verify", "--countdown", "200"],
     &["info"],
     &["info", "ann"],
     &["info", "ann@host"],

@@ -17,6 +17,8 @@ use std::{io, thread};
 enum Deed {
     /// It answers with this text.
     Answers(&'static [u8]),
+    /// It takes this message and no other, and answers with that text.
+    Hears(&'static [u8], &'static [u8]),
     /// It takes the bytes of an INFO as they come, and is ready.
     IsReady,
     /// It closes the connection at once.
@@ -77,6 +79,9 @@ fn meet<S: Read + Write + Drop>(alloc: Global, mut stream: S, deed: Deed) -> Opt
     let mut heard = Vec::new(alloc);
     match deed {
         Deed::Answers(reply) => return answer(alloc, stream, reply),
+        Deed::Hears(message, reply) => {
+            return answer(alloc, stream, reply).filter(|heard| heard.as_slice() == message);
+        }
         Deed::IsReady => {
             heard = hear_info(alloc, &mut stream).ok()?;
             stream.write_all(b"HTTP/1.0 200 OK\r\n\r\nREADY").ok()?;
@@ -217,6 +222,50 @@ fn matches_are_run_to_their_records(rt: HostRuntime) -> Result<(), Fail> {
         Deed::Answers(b"DONE"),
     ];
     expect_match(&rt, &rt, &options, ann, Some(bob), COUNTDOWN_RECORD)
+}
+
+/// A game of one turn, in which both move at once.
+const ONE_TURN_RULES: &str = "(ROLE red) (role blue) (init s) (legal red (go 1)) (legal blue wait)
+(<= (next t) (does red (go 1))) (<= terminal (true t)) (goal red 100) (goal blue 0)";
+
+const ONE_TURN_RECORD: &[u8] =
+    br#"{"cause":null,"endMarks":["",""],"errors":[["",""]],"goalValues":[100,0],"matchId":"M1","moves":[["(go 1)","wait"]],"phase":"finished","playClock":5,"players":["ann","bob"],"roles":["red","blue"],"startClock":7,"startMarks":["",""],"states":[["s"],["t"]]}
+"#;
+
+/// What red is sent of that match, and answers.
+const RED: &[Deed] = &[
+    Deed::Hears(
+        b"(START M1 red ((role red) (role blue) (init s) (legal red (go 1)) (legal blue wait) (<= (next t) (does red (go 1))) (<= terminal (true t)) (goal red 100) (goal blue 0)) 7 5)",
+        b"READY",
+    ),
+    Deed::Hears(b"(PLAY M1 NIL)", b"(GO 1)"),
+    Deed::Hears(b"(STOP M1 ((go 1) wait))", b"DONE"),
+];
+
+/// What blue is sent of it, and answers.
+const BLUE: &[Deed] = &[
+    Deed::Hears(
+        b"(START M1 blue ((role red) (role blue) (init s) (legal red (go 1)) (legal blue wait) (<= (next t) (does red (go 1))) (<= terminal (true t)) (goal red 100) (goal blue 0)) 7 5)",
+        b"READY",
+    ),
+    Deed::Hears(b"(PLAY M1 NIL)", b"wait"),
+    Deed::Hears(b"(STOP M1 ((go 1) wait))", b"DONE"),
+];
+
+#[test]
+fn players_are_sent_what_they_are_owed(rt: HostRuntime) -> Result<(), Fail> {
+    let options = [
+        "run",
+        "--rules",
+        ONE_TURN_RULES,
+        "--id",
+        "M1",
+        "--start",
+        "7",
+        "--play",
+        "5",
+    ];
+    expect_match(&rt, &rt, &options, RED, Some(BLUE), ONE_TURN_RECORD)
 }
 
 /// A game in whose first state nobody can move.

@@ -128,16 +128,47 @@ const CHANGES: [(&str, &str, &[u8]); 6] = [
     ),
 ];
 
-#[test]
-fn changed_records_are_not_lawful(rt: HostRuntime) -> Result<(), Fail> {
-    let printed = from_utf8(COUNTDOWN_OUTPUT)?;
-    for (from, to, errors) in CHANGES {
-        let changed = printed.replace(rt.alloc(), from, to)?;
+/// The same of a match in which both roles move at once: the fault lies in turn 0 and with role 1, so a fault that is printed with
+/// its role before its turn is seen.
+const CHANGES_OF_ROLE_1: [(&str, &str, &[u8]); 2] = [
+    (
+        r#"["rock","scissors"]"#,
+        r#"["rock","lizard"]"#,
+        b"ggp_manager: not lawful: illegal 0 1\n",
+    ),
+    (
+        r#""errors":[["",""],"#,
+        r#""errors":[["","TO"],"#,
+        b"ggp_manager: not lawful: notfirst 0 1\n",
+    ),
+];
+
+/// Changes what the desk printed of a game, and compares what `verify` says of each change.
+fn expect_changes<H>(
+    rt: &H,
+    host: &HostRuntime,
+    (option, game, output): (&str, &str, &[u8]),
+    changes: &[(&str, &str, &[u8])],
+) -> Result<(), Fail>
+where
+    H: Net + Threads + Wait + Abort + Sync,
+{
+    let printed = from_utf8(output)?;
+    for (from, to, errors) in changes {
+        let changed = printed.replace(host.alloc(), from, to)?;
         let (lines, wanted) = (changed.as_bytes(), Wanted::fault(errors));
-        let records = expect_checked(&rt, &rt, "--countdown", "3", lines, wanted)?;
+        let records = expect_checked(rt, host, option, game, lines, wanted)?;
         assert_eq!(rt; records, 1);
     }
     Ok(())
+}
+
+#[test]
+fn changed_records_are_not_lawful(rt: HostRuntime) -> Result<(), Fail> {
+    let countdown = ("--countdown", "3", COUNTDOWN_OUTPUT);
+    expect_changes(&rt, &rt, countdown, &CHANGES)?;
+    let roshambo = ("--rules", ROSHAMBO_RULES, ROSHAMBO_OUTPUT);
+    expect_changes(&rt, &rt, roshambo, &CHANGES_OF_ROLE_1)
 }
 
 #[test]

@@ -380,3 +380,31 @@ fn play_side_by_side(alloc: Global, desk: &mut Desk) -> Result<(), Fail> {
     make(desk, miss(alloc, "b", 1, 1, false))?;
     make(desk, submit(alloc, "a", 1, 1, "noop"))
 }
+
+/// What each refusal says.
+const REFUSALS: [(Refusal, &str); 13] = [
+    (Refusal::BadId, "the id is not lawful"),
+    (Refusal::IdUsed, "the id is used"),
+    (Refusal::NoGame, "there is no such game"),
+    (
+        Refusal::WrongPlayers,
+        "there is not one player for each role",
+    ),
+    (Refusal::BadName, "a player's name is not lawful"),
+    (Refusal::BadClock, "a clock is out of range"),
+    (Refusal::DeskFull, "the desk is full"),
+    (Refusal::NoMatch, "there is no such match"),
+    (Refusal::NoRole, "there is no such role"),
+    (Refusal::Over, "the match is over"),
+    (Refusal::Stale(7), "the present round is 7"),
+    (Refusal::Twice, "the role has answered this round"),
+    (Refusal::Ended, "the match has come to its end"),
+];
+
+#[test]
+fn says_why_a_call_is_refused(rt: HostRuntime) -> Result<(), Fail> {
+    for (refusal, wanted) in REFUSALS {
+        assert_eq!(rt; format!(in rt.alloc(); "{refusal}")?.as_str(), wanted);
+    }
+    Ok(())
+}

@@ -172,10 +172,29 @@ fn call_of(alloc: Global, line: u32, turn: u32) -> Result<Call, AllocError> {
     }
 }
 
-/// Whether both open the same match, or both ask for it.
+/// Whether both open the same match with the same setup, or both ask for the same match.
 fn is_same_call(some: &Call, other: &Call) -> bool {
     match (some, other) {
-        (Call::Open { id, .. }, Call::Open { id: same, .. }) => id.as_slice() == same.as_slice(),
+        (
+            Call::Open {
+                id,
+                game,
+                start,
+                play,
+                players,
+            },
+            Call::Open {
+                id: same_id,
+                game: same_game,
+                start: same_start,
+                play: same_play,
+                players: same_players,
+            },
+        ) => {
+            id.as_slice() == same_id.as_slice()
+                && (game, start, play) == (same_game, same_start, same_play)
+                && are_same_texts(players, same_players)
+        }
         (Call::Query { id }, Call::Query { id: same }) => id.as_slice() == same.as_slice(),
         _ => false,
     }

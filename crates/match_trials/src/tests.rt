@@ -104,6 +104,24 @@ fn reads_4096_bytes(rt: HostRuntime) -> Result<(), Fail> {
     countdown(&rt, rt.alloc(), 10, script)
 }
 
+/// Answers that no honest player gives: each is unreadable, and the match goes on.
+#[test]
+fn hostile_answers(rt: HostRuntime) -> Result<(), Fail> {
+    let script = "
+        submit 0 0 READY -> taken
+        submit 1 0 READY -> taken
+        submit 0 1 (((((((((((((((((((((((((((((((((((((((((((((((((((((((((((((((((a))))))))))))))))))))))))))))))))))))))))))))))))))))))))))))))))) -> taken
+        submit 1 1 -> taken
+        submit 0 2 é -> taken
+        submit 1 2 a) -> taken
+        submit 0 3 ; -> taken
+        submit 1 3 ( -> taken
+        query -> playing round 4 turns 3 substitutions 6
+        turns -> (take 1)/IL ? noop/IL ? ;noop/IL ? (take 1)/IL ? ;(take 1)/IL ? noop/IL ? ;
+    ";
+    countdown(&rt, rt.alloc(), 10, script)
+}
+
 #[test]
 fn refusals_in_order(rt: HostRuntime) -> Result<(), Fail> {
     let script = "

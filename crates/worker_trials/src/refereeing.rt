@@ -1,6 +1,7 @@
 //! Whole matches between players in memory.
 use call_history::Closed;
 use game_core::{Countdown, Text, Texts};
+use kif_text::read_all;
 use match_book::{Answer, Phase, Setup};
 use match_desk::{Call, Manager, Refusal};
 use match_workers::{Player, RefereeFault, Refereed, referee};
@@ -62,6 +63,43 @@ impl<C: Clock> Player for ReadyPlayer<'_, C> {
     }
 }
 
+/// The seconds that a player is given for a message, the message's text, and the player's answer.
+type Exchange = (u32, &'static [u8], &'static [u8]);
+
+/// A player that awaits these messages in their order, each with its seconds, and is silent at any other.
+#[derive(Drop)]
+struct StrictPlayer<'a, C> {
+    clock: &'a C,
+    alloc: Global,
+    awaited: &'static [Exchange],
+    heard: usize,
+}
+
+impl<C: Clock> Player for StrictPlayer<'_, C> {
+    ghost use Rattle.std.specs.Prelude.{None};
+
+    ghost handed = { λ p. None };
+
+    fn ask(&mut self, seconds: u32, body: &[u8]) -> Answer {
+        let next = self.awaited.get(self.heard).copied();
+        self.heard = self.heard.saturating_add(1);
+        let Some((limit, message, said)) = next else {
+            return Answer::Silent;
+        };
+        if seconds != limit || body != message {
+            return Answer::Silent;
+        }
+        match Text::from_slice(self.alloc, said) {
+            Ok(text) => Answer::Text(text),
+            Err(_) => Answer::Silent,
+        }
+    }
+
+    fn rest(&mut self) {
+        thread::sleep(self.clock, Duration::from_micros(10));
+    }
+}
+
 fn texts(alloc: Global, words: &[&[u8]]) -> Result<Texts, AllocError> {
     let mut items = Vec::new(alloc);
     for word in words {
@@ -70,11 +108,16 @@ fn texts(alloc: Global, words: &[&[u8]]) -> Result<Texts, AllocError> {
     Ok(Texts { items })
 }
 
-fn setup(alloc: Global, id: &[u8], clock: u32, players: &[&[u8]]) -> Result<Setup, AllocError> {
+fn setup(
+    alloc: Global,
+    id: &[u8],
+    clocks: (u32, u32),
+    players: &[&[u8]],
+) -> Result<Setup, AllocError> {
     Ok(Setup {
         id: Text::from_slice(alloc, id)?,
-        start: clock,
-        play: clock,
+        start: clocks.0,
+        play: clocks.1,
         players: texts(alloc, players)?,
     })
 }
@@ -85,7 +128,7 @@ fn roles_are_attended_at_once(rt: HostRuntime) -> Result<(), Fail> {
     let (red, blue) = (AtomicU64::new(0), AtomicU64::new(0));
     let players = red_and_blue(&rt, alloc, &red, &blue)?;
     let game = Countdown::new(1).ok_or("no such game")?;
-    let setup = setup(alloc, b"m", 1, &[b"ann", b"bob"])?;
+    let setup = setup(alloc, b"m", (1, 1), &[b"ann", b"bob"])?;
     assert_eq!(rt; players.len(), setup.players.as_slice().len());
     let refereed = referee(&rt, alloc, game, setup, Vec::new(alloc), players, TURNS)?;
     check_refereed(&rt, &refereed)
@@ -144,6 +187,59 @@ fn check_calls<R: Abort>(rt: &R, closed: &Closed<Manager<Countdown>>) -> Result<
     Ok(())
 }
 
+/// What red is handed in a match of Countdown(1), and answers.
+const RED: &[Exchange] = &[
+    (7, b"(START M red ((role red) (role blue)) 7 5)", b"READY"),
+    (5, b"(PLAY M NIL)", b"(take 1)"),
+    (5, b"(STOP M ((take 1) noop))", b"DONE"),
+];
+
+/// What blue is handed in it, and answers.
+const BLUE: &[Exchange] = &[
+    (7, b"(START M blue ((role red) (role blue)) 7 5)", b"READY"),
+    (5, b"(PLAY M NIL)", b"noop"),
+    (5, b"(STOP M ((take 1) noop))", b"DONE"),
+];
+
+fn strict_players<C>(clock: &C, alloc: Global) -> Result<Vec<StrictPlayer<'_, C>>, AllocError> {
+    let mut players = Vec::new(alloc);
+    for awaited in [RED, BLUE] {
+        players.push(StrictPlayer {
+            clock,
+            alloc,
+            awaited,
+            heard: 0,
+        })?;
+    }
+    Ok(players)
+}
+
+#[test]
+fn players_are_handed_what_they_are_owed(rt: HostRuntime) -> Result<(), Fail> {
+    let alloc = rt.alloc();
+    let rules = read_all(alloc, b"(role red) (role blue)")
+        .ok()
+        .ok_or("no rules")?;
+    let players = strict_players(&rt, alloc)?;
+    let game = Countdown::new(1).ok_or("no such game")?;
+    let setup = setup(alloc, b"M", (7, 5), &[b"ann", b"bob"])?;
+    assert_eq!(rt; players.len(), setup.players.as_slice().len());
+    let refereed = referee(&rt, alloc, game, setup, rules, players, TURNS)?;
+    check_all_answered(&rt, &refereed.closed.object)
+}
+
+/// Each message was the awaited one: no answer of the match is a silence.
+fn check_all_answered<R: Abort>(rt: &R, manager: &Manager<Countdown>) -> Result<(), Fail> {
+    let held = manager.match_at(0).ok_or("no match")?;
+    assert_eq!(rt; held.status().phase, Phase::Finished);
+    assert_eq!(rt; held.status().substitutions, 0);
+    for role in 0..2 {
+        assert_eq!(rt; held.start_mark(role), Some(b"".as_slice()));
+        assert_eq!(rt; held.end_mark(role), Some(b"".as_slice()));
+    }
+    Ok(())
+}
+
 #[test]
 fn matches_that_are_not_opened_reach_no_player(rt: HostRuntime) -> Result<(), Fail> {
     let alloc = rt.alloc();
@@ -157,7 +253,7 @@ fn matches_that_are_not_opened_reach_no_player(rt: HostRuntime) -> Result<(), Fa
     ];
     for (id, clock, names, refusal) in table {
         let messages = AtomicU64::new(0);
-        let setup = setup(alloc, id, clock, names)?;
+        let setup = setup(alloc, id, (clock, clock), names)?;
         let mut players = Vec::new(alloc);
         for _ in 0..setup.players.as_slice().len() {
             players.push(ReadyPlayer {
