@@ -2,7 +2,7 @@
 use Rattle.std.proofs.Common.{◌≡◌, ◌≢◌, ℕ, ◌+◌, ◌*◌, ◌<◌, ◌≤◌, true, false, eqb, Option, Some, None, List, [], ◌∷◌, ◌++◌, length, set, refl, arith, ap, sym, ◌∙◌, subst, length-append}
 use Rattle.std.proofs.lemmas.List.Sums.{sum_by_push}
 use Rattle.std.proofs.lemmas.Bool.Decides.{nat_tests}
-use Rattle.std.specs.Prelude.{IsSome, IfSome, slice_index_or, count_by}
+use Rattle.std.specs.Prelude.{IsSome, IfSome, is_some, slice_index_or, count_by}
 use Rattle.game_core.specs.Play.{Rules, IsLawful, IsJoint, max_roles}
 use Rattle.match_book.specs.Roles.{every_role, count_roles, at_role, is_there, blank}
 use Rattle.match_book.specs.Judgement.{judgement, IsJudged}
@@ -10,7 +10,7 @@ use Rattle.match_book.specs.MatchValue.{MatchValue, GameMatch, state_after, subs
 use Rattle.match_book.specs.Phase.{stage, settled, answered_in, goal_in, is_live, max_turns}
 use Rattle.match_book.specs.Lawful.{IsLawfulTurn, IsLawfulMatch}
 use Rattle.match_book.specs.Searches.{AreMoves}
-use Rattle.match_book.specs.Steps.{new_match, with_abort, with_start_mark, with_end_mark, with_open_answer, turn_of}
+use Rattle.match_book.specs.Steps.{new_match, with_abort, with_start_mark, with_end_mark, with_open_answer, turn_of, IsLastToStart}
 use Rattle.match_book.specs.Kept.{IsKept}
 use Rattle.match_book.specs.declared.setup.Setup.{Setup}
 use Rattle.match_book.specs.declared.answer.Answer.{Answer}
@@ -20,7 +20,7 @@ use Rattle.match_book.specs.declared.turn.Turn.{Turn}
 use Rattle.match_book.specs.declared.phase.Cause.TheVariants.{Asked}
 use Rattle.match_book.specs.declared.phase.Stage.{Stage}
 use Rattle.match_book.specs.declared.phase.Stage.TheVariants.{Starting, Playing, Stopping, Aborting}
-use Rattle.match_book.proofs.RoleTests.{every_role-but, every_role-count, count-blank, count-set, count_roles-none, count_roles-le, is_there-blank}
+use Rattle.match_book.proofs.RoleTests.{every_role-but, every_role-at, every_role-count, at_role-other, count-blank, count-set, count_roles-none, count_roles-le, is_there-blank}
 use Rattle.match_book.proofs.Stages.{stage-by, stage-asked, stage-starting, stage-settled, live-not_asked, settled-not_starting, goal_in-live, answered_in-none, playing-settled}
 use Rattle.match_book.proofs.Judgements.{Contains-move}
 use Rattle.match_book.proofs.TurnParts.{at_role-read}
@@ -135,15 +135,20 @@ module _ {S M : Type 0} (g : Rules S M) (laws : IsLawful g) {m : MatchValue M} {
             goals_are = kept.goals_are;
           }
 
+      all_started : g.roles ≤ answered + 1 → every_role g.roles (is_there (with_start_mark m r mark).start_marks) ≡ true
+      all_started last =
+          let few = count_roles-le g.roles (is_there (with_start_mark m r mark).start_marks) in
+          every_role-count g.roles (is_there (with_start_mark m r mark).start_marks) ∙ rw start_count (all_there (answered + 1) g.roles (rw start_count at few) last)
+
+      pub last-to_start : g.roles ≤ answered + 1 → IsLastToStart g m r
+      last-to_start last =
+          (starting_now, λ k below other. sym (ap is_some (at_role-other m.start_marks r k (Some mark) other)) ∙ every_role-at g.roles k (is_there (with_start_mark m r mark).start_marks) (all_started last) below)
+
       -- the last START mark
       pub kept-with_last_start_mark : (to : Stage) (are : List (Option ℕ)) → g.roles ≤ answered + 1 → to ≡ settled g (length m.turns) s → ((k : ℕ) → k < g.roles → at_role are k ≡ goal_in to g s k)
           → IsKept g (with_start_mark m r mark) s to 0 substituted are
       kept-with_last_start_mark to are last settles goals_are =
-          let few = count_roles-le g.roles (is_there (with_start_mark m r mark).start_marks) in
-          let all : every_role g.roles (is_there (with_start_mark m r mark).start_marks) ≡ true =
-          every_role-count g.roles (is_there (with_start_mark m r mark).start_marks) ∙ rw start_count (all_there (answered + 1) g.roles (rw start_count at few) last)
-          in
-          kept-settled g laws (with_start_mark m r mark) s to substituted are (lawful-with_start_mark g laws m kept.lawful r mark starting_now) asked all
+          kept-settled g laws (with_start_mark m r mark) s to substituted are (lawful-with_start_mark g laws m kept.lawful r mark starting_now) asked (all_started last)
           (kept.lawful.answers_in_play (rw starting_now refl)) (kept.lawful.ends_at_end (rw starting_now refl)) kept.state_is settles kept.substituted_is goals_are
 
   module _ (playing : at ≡ Playing) where

@@ -1,8 +1,9 @@
 //! The judge of the answers in play.
 ghost use Rattle.std.specs.Prelude.{◌≡◌, ◌<◌, IfOk, All};
+ghost use Rattle.match_book.specs.Marks.{answer_lent};
 ghost use Rattle.match_book.specs.Judgement.{error_text, substitute, move_named, IsPlaceOf, taken_or_substituted, judgement};
 
-use crate::answer::{Answer, Mark};
+use crate::answer::{LentAnswer, Mark};
 use crate::answer_text::read_answer;
 use game_core::{Game, Text};
 use std::alloc::{AllocError, Global};
@@ -111,19 +112,19 @@ pub fn judge<G: Game>(
     game: &G,
     state: &G::State,
     role: usize,
-    answer: &Answer,
+    answer: &LentAnswer<'_>,
 ) -> Result<Option<Judgement<G::Move>>, AllocError>
     requires state { (G.rules game.now).IsState state.now }
     requires role { role < (G.rules game.now).roles }
-    ensures { IfOk result (λ o. o ≡ judgement (G.rules game.now) state.now role answer.now) }
+    ensures { IfOk result (λ o. o ≡ judgement (G.rules game.now) state.now role (answer_lent answer.now)) }
 {
     let moves = game.legal(alloc, state, role)?;
     match answer {
-        Answer::Text(text) => match read_answer(alloc, text.as_slice())? {
+        LentAnswer::Text(text) => match read_answer(alloc, text.as_slice())? {
             Some(read) => judge_text(alloc, game, moves, read),
             None => substitute(alloc, moves, &Substitution::Unreadable),
         },
-        Answer::Silent => substitute(alloc, moves, &Substitution::TimeOut),
-        Answer::Broken => substitute(alloc, moves, &Substitution::ConnectionError),
+        LentAnswer::Silent => substitute(alloc, moves, &Substitution::TimeOut),
+        LentAnswer::Broken => substitute(alloc, moves, &Substitution::ConnectionError),
     }
 }

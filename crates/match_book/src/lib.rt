@@ -18,7 +18,7 @@ mod settlement;
 mod setup;
 mod turn;
 
-pub use answer::{AbortFault, Answer, AnswerFault, Mark};
+pub use answer::{AbortFault, Answer, AnswerFault, AnswerRefusal, LentAnswer, Mark};
 pub use answer_text::{MAX_ANSWER, MAX_READING};
 pub use due::{Due, Owed, OwedFault};
 pub use judgement::{ILLEGAL_PREFIX, Judgement, UNREADABLE, place_of};
