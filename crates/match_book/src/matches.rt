@@ -17,6 +17,7 @@ use crate::due::{Due, Owed, OwedFault};
 use crate::judgement::{Judgement, judge};
 use crate::phase::{Cause, Stage, Status};
 use crate::places::{are_all_there, blank, clear};
+use crate::role_moves::RoleMoves;
 use crate::settlement::settle;
 use crate::setup::Setup;
 use crate::turn::{Turn, count_errors, move_texts, turn_with};
@@ -42,6 +43,7 @@ pub struct Match<G: Game> {
     stage: Stage,
     answered: usize,
     substituted: u64,
+    legal: Vec<RoleMoves<G::Move>>,
     goals: Vec<Option<u8>>,
 }
 
@@ -70,7 +72,7 @@ impl<G: Game> Model for Match<G> {
       open_answers = m.open_answers.items;
       abort_asked = m.abort_asked;
       end_marks = m.end_marks.items;
-    }) m.state m.stage m.answered m.substituted m.goals.items };
+    }) m.state m.stage m.answered m.substituted m.legal.items m.goals.items };
 }
 
 impl<G: Game> Match<G> {
@@ -96,6 +98,7 @@ impl<G: Game> Match<G> {
             stage: Stage::Starting,
             answered: 0,
             substituted: 0,
+            legal: Vec::new(alloc),
             goals: Vec::new(alloc),
         })
     }
@@ -358,6 +361,7 @@ impl<G: Game> Match<G> {
         let settlement = settle(alloc, game, &self.state, self.turns.len())?;
         self.start_marks[role] = Some(mark);
         self.stage = settlement.stage;
+        self.legal = settlement.legal;
         self.goals = settlement.goals;
         self.answered = 0;
         Ok(())
@@ -387,7 +391,8 @@ impl<G: Game> Match<G> {
         requires stage { stage (G.rules self.now.game) self.now.value ≡ Playing }
         ensures { IfOk result (λ j. judgement (G.rules self.now.game) (state_after (G.rules self.now.game) self.now.value.turns) role (answer_lent answer.now) ≡ Some j) }
     {
-        Ok(judge(alloc, game, &self.state, role, answer)?.unwrap())
+        let moves = self.legal[role].as_slice();
+        Ok(judge(alloc, game, moves, answer)?.unwrap())
     }
 
     fn take_open_answer(
@@ -439,6 +444,7 @@ impl<G: Game> Match<G> {
         clear(&mut self.open_answers);
         self.state = state;
         self.stage = settlement.stage;
+        self.legal = settlement.legal;
         self.goals = settlement.goals;
         self.answered = 0;
         self.substituted += errors as u64;
@@ -457,6 +463,7 @@ impl<G: Game> Match<G> {
             Stage::Stopping | Stage::Aborting(_) => return Err(AbortFault::Ended),
         }
         clear(&mut self.open_answers);
+        self.legal.clear();
         self.abort_asked = true;
         self.stage = Stage::Aborting(Cause::Asked);
         self.answered = 0;
