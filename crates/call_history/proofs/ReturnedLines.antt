@@ -5,7 +5,7 @@ use Rattle.std.proofs.lemmas.List.{get_or-set_other, get_or-set_same, length-set
 use Rattle.std.proofs.lemmas.Bool.Decides.{eqb_tells}
 use Rattle.std.proofs.lemmas.List.Sums.{sum_by-set, sum_by-cons}
 use Rattle.std.proofs.lemmas.List.Folds.{sum_by-replicate}
-use Rattle.call_history.specs.Lines.{Line, has_number, HasAll}
+use Rattle.call_history.specs.Lines.{Line, numbers, has_number, HasAll}
 
 -- Of these lines, rest are still to come. The numbers awaited have had none yet. The others have their lines' calls in
 -- made; parts and amount are of the shares that were put together.
@@ -14,7 +14,7 @@ pub record IsGathering (lines rest : List Line) (awaited : List Bool) (made : Li
   pub parts_so_far : parts + count_by (λ b. b) awaited ≡ length awaited
   pub amount_so_far : amount ≡ sum made
   pub zeros : (k : ℕ) → get_or awaited k false ≡ true → get_or made k 0 ≡ 0
-  pub left : (k : ℕ) → get_or awaited k false ≡ true → has_number k rest ≡ true
+  pub left : (k : ℕ) → get_or awaited k false ≡ true → has_number k (numbers rest) ≡ true
   pub given : (line : Line) → Contains rest line → Contains lines line
   pub noted : (k : ℕ) → k < length awaited → get_or awaited k false ≡ false → Contains lines (record { number = k; made = get_or made k 0 })
 
@@ -44,7 +44,7 @@ false_of true never = absurd (never refl)
 false_of false never = refl
 
 -- no line has come yet
-pub IsGathering-start : (lines left : List Line) (awaited : List Bool) (made : List ℕ) (parts amount : ℕ) → HasAll lines (length awaited) → ((k : ℕ) → k < length awaited → get_or awaited k false ≡ true)
+pub IsGathering-start : (lines left : List Line) (awaited : List Bool) (made : List ℕ) (parts amount : ℕ) → HasAll (numbers lines) (length awaited) → ((k : ℕ) → k < length awaited → get_or awaited k false ≡ true)
     → made ≡ replicate (length awaited) 0 → parts ≡ 0 → amount ≡ 0 → left ≡ lines → IsGathering lines left awaited made parts amount
 IsGathering-start lines left awaited made parts amount has all zeros no_parts no_amount same =
     let n = length awaited in
@@ -59,7 +59,7 @@ IsGathering-start lines left awaited made parts amount has all zeros no_parts no
     }
 
 -- a line of another number may be left out
-has_number-other : (k : ℕ) (line : Line) (rest : List Line) → k ≢ line.number → has_number k (line ∷ rest) ≡ true → has_number k rest ≡ true
+has_number-other : (k : ℕ) (line : Line) (rest : List Line) → k ≢ line.number → has_number k (numbers (line ∷ rest)) ≡ true → has_number k (numbers rest) ≡ true
 has_number-other k line rest other has =
     let fails : eqb line.number k ≡ false = elim (eqb_tells line.number k) [ inl same ↦ absurd (other (sym same.1)) | inr differ ↦ differ.0 ] in
     rw fails at has

@@ -1,19 +1,36 @@
 //! Lines that come back to their desk: which numbers are there, and what they made.
 //!
 //! The tables `found`, `awaited` and `made_by_line` have one place for each number, and never grow.
-ghost use Rattle.std.specs.Prelude.{◌≡◌, ◌<◌, ◌^◌, IfSome, IfNone, ℕ, true, false, length, replicate, slice_index, slice_index_or, sum, Contains};
-ghost use Rattle.call_history.specs.Lines.{has_number, HasAll, IsLowestMissing};
+ghost use Rattle.std.specs.Prelude.{◌≡◌, ◌<◌, ◌^◌, IfSome, IfNone, ℕ, true, false, length, map, replicate, slice_index, slice_index_or, sum, Contains};
+ghost use Rattle.call_history.specs.Lines.{numbers, has_number, HasAll, IsLowestMissing};
 
 use crate::line::LockLine;
 use std::sync::ledger::{Ledger, Share};
 
+/// A line that comes back to its desk, whatever it is made of.
+pub(crate) trait Numbered {
+    /// Its number.
+    ghost number: { Self → ℕ };
+
+    fn number(&self) -> u32
+        ensures { result ≡ number self.now };
+}
+
+impl<L: Ledger> Numbered for LockLine<L> {
+    ghost number = { λ line. line.number };
+
+    fn number(&self) -> u32 {
+        self.number
+    }
+}
+
 /// Notes for each number whether a line with it is among these.
-fn note_numbers<L: Ledger>(lines: &[LockLine<L>], found: &mut [bool])
-    ensures { (k : ℕ) → k < length found.old → slice_index_or found.new k false ≡ has_number k lines.now }
+fn note_numbers<N: Numbered>(lines: &[N], found: &mut [bool])
+    ensures { (k : ℕ) → k < length found.old → slice_index_or found.new k false ≡ has_number k (map N.number lines.now) }
 {
     found.fill(false);
     for line in lines {
-        let place = line.number as usize;
+        let place = line.number() as usize;
         if place < found.len() {
             found[place] = true;
         }
@@ -22,10 +39,10 @@ fn note_numbers<L: Ledger>(lines: &[LockLine<L>], found: &mut [bool])
 
 /// The lowest number, of those that `found` has a place for, of which no line is among these. Where
 /// there is none, each place of `found` is left true.
-pub(crate) fn lowest_missing<L: Ledger>(lines: &[LockLine<L>], found: &mut [bool]) -> Option<u32>
+pub(crate) fn lowest_missing<N: Numbered>(lines: &[N], found: &mut [bool]) -> Option<u32>
     requires { length found.old < 2 ^ 32 }
-    ensures some { IfSome result (λ n. IsLowestMissing lines.now (length found.old) n) }
-    ensures none { IfNone result (HasAll lines.now (length found.old)) }
+    ensures some { IfSome result (λ n. IsLowestMissing (map N.number lines.now) (length found.old) n) }
+    ensures none { IfNone result (HasAll (map N.number lines.now) (length found.old)) }
     ensures all_found { IfNone result ((k : ℕ) → k < length found.old → slice_index_or found.new k false ≡ true) }
 {
     note_numbers(lines, found);
@@ -46,7 +63,7 @@ pub(crate) fn gather<L: Ledger>(
     made_by_line: &mut [u64],
     gathered: &mut Share<L>,
 )
-    requires all { HasAll lines.items (length awaited.old) }
+    requires all { HasAll (numbers lines.items) (length awaited.old) }
     requires awaited { (k : ℕ) → k < length awaited.old → slice_index_or awaited.old k false ≡ true }
     requires zeros { made_by_line.old ≡ replicate (length awaited.old) 0 }
     requires no_parts { gathered.old.parts ≡ 0 }

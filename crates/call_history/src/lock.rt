@@ -1,7 +1,7 @@
 //! A desk through which many threads share an object behind a lock.
 ghost use Rattle.std.specs.Prelude.{◌≡◌, ◌+◌, ◌<◌, ◌≤◌, ◌↔◌, ℕ, [], ◌∷◌, ◌++◌, length, sum, slice_index, IfOk, IfErr, OnOk, OnErr, IsOk, IsErrOf, Contains};
 ghost use Rattle.call_history.specs.History.{IsReplay, EndsLegalHistory};
-ghost use Rattle.call_history.specs.Lines.{new_lines, HasAll, IsLowestMissing};
+ghost use Rattle.call_history.specs.Lines.{new_lines, numbers, HasAll, IsLowestMissing};
 
 use crate::gathering::{gather, lowest_missing};
 use crate::journal::{CallFault, Entry, Journal, MAX_ENTRIES};
@@ -193,7 +193,7 @@ impl<O: Object, L: Ledger> LockDesk<O, L> {
     /// Closes the desk, where all its lines are handed in; else they and the desk come back. It takes
     /// no memory, and looks at each line twice.
     pub fn close(self, lines: Vec<LockLine<L>>) -> Result<Closed<O>, Unclosed<O, L>>
-        ensures all { IsOk result ↔ HasAll lines.items self.lines }
+        ensures all { IsOk result ↔ HasAll (numbers lines.items) self.lines }
 
         // The history replays on one thread.
         ensures replay { IfOk result (λ c. IsReplay O.reply O.after O.opening c.object c.history.items) }
@@ -201,7 +201,7 @@ impl<O: Object, L: Ledger> LockDesk<O, L> {
         ensures lines { IfOk result (λ c. length c.made_by_line.items ≡ self.lines) }
         ensures made { IfOk result (λ c. (k : ℕ) → k < self.lines → Contains lines.items (record { number = k; made = slice_index c.made_by_line.items k })) }
 
-        ensures missing { IfErr result (λ u. (n : ℕ) × (u.cause ≡ CloseFault.MissingLine n) × IsLowestMissing lines.items self.lines n) }
+        ensures missing { IfErr result (λ u. (n : ℕ) × (u.cause ≡ CloseFault.MissingLine n) × IsLowestMissing (numbers lines.items) self.lines n) }
         ensures back { IfErr result (λ u. (u.desk ≡ self) × (u.lines ≡ lines)) }
     {
         let LockDesk {

@@ -1,6 +1,6 @@
 //! The closing of a desk of matches through which many threads shared one manager behind a lock.
 ghost use Rattle.std.specs.Prelude.{◌≡◌, ◌<◌, ◌↔◌, ℕ, slice_index, IsOk, IfOk, IfErr, Contains};
-ghost use Rattle.call_history.specs.Lines.{HasAll, IsLowestMissing};
+ghost use Rattle.call_history.specs.Lines.{numbers, HasAll, IsLowestMissing};
 ghost use Rattle.match_desk.specs.Headline.{HasHeadline};
 
 use crate::manager::Manager;
@@ -19,12 +19,12 @@ pub fn close_desk<G: Game, L: Ledger>(
     desk: LockDesk<Manager<G>, L>,
     lines: Vec<LockLine<L>>,
 ) -> Result<Closed<Manager<G>>, Unclosed<Manager<G>, L>>
-    ensures all { IsOk result ↔ HasAll lines.items desk.lines }
+    ensures all { IsOk result ↔ HasAll (numbers lines.items) desk.lines }
 
     ensures headline { IfOk result (λ c. HasHeadline G.rules desk.lines c.object c.history.items c.made_by_line.items) }
     ensures made { IfOk result (λ c. (k : ℕ) → k < desk.lines → Contains lines.items (record { number = k; made = slice_index c.made_by_line.items k })) }
 
-    ensures missing { IfErr result (λ u. (n : ℕ) × (u.cause ≡ CloseFault.MissingLine n) × IsLowestMissing lines.items desk.lines n) }
+    ensures missing { IfErr result (λ u. (n : ℕ) × (u.cause ≡ CloseFault.MissingLine n) × IsLowestMissing (numbers lines.items) desk.lines n) }
     ensures back { IfErr result (λ u. (u.desk ≡ desk) × (u.lines ≡ lines)) }
 {
     desk.close(lines)

@@ -1,7 +1,9 @@
-use Rattle.std.proofs.Common.{◌≡◌, ◌<◌, ◌||◌, ℕ, false, length, slice_index_or, drop}
+use Rattle.std.proofs.Common.{◌≡◌, ◌<◌, ◌||◌, ℕ, false, length, slice_index_or, map, drop}
 use Rattle.call_history.specs.Lines.{has_number}
 use Rattle.call_history.proofs.gathering.note_numbers.Given as goal
 
 -- a number is among the lines where it is noted, or is among those to come
 abbrev pub invariant-loop-line : goal.invariant-loop-line
-invariant-loop-line g l = (k : ℕ) → k < length l.found → (slice_index_or l.found k false || has_number k (drop l.line-index l.lines)) ≡ has_number k l.lines
+invariant-loop-line g l =
+    let number = g.N.Numbered.number in
+    (k : ℕ) → k < length l.found → (slice_index_or l.found k false || has_number k (map number (drop l.line-index l.lines))) ≡ has_number k (map number l.lines)
