@@ -1,6 +1,7 @@
 pub mod Bytes
 pub mod Expression
 pub mod Canonical
+pub mod Numerals
 pub mod Texts
 pub mod Play
 pub mod PlayAnswer

@@ -7,6 +7,7 @@ mod countdown;
 mod counted;
 mod game;
 mod joint;
+pub mod numeral;
 mod play;
 mod text;
 mod texts;
