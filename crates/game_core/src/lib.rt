@@ -13,7 +13,7 @@ mod text;
 mod texts;
 
 pub use countdown::{Countdown, Position, Side, Take};
-pub use counted::Counted;
+pub use counted::{Counted, MAX_STREAM_CALLS};
 pub use game::Game;
 pub use joint::Joint;
 pub use play::{PlayFault, play_list};

@@ -1,4 +1,4 @@
--- What one turn of reading does.
+-- What one read does.
 use Rattle.std.specs.Prelude.{◌≡◌, ◌≢◌, ℕ, ◌≤◌, Bool, List, ◌++◌, Option}
 use Rattle.std.specs.declared.io.ErrorKind.TheVariants.{Interrupted}
 use Rattle.std.specs.Io.KnownBytes.{Consumes, Keeps}
@@ -16,16 +16,16 @@ pub record Grows {S : Type 0} (old new : Option (List ℕ)) (held now : List ℕ
   pub called : after.calls ≡ one_more before.calls
   pub kept : before.faults ≤ after.faults
 
-abbrev pub Turn : {S : Type 0} → (S → Option (List ℕ)) → Counting S → Counting S → List ℕ → List ℕ → Bool → Type 0
-Turn remaining old new held now ended =
+abbrev pub ReadsOnce : {S : Type 0} → (S → Option (List ℕ)) → Counting S → Counting S → List ℕ → List ℕ → Bool → Type 0
+ReadsOnce remaining old new held now ended =
     Grows (remaining old.stream) (remaining new.stream) held now ended old new
 
--- why a turn of reading failed
-abbrev pub TurnStops : {S : Type 0} → WireFault → Option (List ℕ) → Option (List ℕ) → Counting S → Counting S → Type 0
-TurnStops (ReadFault cause) old new before after =
+-- why a read failed
+abbrev pub ReadOnceStops : {S : Type 0} → WireFault → Option (List ℕ) → Option (List ℕ) → Counting S → Counting S → Type 0
+ReadOnceStops (ReadFault cause) old new before after =
     (cause ≢ Interrupted) × Keeps old new × HasFailed before.faults after.faults
-TurnStops Memory old new before after = (given : List ℕ) × Consumes old new given
-TurnStops fault old new before after = ⊥
+ReadOnceStops Memory old new before after = (given : List ℕ) × Consumes old new given
+ReadOnceStops fault old new before after = ⊥
 
-abbrev pub TurnFails : {S : Type 0} → (S → Option (List ℕ)) → Counting S → Counting S → WireFault → Type 0
-TurnFails remaining old new fault = TurnStops fault (remaining old.stream) (remaining new.stream) old new
+abbrev pub ReadOnceFails : {S : Type 0} → (S → Option (List ℕ)) → Counting S → Counting S → WireFault → Type 0
+ReadOnceFails remaining old new fault = ReadOnceStops fault (remaining old.stream) (remaining new.stream) old new
