@@ -1,5 +1,5 @@
 -- Digits, and the number that they write, digit by digit.
-use Rattle.std.proofs.Common.{◌≡◌, ℕ, zero, suc, ◌+◌, ◌-◌, ◌*◌, ◌&&◌, Bool, None, take, ◌<◌, true, false, List, [], ◌∷◌, length, get_or, refl, sym, ◌∙◌, arith}
+use Rattle.std.proofs.Common.{◌≡◌, ℕ, zero, suc, ◌+◌, ◌-◌, ◌*◌, None, take, ◌<◌, true, false, List, [], ◌∷◌, length, get_or, refl, sym, ◌∙◌, arith}
 use Rattle.std.specs.Prelude.{nat_lt, nat_le}
 use Rattle.std.specs.List.{list_all}
 use Rattle.std.specs.Char.{is_ascii_digit, digit_value}
@@ -8,11 +8,7 @@ use Rattle.std.proofs.lemmas.Bool.Decides.{nat_tests}
 use Rattle.std.proofs.lemmas.Int.Digits.{digits_value_more}
 use Rattle.std.proofs.lemmas.Str.Parse.{digits_value-take-le}
 use Rattle.game_core.specs.Numerals.{are_digits, number_up_to}
-
-parts : (a b : Bool) → (a && b) ≡ true → (a ≡ true) × (b ≡ true)
-parts true true h = (refl, refl)
-parts true false h = absurd cc
-parts false b h = absurd cc
+use Rattle.game_core.proofs.Numerals.{parts}
 
 numeral_parts : (value : List ℕ) → are_digits value ≡ true → (0 < length value) × (list_all is_ascii_digit value ≡ true)
 numeral_parts value e =

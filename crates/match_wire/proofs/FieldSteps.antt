@@ -8,7 +8,7 @@ use Rattle.std.proofs.lemmas.List.{at_drop_more}
 use Rattle.match_wire.specs.BodyLength.{Header, BodyLength, unsaid, said, wrong, has_name, transfer_encoding, content_length, writes_number, lengths, body_length}
 use Rattle.match_wire.specs.Internal.Heads.{length_of, agrees}
 use Rattle.game_core.specs.Numerals.{are_digits}
-use Rattle.match_record.proofs.Numerals.{parts as both}
+use Rattle.game_core.proofs.Numerals.{parts as both}
 
 -- one more length
 abbrev agree : BodyLength → List ℕ → BodyLength

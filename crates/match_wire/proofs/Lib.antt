@@ -8,5 +8,5 @@ pub mod Heads
 pub mod Parsed
 pub mod Stays
 pub mod Found
-pub mod Receiving
+pub mod MessageReads
 pub mod WrittenTexts

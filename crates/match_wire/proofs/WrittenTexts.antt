@@ -22,7 +22,7 @@ use Rattle.match_wire.specs.declared.head.HttpKind.{HttpKind}
 use Rattle.match_wire.specs.declared.head.HttpKind.TheVariants.{Reply, Request}
 use Rattle.match_wire.proofs.Lengths.{all_reverse}
 use Rattle.game_core.specs.Numerals.{are_digits}
-use Rattle.match_record.proofs.Numerals.{parts as both}
+use Rattle.game_core.proofs.Numerals.{parts as both}
 
 -- ---- the length
 

@@ -3,7 +3,7 @@ use Rattle.std.proofs.lemmas.Result.{err_from_is_err_and}
 use Rattle.match_wire.specs.Carried.{Carried}
 use Rattle.match_wire.specs.declared.look.Look.TheVariants.{Body, Refused}
 use Rattle.match_wire.proofs.Found.{found_is_carried}
-use Rattle.match_wire.proofs.Receiving.{reached, read_stops, look_stops, want_of_memory, looks_at, known_after, read_keeps}
+use Rattle.match_wire.proofs.MessageReads.{reached, read_stops, look_stops, want_of_memory, looks_at, known_after, read_keeps}
 use Rattle.match_wire.proofs.receiving.receive.Goals as goal
 
 pub returns-in_err-ended-clause-fails : goal.returns-in_err-ended-clause-fails

@@ -3,7 +3,7 @@ use Rattle.std.proofs.lemmas.List.{take_rest}
 use Rattle.std.specs.Io.KnownBytes.{Appends}
 use Rattle.std.proofs.KnownBytes.{Appends-trans}
 use lib.Seq.{take-add}
-use Rattle.match_wire.proofs.Receiving.{one_more_call}
+use Rattle.match_wire.proofs.MessageReads.{one_more_call}
 use Rattle.match_wire.proofs.sending.send.Goals as goal
 
 -- one more write takes n bytes from place t on
