@@ -1,3 +1,4 @@
 pub mod LineLemmas
-pub mod Numbers
+pub mod Pieces
 pub mod Records
+pub mod WordLemmas
