@@ -21,8 +21,7 @@ use Rattle.ground_rules.specs.Numbered.{bit, numbered, rules_of, row_after, unse
 use Rattle.ground_rules.specs.Tables.{marked, chosen, only_goal, picked, are_in_order, names}
 use Rattle.ground_rules.specs.LoadedGame.{loaded_game, row_of, role_at, terms_of}
 use Rattle.ground_rules.specs.LoadedGameLaws.{ordered-different, marked-size}
-use Rattle.ground_rules.specs.Keys.{place}
-use Rattle.ground_rules.specs.Resolved.{NameTable, atom_number, term_number, role_number, resolved_rules, terms_in, head_terms, role_table, mentions_by, state_term, state_mentions}
+use Rattle.ground_rules.specs.Resolved.{NameTable, atom_number, term_number, role_number, resolved_rules, terms_in, head_terms, role_table, mentions_by, state_term, state_mentions, place}
 use Rattle.ground_rules.proofs.NameLists.{among-any, among-left, among-right}
 use Rattle.ground_rules.proofs.TablePlaces.{place-within}
 use Rattle.ground_rules.proofs.Transfer.{Agrees, fit-is-row}

@@ -106,7 +106,7 @@ impl Game for GroundGame {
     }
 
     fn move_text(&self, alloc: Global, taken: &GroundMove) -> Result<Text, AllocError> {
-        let text = self.terms[taken.term].copy(alloc)?;
+        let text = self.terms[taken.term].clone()?;
         Ok(text)
     }
 
@@ -153,7 +153,7 @@ impl GroundGame {
         let atoms = heads.len();
         let init = state_mentions(alloc, heads, &names.terms, StateHead::Init)?;
         let next = state_mentions(alloc, heads, &names.terms, StateHead::Next)?;
-        let terminal = place_of_head(alloc, &names.heads, &Derived::Terminal)?;
+        let terminal = place_of_head(&names.heads, &Derived::Terminal);
         let terms = into_texts(alloc, names.terms)?;
         Ok(GroundGame {
             description,

@@ -1,10 +1,8 @@
-use Rattle.std.proofs.Common.{◌∙◌, ap, sym, refl, map, length}
-use Rattle.std.proofs.lemmas.List.{length-map}
+use Rattle.std.proofs.Common.{◌∙◌, ap, refl, map, length}
 use Rattle.kif_text.specs.View.{view as expression}
 use Rattle.ground_rules.specs.Numbered.{rules_of}
 use Rattle.ground_rules.specs.Tables.{are_in_order}
 use Rattle.ground_rules.specs.declared.lookups.StateHead.TheVariants.{Init as InitHead, Next as NextHead}
-use Rattle.ground_rules.specs.Keys.{derived_of}
 use Rattle.ground_rules.specs.Resolved.{table_of, state_mentions}
 use Rattle.ground_rules.specs.Loading.{description_of}
 use Rattle.ground_rules.proofs.Assembled.{some-role, few-roles, tables-pass, names-pass, names-read, terms-read, loaded}
@@ -34,7 +32,7 @@ returns c =
     let t = table_of c.args.parts.names in
     let keys = c.as_slice-heads.ensures.keys in
     loaded t _ (map expression c.args.description.items) refl c.requires.sentences c.requires.parts c.in_ok-terms.ensures
-    (c.in_ok-init.ensures ∙ ap (λ ks. state_mentions InitHead t.terms 0 (map derived_of ks)) keys)
-    (c.in_ok-next.ensures ∙ ap (λ ks. state_mentions NextHead t.terms 0 (map derived_of ks)) keys)
-    c.in_ok-terminal.ensures
-    (ap length keys ∙ sym (length-map c.args.parts.names.heads.keys derived_of))
+    (c.in_ok-init.ensures ∙ ap (λ ks. state_mentions InitHead t.terms 0 ks) keys)
+    (c.in_ok-next.ensures ∙ ap (λ ks. state_mentions NextHead t.terms 0 ks) keys)
+    c.place_of_head-terminal.ensures
+    (ap length keys)
