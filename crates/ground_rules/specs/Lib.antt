@@ -24,4 +24,5 @@ pub mod Numbered
 pub mod Order
 pub mod Tables
 pub mod LoadedGame
+pub mod GroundGames
 pub mod LoadedGameLaws
