@@ -12,8 +12,7 @@ use Rattle.ground_rules.specs.Names.{text-sound, text-same, number-sound, number
 use Rattle.ground_rules.specs.Described.{moves_in}
 use Rattle.ground_rules.specs.Tables.{marked, chosen}
 use Rattle.ground_rules.specs.Numbered.{bit, unset}
-use Rattle.ground_rules.specs.Keys.{place}
-use Rattle.ground_rules.specs.Resolved.{NameTable, atom_number, with_mention, mentions_by, state_term, legal_mentions}
+use Rattle.ground_rules.specs.Resolved.{NameTable, atom_number, with_mention, mentions_by, state_term, legal_mentions, place}
 use Rattle.ground_rules.proofs.TablePlaces.{place-at, place-one}
 use Rattle.ground_rules.proofs.Situations.{text-decides, text_of}
 

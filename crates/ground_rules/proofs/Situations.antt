@@ -7,7 +7,7 @@ use Rattle.ground_rules.specs.Names.{text-sound, text-same}
 use Rattle.ground_rules.specs.Described.{is_among, makes, are_different}
 use Rattle.ground_rules.specs.Tables.{picked}
 use Rattle.ground_rules.specs.Numbered.{bit, is_number}
-use Rattle.ground_rules.specs.Keys.{place}
+use Rattle.ground_rules.specs.Resolved.{place}
 use Rattle.ground_rules.proofs.TablePlaces.{Decides, place-same}
 
 pub text-decides : Decides bytes_eq

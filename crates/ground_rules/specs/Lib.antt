@@ -10,7 +10,6 @@ pub mod Words
 pub mod Sentences
 pub mod Reading
 pub mod Places
-pub mod Keys
 pub mod Sizes
 pub mod Resolved
 pub mod Loading
@@ -25,4 +24,5 @@ pub mod Numbered
 pub mod Order
 pub mod Tables
 pub mod LoadedGame
+pub mod GroundGames
 pub mod LoadedGameLaws

@@ -6,11 +6,10 @@ use Rattle.std.proofs.lemmas.Bool.Decides.{nat_tests, Decides-eqb, Decides-ltb}
 use Rattle.game_core.specs.Play.{IsLawful, max_roles, max_goal}
 use Rattle.game_core.specs.Texts.{IsBefore, AreInByteOrder}
 use Rattle.game_core.specs.Canonical.{IsCanonicalText, IsFoldedText}
-use Rattle.kif_text.specs.View.{views}
+use Rattle.game_core.specs.Expression.{Expressions}
 use Rattle.ground_rules.specs.declared.tables.Mention.{Mention}
 use Rattle.ground_rules.specs.declared.tables.GoalHead.{GoalHead}
 use Rattle.ground_rules.specs.declared.tables.GroundMove.{GroundMove}
-use Rattle.ground_rules.specs.declared.ground_game.GroundGame.{GroundGame}
 use Rattle.ground_rules.specs.Bools.{and-left, and-right, and-both, not-true, or-left, or-right, or-false-left, or-false-right}
 use Rattle.ground_rules.specs.Names.{text-sound, text-same}
 use Rattle.ground_rules.specs.Described.{is_among, are_different}
@@ -19,7 +18,7 @@ use Rattle.ground_rules.specs.Numbered.{bit, unset}
 use Rattle.ground_rules.specs.Tables.{are_roles, names, has_term, have_distinct_terms, are_goals, marked, chosen, only, picked, comes_before, comes_before_all, are_in_order}
 use Rattle.ground_rules.specs.Terms.{are_terms_in_any}
 use Rattle.ground_rules.specs.TermTexts.{IsTermText, term-text-folded, term-text-no-question, term-text-at}
-use Rattle.ground_rules.specs.LoadedGame.{loaded_game, role_at, row_of, terms_of}
+use Rattle.ground_rules.specs.LoadedGame.{GameTables, loaded_game, role_at, row_of, terms_of}
 
 set-length : (row : List Bool) (i : ℕ) (test : Bool) → length (if test then slice_set row i true else row) ≡ length row
 set-length row i true = length-set row i true
@@ -191,21 +190,22 @@ ordered-different (t ∷ ts) h = rw (order-differs t ts (and-left (comes_before_
 folded-is-canonical : (t : List ℕ) → IsFoldedText t → IsCanonicalText t
 folded-is-canonical t is = (is.0, is.1, is.3)
 
-pub loaded_game_laws : (g : GroundGame) → 1 ≤ length g.roles.items → length g.roles.items ≤ max_roles → IsTrue (are_roles (length g.terms.items) g.roles.items) → IsTrue (are_different (names g.roles.items))
-    → IsTrue (are_terms_in_any (views g.description.items) (names g.roles.items)) → IsTrue (are_in_order g.terms.items) → IsTrue (are_terms_in_any (views g.description.items) g.terms.items) → IsLawful (loaded_game g)
-loaded_game_laws g some few tables names_differ names_spelled terms_ordered terms_spelled = record {
+-- whatever keeps the tables proves its game lawful by this lemma; `xs` are the sentences of its description
+pub loaded_game_laws : (xs : Expressions) (g : GameTables) → 1 ≤ length g.roles → length g.roles ≤ max_roles → IsTrue (are_roles (length g.terms) g.roles) → IsTrue (are_different (names g.roles))
+    → IsTrue (are_terms_in_any xs (names g.roles)) → IsTrue (are_in_order g.terms) → IsTrue (are_terms_in_any xs g.terms) → IsLawful (loaded_game g)
+loaded_game_laws xs g some few tables names_differ names_spelled terms_ordered terms_spelled = record {
   some_role = some;
   few_roles = few;
-  role_names_folded = λ r within. rw (name-at g.roles.items r within) (term-text-folded (slice_index_or (names g.roles.items) r []) (term-text-at (views g.description.items) (names g.roles.items) r [] names_spelled (omega (arith, names-length g.roles.items, within))));
-  role_names_differ = λ q r low high e. one-place (names g.roles.items) q r names_differ (omega (arith, names-length g.roles.items, low)) (omega (arith, names-length g.roles.items, high)) (sym (name-at g.roles.items q low) ∙ (e ∙ name-at g.roles.items r high));
-  initial_is_state = marked-size (length g.terms.items) (row_of g [] []) g.init.items;
-  next_is_state = λ s joint is lawful. marked-size (length g.terms.items) (row_of g s (terms_of joint)) g.next.items;
-  legal_are_moves = λ s r is within. chosen-are (length g.terms.items) _ (role_at g r).legal (role-legal _ g.roles.items r tables);
-  legal_differ = λ s r is within. chosen-differ (length g.terms.items) _ (role_at g r).legal (role-legal _ g.roles.items r tables);
-  move_texts_folded = λ m is. term-text-folded (slice_index_or g.terms.items m.term []) (term-text-at (views g.description.items) g.terms.items m.term [] terms_spelled is);
-  one_move_for_each_text = λ m n im in' e. same-move m n (one-place g.terms.items m.term n.term (ordered-different g.terms.items terms_ordered) im in' e);
-  no_question = λ m is. term-text-no-question (slice_index_or g.terms.items m.term []) (term-text-at (views g.description.items) g.terms.items m.term [] terms_spelled is);
-  state_texts_canonical = λ s is k d lt. folded-is-canonical (slice_index_or (picked s g.terms.items) k d) (term-text-folded (slice_index_or (picked s g.terms.items) k d) (picked-texts s g.terms.items (λ j e within. term-text-at (views g.description.items) g.terms.items j e terms_spelled within) k d lt));
-  state_texts_ordered = λ s is. ordered (picked s g.terms.items) (picked-ordered s g.terms.items terms_ordered);
-  goal_in_range = λ s r v is within e. goals-only (role_at g r).goals _ v (role-goals _ g.roles.items r tables) e;
+  role_names_folded = λ r within. rw (name-at g.roles r within) (term-text-folded (slice_index_or (names g.roles) r []) (term-text-at xs (names g.roles) r [] names_spelled (omega (arith, names-length g.roles, within))));
+  role_names_differ = λ q r low high e. one-place (names g.roles) q r names_differ (omega (arith, names-length g.roles, low)) (omega (arith, names-length g.roles, high)) (sym (name-at g.roles q low) ∙ (e ∙ name-at g.roles r high));
+  initial_is_state = marked-size (length g.terms) (row_of g [] []) g.init;
+  next_is_state = λ s joint is lawful. marked-size (length g.terms) (row_of g s (terms_of joint)) g.next;
+  legal_are_moves = λ s r is within. chosen-are (length g.terms) _ (role_at g r).legal (role-legal _ g.roles r tables);
+  legal_differ = λ s r is within. chosen-differ (length g.terms) _ (role_at g r).legal (role-legal _ g.roles r tables);
+  move_texts_folded = λ m is. term-text-folded (slice_index_or g.terms m.term []) (term-text-at xs g.terms m.term [] terms_spelled is);
+  one_move_for_each_text = λ m n im in' e. same-move m n (one-place g.terms m.term n.term (ordered-different g.terms terms_ordered) im in' e);
+  no_question = λ m is. term-text-no-question (slice_index_or g.terms m.term []) (term-text-at xs g.terms m.term [] terms_spelled is);
+  state_texts_canonical = λ s is k d lt. folded-is-canonical (slice_index_or (picked s g.terms) k d) (term-text-folded (slice_index_or (picked s g.terms) k d) (picked-texts s g.terms (λ j e within. term-text-at xs g.terms j e terms_spelled within) k d lt));
+  state_texts_ordered = λ s is. ordered (picked s g.terms) (picked-ordered s g.terms terms_ordered);
+  goal_in_range = λ s r v is within e. goals-only (role_at g r).goals _ v (role-goals _ g.roles r tables) e;
 }

@@ -1,5 +1,5 @@
 -- Numbers in the place of names. Only private clauses cite this module.
-use Rattle.std.specs.Prelude.{ℕ, ◌+◌, not, bytes_eq, nat_lt, nat_eq, if◌then◌else◌, List, [], ◌∷◌, ◌++◌, map, Option, Some, None}
+use Rattle.std.specs.Prelude.{ℕ, ◌+◌, suc, Bool, not, bytes_eq, nat_lt, nat_eq, if◌then◌else◌, List, [], ◌∷◌, ◌++◌, map, Option, Some, None}
 use Rattle.ground_rules.specs.declared.sentence.Derived.{Derived}
 use Rattle.ground_rules.specs.declared.sentence.Derived.TheVariants.{Init, Next, Legal, Goal}
 use Rattle.ground_rules.specs.declared.lookups.StateHead.{StateHead}
@@ -10,7 +10,6 @@ use Rattle.ground_rules.specs.Literals.{Literal, Literals, Holds, InState, Does,
 use Rattle.ground_rules.specs.Sentences.{TextLiteral, TextLiterals, TextRule}
 use Rattle.ground_rules.specs.Described.{Description, same_derived}
 use Rattle.ground_rules.specs.Numbered.{known}
-use Rattle.ground_rules.specs.Keys.{derived_of, texts, place}
 use Rattle.ground_rules.specs.declared.resolve.Names.{Names}
 use Rattle.ground_rules.specs.Roles.{RoleTable}
 
@@ -21,7 +20,12 @@ pub record NameTable : Type 0 where
   pub terms : List (List ℕ)
 
 abbrev pub table_of : Names → NameTable
-table_of names = record { roles = texts names.roles.keys; heads = map derived_of names.heads.keys; terms = texts names.terms.keys }
+table_of names = record { roles = names.roles.keys; heads = names.heads.keys; terms = names.terms.keys }
+
+-- the first place of x, or the length
+abbrev pub place : {A : Type 0} → (A → A → Bool) → List A → A → ℕ
+place same [] x = 0
+place same (y ∷ ys) x = if same x y then 0 else suc (place same ys x)
 
 abbrev pub atom_number : NameTable → Derived → ℕ
 atom_number names a = place same_derived names.heads a

@@ -43,15 +43,16 @@ pub struct GroundGame {
 
 impl Game for GroundGame {
     ghost use Rattle.ground_rules.specs.LoadedGame.{loaded_game};
+    ghost use Rattle.ground_rules.specs.GroundGames.{tables_of};
     ghost use Rattle.ground_rules.specs.LoadedGameLaws.{loaded_game_laws};
 
     type State = GroundState;
 
     type Move = GroundMove;
 
-    ghost rules = { λ g. loaded_game g };
+    ghost rules = { λ g. loaded_game (tables_of g) };
 
-    ghost laws = { λ g. loaded_game_laws g g.some_role g.few_roles g.tables g.names_differ g.names_spelled g.terms_ordered g.terms_spelled };
+    ghost laws = { λ g. loaded_game_laws (views g.description.items) (tables_of g) g.some_role g.few_roles g.tables g.names_differ g.names_spelled g.terms_ordered g.terms_spelled };
 
     fn roles(&self) -> usize {
         self.roles.len()
@@ -106,7 +107,7 @@ impl Game for GroundGame {
     }
 
     fn move_text(&self, alloc: Global, taken: &GroundMove) -> Result<Text, AllocError> {
-        let text = self.terms[taken.term].copy(alloc)?;
+        let text = self.terms[taken.term].clone()?;
         Ok(text)
     }
 
@@ -132,7 +133,7 @@ impl GroundGame {
     ghost use Rattle.ground_rules.specs.Loading.{AreSentences, description_of};
     ghost use Rattle.ground_rules.specs.GameParts.{AreGameParts};
     ghost use Rattle.ground_rules.specs.Loaded.{IsLoaded};
-    ghost use Rattle.ground_rules.specs.LoadedGame.{sentences_of};
+    ghost use Rattle.ground_rules.specs.GroundGames.{sentences_of};
 
     /// The game of a description, from its parts.
     pub(crate) fn new(
@@ -153,7 +154,7 @@ impl GroundGame {
         let atoms = heads.len();
         let init = state_mentions(alloc, heads, &names.terms, StateHead::Init)?;
         let next = state_mentions(alloc, heads, &names.terms, StateHead::Next)?;
-        let terminal = place_of_head(alloc, &names.heads, &Derived::Terminal)?;
+        let terminal = place_of_head(&names.heads, &Derived::Terminal);
         let terms = into_texts(alloc, names.terms)?;
         Ok(GroundGame {
             description,

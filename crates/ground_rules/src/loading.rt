@@ -6,7 +6,6 @@ ghost use Rattle.kif_text.specs.View.{view as expression};
 ghost use Rattle.ground_rules.specs.Sentences.{rules_of};
 ghost use Rattle.ground_rules.specs.Acyclic.{IsAcyclic};
 ghost use Rattle.ground_rules.specs.Numbered.{rules_of as numbered_rules};
-ghost use Rattle.ground_rules.specs.Keys.{derived_of, texts};
 ghost use Rattle.ground_rules.specs.Resolved.{table_of, role_table};
 ghost use Rattle.ground_rules.specs.Barred.{barred_by, has_barred};
 ghost use Rattle.ground_rules.specs.Loading.{HasRoles, IsDescriptionFault};
@@ -16,7 +15,6 @@ ghost use Rattle.ground_rules.specs.GameParts.{IsTestOf, IsTableOf, is_small_so_
 
 use crate::dependence::dependence;
 use crate::fault::LoadFault;
-use crate::keys::DerivedKey;
 use crate::lookups::{goal_heads, legal_mentions};
 use crate::names::{head_terms, heads, role_names};
 use crate::needs::needs_of;
@@ -24,7 +22,7 @@ use crate::numbered;
 use crate::rank::rank;
 use crate::resolve::{Names, resolve_rules};
 use crate::row::is_set;
-use crate::sentence::Rule;
+use crate::sentence::{Derived, Rule};
 use crate::sizes::{
     MAX_ATOMIC_SENTENCES, MAX_MOVES, MAX_ROLES, MAX_SENTENCES, count_atomic_sentences,
 };
@@ -32,13 +30,13 @@ use crate::tables::Role;
 use game_core::Text;
 use std::alloc::{AllocError, Global};
 
-fn role_of(alloc: Global, names: &Names, name: &[u8]) -> Result<Role, AllocError>
+fn role_of(alloc: Global, names: &Names, name: &Text) -> Result<Role, AllocError>
     ensures { IfOk result (λ r. r ≡ role_table (table_of names.now) name.now) }
 {
     let heads = names.heads.as_slice();
     let legal = legal_mentions(alloc, heads, &names.terms, name)?;
     let goals = goal_heads(alloc, heads, name)?;
-    let name = Text::from_slice(alloc, name)?;
+    let name = name.clone()?;
     Ok(Role { name, legal, goals })
 }
 
@@ -83,18 +81,18 @@ fn sort_by_rank(
 }
 
 /// Whether a head is barred that depends on `does` sentences, or on given sentences, as said.
-fn is_barred(head: &DerivedKey, on_moves: bool, on_given: bool) -> bool
-    ensures { result ≡ barred_by (derived_of head.now) on_moves on_given }
+fn is_barred(head: &Derived, on_moves: bool, on_given: bool) -> bool
+    ensures { result ≡ barred_by head.now on_moves on_given }
 {
     match head {
-        DerivedKey::Legal(_, _) | DerivedKey::Goal(_, _) | DerivedKey::Terminal => on_moves,
-        DerivedKey::Init(_) => on_given,
-        DerivedKey::Role(_) | DerivedKey::Next(_) | DerivedKey::Other(_) => false,
+        Derived::Legal(_, _) | Derived::Goal(_, _) | Derived::Terminal => on_moves,
+        Derived::Init(_) => on_given,
+        Derived::Role(_) | Derived::Next(_) | Derived::Other(_) => false,
     }
 }
 
-fn has_barred(heads: &[DerivedKey], on_moves: &[bool], on_given: &[bool]) -> bool
-    ensures { result ≡ has_barred on_moves.now on_given.now 0 (map derived_of heads.now) }
+fn has_barred(heads: &[Derived], on_moves: &[bool], on_given: &[bool]) -> bool
+    ensures { result ≡ has_barred on_moves.now on_given.now 0 heads.now }
 {
     for (atom, head) in heads.iter().enumerate() {
         if is_barred(head, is_set(on_moves, atom), is_set(on_given, atom)) {

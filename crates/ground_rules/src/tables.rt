@@ -136,7 +136,7 @@ pub fn pick(alloc: Global, row: &[bool], texts: &[Text]) -> Result<Vec<Text>, Al
     let mut found = Vec::new(alloc);
     for i in 0..row.len() {
         if row[i] {
-            found.push(texts[i].copy(alloc)?)?;
+            found.push(texts[i].clone()?)?;
         }
     }
     Ok(found)
