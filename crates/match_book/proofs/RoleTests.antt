@@ -1,5 +1,6 @@
 -- Tests over the roles of a game.
 use Rattle.std.proofs.Common.{◌≡◌, ◌≢◌, ℕ, zero, suc, ◌+◌, ◌<◌, ◌≤◌, Bool, true, false, eqb, Option, Some, None, List, [], ◌∷◌, ◌++◌, length, set, slice_index_or, refl, arith, ap, sym, ◌∙◌, subst, add-one, inl, inr, ◌⊎◌}
+use Rattle.std.proofs.lemmas.List.{get_or_push, get_or_append_left}
 use Rattle.std.proofs.lemmas.Bool.Decides.{nat_tests}
 use Rattle.std.specs.Prelude.{is_some, if◌then◌else◌}
 use Rattle.std.specs.Option.{option_or}
@@ -139,6 +140,13 @@ at_role-push xs n x f wide so_far here r lt =
     before [] x r lt = absurd (omega arith)
     before (y ∷ ys) x zero lt = refl
     before (y ∷ ys) x (suc r) lt = before ys x r (omega arith)
+
+pub get-push : {A : Type 0} (xs : List A) (n : ℕ) (f : ℕ → A) → length xs ≡ n → ((r : ℕ) (d : A) → r < n → slice_index_or xs r d ≡ f r) → (r : ℕ) (d : A) → r < n + 1 → slice_index_or (xs ++ f n ∷ []) r d ≡ f r
+get-push xs n f wide so_far r d lt =
+    elim (below_or_at r n (omega arith)) [
+      | inl e ↦ subst (λ m. slice_index_or (xs ++ f n ∷ []) m d ≡ f m) (sym e) (get_or_push xs (f n) d n wide)
+      | inr less ↦ get_or_append_left xs (f n ∷ []) d r (omega arith) ∙ so_far r d less
+    ]
 
 pub every_role-all : (n : ℕ) (p : ℕ → Bool) → ((k : ℕ) → k < n → p k ≡ true) → every_role n p ≡ true
 every_role-all zero p all = refl
