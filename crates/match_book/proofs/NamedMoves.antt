@@ -1,9 +1,9 @@
--- The move that a text names.
-use Rattle.std.proofs.Common.{◌≡◌, ◌≢◌, ℕ, suc, ◌+◌, ◌<◌, Bool, true, false, Some, List, ◌∷◌, length, drop, slice_index_or, refl, ap, sym, ◌∙◌, add-one, drop-cons}
-use Rattle.std.specs.Prelude.{bytes_eq}
+-- The move that a text names, by its place.
+use Rattle.std.proofs.Common.{◌≡◌, ◌≢◌, ℕ, zero, suc, Bool, true, false, Some, None, List, [], ◌∷◌, refl, arith}
+use Rattle.std.specs.Prelude.{bytes_eq, slice_get}
 use Rattle.std.proofs.lemmas.Slice.Eq.{bytes_eq-Decides}
 use Rattle.game_core.specs.Play.{Rules}
-use Rattle.match_book.specs.Judgement.{move_named}
+use Rattle.match_book.specs.Judgement.{move_named, NamesNone, IsPlaceOf}
 
 pub same_text : (xs : List ℕ) → bytes_eq xs xs ≡ true
 same_text xs = (bytes_eq-Decides xs xs).1 refl
@@ -15,16 +15,13 @@ other_text xs ys ne = step (bytes_eq xs ys) refl
     step true is = absurd (ne ((bytes_eq-Decides xs ys).0 is))
     step false is = refl
 
-move_named-cons : {S M : Type 0} (g : Rules S M) (moves : List M) (x : List ℕ) (k : ℕ) (m : M) → k < length moves → m ≡ slice_index_or moves k m → drop k moves ≡ m ∷ drop (k + 1) moves
-move_named-cons g moves x k m within read = rw add-one (drop-cons moves k m within ∙ ap (λ y. y ∷ drop (suc k) moves) (sym read))
+pub place_none : {S M : Type 0} (g : Rules S M) (moves : List M) (x : List ℕ) → NamesNone g moves x → move_named g moves x ≡ None
+place_none g [] x none = refl
+place_none g (m ∷ ms) x none = rw (other_text (g.move_text m) x (none 0 m (omega arith))) (place_none g ms x (λ k d lt. none (suc k) d (omega arith)))
 
--- one move more has another text
-pub move_named-more : {S M : Type 0} (g : Rules S M) (moves : List M) (x : List ℕ) (k : ℕ) (m : M) → k < length moves → m ≡ slice_index_or moves k m → g.move_text m ≢ x
-    → move_named g moves x ≡ move_named g (drop k moves) x → move_named g moves x ≡ move_named g (drop (k + 1) moves) x
-move_named-more g moves x k m within read ne so_far =
-    so_far ∙ ap (λ l. move_named g l x) (move_named-cons g moves x k m within read) ∙ rw (other_text (g.move_text m) x ne) refl
-
-pub move_named-found : {S M : Type 0} (g : Rules S M) (moves : List M) (x : List ℕ) (k : ℕ) (m : M) → k < length moves → m ≡ slice_index_or moves k m → g.move_text m ≡ x
-    → move_named g moves x ≡ move_named g (drop k moves) x → move_named g moves x ≡ Some m
-move_named-found g moves x k m within read e so_far =
-    so_far ∙ ap (λ l. move_named g l x) (move_named-cons g moves x k m within read) ∙ rw (e, same_text x) refl
+pub place_some : {S M : Type 0} (g : Rules S M) (moves : List M) (x : List ℕ) (p : ℕ) → IsPlaceOf g moves x (Some p) → move_named g moves x ≡ slice_get moves p
+place_some g [] x p (within, named, first) = absurd (omega arith)
+place_some g (m ∷ ms) x zero (within, named, first) = rw (named m, same_text x) refl
+place_some g (m ∷ ms) x (suc p) (within, named, first) =
+    rw (other_text (g.move_text m) x (first 0 m (omega arith) (omega arith)))
+    (place_some g ms x p (omega arith, named, λ k d low lt. first (suc k) d (omega arith) (omega arith)))

@@ -1,5 +1,6 @@
 -- What an answer counts as while the match is played.
-use Rattle.std.specs.Prelude.{◌≡◌, ◌≢◌, ℕ, ◌≤◌, List, [], ◌++◌, length, Option, Some, None, option_map, find, slice_get, bytes_eq, codes, Contains, All, ◌⊎◌}
+use Rattle.std.specs.Prelude.{◌≡◌, ◌≢◌, ℕ, ◌<◌, ◌≤◌, List, [], ◌++◌, length, Option, Some, None, option_map, find, slice_get, bytes_eq, codes, Contains, All, ◌⊎◌}
+use Rattle.std.specs.List.{HoldsAt, AllWithin}
 use Rattle.game_core.specs.Canonical.{IsFoldedText}
 use Rattle.game_core.specs.Play.{Rules}
 use Rattle.match_book.specs.AnswerReading.{answer_reading, max_reading}
@@ -10,12 +11,20 @@ use Rattle.match_book.specs.declared.judgement.Substitution.TheVariants.{TimeOut
 use Rattle.match_book.specs.declared.answer.Answer.{Answer}
 use Rattle.match_book.specs.declared.answer.Answer.TheVariants.{Text, Silent, Broken}
 
+-- the answer is no expression
+abbrev pub unreadable_text : List ℕ
+unreadable_text = codes "IL ?"
+
+-- what stands before an answer that is no legal move
+abbrev pub illegal_prefix : List ℕ
+illegal_prefix = codes "IL "
+
 -- the error that stands beside the first legal move
 abbrev pub error_text : Substitution → List ℕ
 error_text TimeOut = time_out_text
 error_text ConnectionError = connection_error_text
-error_text Unreadable = codes "IL ?"
-error_text (Illegal x) = codes "IL " ++ x
+error_text Unreadable = unreadable_text
+error_text (Illegal x) = illegal_prefix ++ x
 
 -- the first of these moves in place of the one answered, with the error: none where there is no move
 abbrev pub substitute : {M : Type 0} → List M → Substitution → Option (Judgement M)
@@ -24,6 +33,15 @@ substitute moves why = option_map (λ m. record { taken = m; error = error_text 
 -- the one of these moves that has this text
 abbrev pub move_named : {S M : Type 0} → Rules S M → List M → List ℕ → Option M
 move_named g moves x = find (λ m. bytes_eq (g.move_text m) x) moves
+
+-- the text is that of none of these moves
+abbrev pub NamesNone : {S M : Type 0} → Rules S M → List M → List ℕ → Type 0
+NamesNone g moves x = All (λ m. g.move_text m ≢ x) moves
+
+-- the place of the first of these moves with this text
+abbrev pub IsPlaceOf : {S M : Type 0} → Rules S M → List M → List ℕ → Option ℕ → Type 0
+IsPlaceOf g moves x None = NamesNone g moves x
+IsPlaceOf g moves x (Some p) = (p < length moves) × HoldsAt (λ m. g.move_text m ≡ x) moves p × AllWithin (λ m. g.move_text m ≢ x) moves 0 p
 
 -- a move that is named is taken as it is
 abbrev pub taken_or_substituted : {M : Type 0} → List M → List ℕ → Option M → Option (Judgement M)
@@ -48,7 +66,7 @@ abbrev pub MayStand : {S M : Type 0} → Rules S M → List M → Substitution �
 MayStand g moves TimeOut = Unit {0}
 MayStand g moves ConnectionError = Unit {0}
 MayStand g moves Unreadable = Unit {0}
-MayStand g moves (Illegal x) = IsFoldedText x × (length x ≤ max_reading) × All (λ m. g.move_text m ≢ x) moves
+MayStand g moves (Illegal x) = IsFoldedText x × (length x ≤ max_reading) × NamesNone g moves x
 
 -- an error that stands beside the first of these moves
 abbrev pub IsSubstitution : {S M : Type 0} → Rules S M → List M → List ℕ → Type 0

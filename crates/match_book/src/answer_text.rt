@@ -7,7 +7,10 @@ use kif_text::{KifFault, fold, print, read_one};
 use std::alloc::{AllocError, Global};
 
 /// An answer of more bytes is not read.
-const MAX_ANSWER: usize = 4096;
+pub const MAX_ANSWER: usize = 4096;
+
+/// What an answer is read as has at most as many bytes: printing adds at most a space for each byte.
+pub const MAX_READING: usize = 2 * MAX_ANSWER;
 
 /// The folded canonical text of the one expression that the answer spells, if it spells one.
 #[tactic(auto, unfolding(crate::specs::AnswerReading::answer_reading))]

@@ -1,12 +1,17 @@
 //! The judge of the answers in play.
 ghost use Rattle.std.specs.Prelude.{◌≡◌, ◌<◌, IfOk, All};
-ghost use Rattle.match_book.specs.Judgement.{error_text, substitute, move_named, taken_or_substituted, judgement};
-ghost use Rattle.match_book.specs.Searches.{IsPlaceOf};
+ghost use Rattle.match_book.specs.Judgement.{error_text, substitute, move_named, IsPlaceOf, taken_or_substituted, judgement};
 
 use crate::answer::{Answer, Mark};
 use crate::answer_text::read_answer;
 use game_core::{Game, Text};
 use std::alloc::{AllocError, Global};
+
+/// The error of an answer that spells no expression, or more than one, or is too long.
+pub const UNREADABLE: &[u8] = b"IL ?";
+
+/// What stands before the answered text in the error of an answer that is no legal move.
+pub const ILLEGAL_PREFIX: &[u8] = b"IL ";
 
 /// A move, and the error of the answer that it stands for: empty where the answer named the move.
 #[derive(Drop)]
@@ -34,9 +39,9 @@ impl Substitution {
         match self {
             Substitution::TimeOut => Text::from_slice(alloc, Mark::TimeOut.text()),
             Substitution::ConnectionError => Text::from_slice(alloc, Mark::ConnectionError.text()),
-            Substitution::Unreadable => Text::from_slice(alloc, b"IL ?"),
+            Substitution::Unreadable => Text::from_slice(alloc, UNREADABLE),
             Substitution::Illegal(read) => {
-                let mut bytes = Vec::from_slice(alloc, b"IL ")?;
+                let mut bytes = Vec::from_slice(alloc, ILLEGAL_PREFIX)?;
                 bytes.extend_from_slice(read.as_slice())?;
                 Ok(Text { bytes })
             }
@@ -60,8 +65,8 @@ fn substitute<M: Drop>(
     Ok(Some(Judgement { taken, error }))
 }
 
-/// The place of the move with this text, if there is one.
-fn place_of<G: Game>(
+/// The place of the first move with this text, if there is one.
+pub fn place_of<G: Game>(
     alloc: Global,
     game: &G,
     moves: &[G::Move],

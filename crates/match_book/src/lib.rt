@@ -19,11 +19,13 @@ mod setup;
 mod turn;
 
 pub use answer::{AbortFault, Answer, AnswerFault, Mark};
+pub use answer_text::{MAX_ANSWER, MAX_READING};
 pub use due::{Due, Owed, OwedFault};
-pub use judgement::Judgement;
+pub use judgement::{ILLEGAL_PREFIX, Judgement, UNREADABLE, place_of};
 pub use matches::Match;
 pub use names::{MAX_CLOCK, are_clocks, are_names, is_clock, is_name};
 pub use phase::{Cause, Phase, Stage, Status};
+pub use places::are_all_there;
 pub use settlement::{MAX_TURNS, Settlement, settle};
 pub use setup::Setup;
 pub use turn::Turn;
