@@ -14,7 +14,7 @@ use Rattle.match_book.specs.Judgement.{error_text}
 use Rattle.match_book.specs.declared.judgement.Substitution.{Substitution}
 use Rattle.match_book.specs.declared.judgement.Substitution.TheVariants.{TimeOut as ForTimeOut, ConnectionError as ForConnectionError, Unreadable, Illegal}
 use Rattle.match_record.specs.RecordParts.{IsErrorText, MayBeGiven}
-use Rattle.match_record.specs.Shown.{Shows, AnyShape}
+use Rattle.match_record.specs.Internal.Shown.{Shows, AnyShape}
 
 pub mark_is_error : (text : List ℕ) (o : Option Mark) → Shows mark_text AnyShape (Some text) o → is_some o ≡ true → IsErrorText text
 mark_is_error text None shown is = absurd cc

@@ -18,10 +18,10 @@ use Rattle.match_book.proofs.RoleTests.{every_role-but, is_there-blank, lowest_r
 use Rattle.match_book.proofs.Stages.{playing-live}
 use Rattle.match_book.proofs.LawfulMatches.{none_blank}
 use Rattle.match_book.proofs.LawfulTurns.{state_after-is_state}
-use Rattle.match_record.specs.RecordTree.{prefixes}
-use Rattle.match_record.specs.RecordParts.{parts_of, HasShape}
+use Rattle.match_record.specs.RecordParts.{prefixes, parts_of}
+use Rattle.match_record.specs.RecordTree.{HasShape}
 use Rattle.match_record.specs.Replaying.{AreLawfulParts, NamesNone, IsWrongError, ShowsState, LeadsTo, ComesTo, IsReplayed, AreGoalsIn, IsRightEnd, IsFirstFault, match_of, turn_at, text_at}
-use Rattle.match_record.specs.ReplaySteps.{IsRightJoint, has_ended}
+use Rattle.match_record.specs.Internal.ReplaySteps.{IsRightJoint, has_ended}
 use Rattle.match_record.specs.declared.record_parts.Key.TheVariants.{Players, Roles, StartMarks, EndMarks, Moves}
 use Rattle.match_record.specs.declared.record_parts.RecordParts.{RecordParts}
 use Rattle.match_record.specs.declared.verify_fault.VerifyFault.{VerifyFault}

@@ -4,7 +4,7 @@ pub mod Ascii
 pub mod RecordParts
 pub mod ErrorWords
 pub mod JsonData
-pub mod KeyFormats
+pub mod KeyTable
 pub mod LawfulParts
 pub mod OneRecord
 pub mod PlainNumerals

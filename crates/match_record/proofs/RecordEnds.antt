@@ -14,10 +14,9 @@ use Rattle.match_book.specs.declared.phase.Stage.TheVariants.{Starting, Playing,
 use Rattle.match_book.specs.declared.turn.Turn.{Turn}
 use Rattle.match_book.proofs.RoleTests.{lowest_role-none}
 use Rattle.match_book.proofs.Stages.{stage-by}
-use Rattle.match_record.specs.RecordParts.{parts_of}
-use Rattle.match_record.specs.RecordTree.{goals_from}
+use Rattle.match_record.specs.RecordParts.{parts_of, goals_from}
 use Rattle.match_record.specs.Replaying.{AreGoalsOf, AreGoalsIn, IsRightEnd, match_of, is_asked}
-use Rattle.match_record.specs.ReplaySteps.{stage_by, has_started, has_ended, AgreesWith, IsEndAnswer}
+use Rattle.match_record.specs.Internal.ReplaySteps.{stage_by, has_started, has_ended, AgreesWith, IsEndAnswer}
 use Rattle.match_record.specs.declared.record_parts.RecordParts.{RecordParts}
 use Rattle.match_record.proofs.RecordParts.{take-next}
 

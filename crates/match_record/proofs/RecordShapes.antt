@@ -5,8 +5,7 @@ use Rattle.std.proofs.lemmas.Bool.Decides.{Decides-eqb, nat_tests}
 use Rattle.std.proofs.lemmas.Slice.Eq.{bytes_eq-Decides}
 use Rattle.std.specs.Str.{bytes_eq}
 use Rattle.game_core.specs.Play.{max_goal}
-use Rattle.match_record.specs.RecordParts.{AreGoals}
-use Rattle.match_record.specs.RecordTree.{each_role}
+use Rattle.match_record.specs.RecordParts.{AreGoals, each_role}
 
 -- ---- goals
 
@@ -39,7 +38,7 @@ at_append : {A : Type 0} (xs : List A) (y d : A) → get_or (xs ++ y ∷ []) (le
 at_append [] y d = refl
 at_append (x ∷ xs) y d = at_append xs y d
 
-at_front : {A : Type 0} (xs ys : List A) (i : ℕ) (d : A) → i < length xs → get_or (xs ++ ys) i d ≡ get_or xs i d
+pub at_front : {A : Type 0} (xs ys : List A) (i : ℕ) (d : A) → i < length xs → get_or (xs ++ ys) i d ≡ get_or xs i d
 at_front [] ys i d below = absurd (omega arith)
 at_front (x ∷ xs) ys zero d below = refl
 at_front (x ∷ xs) ys (suc i) d below = at_front xs ys i d (omega arith)

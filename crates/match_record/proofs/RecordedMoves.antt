@@ -13,7 +13,7 @@ use Rattle.match_book.specs.declared.judgement.Substitution.TheVariants.{TimeOut
 use Rattle.match_book.proofs.Judgements.{first-contains, Contains-move}
 use Rattle.match_record.specs.RecordParts.{IsErrorText, MayBeGiven}
 use Rattle.match_record.specs.Replaying.{GoesOn, IsRightMove, NamesNone, DeniesOne, IsWrongError, text_at}
-use Rattle.match_record.specs.ReplaySteps.{all_moves, IsPlaceOf, IsRightJoint}
+use Rattle.match_record.specs.Internal.ReplaySteps.{all_moves, IsPlaceOf, IsRightJoint}
 use Rattle.match_record.proofs.RecordShapes.{at_each_role}
 
 -- ---- members

@@ -11,7 +11,7 @@ use Rattle.match_book.specs.Lawful.{IsLawfulTurn, AreLawful}
 use Rattle.match_book.specs.declared.turn.Turn.{Turn}
 use Rattle.match_book.proofs.LawfulTurns.{state_after-push, AreLawful-push, turn-moves}
 use Rattle.match_record.specs.Replaying.{NamesNone, IsWrongError, AreRightBelow, ShowsState, LeadsTo, ComesTo, IsFirstFault, turn_at, text_at}
-use Rattle.match_record.specs.ReplaySteps.{IsRightJoint, IsTurnFault}
+use Rattle.match_record.specs.Internal.ReplaySteps.{IsRightJoint, IsTurnFault}
 use Rattle.match_record.specs.declared.record_parts.RecordParts.{RecordParts}
 use Rattle.match_record.specs.declared.verify_fault.VerifyFault.{VerifyFault}
 use Rattle.match_record.specs.declared.verify_fault.VerifyFault.TheVariants.{NotJson, BadShape, Illegal, NotFirst, WrongState, WrongGoals, WrongEnd, Memory}

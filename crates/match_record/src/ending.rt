@@ -4,7 +4,7 @@ ghost use Rattle.game_core.specs.Play.{Rules};
 ghost use Rattle.match_book.specs.Roles.{every_role, is_there, blank};
 ghost use Rattle.match_record.specs.Replaying.{AreGoalsIn, AreGoalsOf};
 ghost use Rattle.match_book.specs.Phase.{is_live};
-ghost use Rattle.match_record.specs.ReplaySteps.{AgreesWith, IsEndAnswer, stage_by};
+ghost use Rattle.match_record.specs.Internal.ReplaySteps.{AgreesWith, IsEndAnswer, stage_by};
 
 use crate::record_parts::RecordParts;
 use game_core::Game;

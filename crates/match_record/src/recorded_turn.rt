@@ -5,7 +5,7 @@ ghost use Rattle.match_book.specs.Judgement.{error_text};
 ghost use Rattle.match_book.specs.declared.judgement.Substitution.TheVariants.{Illegal};
 ghost use Rattle.match_record.specs.RecordParts.{IsErrorText};
 ghost use Rattle.match_record.specs.Replaying.{GoesOn, DeniesOne};
-ghost use Rattle.match_record.specs.ReplaySteps.{all_moves, IsPlaceOf, IsRecorded, IsJointAnswer, IsTurnAnswer};
+ghost use Rattle.match_record.specs.Internal.ReplaySteps.{all_moves, IsPlaceOf, IsRecorded, IsJointAnswer, IsTurnAnswer};
 
 use crate::error_texts::ILLEGAL;
 use crate::record_words::after;

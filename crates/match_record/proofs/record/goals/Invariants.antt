@@ -2,7 +2,7 @@ use Rattle.std.proofs.Common.{◌≡◌, map}
 use Rattle.serde_json.specs.Data.{number, unsigned}
 use Rattle.serde_json.specs.View.{view}
 use Rattle.match_book.specs.Phase.{goal_of}
-use Rattle.match_record.specs.RecordTree.{goals_from}
+use Rattle.match_record.specs.RecordParts.{goals_from}
 use Rattle.match_record.proofs.record.goals.Given as goal
 
 abbrev pub invariant-loop-role : goal.invariant-loop-role

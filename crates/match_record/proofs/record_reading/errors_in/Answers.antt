@@ -2,8 +2,9 @@ use Rattle.std.proofs.Common.{true≢false, sym, subst, ◌∙◌, Bor}
 use Rattle.std.specs.Prelude.{option_map}
 use Rattle.serde_json.specs.View.{view}
 use Rattle.serde_json.specs.declared.value.Value.{Value}
-use Rattle.match_record.specs.RecordParts.{AreErrors, text_lists_tree}
-use Rattle.match_record.specs.Shown.{Shows, AnyShape}
+use Rattle.match_record.specs.RecordParts.{AreErrors}
+use Rattle.match_record.specs.RecordTree.{text_lists_tree}
+use Rattle.match_record.specs.Internal.Shown.{Shows, AnyShape}
 use Rattle.match_record.proofs.JsonData.{other_shape, text_lists_injective}
 use Rattle.match_record.proofs.record_reading.errors_in.Goals as goal
 

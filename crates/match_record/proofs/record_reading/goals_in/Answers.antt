@@ -6,7 +6,7 @@ use Rattle.serde_json.specs.View.{view, items_view}
 use Rattle.serde_json.specs.declared.value.Value.{Value}
 use Rattle.serde_json.specs.Data.{number, unsigned}
 use Rattle.game_core.specs.Play.{max_goal}
-use Rattle.match_record.specs.Shown.{Shows}
+use Rattle.match_record.specs.Internal.Shown.{Shows}
 use Rattle.match_record.proofs.JsonData.{found_array, shown_length, members_shown, member_not_shown, member_more, members_all}
 use Rattle.match_record.proofs.RecordShapes.{goals_small, other_count, goals_counted}
 use Rattle.match_record.proofs.record_reading.goals_in.Goals as goal

@@ -6,7 +6,7 @@ use Rattle.serde_json.specs.declared.value.Value.{Value}
 use Rattle.match_book.specs.Marks.{mark_text}
 use Rattle.match_book.specs.declared.answer.Mark.{Mark}
 use Rattle.match_record.specs.RecordTree.{text_or_null}
-use Rattle.match_record.specs.Shown.{Shows, AnyShape}
+use Rattle.match_record.specs.Internal.Shown.{Shows, AnyShape}
 use Rattle.match_record.proofs.JsonData.{found_array, shown_length, members_shown, member_not_shown, member_more, members_all}
 use Rattle.match_record.proofs.record_reading.marks_in.Goals as goal
 

@@ -4,7 +4,7 @@ use Rattle.serde_json.specs.View.{view}
 use Rattle.serde_json.specs.declared.value.Value.{Value}
 use Rattle.match_record.specs.RecordParts.{ArePlayers}
 use Rattle.match_record.specs.RecordTree.{texts_tree}
-use Rattle.match_record.specs.Shown.{Shows, AnyShape}
+use Rattle.match_record.specs.Internal.Shown.{Shows, AnyShape}
 use Rattle.match_record.proofs.JsonData.{other_shape, texts_injective}
 use Rattle.match_record.proofs.record_reading.players_in.Goals as goal
 

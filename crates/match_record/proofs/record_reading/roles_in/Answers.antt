@@ -2,8 +2,9 @@ use Rattle.std.proofs.Common.{◌≡◌, true≢false, sym, subst, ◌∙◌, Bo
 use Rattle.std.specs.Prelude.{option_map}
 use Rattle.serde_json.specs.View.{view}
 use Rattle.serde_json.specs.declared.value.Value.{Value}
-use Rattle.match_record.specs.RecordTree.{each_role, texts_tree}
-use Rattle.match_record.specs.Shown.{Shows, AnyShape}
+use Rattle.match_record.specs.RecordParts.{each_role}
+use Rattle.match_record.specs.RecordTree.{texts_tree}
+use Rattle.match_record.specs.Internal.Shown.{Shows, AnyShape}
 use Rattle.match_record.proofs.JsonData.{other_shape, texts_injective}
 use Rattle.match_record.proofs.record_reading.roles_in.Goals as goal
 

@@ -1,7 +1,7 @@
 use Rattle.std.proofs.Common.{◌≡◌, None}
 use Rattle.match_book.specs.Roles.{lowest_role}
 use Rattle.match_book.specs.Phase.{has_no_move}
-use Rattle.match_record.specs.RecordTree.{each_role}
+use Rattle.match_record.specs.RecordParts.{each_role}
 use Rattle.match_record.proofs.recorded_turn.legal_moves.Given as goal
 
 abbrev pub invariant-loop-role : goal.invariant-loop-role

@@ -10,7 +10,7 @@ use Rattle.match_book.specs.declared.phase.Cause.TheVariants.{Asked}
 use Rattle.match_book.specs.declared.phase.Stage.{Stage}
 use Rattle.match_book.specs.declared.phase.Stage.TheVariants.{Starting, Aborting}
 use Rattle.match_book.specs.declared.turn.Turn.{Turn}
-use Rattle.match_record.specs.RecordTree.{each_role}
+use Rattle.match_record.specs.RecordParts.{each_role}
 use Rattle.match_record.specs.Replaying.{GoesOn, NamesNone, IsWrongError, AreRightBelow, text_at, IsReplayed, IsFirstFault, IsRightEnd, is_asked}
 use Rattle.match_record.specs.declared.record_parts.RecordParts.{RecordParts}
 use Rattle.match_record.specs.declared.recorded_turn.RecordedMove.{RecordedMove}
