@@ -3,7 +3,7 @@ use Rattle.std.proofs.Common.{◌≡◌, ◌≢◌, ℕ, zero, suc, ◌<◌, Boo
 use Rattle.std.proofs.lemmas.List.Elements.{All-push, All-map}
 use Rattle.std.proofs.lemmas.Slice.Eq.{bytes_eq-Decides}
 use Rattle.std.proofs.lemmas.Bool.Decides.{nat_tests}
-use Rattle.std.specs.Prelude.{IfOk, All, AllPairs, map, find, is_none, slice_get, option_map, option_and_then, option_to_list, unwrap_or, bytes_eq, if◌then◌else◌, ◌&&◌, ◌==◌, nat_lt}
+use Rattle.std.specs.Prelude.{IfOk, sum, All, AllPairs, map, find, is_none, slice_get, option_map, option_and_then, option_to_list, unwrap_or, bytes_eq, if◌then◌else◌, ◌&&◌, ◌==◌, nat_lt}
 use Rattle.game_core.specs.Play.{Rules, IsLawful}
 use Rattle.match_book.specs.MatchValue.{MatchValue, GameMatch}
 use Rattle.match_book.specs.Lawful.{IsLawfulMatch}
@@ -18,10 +18,10 @@ use Rattle.match_book.proofs.AnswerLaws.{taken_for_the_round, recorded_moves_are
 use Rattle.call_history.specs.History.{run, IsLegalHistory, IsReplay}
 use Rattle.call_history.specs.declared.journal.Entry.{Entry}
 use Rattle.match_desk.specs.ManagerValue.{DeskMatch, ManagerValue, opening, has_id, match_of, game_of, game_match, match_with_id, IsLawfulManager}
-use Rattle.match_desk.specs.Opening.{opening_refusal, with_new_match, after_opening}
+use Rattle.match_desk.specs.Open.{open_refusal, with_new_match, after_open}
 use Rattle.match_desk.specs.Steps.{setup_of, missed, answer_refused, refused_or, answer_reply, reply_of, reply, changed_match, with_change, after}
 use Rattle.match_desk.specs.Accepted.{answer_if, is_taken, taken_answer, taken_answers, AreAccounted}
-use Rattle.match_desk.specs.Headline.{ArePlayedLegally}
+use Rattle.match_desk.specs.Headline.{ArePlayedLegally, HasHeadline}
 use Rattle.match_desk.specs.declared.call.Call.{Call}
 use Rattle.match_desk.specs.declared.call.Call.TheVariants.{Open, Next, Submit, Miss, Query, Abort}
 use Rattle.match_desk.specs.declared.call.Reply.{Reply}
@@ -29,7 +29,7 @@ use Rattle.match_desk.specs.declared.call.Reply.TheVariants.{Taken, Refused}
 use Rattle.match_desk.specs.declared.call.Refusal.{Refusal}
 use Rattle.match_desk.specs.declared.call.Refusal.TheVariants.{NoMatch}
 use Rattle.match_desk.proofs.Managers.{IsKeptBy, keeps-answer, keeps-abort, lawful-opening}
-use Rattle.match_desk.proofs.Openings.{IsOpenable, openable}
+use Rattle.match_desk.proofs.OpenTests.{IsOpenable, openable}
 use Rattle.match_desk.proofs.LawfulSteps.{lawful-after}
 use Rattle.match_desk.proofs.FollowedMatches.{IsFollowed, followed-same, followed-new_match, followed-after_abort, followed-after_answer}
 
@@ -287,9 +287,9 @@ module _ {G S M : Type 0} (rules : G → Rules S M) (laws : (g : G) → IsLawful
 
 module _ {G S M : Type 0} (rules : G → Rules S M) (laws : (g : G) → IsLawful (rules g)) where
   -- an entry that opens a match
-  followed-opening : (d : ManagerValue G M) (history : List (Entry Call Reply)) → IsFollowedManager rules d history → (e : Entry Call Reply) → ((id : List ℕ) (role n : ℕ) → taken_answer id role n e ≡ [])
-      → (game : ℕ) (setup : Setup) → IsLawfulManager rules (after_opening rules d game setup) → IsFollowedManager rules (after_opening rules d game setup) (history ++ e ∷ [])
-  followed-opening d history followed e quiet game setup lawful = step (opening_refusal rules d game setup) refl lawful
+  followed-open : (d : ManagerValue G M) (history : List (Entry Call Reply)) → IsFollowedManager rules d history → (e : Entry Call Reply) → ((id : List ℕ) (role n : ℕ) → taken_answer id role n e ≡ [])
+      → (game : ℕ) (setup : Setup) → IsLawfulManager rules (after_open rules d game setup) → IsFollowedManager rules (after_open rules d game setup) (history ++ e ∷ [])
+  followed-open d history followed e quiet game setup lawful = step (open_refusal rules d game setup) refl lawful
     where
       same : IsFollowedManager rules d (history ++ e ∷ [])
       same = followed-unchanged rules laws d history followed e quiet
@@ -306,7 +306,7 @@ module _ {G S M : Type 0} (rules : G → Rules S M) (laws : (g : G) → IsLawful
             unused = λ id none. same.unused id (find-append-none id d.matches ((record { game = game; value = new_match (rules g) setup }) ∷ []) none);
           }
 
-      step : (o : Option Refusal) → opening_refusal rules d game setup ≡ o → IsLawfulManager rules (if is_none o then with_new_match rules d game setup (slice_get d.games game) else d)
+      step : (o : Option Refusal) → open_refusal rules d game setup ≡ o → IsLawfulManager rules (if is_none o then with_new_match rules d game setup (slice_get d.games game) else d)
           → IsFollowedManager rules (if is_none o then with_new_match rules d game setup (slice_get d.games game) else d) (history ++ e ∷ [])
       step None is lawful' = let open' : IsOpenable rules d game setup = openable rules d game setup is in opened open'.free (slice_get d.games game) refl lawful'
       step (Some reason) is lawful' = same
@@ -314,7 +314,7 @@ module _ {G S M : Type 0} (rules : G → Rules S M) (laws : (g : G) → IsLawful
   followed-step : (d : ManagerValue G M) (history : List (Entry Call Reply)) → IsFollowedManager rules d history → (line : ℕ) (call : Call) (r : Reply) → r ≡ reply rules d call
       → IsFollowedManager rules (after rules d call) (history ++ (record { line = line; call = call; reply = r }) ∷ [])
   followed-step d history followed line (Open id game start play players) r is =
-      followed-opening d history followed (record { line = line; call = Open id game start play players; reply = r }) (λ i role n. nothing (is_taken r)) game (setup_of id start play players)
+      followed-open d history followed (record { line = line; call = Open id game start play players; reply = r }) (λ i role n. nothing (is_taken r)) game (setup_of id start play players)
       (lawful-after rules laws d followed.lawful (Open id game start play players))
   followed-step d history followed line (Next id role) r is = followed-unchanged rules laws d history followed (record { line = line; call = Next id role; reply = r }) (λ i role' n. nothing (is_taken r))
   followed-step d history followed line (Submit id role n text) r is =
@@ -369,27 +369,30 @@ module _ {G S M : Type 0} (rules : G → Rules S M) (laws : (g : G) → IsLawful
 
 -- a manager with the history that replays to it
 module _ {G S M : Type 0} (rules : G → Rules S M) (laws : (g : G) → IsLawful (rules g)) (d : ManagerValue G M) (history : List (Entry Call Reply)) (replay : IsReplay (reply rules) (after rules) opening d history) where
-  pub replay-lawful : IsLawfulManager rules d
+  replay-lawful : IsLawfulManager rules d
   replay-lawful = subst (λ (x : ManagerValue G M). IsLawfulManager rules x) (sym replay.leaves) (run-lawful rules laws d.games history replay.legal)
 
-  pub replay-accounted : AreAccounted rules d history
+  replay-accounted : AreAccounted rules d history
   replay-accounted = subst (λ (x : ManagerValue G M). AreAccounted rules x history) (sym replay.leaves) (run-accounted rules laws d.games history replay.legal)
 
-  pub replay-legal : ArePlayedLegally rules d
+  replay-legal : ArePlayedLegally rules d
   replay-legal k x lt =
       let m = replay-lawful.matches k x lt in
       record { game = m.game; is_game = m.is_game; legal = recorded_moves_are_legal (rules m.game) (slice_index_or d.matches k x).value m.lawful }
 
--- each of these, where the desk is closed
-module _ {G S M X U : Type 0} (rules : G → Rules S M) (laws : (g : G) → IsLawful (rules g)) (object : X → ManagerValue G M) (history : X → List (Entry Call Reply)) where
-  pub closed-lawful : (r : Result X U) → IfOk r (λ c. IsReplay (reply rules) (after rules) opening (object c) (history c)) → IfOk r (λ c. IsLawfulManager rules (object c))
-  closed-lawful (Ok c) replay = replay-lawful rules laws (object c) (history c) replay
-  closed-lawful (Err u) replay = tt
+  pub replay-headline : (lines : ℕ) (made : List ℕ) → length made ≡ lines → sum made ≡ length history → HasHeadline rules lines d history made
+  replay-headline lines made one_each counted = record {
+    replay = replay;
+    one_each = one_each;
+    counted = counted;
+    lawful = replay-lawful;
+    legal = replay-legal;
+    accounted = replay-accounted;
+  }
 
-  pub closed-legal : (r : Result X U) → IfOk r (λ c. IsReplay (reply rules) (after rules) opening (object c) (history c)) → IfOk r (λ c. ArePlayedLegally rules (object c))
-  closed-legal (Ok c) replay = replay-legal rules laws (object c) (history c) replay
-  closed-legal (Err u) replay = tt
-
-  pub closed-accounted : (r : Result X U) → IfOk r (λ c. IsReplay (reply rules) (after rules) opening (object c) (history c)) → IfOk r (λ c. AreAccounted rules (object c) (history c))
-  closed-accounted (Ok c) replay = replay-accounted rules laws (object c) (history c) replay
-  closed-accounted (Err u) replay = tt
+-- the same, where the desk is closed
+pub closed-headline : {G S M X U : Type 0} (rules : G → Rules S M) (laws : (g : G) → IsLawful (rules g)) (lines : ℕ) (object : X → ManagerValue G M) (history : X → List (Entry Call Reply)) (made : X → List ℕ) (r : Result X U)
+    → IfOk r (λ c. IsReplay (reply rules) (after rules) opening (object c) (history c)) → IfOk r (λ c. length (made c) ≡ lines) → IfOk r (λ c. sum (made c) ≡ length (history c))
+    → IfOk r (λ c. HasHeadline rules lines (object c) (history c) (made c))
+closed-headline rules laws lines object history made (Ok c) replay one_each counted = replay-headline rules laws (object c) (history c) replay lines (made c) one_each counted
+closed-headline rules laws lines object history made (Err u) replay one_each counted = tt

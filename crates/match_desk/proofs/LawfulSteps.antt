@@ -10,13 +10,13 @@ use Rattle.match_book.specs.declared.setup.Setup.{Setup}
 use Rattle.match_book.specs.declared.answer.Answer.TheVariants.{Text}
 use Rattle.match_book.proofs.AnswerLaws.{new_match_is_lawful}
 use Rattle.match_desk.specs.ManagerValue.{DeskMatch, ManagerValue, has_id, IsMatchOf, IsLawfulManager}
-use Rattle.match_desk.specs.Opening.{opening_refusal, with_new_match, after_opening}
+use Rattle.match_desk.specs.Open.{open_refusal, with_new_match, after_open}
 use Rattle.match_desk.specs.Steps.{setup_of, missed, after}
 use Rattle.match_desk.specs.declared.call.Call.{Call}
 use Rattle.match_desk.specs.declared.call.Call.TheVariants.{Open, Next, Submit, Miss, Query, Abort}
 use Rattle.match_desk.specs.declared.call.Refusal.{Refusal}
 use Rattle.match_desk.proofs.Managers.{keeps-answer, keeps-abort, lawful-with_change}
-use Rattle.match_desk.proofs.Openings.{IsOpenable, openable}
+use Rattle.match_desk.proofs.OpenTests.{IsOpenable, openable}
 
 -- no match has an id that the search does not find
 pub find-none : {M : Type 0} (id : List ℕ) (ms : List (DeskMatch M)) → find (has_id id) ms ≡ None → (k : ℕ) (d : DeskMatch M) → k < length ms → (slice_index_or ms k d).value.setup.id ≢ id
@@ -45,15 +45,15 @@ module _ {G S M : Type 0} (rules : G → Rules S M) (laws : (g : G) → IsLawful
         few = omega (arith, is.room, length-append d.matches ((record { game = game; value = new_match (rules g) setup }) ∷ []));
       }
 
-  pub lawful-after_opening : (game : ℕ) (setup : Setup) → IsLawfulManager rules (after_opening rules d game setup)
-  lawful-after_opening game setup = step (opening_refusal rules d game setup) refl
+  pub lawful-after_open : (game : ℕ) (setup : Setup) → IsLawfulManager rules (after_open rules d game setup)
+  lawful-after_open game setup = step (open_refusal rules d game setup) refl
     where
-      step : (o : Option Refusal) → opening_refusal rules d game setup ≡ o → IsLawfulManager rules (if is_none o then with_new_match rules d game setup (slice_get d.games game) else d)
+      step : (o : Option Refusal) → open_refusal rules d game setup ≡ o → IsLawfulManager rules (if is_none o then with_new_match rules d game setup (slice_get d.games game) else d)
       step None is = lawful-opened game setup (openable rules d game setup is) (slice_get d.games game) refl
       step (Some reason) is = lawful
 
   pub lawful-after : (call : Call) → IsLawfulManager rules (after rules d call)
-  lawful-after (Open id game start play players) = lawful-after_opening game (setup_of id start play players)
+  lawful-after (Open id game start play players) = lawful-after_open game (setup_of id start play players)
   lawful-after (Next id role) = lawful
   lawful-after (Submit id role round text) = lawful-with_change rules d id _ (keeps-answer rules laws role round (Text text)) lawful
   lawful-after (Miss id role round broken) = lawful-with_change rules d id _ (keeps-answer rules laws role round (missed broken)) lawful

@@ -1,6 +1,6 @@
 pub mod Managers
 pub mod MatchSlots
-pub mod Openings
+pub mod OpenTests
 pub mod LawfulSteps
 pub mod NewMatches
 pub mod FollowedMatches

@@ -18,7 +18,7 @@ use Rattle.match_book.specs.declared.answer.Answer.{Answer}
 use Rattle.match_book.proofs.AnswerLaws.{answers_keep_lawful, abort_keeps_lawful}
 use Rattle.match_desk.specs.ManagerValue.{DeskMatch, ManagerValue, has_id, game_of, IsMatchOf, IsLawfulManager}
 use Rattle.match_book.specs.Names.{IsLawfulSetup}
-use Rattle.match_desk.specs.Slots.{AreKept}
+use Rattle.match_desk.specs.Internal.Slots.{AreKept}
 use Rattle.match_desk.specs.declared.slot.Slot.{Slot}
 use Rattle.match_desk.specs.Steps.{changed_match, with_change}
 

@@ -9,7 +9,7 @@ use Rattle.std.specs.Map.{lookup, set_value}
 use Rattle.game_core.specs.Play.{Rules}
 use Rattle.match_book.specs.MatchValue.{MatchValue, GameMatch}
 use Rattle.match_desk.specs.ManagerValue.{DeskMatch, ManagerValue, has_id, match_of, game_match, match_with_id, IsLawfulManager}
-use Rattle.match_desk.specs.Slots.{AreKept, IsSlotOf, desk_match, desk_matches}
+use Rattle.match_desk.specs.Internal.Slots.{AreKept, IsSlotOf, desk_match, desk_matches}
 use Rattle.match_desk.specs.Steps.{changed_match, with_change}
 use Rattle.match_desk.specs.declared.slot.Slot.{Slot}
 use Rattle.match_desk.proofs.Managers.{IsKeptBy, lawful-with_change}

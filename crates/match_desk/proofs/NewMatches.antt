@@ -11,15 +11,15 @@ use Rattle.match_book.specs.MatchValue.{GameMatch}
 use Rattle.match_book.specs.Steps.{new_match}
 use Rattle.match_book.specs.declared.setup.Setup.{Setup}
 use Rattle.match_desk.specs.ManagerValue.{ManagerValue, DeskMatch, match_of, IsLawfulManager}
-use Rattle.match_desk.specs.Opening.{opening_refusal, with_new_match, after_opening}
-use Rattle.match_desk.specs.Slots.{AreKept, IsSlotOf, desk_match, desk_matches}
+use Rattle.match_desk.specs.Open.{open_refusal, with_new_match, after_open}
+use Rattle.match_desk.specs.Internal.Slots.{AreKept, IsSlotOf, desk_match, desk_matches}
 use Rattle.match_desk.specs.declared.slot.Slot.{Slot}
 use Rattle.match_desk.proofs.MatchSlots.{lookup-find}
-use Rattle.match_desk.proofs.Openings.{IsOpenable, openable}
-use Rattle.match_desk.proofs.LawfulSteps.{lawful-after_opening}
+use Rattle.match_desk.proofs.OpenTests.{IsOpenable, openable}
+use Rattle.match_desk.proofs.LawfulSteps.{lawful-after_open}
 
 module _ {G S M : Type 0} (rules : G → Rules S M) (laws : (g : G) → IsLawful (rules g)) (games : List G) (entries : List (Vec ℕ Global × Slot G S M)) (kept : AreKept rules games entries)
-    (d : ManagerValue G M) (view : ◌≡◌ {A = ManagerValue G M} (record { games = games; matches = desk_matches entries }) d) (game : ℕ) (setup : Setup) (opens : opening_refusal rules d game setup ≡ None) where
+    (d : ManagerValue G M) (view : ◌≡◌ {A = ManagerValue G M} (record { games = games; matches = desk_matches entries }) d) (game : ℕ) (setup : Setup) (opens : open_refusal rules d game setup ≡ None) where
   pub is_openable : IsOpenable rules d game setup
   is_openable = openable rules d game setup opens
 
@@ -60,7 +60,7 @@ module _ {G S M : Type 0} (rules : G → Rules S M) (laws : (g : G) → IsLawful
     more : desk_matches entries' ≡ desk_matches entries ++ (record { game = game; value = new_match (rules g) setup }) ∷ []
     more = ap desk_matches written ∙ (map-append (λ e. desk_match e.1) entries ((key, record { game = game; held = held }) ∷ []) ∙ ap (λ m. desk_matches entries ++ m ∷ []) new_one)
 
-    pub value-opened : ◌≡◌ {A = ManagerValue G M} (record { games = games; matches = desk_matches entries' }) (after_opening rules d game setup)
+    pub value-opened : ◌≡◌ {A = ManagerValue G M} (record { games = games; matches = desk_matches entries' }) (after_open rules d game setup)
     unfolding with_games
     value-opened =
         ap with_games more
@@ -76,5 +76,5 @@ module _ {G S M : Type 0} (rules : G → Rules S M) (laws : (g : G) → IsLawful
             game_is = sym read ∙ ap (λ (x : GameMatch G M). Some x.game) (sym held_is);
           }));
       lawful = subst (λ (x : ManagerValue G M). IsLawfulManager rules x) (sym value-opened)
-          (lawful-after_opening rules laws d (subst (λ (x : ManagerValue G M). IsLawfulManager rules x) view kept.lawful) game setup);
+          (lawful-after_open rules laws d (subst (λ (x : ManagerValue G M). IsLawfulManager rules x) view kept.lawful) game setup);
     }

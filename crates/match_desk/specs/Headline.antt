@@ -1,8 +1,14 @@
--- What is known of the matches of a manager whose history is kept.
-use Rattle.std.specs.Prelude.{◌≡◌, List, Some, All, slice_get}
+-- The headline: what is known of a closed desk of matches, however its calls came to it.
+use Rattle.std.specs.Prelude.{◌≡◌, ℕ, List, length, sum, Some, All, slice_get}
 use Rattle.game_core.specs.Play.{Rules, AreLegal}
 use Rattle.match_book.specs.MatchValue.{joint_moves}
-use Rattle.match_desk.specs.ManagerValue.{DeskMatch, ManagerValue}
+use Rattle.call_history.specs.History.{IsReplay}
+use Rattle.call_history.specs.declared.journal.Entry.{Entry}
+use Rattle.match_desk.specs.ManagerValue.{DeskMatch, ManagerValue, opening, IsLawfulManager}
+use Rattle.match_desk.specs.Steps.{reply, after}
+use Rattle.match_desk.specs.Accepted.{AreAccounted}
+use Rattle.match_desk.specs.declared.call.Call.{Call}
+use Rattle.match_desk.specs.declared.call.Reply.{Reply}
 
 -- the match's joint moves are legal turns of its game
 pub record IsPlayedLegally {G S M : Type 0} (rules : G → Rules S M) (games : List G) (m : DeskMatch M) : Type 0 where
@@ -13,3 +19,18 @@ pub record IsPlayedLegally {G S M : Type 0} (rules : G → Rules S M) (games : L
 -- so it is for each match
 abbrev pub ArePlayedLegally : {G S M : Type 0} → (G → Rules S M) → ManagerValue G M → Type 0
 ArePlayedLegally rules d = All (IsPlayedLegally rules d.games) d.matches
+
+-- A desk of so many lines has closed with this manager, this history, and these numbers of calls that its lines made.
+pub record HasHeadline {G S M : Type 0} (rules : G → Rules S M) (lines : ℕ) (d : ManagerValue G M) (history : List (Entry Call Reply)) (made_by_line : List ℕ) : Type 0 where
+  -- the history, replayed call by call on one thread from the games without a match, gives every kept reply and this manager
+  pub replay : IsReplay (reply rules) (after rules) opening d history
+  -- there is a number of calls for each line
+  pub one_each : length made_by_line ≡ lines
+  -- the history holds as many calls as the lines made
+  pub counted : sum made_by_line ≡ length history
+  -- each match is lawful, has a setup that can be opened and an id of its own
+  pub lawful : IsLawfulManager rules d
+  -- each match's recorded joint moves are legal turns of its game
+  pub legal : ArePlayedLegally rules d
+  -- for each recorded move the history took exactly one answer of its role, and the move and its error are that answer's judgement
+  pub accounted : AreAccounted rules d history

@@ -1,8 +1,6 @@
 pub mod ManagerValue
-pub mod Opening
+pub mod Open
 pub mod Steps
-pub mod StepLaws
 pub mod Accepted
 pub mod Headline
-pub mod Slots
-pub mod Given
+pub mod Internal

@@ -11,7 +11,7 @@ use Rattle.match_book.specs.declared.answer.Answer.TheVariants.{Text, Silent, Br
 use Rattle.match_book.specs.declared.answer.AnswerFault.{AnswerFault}
 use Rattle.match_book.specs.declared.answer.AnswerFault.TheVariants.{NoRole as FaultNoRole, Over as FaultOver, Stale as FaultStale, Twice as FaultTwice, Memory}
 use Rattle.match_desk.specs.ManagerValue.{ManagerValue, DeskMatch, has_id, game_of, match_with_id}
-use Rattle.match_desk.specs.Opening.{opening_refusal, after_opening}
+use Rattle.match_desk.specs.Open.{open_refusal, after_open}
 use Rattle.match_desk.specs.declared.call.Call.{Call}
 use Rattle.match_desk.specs.declared.call.Call.TheVariants.{Open, Next, Submit, Miss, Query, Abort}
 use Rattle.match_desk.specs.declared.call.Reply.{Reply}
@@ -69,7 +69,7 @@ reply_of rules d id f = unwrap_or (option_map (λ m. f (rules m.game) m.value) (
 
 -- the reply to a call
 abbrev pub reply : {G S M : Type 0} → (G → Rules S M) → ManagerValue G M → Call → Reply
-reply rules d (Open id game start play players) = refused_or (opening_refusal rules d game (setup_of id start play players)) Opened
+reply rules d (Open id game start play players) = refused_or (open_refusal rules d game (setup_of id start play players)) Opened
 reply rules d (Next id role) = reply_of rules d id (next_reply role)
 reply rules d (Submit id role round text) = reply_of rules d id (answer_reply role round)
 reply rules d (Miss id role round broken) = reply_of rules d id (answer_reply role round)
@@ -86,7 +86,7 @@ with_change rules d id f = record d { matches = map (λ m. if has_id id m then c
 
 -- the manager after a call
 abbrev pub after : {G S M : Type 0} → (G → Rules S M) → ManagerValue G M → Call → ManagerValue G M
-after rules d (Open id game start play players) = after_opening rules d game (setup_of id start play players)
+after rules d (Open id game start play players) = after_open rules d game (setup_of id start play players)
 after rules d (Next id role) = d
 after rules d (Submit id role round text) = with_change rules d id (λ g m. after_answer g m role round (Text text))
 after rules d (Miss id role round broken) = with_change rules d id (λ g m. after_answer g m role round (missed broken))

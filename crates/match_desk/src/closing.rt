@@ -1,11 +1,7 @@
 //! The closing of a desk of matches through which many threads shared one manager behind a lock.
-ghost use Rattle.std.specs.Prelude.{◌≡◌, ◌<◌, ◌↔◌, ℕ, length, slice_index, sum, IsOk, IfOk, IfErr, Contains};
-ghost use Rattle.call_history.specs.History.{IsReplay};
+ghost use Rattle.std.specs.Prelude.{◌≡◌, ◌<◌, ◌↔◌, ℕ, slice_index, IsOk, IfOk, IfErr, Contains};
 ghost use Rattle.call_history.specs.Lines.{HasAll, IsLowestMissing};
-ghost use Rattle.match_desk.specs.ManagerValue.{opening, IsLawfulManager};
-ghost use Rattle.match_desk.specs.Steps.{reply, after};
-ghost use Rattle.match_desk.specs.Accepted.{AreAccounted};
-ghost use Rattle.match_desk.specs.Headline.{ArePlayedLegally};
+ghost use Rattle.match_desk.specs.Headline.{HasHeadline};
 
 use crate::manager::Manager;
 use call_history::{CloseFault, Closed, LockDesk, LockLine, Unclosed};
@@ -25,17 +21,8 @@ pub fn close_desk<G: Game, L: Ledger>(
 ) -> Result<Closed<Manager<G>>, Unclosed<Manager<G>, L>>
     ensures all { IsOk result ↔ HasAll lines.items desk.lines }
 
-    // The history replays on one thread, and holds each call that was made.
-    ensures replay { IfOk result (λ c. IsReplay (reply G.rules) (after G.rules) opening c.object c.history.items) }
-    ensures counted { IfOk result (λ c. sum c.made_by_line.items ≡ length c.history.items) }
-
-    ensures lines { IfOk result (λ c. length c.made_by_line.items ≡ desk.lines) }
+    ensures headline { IfOk result (λ c. HasHeadline G.rules desk.lines c.object c.history.items c.made_by_line.items) }
     ensures made { IfOk result (λ c. (k : ℕ) → k < desk.lines → Contains lines.items (record { number = k; made = slice_index c.made_by_line.items k })) }
-
-    // The matches, and how the history accounts for their moves.
-    ensures lawful { IfOk result (λ c. IsLawfulManager G.rules c.object) }
-    ensures legal { IfOk result (λ c. ArePlayedLegally G.rules c.object) }
-    ensures accounted { IfOk result (λ c. AreAccounted G.rules c.object c.history.items) }
 
     ensures missing { IfErr result (λ u. (n : ℕ) × (u.cause ≡ CloseFault.MissingLine n) × IsLowestMissing lines.items desk.lines n) }
     ensures back { IfErr result (λ u. (u.desk ≡ desk) × (u.lines ≡ lines)) }

@@ -5,11 +5,11 @@
 //! is known of a manager that many threads shared.
 #![tactic(auto)]
 
+mod asked_setup;
 mod call;
 mod closing;
 pub mod laws;
 mod manager;
-mod opening;
 mod slot;
 
 pub use call::{Call, Refusal, Reply};

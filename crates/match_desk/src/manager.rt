@@ -2,13 +2,13 @@
 ghost use Rattle.std.specs.Prelude.{◌≡◌, [], false, None, IfOk, IfSome, OnOk, OnErr, length, slice_get, is_some, option_copied, option_map, option_and_then};
 ghost use Rattle.match_book.specs.Steps.{after_answer, after_abort};
 ghost use Rattle.match_desk.specs.ManagerValue.{game_of, game_match, match_of, match_with_id, IsLawfulManager};
-ghost use Rattle.match_desk.specs.Opening.{opening_refusal, after_opening};
-ghost use Rattle.match_desk.specs.Given.{answer_given};
-ghost use Rattle.match_desk.specs.Steps.{setup_of, next_reply, answer_reply, query_reply, abort_reply, reply_of, refused_or, is_refused, with_change};
+ghost use Rattle.match_desk.specs.Open.{open_refusal, after_open};
+ghost use Rattle.match_desk.specs.Internal.Given.{asked_setup, answer_given};
+ghost use Rattle.match_desk.specs.Steps.{next_reply, answer_reply, query_reply, abort_reply, reply_of, refused_or, is_refused, with_change};
 ghost use Rattle.match_desk.specs.declared.call.Reply.TheVariants.{Opened};
 
 use crate::call::{Call, Refusal, Reply};
-use crate::opening::Opening;
+use crate::asked_setup::AskedSetup;
 use crate::slot::{self, GivenAnswer, Slot};
 use call_history::Object;
 use game_core::Game;
@@ -32,7 +32,7 @@ pub struct Manager<G: Game> {
 
 impl<G: Game> Model for Manager<G> {
     ghost use Rattle.match_desk.specs.ManagerValue.{ManagerValue};
-    ghost use Rattle.match_desk.specs.Slots.{desk_matches, AreKept};
+    ghost use Rattle.match_desk.specs.Internal.Slots.{desk_matches, AreKept};
 
     ghost Value = { ManagerValue G G.Move };
 
@@ -110,17 +110,17 @@ impl<G: Game> Manager<G> {
     }
 
     /// Why a match is not opened, if it is not: the tests in their order.
-    fn opening_refusal(&self, opening: &Opening<'_>) -> Option<Refusal>
-        ensures { result ≡ opening_refusal G.rules self.now opening.now.game (setup_of opening.now.id.now opening.now.start opening.now.play opening.now.players.now) }
+    fn open_refusal(&self, asked: &AskedSetup<'_>) -> Option<Refusal>
+        ensures { result ≡ open_refusal G.rules self.now asked.now.game (asked_setup asked.now) }
     {
-        let players = opening.players.as_slice();
-        if !is_name(opening.id.as_slice()) {
+        let players = asked.players.as_slice();
+        if !is_name(asked.id.as_slice()) {
             return Some(Refusal::BadId);
         }
-        if self.has_match(opening.id.as_slice()) {
+        if self.has_match(asked.id.as_slice()) {
             return Some(Refusal::IdUsed);
         }
-        let Some(game) = self.game(opening.game) else {
+        let Some(game) = self.game(asked.game) else {
             return Some(Refusal::NoGame);
         };
         if players.len() != game.roles() {
@@ -129,7 +129,7 @@ impl<G: Game> Manager<G> {
         if !are_names(players) {
             return Some(Refusal::BadName);
         }
-        if !are_clocks(opening.start, opening.play) {
+        if !are_clocks(asked.start, asked.play) {
             return Some(Refusal::BadClock);
         }
         if self.matches() >= MAX_MATCHES {
@@ -138,32 +138,32 @@ impl<G: Game> Manager<G> {
         None
     }
 
-    /// What an opening gets.
-    fn open_reply(&self, opening: &Opening<'_>) -> Reply
-        ensures { result ≡ refused_or (opening_refusal G.rules self.now opening.now.game (setup_of opening.now.id.now opening.now.start opening.now.play opening.now.players.now)) Opened }
+    /// What an `Open` gets.
+    fn open_reply(&self, asked: &AskedSetup<'_>) -> Reply
+        ensures { result ≡ refused_or (open_refusal G.rules self.now asked.now.game (asked_setup asked.now)) Opened }
     {
-        match self.opening_refusal(opening) {
+        match self.open_refusal(asked) {
             Some(refusal) => Reply::Refused(refusal),
             None => Reply::Opened,
         }
     }
 
     /// Opens a match, where nothing refuses it.
-    fn open(&mut self, alloc: Global, opening: &Opening<'_>) -> Result<(), AllocError>
-        ensures ok { OnOk result (self.new ≡ after_opening G.rules self.old opening.now.game (setup_of opening.now.id.now opening.now.start opening.now.play opening.now.players.now)) }
+    fn open(&mut self, alloc: Global, asked: &AskedSetup<'_>) -> Result<(), AllocError>
+        ensures ok { OnOk result (self.new ≡ after_open G.rules self.old asked.now.game (asked_setup asked.now)) }
         ensures err { OnErr result (self.new ≡ self.old) }
-        ensures accepted { OnErr result (opening_refusal G.rules self.old opening.now.game (setup_of opening.now.id.now opening.now.start opening.now.play opening.now.players.now) ≡ None) }
+        ensures accepted { OnErr result (open_refusal G.rules self.old asked.now.game (asked_setup asked.now) ≡ None) }
     {
-        if self.opening_refusal(opening).is_some() {
+        if self.open_refusal(asked).is_some() {
             return Ok(());
         }
-        let id = Vec::from_slice(alloc, opening.id.as_slice())?;
-        let setup = opening.setup(alloc)?;
-        let held = Match::new(alloc, &self.games[opening.game], setup)?;
+        let id = Vec::from_slice(alloc, asked.id.as_slice())?;
+        let setup = asked.setup(alloc)?;
+        let held = Match::new(alloc, &self.games[asked.game], setup)?;
         self.matches.insert(
             id,
             Slot {
-                game: opening.game,
+                game: asked.game,
                 held,
             },
         )?;
@@ -246,7 +246,7 @@ impl<G: Game> Object for Manager<G> {
     ghost use Rattle.std.specs.Prelude.{refl};
     ghost use Rattle.match_desk.specs.ManagerValue.{opening};
     ghost use Rattle.match_desk.specs.Steps.{reply, after};
-    ghost use Rattle.match_desk.specs.StepLaws.{opening-after};
+    ghost use Rattle.match_desk.specs.Internal.StepLaws.{opening-after};
 
     type Call = Call;
 
@@ -270,7 +270,7 @@ impl<G: Game> Object for Manager<G> {
                 start,
                 play,
                 players,
-            } => Ok(self.open_reply(&Opening::new(id, *game, *start, *play, players))),
+            } => Ok(self.open_reply(&AskedSetup::new(id, *game, *start, *play, players))),
             Call::Next { id, role } => self.next_reply(alloc, id.as_slice(), *role),
             Call::Submit {
                 id,
@@ -302,7 +302,7 @@ impl<G: Game> Object for Manager<G> {
                 start,
                 play,
                 players,
-            } => self.open(alloc, &Opening::new(id, *game, *start, *play, players)),
+            } => self.open(alloc, &AskedSetup::new(id, *game, *start, *play, players)),
             Call::Submit {
                 id,
                 role,
@@ -337,7 +337,7 @@ impl<G: Game> Object for Manager<G> {
                 start,
                 play,
                 players,
-            } => Opening::new(id, *game, *start, *play, players).to_call(alloc)?,
+            } => AskedSetup::new(id, *game, *start, *play, players).to_call(alloc)?,
             Call::Next { id, role } => Call::Next {
                 id: id.copy(alloc)?,
                 role: *role,

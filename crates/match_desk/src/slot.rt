@@ -1,7 +1,7 @@
 //! One match of the desk.
 ghost use Rattle.std.specs.Prelude.{◌≡◌, false, None, IfOk, OnErr, OnOk};
 ghost use Rattle.match_book.specs.Steps.{refusal, after_answer, after_abort};
-ghost use Rattle.match_desk.specs.Given.{answer_given};
+ghost use Rattle.match_desk.specs.Internal.Given.{answer_given};
 ghost use Rattle.match_desk.specs.Steps.{next_reply, answer_reply, query_reply, abort_reply, missed, is_refused};
 
 use crate::call::{Refusal, Reply};

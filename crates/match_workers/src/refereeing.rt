@@ -1,10 +1,6 @@
 //! A whole match between players.
-ghost use Rattle.std.specs.Prelude.{◌≡◌, ◌+◌, IfOk, OnOk, length, slice_index, sum, vec_len};
-ghost use Rattle.call_history.specs.History.{IsReplay};
-ghost use Rattle.match_desk.specs.ManagerValue.{opening, IsLawfulManager};
-ghost use Rattle.match_desk.specs.Steps.{reply, after};
-ghost use Rattle.match_desk.specs.Accepted.{AreAccounted};
-ghost use Rattle.match_desk.specs.Headline.{ArePlayedLegally};
+ghost use Rattle.std.specs.Prelude.{◌≡◌, ◌+◌, IfOk, OnOk, length, slice_index, vec_len};
+ghost use Rattle.match_desk.specs.Headline.{HasHeadline};
 
 use crate::attend_fault::AttendFault;
 use crate::player::Player;
@@ -157,13 +153,8 @@ where
     requires name { blank.name ≡ L.name }
     requires parts { blank.parts ≡ L.parts }
     requires one_each { blank.parts ≡ (G.rules game).roles + 1 }
-    ensures replay { IfOk result (λ r. IsReplay (reply G.rules) (after G.rules) opening r.closed.object r.closed.history.items) }
-    ensures counted { IfOk result (λ r. sum r.closed.made_by_line.items ≡ length r.closed.history.items) }
-    ensures lines { IfOk result (λ r. length r.closed.made_by_line.items ≡ (G.rules game).roles + 1) }
+    ensures headline { IfOk result (λ r. HasHeadline G.rules ((G.rules game).roles + 1) r.closed.object r.closed.history.items r.closed.made_by_line.items) }
     ensures opened { IfOk result (λ r. slice_index r.closed.made_by_line.items 0 ≡ 1) }
-    ensures lawful { IfOk result (λ r. IsLawfulManager G.rules r.closed.object) }
-    ensures legal { IfOk result (λ r. ArePlayedLegally G.rules r.closed.object) }
-    ensures accounted { IfOk result (λ r. AreAccounted G.rules r.closed.object r.closed.history.items) }
 {
     let Plan {
         setup,
@@ -222,16 +213,8 @@ where
     R: Threads + Wait + Sync,
     requires { vec_len players ≡ length setup.players }
 
-    // The history replays on one thread, and holds each call that was made.
-    ensures replay { IfOk result (λ r. IsReplay (reply G.rules) (after G.rules) opening r.closed.object r.closed.history.items) }
-    ensures counted { IfOk result (λ r. sum r.closed.made_by_line.items ≡ length r.closed.history.items) }
-    ensures lines { IfOk result (λ r. length r.closed.made_by_line.items ≡ (G.rules game).roles + 1) }
+    ensures headline { IfOk result (λ r. HasHeadline G.rules ((G.rules game).roles + 1) r.closed.object r.closed.history.items r.closed.made_by_line.items) }
     ensures opened { IfOk result (λ r. slice_index r.closed.made_by_line.items 0 ≡ 1) }
-
-    // The match, and how the history accounts for its moves.
-    ensures lawful { IfOk result (λ r. IsLawfulManager G.rules r.closed.object) }
-    ensures legal { IfOk result (λ r. ArePlayedLegally G.rules r.closed.object) }
-    ensures accounted { IfOk result (λ r. AreAccounted G.rules r.closed.object r.closed.history.items) }
 {
     let brief = brief_of(alloc, &game, &setup, rules)?;
     let plan = Plan {

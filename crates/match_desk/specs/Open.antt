@@ -19,8 +19,8 @@ abbrev pub has_roles : {G S M : Type 0} → (G → Rules S M) → Option G → �
 has_roles rules o n = unwrap_or (option_map (λ g. n == (rules g).roles) o) false
 
 -- the tests of `Open`, in their order
-abbrev pub opening_tests : {G S M : Type 0} → (G → Rules S M) → ManagerValue G M → ℕ → Setup → List (Bool × Refusal)
-opening_tests rules d game setup =
+abbrev pub open_tests : {G S M : Type 0} → (G → Rules S M) → ManagerValue G M → ℕ → Setup → List (Bool × Refusal)
+open_tests rules d game setup =
     (is_name setup.id, BadId)
     ∷ ((is_none (match_of d setup.id), IdUsed)
     ∷ ((is_some (slice_get d.games game), NoGame)
@@ -31,8 +31,8 @@ opening_tests rules d game setup =
     ∷ []))))))
 
 -- why a match is not opened: none where it is
-abbrev pub opening_refusal : {G S M : Type 0} → (G → Rules S M) → ManagerValue G M → ℕ → Setup → Option Refusal
-opening_refusal rules d game setup = first_refusal (opening_tests rules d game setup)
+abbrev pub open_refusal : {G S M : Type 0} → (G → Rules S M) → ManagerValue G M → ℕ → Setup → Option Refusal
+open_refusal rules d game setup = first_refusal (open_tests rules d game setup)
 
 -- the matches with a new one, which has nothing in it
 abbrev pub with_new_match : {G S M : Type 0} → (G → Rules S M) → ManagerValue G M → ℕ → Setup → Option G → ManagerValue G M
@@ -40,5 +40,5 @@ with_new_match rules d game setup None = d
 with_new_match rules d game setup (Some g) = record d { matches = d.matches ++ (record { game = game; value = new_match (rules g) setup }) ∷ [] }
 
 -- the manager after `Open`: as it was, where the match is not opened
-abbrev pub after_opening : {G S M : Type 0} → (G → Rules S M) → ManagerValue G M → ℕ → Setup → ManagerValue G M
-after_opening rules d game setup = if is_none (opening_refusal rules d game setup) then with_new_match rules d game setup (slice_get d.games game) else d
+abbrev pub after_open : {G S M : Type 0} → (G → Rules S M) → ManagerValue G M → ℕ → Setup → ManagerValue G M
+after_open rules d game setup = if is_none (open_refusal rules d game setup) then with_new_match rules d game setup (slice_get d.games game) else d

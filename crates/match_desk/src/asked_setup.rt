@@ -1,6 +1,6 @@
-//! What an `Open` asks for.
+//! What an `Open` carries.
 ghost use Rattle.std.specs.Prelude.{◌≡◌, IfOk};
-ghost use Rattle.match_desk.specs.Steps.{setup_of};
+ghost use Rattle.match_desk.specs.Internal.Given.{asked_setup};
 ghost use Rattle.match_desk.specs.declared.call.Call.TheVariants.{Open};
 
 use crate::call::Call;
@@ -8,9 +8,9 @@ use game_core::{Text, Texts};
 use match_book::Setup;
 use std::alloc::{AllocError, Global};
 
-/// The parts of an `Open`, as the call has them.
+/// The setup that an `Open` asks for, with its game's number. The texts are the call's own.
 #[derive(Clone, Copy)]
-pub struct Opening<'a> {
+pub struct AskedSetup<'a> {
     pub id: &'a Text,
     pub game: usize,
     pub start: u32,
@@ -29,11 +29,11 @@ pub fn copy_texts(alloc: Global, texts: &[Text]) -> Result<Texts, AllocError>
     Ok(Texts { items })
 }
 
-impl<'a> Opening<'a> {
-    pub fn new(id: &'a Text, game: usize, start: u32, play: u32, players: &'a Texts) -> Opening<'a>
+impl<'a> AskedSetup<'a> {
+    pub fn new(id: &'a Text, game: usize, start: u32, play: u32, players: &'a Texts) -> AskedSetup<'a>
         ensures { result ≡ record { id = id.entry; game = game; start = start; play = play; players = players.entry } }
     {
-        Opening {
+        AskedSetup {
             id,
             game,
             start,
@@ -46,7 +46,7 @@ impl<'a> Opening<'a> {
     pub fn to_call(&self, alloc: Global) -> Result<Call, AllocError>
         ensures { IfOk result (λ call. call ≡ Open self.now.id.now self.now.game self.now.start self.now.play self.now.players.now) }
     {
-        let Opening {
+        let AskedSetup {
             id,
             game,
             start,
@@ -64,7 +64,7 @@ impl<'a> Opening<'a> {
 
     /// The setup of the match that is asked for.
     pub fn setup(&self, alloc: Global) -> Result<Setup, AllocError>
-        ensures { IfOk result (λ setup. setup ≡ setup_of self.now.id.now self.now.start self.now.play self.now.players.now) }
+        ensures { IfOk result (λ setup. setup ≡ asked_setup self.now) }
     {
         let id = self.id.copy(alloc)?;
         let players = copy_texts(alloc, self.players.as_slice())?;

@@ -1,4 +1,4 @@
--- What a manager keeps of its matches. It is cited by the type's invariant and by private functions alone.
+-- What a manager keeps of its matches.
 use Rattle.std.specs.Prelude.{◌≡◌, ℕ, List, map, Vec, All, Some, slice_get}
 use Rattle.std.specs.Global.{Global}
 use Rattle.game_core.specs.Play.{Rules}
