@@ -156,11 +156,7 @@ fn abort_call(alloc: Global, words: &[&[u8]]) -> Result<Option<Call>, AllocError
 }
 
 /// The call of a keyword other than `submit` and of the words behind it.
-fn call_of_words(
-    alloc: Global,
-    keyword: &[u8],
-    words: &[&[u8]],
-) -> Result<Option<Call>, AllocError>
+fn call_of_words(alloc: Global, keyword: &[u8], words: &[&[u8]]) -> Result<Option<Call>, AllocError>
     requires { keyword.now ≢ codes "submit" }
     ensures { IfOk result (λ o. o ≡ call_of_words (keyword.now ∷ map (λ w. w.now) words.now)) }
 {

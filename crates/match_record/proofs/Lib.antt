@@ -1,5 +1,4 @@
-pub mod Numerals
-pub mod Digits
+pub mod Names
 pub mod Ascii
 pub mod RecordParts
 pub mod ErrorWords
@@ -7,7 +6,7 @@ pub mod JsonData
 pub mod KeyTable
 pub mod LawfulParts
 pub mod OneRecord
-pub mod PlainNumerals
+pub mod RoleNumbers
 pub mod RecordShapes
 pub mod RecordedMoves
 pub mod Replays

@@ -1,4 +1,3 @@
-pub mod Numerals
 pub mod RecordTree
 pub mod LawfulRecord
 pub mod RecordParts

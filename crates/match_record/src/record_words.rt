@@ -3,14 +3,13 @@ ghost use Rattle.std.specs.Prelude.{◌≡◌, ◌≢◌, ◌^◌, ◌<◌, ◌+
 ghost use Rattle.std.specs.Fmt.{decimal};
 ghost use Rattle.match_record.specs.Internal.JsonValues.{data_in};
 ghost use Rattle.match_book.specs.Marks.{mark_text};
-ghost use Rattle.match_record.specs.Numerals.{is_plain_numeral};
 ghost use Rattle.match_record.specs.RecordParts.{NamesRole};
 ghost use Rattle.match_record.specs.RecordTree.{cause_text, cause_tree, mark_tree, phase_text, phase_tree};
 ghost use Rattle.match_record.specs.Internal.Shown.{AnyShape, Shows};
 
 use crate::json_values::{bytes_in, is_null};
-use crate::numeral::{are_digits, number_up_to};
 use crate::trees::phase_text;
+use game_core::numeral::plain_number;
 use match_book::{Cause, Mark, Phase};
 use serde_json::Value;
 
@@ -74,21 +73,12 @@ pub fn phase_in(found: Option<&Value>) -> Option<Phase>
     phase_of(bytes_in(found)?)
 }
 
-fn is_plain_numeral(digits: &[u8]) -> bool
-    ensures { result ≡ is_plain_numeral digits.now }
-{
-    are_digits(digits) && (digits.len() == 1 || digits[0] != b'0')
-}
-
 /// The number of a role, in decimal digits without leading zeros.
 fn role_of(digits: &[u8], roles: usize) -> Option<usize>
     requires { roles < 2 ^ 32 }
     ensures { Shows decimal (λ role. role < roles) (Some digits.now) result }
 {
-    if !is_plain_numeral(digits) {
-        return None;
-    }
-    let role = number_up_to(digits, roles)?;
+    let role = plain_number(digits, roles)?;
     if role < roles { Some(role) } else { None }
 }
 

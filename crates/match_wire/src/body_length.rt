@@ -9,8 +9,8 @@ ghost use Rattle.match_wire.specs.Internal.Heads.{agrees, length_of};
 
 use crate::numeral::is_same_number;
 use crate::wire_fault::FrameFault;
-use httparse::spans::HeaderSpan;
 use game_core::numeral::are_digits;
+use httparse::spans::HeaderSpan;
 
 const CONTENT_LENGTH: &[u8] = b"content-length";
 

@@ -12,7 +12,11 @@ fn clock_of(word: &[u8]) -> Option<u32>
     ensures { result ≡ clock_of word.now }
 {
     let seconds = plain_number(word, MAX_CLOCK as usize)? as u32;
-    if is_clock(seconds) { Some(seconds) } else { None }
+    if is_clock(seconds) {
+        Some(seconds)
+    } else {
+        None
+    }
 }
 
 /// The seconds that an expression is, if it is a lawful clock.

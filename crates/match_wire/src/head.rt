@@ -7,9 +7,9 @@ ghost use Rattle.match_wire.specs.Internal.Heads.{IsKnown, StartsWithin};
 
 use crate::body_length::said_length;
 use crate::wire_fault::FrameFault;
+use game_core::numeral::number_up_to;
 use httparse::Status;
 use httparse::spans::{EMPTY_HEADER_SPAN, HeaderSpan, parse_request, parse_response};
-use game_core::numeral::number_up_to;
 
 /// Which message is read.
 #[derive(Clone, Copy, Debug, PartialEq, Eq)]

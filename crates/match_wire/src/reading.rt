@@ -130,10 +130,7 @@ fn start_in(alloc: Global, members: &[Expr]) -> Result<Message, MessageFault>
 }
 
 /// The id and the moves of PLAY or STOP.
-fn id_and_moves(
-    alloc: Global,
-    members: &[Expr],
-) -> Result<(Text, Option<Vec<Expr>>), MessageFault>
+fn id_and_moves(alloc: Global, members: &[Expr]) -> Result<(Text, Option<Vec<Expr>>), MessageFault>
     ensures { GivesIdAndMoves result (id_and_moves (views members.now)) }
 {
     let [id, moves] = members else {
