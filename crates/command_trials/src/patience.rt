@@ -28,13 +28,13 @@ where
     let alloc = host.alloc();
     let (listener, player) = listen(rt, alloc, "zed")?;
     let (listener, player) = (&listener, player.as_str());
-    let began = Instant::now(host);
+    let began = Instant::now(host)?;
     let (heard, outcome) = thread::join(
         rt,
         move || wait_out(alloc, listener),
         move || outcome_of(rt, host, &["info", player], b""),
     );
-    let waited = began.elapsed(host);
+    let waited = began.elapsed(host)?;
     assert!(rt; heard.is_some());
     expect_outcome(rt, &outcome?, Wanted::fault(b"ggp_manager: no answer\n"));
     Ok(waited)
@@ -55,9 +55,9 @@ fn rests_take_a_tenth_of_a_second(rt: HostRuntime) -> Result<(), Fail> {
         port: 1,
     };
     let mut player = Sockets { rt: &rt }.player(rt.alloc(), &nobody)?;
-    let began = Instant::now(&rt);
+    let began = Instant::now(&rt)?;
     player.rest();
-    let rested = began.elapsed(&rt);
+    let rested = began.elapsed(&rt)?;
     assert!(rt; rested >= Duration::from_millis(99) && rested < Duration::from_secs(5));
     Ok(())
 }
