@@ -1,5 +1,6 @@
 -- How a message is read.
-use Rattle.std.specs.Prelude.{◌≡◌, ℕ, Bool, false, if◌then◌else◌, List, map, Option, Some, None, option_zip, bytes_eq, codes, Result, Ok, Err}
+use Rattle.std.specs.Prelude.{◌≡◌, ℕ, Bool, false, if◌then◌else◌, List, map, Option, Some, None, bytes_eq, codes, Result, Ok, Err}
+use Rattle.std.specs.Option.{option_zip}
 use Rattle.game_core.specs.Bytes.{lower}
 use Rattle.game_core.specs.Expression.{Expression, atom, list, Expressions, none, more, folded, all_folded}
 use Rattle.kif_text.specs.Reading.{reading}

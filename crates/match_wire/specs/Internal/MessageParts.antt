@@ -1,5 +1,5 @@
 -- What the reader of a message gives for its parts. Want of memory may stand in the place of each.
-use Rattle.std.specs.Prelude.{◌≡◌, ⊥, List, ℕ, Option, Some, None, option_map, Result, Ok, Err, Vec}
+use Rattle.std.specs.Prelude.{◌≡◌, List, ℕ, Option, Some, None, option_map, Result, Ok, Err, Vec}
 use Rattle.std.specs.Global.{Global}
 use Rattle.game_core.specs.Expression.{Expressions}
 use Rattle.kif_text.specs.View.{views}
