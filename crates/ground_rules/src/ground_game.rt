@@ -11,7 +11,7 @@ use crate::loading::GameParts;
 use crate::lookups::{StateHead, state_mentions};
 use crate::names::{into_texts, place_of_head};
 use crate::numbered::Rule;
-use crate::row::is_set;
+use crate::row::Row;
 use crate::sentence::Derived;
 use crate::tables::{GroundMove, GroundState, Mention, Role, choose, find_goal, mark, pick};
 use game_core::{Game, Text};
@@ -63,7 +63,8 @@ impl Game for GroundGame {
     }
 
     fn initial(&self, alloc: Global) -> Result<GroundState, AllocError> {
-        let truth = evaluate(alloc, &self.rules, self.atoms, &[], &[])?;
+        let none = Row::unset(alloc, 0)?;
+        let truth = evaluate(alloc, &self.rules, self.atoms, &none, &[])?;
         let row = mark(alloc, &self.init, &truth, self.terms.len())?;
         Ok(GroundState { row })
     }
@@ -93,7 +94,7 @@ impl Game for GroundGame {
 
     fn terminal(&self, alloc: Global, state: &GroundState) -> Result<bool, AllocError> {
         let truth = evaluate(alloc, &self.rules, self.atoms, &state.row, &[])?;
-        Ok(is_set(&truth, self.terminal))
+        Ok(truth.is_set(self.terminal))
     }
 
     fn goal(
@@ -116,7 +117,7 @@ impl Game for GroundGame {
     }
 
     fn copy_state(&self, alloc: Global, state: &GroundState) -> Result<GroundState, AllocError> {
-        let row = Vec::from_slice(alloc, &state.row)?;
+        let row = state.row.clone()?;
         Ok(GroundState { row })
     }
 

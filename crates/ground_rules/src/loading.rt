@@ -21,7 +21,7 @@ use crate::needs::needs_of;
 use crate::numbered;
 use crate::rank::rank;
 use crate::resolve::{Names, resolve_rules};
-use crate::row::is_set;
+use crate::row::Row;
 use crate::sentence::{Derived, Rule};
 use crate::sizes::{
     MAX_ATOMIC_SENTENCES, MAX_MOVES, MAX_ROLES, MAX_SENTENCES, count_atomic_sentences,
@@ -91,11 +91,11 @@ fn is_barred(head: &Derived, on_moves: bool, on_given: bool) -> bool
     }
 }
 
-fn has_barred(heads: &[Derived], on_moves: &[bool], on_given: &[bool]) -> bool
+fn has_barred(heads: &[Derived], on_moves: &Row, on_given: &Row) -> bool
     ensures { result ≡ has_barred on_moves.now on_given.now 0 heads.now }
 {
     for (atom, head) in heads.iter().enumerate() {
-        if is_barred(head, is_set(on_moves, atom), is_set(on_given, atom)) {
+        if is_barred(head, on_moves.is_set(atom), on_given.is_set(atom)) {
             return true;
         }
     }
