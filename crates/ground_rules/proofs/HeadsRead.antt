@@ -12,9 +12,10 @@ use Rattle.ground_rules.specs.declared.sentence.Atomic.{Atomic}
 use Rattle.ground_rules.specs.declared.sentence.Atomic.TheVariants.{Derived as IsDerived, InState as IsInState, Does as IsDoes}
 use Rattle.ground_rules.specs.declared.words.Word.{Word}
 use Rattle.ground_rules.specs.declared.words.Word.TheVariants.{Role as RoleWord, Init as InitWord, True as TrueWord, Next as NextWord, Does as DoesWord, Legal as LegalWord, Goal as GoalWord, Terminal as TerminalWord, If as IfWord, Not as NotWord, Or as OrWord, Distinct as DistinctWord, And as AndWord, Plain as PlainWord}
-use Rattle.ground_rules.specs.Bools.{and-left, and-right, and-both, or-left, or-right}
-use Rattle.ground_rules.specs.Names.{text-same}
-use Rattle.ground_rules.specs.Terms.{is_ground_term, term_text, is_term_in, is_term_in_any}
+use Rattle.ground_rules.specs.Internal.Bools.{and-left, and-right, and-both, or-left, or-right}
+use Rattle.ground_rules.specs.Internal.Names.{text-same}
+use Rattle.ground_rules.specs.Terms.{is_ground_term, term_text}
+use Rattle.ground_rules.specs.Internal.TermTexts.{is_term_in, is_term_in_any}
 use Rattle.ground_rules.specs.Words.{word_of}
 use Rattle.ground_rules.specs.Sentences.{TextLiterals, TextRule, Sentence}
 use Rattle.ground_rules.specs.Reading.{both, is_digit, goal_number, goal_value, one_argument, two_arguments, head_word, read_relation, read_alone, read_atomic, read_literals, sentence, fact, read_rule, read_list, read_form, read_sentence}

@@ -2,7 +2,7 @@
 ghost use Rattle.std.specs.Prelude.{◌≡◌, [], IfOk};
 ghost use Rattle.ground_rules.specs.Fit.{truth, any_true};
 ghost use Rattle.ground_rules.specs.Numbered.{bit, numbered, view, views, rules_of, row_after, unset};
-ghost use Rattle.ground_rules.specs.Exposed.{exposed, all_exposed, exposed_rules};
+ghost use Rattle.ground_rules.specs.Internal.Exposed.{exposed, all_exposed, exposed_rules};
 
 use crate::numbered::{Literal, Rule};
 use crate::row::Row;

@@ -1,7 +1,8 @@
 //! The truth of the derived atoms in a state.
 ghost use Rattle.std.specs.Prelude.{◌≡◌, ℕ, IfOk, []};
 ghost use Rattle.ground_rules.specs.Fit.{truth, any_true, all_true, Fits};
-ghost use Rattle.ground_rules.specs.Numbered.{bit, numbered, view, views, rules_of, row_after, unset, AreRankedFrom};
+ghost use Rattle.ground_rules.specs.Numbered.{bit, numbered, view, views, rules_of, row_after, unset};
+ghost use Rattle.ground_rules.specs.Internal.Ranked.{AreRankedFrom};
 
 use crate::numbered::{Literal, Rule};
 use crate::row::Row;

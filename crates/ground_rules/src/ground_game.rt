@@ -2,9 +2,9 @@
 ghost use Rattle.std.specs.Prelude.{◌≡◌, ◌≤◌, length, IsTrue};
 ghost use Rattle.game_core.specs.Play.{max_roles};
 ghost use Rattle.kif_text.specs.View.{views};
-ghost use Rattle.ground_rules.specs.Tables.{are_roles, are_in_order, names};
+ghost use Rattle.ground_rules.specs.Internal.TableTests.{are_roles, are_in_order, names};
 ghost use Rattle.ground_rules.specs.Described.{are_different};
-ghost use Rattle.ground_rules.specs.Terms.{are_terms_in_any};
+ghost use Rattle.ground_rules.specs.Internal.TermTexts.{are_terms_in_any};
 
 use crate::evaluate::evaluate;
 use crate::loading::GameParts;
@@ -44,7 +44,7 @@ pub struct GroundGame {
 impl Game for GroundGame {
     ghost use Rattle.ground_rules.specs.LoadedGame.{loaded_game};
     ghost use Rattle.ground_rules.specs.GroundGames.{tables_of};
-    ghost use Rattle.ground_rules.specs.LoadedGameLaws.{loaded_game_laws};
+    ghost use Rattle.ground_rules.specs.Internal.LoadedGameLaws.{loaded_game_laws};
 
     type State = GroundState;
 
@@ -130,9 +130,9 @@ impl GroundGame {
     ghost use Rattle.std.specs.Prelude.{IfOk, map};
     ghost use Rattle.kif_text.specs.View.{view as expression};
     ghost use Rattle.ground_rules.specs.Numbered.{rules_of};
-    ghost use Rattle.ground_rules.specs.Resolved.{table_of};
+    ghost use Rattle.ground_rules.specs.Internal.Resolved.{table_of};
     ghost use Rattle.ground_rules.specs.Loading.{AreSentences, description_of};
-    ghost use Rattle.ground_rules.specs.GameParts.{AreGameParts};
+    ghost use Rattle.ground_rules.specs.Internal.GameParts.{AreGameParts};
     ghost use Rattle.ground_rules.specs.Loaded.{IsLoaded};
     ghost use Rattle.ground_rules.specs.GroundGames.{sentences_of};
 

@@ -3,15 +3,15 @@ ghost use Rattle.std.specs.Prelude.{◌≡◌, ◌⊎◌, ℕ, true, false, IfOk
 ghost use Rattle.std.specs.List.Sorted.{IsPermutation, IsNonDecreasingBy};
 ghost use Rattle.game_core.specs.Expression.{folded};
 ghost use Rattle.kif_text.specs.View.{view as expression};
-ghost use Rattle.ground_rules.specs.Sentences.{rules_of};
+ghost use Rattle.ground_rules.specs.Internal.SentenceViews.{rules_of};
 ghost use Rattle.ground_rules.specs.Acyclic.{IsAcyclic};
 ghost use Rattle.ground_rules.specs.Numbered.{rules_of as numbered_rules};
-ghost use Rattle.ground_rules.specs.Resolved.{table_of, role_table};
-ghost use Rattle.ground_rules.specs.Barred.{barred_by, has_barred};
+ghost use Rattle.ground_rules.specs.Internal.Resolved.{table_of, role_table};
+ghost use Rattle.ground_rules.specs.Internal.Barred.{barred_by, has_barred};
 ghost use Rattle.ground_rules.specs.Loading.{HasRoles, IsDescriptionFault};
 ghost use Rattle.ground_rules.specs.Described.{Description};
 ghost use Rattle.ground_rules.specs.Dependence.{HasBarredHead};
-ghost use Rattle.ground_rules.specs.GameParts.{IsTestOf, IsTableOf, is_small_so_far, have_few_moves_by, AreRankedOf, AreGameParts};
+ghost use Rattle.ground_rules.specs.Internal.GameParts.{IsTestOf, IsTableOf, is_small_so_far, have_few_moves_by, AreRankedOf, AreGameParts};
 
 use crate::dependence::dependence;
 use crate::fault::LoadFault;

@@ -1,6 +1,6 @@
 //! How large a description may be.
 ghost use Rattle.std.specs.Prelude.{◌≡◌, IfOk, OnOk, length};
-ghost use Rattle.ground_rules.specs.Sentences.{view, views, rules_of};
+ghost use Rattle.ground_rules.specs.Internal.SentenceViews.{view, views, rules_of};
 ghost use Rattle.ground_rules.specs.Described.{with_new, with_all_new, each_once};
 ghost use Rattle.ground_rules.specs.Sizes.{same_atomic, atomics_in, all_atomics_in, atomics};
 

@@ -1,6 +1,6 @@
 use Rattle.std.proofs.Common.{◌≡◌, drop, []}
 use Rattle.ground_rules.specs.Numbered.{numbered, rules_of, row_after, unset}
-use Rattle.ground_rules.specs.Exposed.{exposed_rules}
+use Rattle.ground_rules.specs.Internal.Exposed.{exposed_rules}
 use Rattle.ground_rules.proofs.dependence.dependence.Given as goal
 
 abbrev pub invariant-loop-rule : goal.invariant-loop-rule

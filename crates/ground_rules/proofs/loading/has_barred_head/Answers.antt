@@ -1,7 +1,7 @@
 use Rattle.std.proofs.Common.{◌≡◌, ◌∙◌, ap}
 use Rattle.ground_rules.specs.Numbered.{rules_of as numbered_rules}
-use Rattle.ground_rules.specs.Barred.{has_barred}
-use Rattle.ground_rules.specs.Resolved.{table_of}
+use Rattle.ground_rules.specs.Internal.Barred.{has_barred}
+use Rattle.ground_rules.specs.Internal.Resolved.{table_of}
 use Rattle.ground_rules.proofs.RankedRules.{barred-test}
 use Rattle.ground_rules.proofs.loading.has_barred_head.Goals as goal
 
