@@ -3,6 +3,7 @@ use Rattle.std.proofs.Common.{◌≡◌, ℕ, ◌+◌, ◌-◌, ◌*◌, ◌≤�
 use Rattle.std.specs.Prelude.{codes, option_and_then}
 use Rattle.std.specs.List.{cons_option}
 use Rattle.std.proofs.lemmas.Bool.Decides.{nat_tests}
+use Rattle.game_core.specs.Play.{max_goal}
 use Rattle.game_core.specs.Expression.{Expression, atom, list, Expressions, none, more, depth, max_depth}
 use Rattle.game_core.specs.Canonical.{canonical}
 use Rattle.kif_text.specs.View.{expressions}
@@ -73,16 +74,16 @@ second-in f x y t e = or-right _ _ (or-right _ _ (or-left _ _ (text-in y t e)))
 digit-small : (a : ℕ) → is_digit a ≡ true → a - 48 ≤ 9
 digit-small a h = let b = and-right (nat_le 48 a) _ h in grind (arith, nat_tests)
 
-number-small : (w : List ℕ) (n : ℕ) → goal_number w ≡ Some n → n ≤ 100
+number-small : (w : List ℕ) (n : ℕ) → goal_number w ≡ Some n → n ≤ max_goal
 number-small [] n e = absurd cc
 number-small (a ∷ []) n e = by-test (is_digit a) refl e
   where
-    by-test : (b : Bool) → is_digit a ≡ b → (if b then Some (a - 48) else None) ≡ Some n → n ≤ 100
+    by-test : (b : Bool) → is_digit a ≡ b → (if b then Some (a - 48) else None) ≡ Some n → n ≤ max_goal
     by-test true is f = let d = digit-small a is in let g : a - 48 ≡ n = cc in omega (arith, d, g)
     by-test false is f = absurd cc
 number-small (a ∷ b ∷ []) n e = by-test (is_digit a && not (nat_eq a 48) && is_digit b) refl e
   where
-    by-test : (t : Bool) → (is_digit a && not (nat_eq a 48) && is_digit b) ≡ t → (if t then Some ((a - 48) * 10 + (b - 48)) else None) ≡ Some n → n ≤ 100
+    by-test : (t : Bool) → (is_digit a && not (nat_eq a 48) && is_digit b) ≡ t → (if t then Some ((a - 48) * 10 + (b - 48)) else None) ≡ Some n → n ≤ max_goal
     by-test true is f =
         let d = digit-small a (and-left (is_digit a) _ (and-left (is_digit a && not (nat_eq a 48)) _ is)) in
         let k = digit-small b (and-right (is_digit a && not (nat_eq a 48)) _ is) in
@@ -91,11 +92,11 @@ number-small (a ∷ b ∷ []) n e = by-test (is_digit a && not (nat_eq a 48) && 
     by-test false is f = absurd cc
 number-small (a ∷ b ∷ c ∷ ds) n e = by-test (bytes_eq (a ∷ b ∷ c ∷ ds) (codes "100")) e
   where
-    by-test : (t : Bool) → (if t then Some 100 else None) ≡ Some n → n ≤ 100
+    by-test : (t : Bool) → (if t then Some 100 else None) ≡ Some n → n ≤ max_goal
     by-test true f = let g : ◌≡◌ {A = ℕ} 100 n = cc in omega (arith, g)
     by-test false f = absurd cc
 
-value-small : (x : Expression) (n : ℕ) → goal_value x ≡ Some n → n ≤ 100
+value-small : (x : Expression) (n : ℕ) → goal_value x ≡ Some n → n ≤ max_goal
 value-small (atom w) n e = number-small w n e
 value-small (list xs) n e = absurd cc
 

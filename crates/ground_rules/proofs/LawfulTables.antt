@@ -55,14 +55,14 @@ HeadFrom xs (Role r) = is_term_in_any xs r ≡ true
 HeadFrom xs (Init t) = is_term_in_any xs t ≡ true
 HeadFrom xs (Next t) = is_term_in_any xs t ≡ true
 HeadFrom xs (Legal r m) = is_term_in_any xs m ≡ true
-HeadFrom xs (Goal r n) = n ≤ 100
+HeadFrom xs (Goal r n) = n ≤ max_goal
 HeadFrom xs Terminal = Unit {0}
 HeadFrom xs (Other t) = Unit {0}
 
-at_most : (n : ℕ) → n ≤ 100 → nat_le n max_goal ≡ true
+at_most : (n : ℕ) → n ≤ max_goal → nat_le n max_goal ≡ true
 at_most n le = grind (arith, nat_tests)
 
-goals-by : (k n : ℕ) (gs : List GoalHead) (b : Bool) → k ≤ 100 → are_goals gs ≡ true → are_goals (if b then record { value = k; atom = n } ∷ gs else gs) ≡ true
+goals-by : (k n : ℕ) (gs : List GoalHead) (b : Bool) → k ≤ max_goal → are_goals gs ≡ true → are_goals (if b then record { value = k; atom = n } ∷ gs else gs) ≡ true
 goals-by k n gs true le h = and-both _ _ (at_most k le) h
 goals-by k n gs false le h = h
 

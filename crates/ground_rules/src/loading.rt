@@ -23,11 +23,9 @@ use crate::rank::rank;
 use crate::resolve::{Names, resolve_rules};
 use crate::row::Row;
 use crate::sentence::{Derived, Rule};
-use crate::sizes::{
-    MAX_ATOMIC_SENTENCES, MAX_MOVES, MAX_ROLES, MAX_SENTENCES, count_atomic_sentences,
-};
+use crate::sizes::{MAX_ATOMIC_SENTENCES, MAX_MOVES, MAX_SENTENCES, count_atomic_sentences};
 use crate::tables::Role;
-use game_core::Text;
+use game_core::{MAX_ROLES, Text};
 use std::alloc::{AllocError, Global};
 
 fn role_of(alloc: Global, names: &Names, name: &Text) -> Result<Role, AllocError>

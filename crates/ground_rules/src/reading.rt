@@ -9,9 +9,9 @@ ghost use Rattle.ground_rules.specs.Terms.{term_text};
 ghost use Rattle.ground_rules.specs.Words.{word_of};
 
 use crate::sentence::{Atomic, Derived, Literal, Sentence};
-use crate::terms::{MAX_DEPTH, nests_at_most, term_text};
+use crate::terms::{nests_at_most, term_text};
 use crate::words::Word;
-use game_core::Text;
+use game_core::{MAX_DEPTH, Text};
 use kif_text::Expr;
 use std::alloc::{AllocError, Global};
 

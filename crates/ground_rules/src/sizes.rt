@@ -17,9 +17,6 @@ pub const MAX_ATOMIC_SENTENCES: usize = 16384;
 /// How many distinct moves the `legal` heads of one role have at most.
 pub const MAX_MOVES: usize = 4096;
 
-/// How many roles a game has at most.
-pub const MAX_ROLES: usize = 16;
-
 fn add_atomic(set: &mut IndexSet<Atomic>, atomic: &Atomic) -> Result<(), AllocError>
     ensures { OnOk result (set.new.keys ≡ with_new same_atomic set.old.keys atomic.now) }
 {
