@@ -1,5 +1,6 @@
 -- The plain expression: what a KIF expression is, apart from where it lies in memory.
 use Rattle.std.specs.Prelude.{ℕ, suc, ◌≡◌, ◌<◌, ◌≤◌, max, map, length, List, [], ◌∷◌, true}
+use Rattle.game_core.specs.declared.limits.TheConstants.{MAX_DEPTH}
 use Rattle.game_core.specs.Bytes.{is_atom_byte, lower}
 
 mutual
@@ -51,7 +52,7 @@ abbrev mutual
 
 -- how many lists a proper expression nests at most
 abbrev pub max_depth : ℕ
-max_depth = 64
+max_depth = MAX_DEPTH
 
 -- an expression that some text spells, and that is read back from its text
 abbrev pub IsProper : Expression → Type 0

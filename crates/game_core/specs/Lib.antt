@@ -7,4 +7,4 @@ pub mod Play
 pub mod PlayAnswer
 pub mod Countdown
 pub mod Counting
-pub mod CountdownLaws
+pub mod Internal

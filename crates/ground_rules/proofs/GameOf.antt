@@ -9,18 +9,20 @@ use Rattle.ground_rules.specs.declared.sentence.Derived.{Derived}
 use Rattle.ground_rules.specs.declared.sentence.Derived.TheVariants.{Init, Next, Legal, Terminal}
 use Rattle.ground_rules.specs.declared.tables.GroundMove.{GroundMove}
 use Rattle.ground_rules.specs.declared.lookups.StateHead.TheVariants.{Init as InitHead, Next as NextHead}
-use Rattle.ground_rules.specs.Bools.{or-left, or-right, bool-same}
-use Rattle.ground_rules.specs.Names.{text-sound, text-same, derived-sound}
+use Rattle.ground_rules.specs.Internal.Bools.{or-left, or-right, bool-same}
+use Rattle.ground_rules.specs.Internal.Names.{text-sound, text-same, derived-sound}
 use Rattle.ground_rules.specs.Literals.{Rule}
 use Rattle.ground_rules.specs.Fit.{Situation, all_true, Fits}
 use Rattle.ground_rules.specs.Acyclic.{IsAcyclic}
 use Rattle.ground_rules.specs.Described.{Description, same_derived, situation, is_among, makes, role_names, heads, with_new, with_all_new, moves_in, names_of, at_rest, at_turn, IsGameOf, IsGoalAnswer, are_different}
 use Rattle.ground_rules.specs.Roles.{RoleTable, no_role}
-use Rattle.ground_rules.specs.Numbered.{bit, numbered, row_after, unset, AreRankedFrom, is_number}
-use Rattle.ground_rules.specs.Tables.{marked, chosen, only_goal, picked, are_in_order, names}
+use Rattle.ground_rules.specs.Numbered.{bit, numbered, row_after, unset, is_number}
+use Rattle.ground_rules.specs.Internal.Ranked.{AreRankedFrom}
+use Rattle.ground_rules.specs.Tables.{marked, chosen, only_goal, picked}
+use Rattle.ground_rules.specs.Internal.TableTests.{are_in_order, names}
 use Rattle.ground_rules.specs.LoadedGame.{GameTables, loaded_game, row_of, role_at, terms_of}
-use Rattle.ground_rules.specs.LoadedGameLaws.{ordered-different, marked-size}
-use Rattle.ground_rules.specs.Resolved.{NameTable, atom_number, term_number, role_number, resolved_rules, terms_in, head_terms, role_table, mentions_by, state_term, state_mentions, place}
+use Rattle.ground_rules.specs.Internal.LoadedGameLaws.{ordered-different, marked-size}
+use Rattle.ground_rules.specs.Internal.Resolved.{NameTable, atom_number, term_number, role_number, resolved_rules, terms_in, head_terms, role_table, mentions_by, state_term, state_mentions, place}
 use Rattle.ground_rules.proofs.NameLists.{among-any, among-left, among-right}
 use Rattle.ground_rules.proofs.TablePlaces.{place-within}
 use Rattle.ground_rules.proofs.Transfer.{Agrees, fit-is-row}

@@ -2,9 +2,9 @@
 use Rattle.std.proofs.Common.{◌≡◌, ℕ, suc, ◌<◌, Bool, true, false, ◌||◌, if◌then◌else◌, List, [], ◌∷◌, length, get_or, refl, sym, ap, ◌∙◌, arith, nat_eq, nat_lt, not, ◌+◌, Some, None, unwrap_or}
 use Rattle.std.specs.List.{list_any, prefix_len, position}
 use Rattle.std.proofs.lemmas.Bool.Decides.{nat_tests}
-use Rattle.ground_rules.specs.Bools.{bool-same}
-use Rattle.ground_rules.specs.Names.{number-sound, number-same}
-use Rattle.ground_rules.specs.Resolved.{place}
+use Rattle.ground_rules.specs.Internal.Bools.{bool-same}
+use Rattle.ground_rules.specs.Internal.Names.{number-sound, number-same}
+use Rattle.ground_rules.specs.Internal.Resolved.{place}
 
 -- a test that decides equality
 pub record Decides {A : Type 0} (same : A → A → Bool) : Type 0 where

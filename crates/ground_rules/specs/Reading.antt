@@ -1,5 +1,5 @@
 -- The reading of an expression as a sentence, none where it has not the form of one.
-use Rattle.std.specs.Prelude.{ℕ, zero, suc, Bool, not, ◌&&◌, ◌+◌, ◌-◌, ◌*◌, ◌==◌, nat_le, bytes_eq, codes, List, [], ◌∷◌, Option, Some, None, option_map, if◌then◌else◌}
+use Rattle.std.specs.Prelude.{ℕ, Bool, not, ◌&&◌, ◌+◌, ◌-◌, ◌*◌, ◌==◌, nat_le, bytes_eq, codes, List, [], ◌∷◌, Option, Some, None, option_map, if◌then◌else◌}
 use Rattle.game_core.specs.Expression.{Expression, atom, list, Expressions, none, more, depth, max_depth}
 use Rattle.ground_rules.specs.declared.sentence.Derived.TheVariants.{Role, Init, Next, Legal, Goal, Terminal, Other}
 use Rattle.ground_rules.specs.declared.sentence.Atomic.{Atomic}
@@ -107,12 +107,6 @@ abbrev mutual
   pub read_literals : Expressions → Option TextLiterals
   read_literals none = Some End
   read_literals (more x xs) = both More (read_literal x) (read_literals xs)
-
--- the members but the first ones
-abbrev pub without_first : ℕ → Expressions → Expressions
-without_first zero xs = xs
-without_first (suc n) none = none
-without_first (suc n) (more x xs) = without_first n xs
 
 abbrev pub sentence : Atomic → TextLiterals → Sentence
 sentence head body = record { head = head; body = body }

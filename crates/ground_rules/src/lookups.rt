@@ -1,7 +1,7 @@
 //! The tables of a game, from the heads of its rules.
 ghost use Rattle.std.specs.Prelude.{◌≡◌, IfOk};
 ghost use Rattle.std.specs.Option.{option_copied};
-ghost use Rattle.ground_rules.specs.Resolved.{state_term, state_mentions, legal_mentions, goal_heads};
+ghost use Rattle.ground_rules.specs.Internal.Resolved.{state_term, state_mentions, legal_mentions, goal_heads};
 
 use crate::names::place_of_text;
 use crate::sentence::Derived;

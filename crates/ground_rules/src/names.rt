@@ -1,12 +1,12 @@
 //! The names of a description: its roles, the derived atoms at its heads and the terms of its states
 //! and moves, each numbered by its place in a table.
 ghost use Rattle.std.specs.Prelude.{◌≡◌, ℕ, not, true, IfOk, IfErr, OnOk, [], bytes_eq, ◌≢◌};
-ghost use Rattle.ground_rules.specs.Sentences.{rules_of};
+ghost use Rattle.ground_rules.specs.Internal.SentenceViews.{rules_of};
 ghost use Rattle.ground_rules.specs.Described.{with_new, same_derived, role_names, name_in, heads, is_among, are_different};
 ghost use Rattle.std.specs.List.{list_any};
 ghost use Rattle.std.specs.Option.{option_copied, option_to_list};
-ghost use Rattle.ground_rules.specs.Tables.{are_in_order};
-ghost use Rattle.ground_rules.specs.Resolved.{head_terms, place};
+ghost use Rattle.ground_rules.specs.Internal.TableTests.{are_in_order};
+ghost use Rattle.ground_rules.specs.Internal.Resolved.{head_terms, place};
 ghost use Rattle.ground_rules.specs.Loading.{IsDescriptionFault};
 
 use crate::fault::LoadFault;

@@ -2,15 +2,16 @@
 ghost use Rattle.std.specs.Prelude.{◌≡◌, IfOk, ◌&&◌, option_map};
 ghost use Rattle.game_core.specs.Expression.{atom, list};
 ghost use Rattle.kif_text.specs.View.{view as expression, views as expressions};
-ghost use Rattle.ground_rules.specs.Sentences.{view, views, sentence_of};
-ghost use Rattle.ground_rules.specs.Reading.{goal_number, goal_value, head_word, one_argument, two_arguments, read_relation, read_alone, read_atomic, negation, disjunction, read_literal, read_literals, without_first, fact, read_rule, read_form, read_sentence};
+ghost use Rattle.ground_rules.specs.Internal.SentenceViews.{view, views, sentence_of};
+ghost use Rattle.ground_rules.specs.Reading.{goal_number, goal_value, head_word, one_argument, two_arguments, read_relation, read_alone, read_atomic, negation, disjunction, read_literal, read_literals, fact, read_rule, read_form, read_sentence};
+ghost use Rattle.ground_rules.specs.Internal.Members.{without_first};
 ghost use Rattle.ground_rules.specs.Terms.{term_text};
 ghost use Rattle.ground_rules.specs.Words.{word_of};
 
 use crate::sentence::{Atomic, Derived, Literal, Sentence};
-use crate::terms::{MAX_DEPTH, nests_at_most, term_text};
+use crate::terms::{nests_at_most, term_text};
 use crate::words::Word;
-use game_core::Text;
+use game_core::{MAX_DEPTH, Text};
 use kif_text::Expr;
 use std::alloc::{AllocError, Global};
 

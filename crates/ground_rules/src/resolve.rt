@@ -1,8 +1,9 @@
 //! Numbers in the place of names.
 ghost use Rattle.std.specs.Prelude.{◌≡◌, IfOk};
-ghost use Rattle.ground_rules.specs.Sentences.{view, views, rules_of, literal_of};
+ghost use Rattle.ground_rules.specs.Sentences.{literal_of};
+ghost use Rattle.ground_rules.specs.Internal.SentenceViews.{view, views, rules_of};
 ghost use Rattle.ground_rules.specs.Numbered.{view as numbered, views as all_numbered, rules_of as numbered_rules};
-ghost use Rattle.ground_rules.specs.Resolved.{resolved, all_resolved, resolved_rules, table_of};
+ghost use Rattle.ground_rules.specs.Internal.Resolved.{resolved, all_resolved, resolved_rules, table_of};
 
 use crate::names::{place_of_head, place_of_text};
 use crate::numbered;

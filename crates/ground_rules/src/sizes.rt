@@ -1,6 +1,6 @@
 //! How large a description may be.
 ghost use Rattle.std.specs.Prelude.{◌≡◌, IfOk, OnOk, length};
-ghost use Rattle.ground_rules.specs.Sentences.{view, views, rules_of};
+ghost use Rattle.ground_rules.specs.Internal.SentenceViews.{view, views, rules_of};
 ghost use Rattle.ground_rules.specs.Described.{with_new, with_all_new, each_once};
 ghost use Rattle.ground_rules.specs.Sizes.{same_atomic, atomics_in, all_atomics_in, atomics};
 
@@ -16,9 +16,6 @@ pub const MAX_ATOMIC_SENTENCES: usize = 16384;
 
 /// How many distinct moves the `legal` heads of one role have at most.
 pub const MAX_MOVES: usize = 4096;
-
-/// How many roles a game has at most.
-pub const MAX_ROLES: usize = 16;
 
 fn add_atomic(set: &mut IndexSet<Atomic>, atomic: &Atomic) -> Result<(), AllocError>
     ensures { OnOk result (set.new.keys ≡ with_new same_atomic set.old.keys atomic.now) }

@@ -1,5 +1,5 @@
 use Rattle.std.proofs.Common.{◌≡◌, drop}
-use Rattle.ground_rules.specs.Barred.{has_barred}
+use Rattle.ground_rules.specs.Internal.Barred.{has_barred}
 use Rattle.ground_rules.proofs.loading.has_barred.Given as goal
 
 abbrev pub invariant-loop-atom : goal.invariant-loop-atom

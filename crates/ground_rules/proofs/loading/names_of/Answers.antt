@@ -1,6 +1,6 @@
 use Rattle.std.proofs.Common.{◌≡◌, ◌∙◌, ap, length, arith}
 use Rattle.std.proofs.lemmas.Result.{err_from_is_err_and}
-use Rattle.ground_rules.specs.Sentences.{rules_of}
+use Rattle.ground_rules.specs.Internal.SentenceViews.{rules_of}
 use Rattle.ground_rules.specs.Described.{role_names}
 use Rattle.ground_rules.proofs.Limits.{too-many-sentences, too-many-atomics, too-many-roles, few-so-far}
 use Rattle.ground_rules.proofs.loading.names_of.Goals as goal

@@ -1,8 +1,8 @@
 use Rattle.std.proofs.Common.{◌≡◌, ◌∙◌, ℕ, List, sym, ap, length, refl, inr, subst}
-use Rattle.ground_rules.specs.Sentences.{rules_of}
+use Rattle.ground_rules.specs.Internal.SentenceViews.{rules_of}
 use Rattle.ground_rules.specs.Numbered.{rules_of as numbered_rules}
-use Rattle.ground_rules.specs.Order.{IsGraph}
-use Rattle.ground_rules.specs.Resolved.{table_of, resolved_rules}
+use Rattle.ground_rules.specs.Internal.Order.{IsGraph}
+use Rattle.ground_rules.specs.Internal.Resolved.{table_of, resolved_rules}
 use Rattle.ground_rules.proofs.Numberings.{needs-graph, acyclic-graph}
 use Rattle.ground_rules.proofs.RankedRules.{needs-are, acyclic-by, ranked-by}
 use Rattle.ground_rules.proofs.loading.ranked_rules.Goals as goal

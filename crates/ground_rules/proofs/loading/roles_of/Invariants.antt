@@ -1,5 +1,5 @@
 use Rattle.std.proofs.Common.{◌≡◌, ◌++◌, map, drop}
-use Rattle.ground_rules.specs.Resolved.{table_of, role_table}
+use Rattle.ground_rules.specs.Internal.Resolved.{table_of, role_table}
 use Rattle.ground_rules.proofs.loading.roles_of.Given as goal
 
 abbrev pub invariant-loop-name : goal.invariant-loop-name

@@ -1,5 +1,5 @@
 use Rattle.std.proofs.Common.{◌≡◌, ◌++◌, drop}
-use Rattle.ground_rules.specs.Resolved.{goal_heads}
+use Rattle.ground_rules.specs.Internal.Resolved.{goal_heads}
 use Rattle.ground_rules.proofs.lookups.goal_heads.Given as goal
 
 abbrev pub invariant-loop-atom : goal.invariant-loop-atom

@@ -1,5 +1,5 @@
 use Rattle.std.proofs.Common.{◌≡◌, ◌++◌, drop}
-use Rattle.ground_rules.specs.Resolved.{legal_mentions}
+use Rattle.ground_rules.specs.Internal.Resolved.{legal_mentions}
 use Rattle.ground_rules.proofs.lookups.legal_mentions.Given as goal
 
 abbrev pub invariant-loop-atom : goal.invariant-loop-atom

@@ -1,5 +1,5 @@
 use Rattle.std.proofs.Common.{◌≡◌, ◌++◌, drop}
-use Rattle.ground_rules.specs.Resolved.{state_mentions}
+use Rattle.ground_rules.specs.Internal.Resolved.{state_mentions}
 use Rattle.ground_rules.proofs.lookups.state_mentions.Given as goal
 
 abbrev pub invariant-loop-atom : goal.invariant-loop-atom

@@ -1,5 +1,5 @@
 use Rattle.std.proofs.Common.{◌≡◌, map, drop}
-use Rattle.ground_rules.specs.Sentences.{rules_of}
+use Rattle.ground_rules.specs.Internal.SentenceViews.{rules_of}
 use Rattle.ground_rules.specs.Described.{with_all_new, same_derived, heads}
 use Rattle.ground_rules.proofs.names.heads.Given as goal
 

@@ -1,5 +1,5 @@
 use Rattle.std.proofs.Common.{◌≡◌, ◌++◌, drop, true}
-use Rattle.ground_rules.specs.Sentences.{rules_of}
+use Rattle.ground_rules.specs.Internal.SentenceViews.{rules_of}
 use Rattle.ground_rules.specs.Described.{role_names, are_different}
 use Rattle.ground_rules.proofs.names.role_names.Given as goal
 

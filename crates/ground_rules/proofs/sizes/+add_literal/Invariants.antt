@@ -1,5 +1,5 @@
 use Rattle.std.proofs.Common.{◌≡◌, drop}
-use Rattle.ground_rules.specs.Sentences.{views}
+use Rattle.ground_rules.specs.Internal.SentenceViews.{views}
 use Rattle.ground_rules.specs.Described.{with_all_new}
 use Rattle.ground_rules.specs.Sizes.{same_atomic, all_atomics_in}
 use Rattle.ground_rules.proofs.sizes.+add_literal.Given as goal

@@ -1,5 +1,5 @@
 use Rattle.std.proofs.Common.{◌≡◌, drop}
-use Rattle.ground_rules.specs.Sentences.{rules_of}
+use Rattle.ground_rules.specs.Internal.SentenceViews.{rules_of}
 use Rattle.ground_rules.specs.Described.{with_all_new, each_once}
 use Rattle.ground_rules.specs.Sizes.{same_atomic, atomics}
 use Rattle.ground_rules.proofs.sizes.count_atomic_sentences.Given as goal

@@ -2,16 +2,16 @@ use Rattle.std.proofs.Common.{◌≡◌, ◌∙◌, ap, sym, refl, List, map, le
 use Rattle.game_core.specs.Expression.{Expression}
 use Rattle.kif_text.specs.View.{view as expression, views}
 use Rattle.ground_rules.specs.Numbered.{rules_of}
-use Rattle.ground_rules.specs.Tables.{are_in_order}
+use Rattle.ground_rules.specs.Internal.TableTests.{are_in_order}
 use Rattle.ground_rules.specs.declared.sentence.Derived.TheVariants.{Terminal}
 use Rattle.ground_rules.specs.declared.ground_game.GroundGame.{GroundGame}
 use Rattle.ground_rules.specs.declared.lookups.StateHead.TheVariants.{Init as InitHead, Next as NextHead}
-use Rattle.ground_rules.specs.Resolved.{NameTable, table_of, atom_number, state_mentions}
+use Rattle.ground_rules.specs.Internal.Resolved.{NameTable, table_of, atom_number, state_mentions}
 use Rattle.ground_rules.specs.GroundGames.{sentences_of, tables_of}
-use Rattle.ground_rules.specs.LoadedGameLaws.{loaded_game_laws}
+use Rattle.ground_rules.specs.Internal.LoadedGameLaws.{loaded_game_laws}
 use Rattle.ground_rules.specs.Loading.{AreSentences, description_of}
 use Rattle.ground_rules.specs.Loaded.{IsLoaded}
-use Rattle.ground_rules.specs.GameParts.{AreGameParts}
+use Rattle.ground_rules.specs.Internal.GameParts.{AreGameParts}
 use Rattle.ground_rules.proofs.Assembled.{some-role, few-roles, tables-pass, names-pass, names-read, terms-read, game-of-tables}
 use Rattle.ground_rules.proofs.ground_game.GroundGame.new.Goals as goal
 

@@ -1,4 +1,4 @@
--- The loaded game is lawful. Only a ghost member's proof cites this module.
+-- The loaded game is lawful.
 use Rattle.std.specs.Prelude.{ℕ, zero, suc, ◌≤◌, ◌<◌, ◌≡◌, ◌≢◌, ◌⊎◌, Bool, true, false, not, ◌&&◌, ◌||◌, if◌then◌else◌, List, [], ◌∷◌, length, bytes_eq, IsTrue, refl, AllPairs, Some, slice_index_or, slice_set, nat_eq, nat_lt, nat_le, filter, map}
 use Rattle.std.proofs.Common.{arith, ap, sym, ◌∙◌, length-set, inl, inr}
 use Rattle.std.proofs.lemmas.List.{length-replicate}
@@ -10,14 +10,15 @@ use Rattle.game_core.specs.Expression.{Expressions}
 use Rattle.ground_rules.specs.declared.tables.Mention.{Mention}
 use Rattle.ground_rules.specs.declared.tables.GoalHead.{GoalHead}
 use Rattle.ground_rules.specs.declared.tables.GroundMove.{GroundMove}
-use Rattle.ground_rules.specs.Bools.{and-left, and-right, and-both, not-true, or-left, or-right, or-false-left, or-false-right}
-use Rattle.ground_rules.specs.Names.{text-sound, text-same}
+use Rattle.ground_rules.specs.Internal.Bools.{and-left, and-right, and-both, not-true, or-left, or-right, or-false-left, or-false-right}
+use Rattle.ground_rules.specs.Internal.Names.{text-sound, text-same}
 use Rattle.ground_rules.specs.Described.{is_among, are_different}
 use Rattle.ground_rules.specs.Roles.{RoleTable, no_role}
 use Rattle.ground_rules.specs.Numbered.{bit, unset}
-use Rattle.ground_rules.specs.Tables.{are_roles, names, has_term, have_distinct_terms, are_goals, marked, chosen, only, picked, comes_before, comes_before_all, are_in_order}
-use Rattle.ground_rules.specs.Terms.{are_terms_in_any}
-use Rattle.ground_rules.specs.TermTexts.{IsTermText, term-text-folded, term-text-no-question, term-text-at}
+use Rattle.ground_rules.specs.Tables.{marked, chosen, only, picked}
+use Rattle.ground_rules.specs.Internal.TableTests.{are_roles, names, has_term, have_distinct_terms, are_goals, comes_before, comes_before_all, are_in_order}
+use Rattle.ground_rules.specs.Internal.TermTexts.{are_terms_in_any}
+use Rattle.ground_rules.specs.Internal.TermTexts.{IsTermText, term-text-folded, term-text-no-question, term-text-at}
 use Rattle.ground_rules.specs.LoadedGame.{GameTables, loaded_game, role_at, row_of, terms_of}
 
 set-length : (row : List Bool) (i : ℕ) (test : Bool) → length (if test then slice_set row i true else row) ≡ length row

@@ -1,4 +1,4 @@
--- What tests by && and || tell. Only proofs cite this module.
+-- What tests by && and || tell.
 use Rattle.std.specs.Prelude.{◌≡◌, Bool, true, false, not, ◌&&◌, ◌||◌, refl}
 use Rattle.std.proofs.Common.{sym}
 

@@ -1,5 +1,5 @@
 -- Dependence as a fit: an atom depends on something given where a rule of it speaks of that, or of an atom that depends on it.
--- Only private clauses cite this module.
+--
 use Rattle.std.specs.Prelude.{Bool, true, false, List, map}
 use Rattle.ground_rules.specs.Literals.{Literal, Literals, Holds, InState, Does, Distinct, Not, Or, End, More, Rule}
 use Rattle.ground_rules.specs.Numbered.{known}

@@ -1,13 +1,28 @@
--- The text of a term is a folded text, and not that of a variable. Only a ghost member's proof cites this module.
+-- The texts of the terms in expressions. Each is a folded text, and not that of a variable.
 use Rattle.std.specs.Prelude.{ℕ, zero, suc, ◌<◌, ◌≤◌, ◌≡◌, ◌≢◌, Bool, true, false, not, ◌&&◌, ◌||◌, ◌==◌, nat_le, bytes_eq, codes, List, [], ◌∷◌, map, length, refl, slice_index_or}
 use Rattle.std.proofs.Common.{arith, ap, sym, ◌∙◌}
 use Rattle.std.proofs.lemmas.Bool.Decides.{nat_tests}
 use Rattle.game_core.specs.Bytes.{is_atom_byte, lower}
 use Rattle.game_core.specs.Expression.{Expression, atom, list, Expressions, none, more, folded, all_folded, AreAtomBytes, IsAtom, HasAtoms, AllHaveAtoms}
 use Rattle.game_core.specs.Canonical.{canonical, IsFoldedText}
-use Rattle.ground_rules.specs.Bools.{and-left, and-right, not-true}
-use Rattle.ground_rules.specs.Names.{text-sound, number-sound}
-use Rattle.ground_rules.specs.Terms.{question_mark, are_small_atom_bytes, is_word, begins_with_atom, is_term, are_terms, is_ground_term, is_term_in, is_term_in_any, are_terms_in_any}
+use Rattle.ground_rules.specs.Internal.Bools.{and-left, and-right, not-true}
+use Rattle.ground_rules.specs.Internal.Names.{text-sound, number-sound}
+use Rattle.ground_rules.specs.Terms.{question_mark, are_small_atom_bytes, is_word, begins_with_atom, is_term, are_terms, is_ground_term}
+
+-- whether the text is that of a term without variables in the expression
+abbrev mutual
+  pub is_term_in : Expression → List ℕ → Bool
+  is_term_in (atom w) t = is_ground_term (atom w) && bytes_eq w t
+  is_term_in (list xs) t = (is_ground_term (list xs) && bytes_eq (canonical (list xs)) t) || is_term_in_any xs t
+
+  pub is_term_in_any : Expressions → List ℕ → Bool
+  is_term_in_any none t = false
+  is_term_in_any (more x xs) t = is_term_in x t || is_term_in_any xs t
+
+-- whether each text is that of a term without variables in the expressions
+abbrev pub are_terms_in_any : Expressions → List (List ℕ) → Bool
+are_terms_in_any xs [] = true
+are_terms_in_any xs (t ∷ ts) = is_term_in_any xs t && are_terms_in_any xs ts
 
 -- the canonical text of a term without variables
 abbrev pub IsTermText : List ℕ → Type 0
