@@ -4,15 +4,15 @@ use Rattle.std.proofs.lemmas.List.Sums.{sum_by_push}
 use Rattle.std.proofs.lemmas.Bool.Decides.{nat_tests}
 use Rattle.std.specs.Prelude.{All, IsSome, IfSome, is_some, slice_index_or, count_by}
 use Rattle.game_core.specs.Play.{Rules, IsLawful, IsJoint, max_roles}
-use Rattle.match_book.specs.Roles.{every_role, count_roles, at_role, is_there, blank}
+use Rattle.match_book.specs.Roles.{every_role, at_role, is_there, blank}
 use Rattle.match_book.specs.Judgement.{judged_answer, judgement, IsJudged}
 use Rattle.match_book.specs.MatchValue.{MatchValue, GameMatch, state_after, substitutions, is_error}
 use Rattle.match_book.specs.Phase.{stage, settled, answered_in, goal_in, is_live, max_turns}
 use Rattle.match_book.specs.LegalMoves.{AreLegalMoves}
 use Rattle.match_book.specs.Lawful.{IsLawfulTurn, IsLawfulMatch}
-use Rattle.match_book.specs.Searches.{AreMoves}
+use Rattle.match_book.specs.Internal.OpenAnswers.{AreMoves}
 use Rattle.match_book.specs.Steps.{new_match, with_abort, with_start_mark, with_end_mark, with_open_answer, turn_of, IsLastToStart}
-use Rattle.match_book.specs.Kept.{IsKept}
+use Rattle.match_book.specs.Internal.Kept.{count_roles, IsKept}
 use Rattle.match_book.specs.declared.setup.Setup.{Setup}
 use Rattle.match_book.specs.declared.answer.Answer.{Answer}
 use Rattle.match_book.specs.declared.answer.Mark.{Mark}

@@ -4,7 +4,8 @@ use Rattle.std.proofs.lemmas.List.{get_or_push, get_or_append_left}
 use Rattle.std.proofs.lemmas.Bool.Decides.{nat_tests}
 use Rattle.std.specs.Prelude.{is_some, if◌then◌else◌}
 use Rattle.std.specs.Option.{option_or}
-use Rattle.match_book.specs.Roles.{every_role, count_roles, lowest_role, at_role, is_there, blank}
+use Rattle.match_book.specs.Roles.{every_role, lowest_role, at_role, is_there, blank}
+use Rattle.match_book.specs.Internal.Kept.{count_roles}
 
 pub lowest_role-more : (n : ℕ) (p : ℕ → Bool) → lowest_role n p ≡ None → p n ≡ false → lowest_role (n + 1) p ≡ None
 lowest_role-more n p none not' = rw (add-one, none, not') refl
@@ -12,7 +13,7 @@ lowest_role-more n p none not' = rw (add-one, none, not') refl
 some_first : (n k : ℕ) (p : ℕ → Bool) (o : Option ℕ) → o ≡ Some k → option_or o (if p n then Some n else None) ≡ Some k
 some_first n k p o e = rw e refl
 
-below_or_at : (k n : ℕ) → k < suc n → (k ≡ n) ⊎ (k < n)
+pub below_or_at : (k n : ℕ) → k < suc n → (k ≡ n) ⊎ (k < n)
 below_or_at k n lt = grind arith
 
 pub lowest_role-found : (n k : ℕ) (p : ℕ → Bool) → lowest_role k p ≡ None → p k ≡ true → k < n → lowest_role n p ≡ Some k

@@ -8,7 +8,6 @@ pub mod LegalMoves
 pub mod Due
 pub mod Lawful
 pub mod Steps
-pub mod Kept
 pub mod Laws
-pub mod Searches
 pub mod Names
+pub mod Internal

@@ -49,7 +49,7 @@ pub struct Match<G: Game> {
 
 impl<G: Game> Model for Match<G> {
     ghost use Rattle.match_book.specs.MatchValue.{GameMatch};
-    ghost use Rattle.match_book.specs.Kept.{IsKept};
+    ghost use Rattle.match_book.specs.Internal.Kept.{IsKept};
 
     ghost Value = { GameMatch G G.Move };
 
