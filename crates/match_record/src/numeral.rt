@@ -1,13 +1,20 @@
 //! Numbers in decimal digits, of any size.
 ghost use Rattle.std.specs.Prelude.{◌≡◌, ◌^◌, ◌<◌, IsTrue, Some, None, if◌then◌else◌, nat_le};
 ghost use Rattle.std.specs.Str.Parse.{digits_value};
-ghost use Rattle.match_record.specs.Numerals.{are_digits};
+ghost use Rattle.match_record.specs.Numerals.{are_digits, is_plain_numeral};
 
 /// Whether a value is one or more decimal digits.
 pub fn are_digits(value: &[u8]) -> bool
     ensures { result ≡ are_digits value.now }
 {
     !value.is_empty() && value.iter().all(|byte| byte.is_ascii_digit())
+}
+
+/// Whether a value is decimal digits without leading zeros.
+pub fn is_plain_numeral(digits: &[u8]) -> bool
+    ensures { result ≡ is_plain_numeral digits.now }
+{
+    are_digits(digits) && (digits.len() == 1 || digits[0] != b'0')
 }
 
 /// The number that the digits write, if it is at most `most`.

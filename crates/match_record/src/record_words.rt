@@ -3,13 +3,12 @@ ghost use Rattle.std.specs.Prelude.{◌≡◌, ◌≢◌, ◌^◌, ◌<◌, ◌+
 ghost use Rattle.std.specs.Fmt.{decimal};
 ghost use Rattle.match_record.specs.Internal.JsonValues.{data_in};
 ghost use Rattle.match_book.specs.Marks.{mark_text};
-ghost use Rattle.match_record.specs.Numerals.{is_plain_numeral};
 ghost use Rattle.match_record.specs.RecordParts.{NamesRole};
 ghost use Rattle.match_record.specs.RecordTree.{cause_text, cause_tree, mark_tree, phase_text, phase_tree};
 ghost use Rattle.match_record.specs.Internal.Shown.{AnyShape, Shows};
 
 use crate::json_values::{bytes_in, is_null};
-use crate::numeral::{are_digits, number_up_to};
+use crate::numeral::{is_plain_numeral, number_up_to};
 use crate::trees::phase_text;
 use match_book::{Cause, Mark, Phase};
 use serde_json::Value;
@@ -72,12 +71,6 @@ pub fn phase_in(found: Option<&Value>) -> Option<Phase>
     ensures { Shows phase_tree AnyShape (data_in found.entry) result }
 {
     phase_of(bytes_in(found)?)
-}
-
-fn is_plain_numeral(digits: &[u8]) -> bool
-    ensures { result ≡ is_plain_numeral digits.now }
-{
-    are_digits(digits) && (digits.len() == 1 || digits[0] != b'0')
 }
 
 /// The number of a role, in decimal digits without leading zeros.
