@@ -1,9 +1,10 @@
 -- The decimal text of a number, as an atom.
-use Rattle.std.proofs.Common.{◌≡◌, ℕ, ◌+◌, ◌<◌, ◌%◌, ◌^◌, ◌&&◌, not, ◌==◌, nat_lt, Bool, true, false, List, [], ◌∷◌, ◌++◌, length, length-append, refl, arith}
+use Rattle.std.proofs.Common.{◌≡◌, ℕ, ◌+◌, ◌<◌, ◌%◌, ◌^◌, not, ◌==◌, nat_lt, true, List, [], ◌∷◌, ◌++◌, length, length-append, refl, arith}
 use Rattle.std.specs.List.{list_all}
 use Rattle.std.specs.Char.{is_ascii_digit}
 use Rattle.std.specs.Fmt.{decimal}
 use Rattle.std.proofs.lemmas.Fmt.{decimal_by_steps}
+pub use Rattle.std.proofs.lemmas.Bool.{and_from as both, and_parts as parts}
 use Rattle.std.proofs.lemmas.Bool.Decides.{nat_tests}
 use Rattle.game_core.specs.Bytes.{is_atom_byte}
 use Rattle.game_core.specs.Expression.{AreAtomBytes}
@@ -19,14 +20,6 @@ digit_is_digit d small = grind (arith, nat_tests)
 
 digit_is_atom_byte : (d : ℕ) → d < 10 → is_atom_byte (48 + d) ≡ true
 digit_is_atom_byte d small = grind (arith, nat_tests)
-
-pub both : (a b : Bool) → a ≡ true → b ≡ true → (a && b) ≡ true
-both a b p q = rw (p, q) refl
-
-pub parts : (a b : Bool) → (a && b) ≡ true → (a ≡ true) × (b ≡ true)
-parts true true h = (refl, refl)
-parts true false h = absurd cc
-parts false b h = absurd cc
 
 one_digit : (d : ℕ) → d < 10 → AreDigits ((48 + d) ∷ [])
 one_digit d small = record { some = omega arith; digits = both (is_ascii_digit (48 + d)) true (digit_is_digit d small) refl; bytes = (digit_is_atom_byte d small, tt) }

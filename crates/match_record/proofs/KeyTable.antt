@@ -1,7 +1,8 @@
 -- The keys of a record, one after another: what is read into its parts, and what is written.
 use Rattle.std.proofs.Common.{◌≡◌, ℕ, zero, suc, ◌+◌, ◌<◌, Bool, true, false, Option, Some, List, [], ◌∷◌, ◌++◌, length, get_or, take, drop, map, refl, sym, ap, ◌∙◌, subst, append_assoc, arith, inl, inr, Result}
 use Rattle.std.specs.Prelude.{All, IfErr, IsErrAnd, ◌⊎◌}
-use Rattle.std.proofs.lemmas.List.{take_more, take-append-drop, get_or-map}
+use Rattle.std.proofs.lemmas.List.{take_more, take-append-drop, get_or-map, get_or_append_left}
+use Rattle.std.proofs.lemmas.Option.{get_or_from_slice_get}
 use Rattle.std.proofs.lemmas.Result.{err_from_is_err_and}
 use Rattle.serde_json.specs.Data.{Data, Members, put, no_members}
 use Rattle.serde_json.specs.Find.{get}
@@ -16,8 +17,7 @@ use Rattle.match_record.specs.declared.record_parts.Key.TheVariants.{Cause as At
 use Rattle.match_record.specs.declared.record_parts.RecordParts.{RecordParts}
 use Rattle.match_record.specs.declared.verify_fault.VerifyFault.{VerifyFault}
 use Rattle.match_record.specs.declared.verify_fault.VerifyFault.TheVariants.{BadShape, Memory}
-use Rattle.match_record.proofs.RecordParts.{length_prefixes}
-use Rattle.match_record.proofs.RecordShapes.{at_front}
+use Rattle.match_record.proofs.RecordParts.{prefixes_get}
 
 -- ---- each key of a list
 
@@ -56,20 +56,14 @@ all_of P Q so (key ∷ more) held (suc k) d below = all_of P Q so more held.1 k 
 
 -- ---- the keys before a key
 
-prefix_at : {A : Type 0} (xs : List A) (i : ℕ) → i < suc (length xs) → get_or (prefixes xs) i [] ≡ take i xs
-prefix_at [] zero below = refl
-prefix_at [] (suc i) below = absurd (omega arith)
-prefix_at (x ∷ xs) zero below = refl
-prefix_at (x ∷ xs) (suc i) below = get_or-map (λ front. x ∷ front) (prefixes xs) i [] [] (omega (arith, length_prefixes xs)) ∙ ap (λ front. x ∷ front) (prefix_at xs i (omega arith))
-
 -- the keys before each key, and all keys
 fronts : map (λ key. keys_before key keys) keys ++ keys ∷ [] ≡ prefixes keys
 fronts = refl
 
 before_at : (i : ℕ) (d : Key) → i < length keys → keys_before (get_or keys i d) keys ≡ take i keys
 before_at i d below =
-    sym (get_or-map (λ key. keys_before key keys) keys i d [] below) ∙ sym (at_front (map (λ key. keys_before key keys) keys) (keys ∷ []) i [] below) ∙ ap (λ ls. get_or ls i []) fronts
-    ∙ prefix_at keys i (omega arith)
+    sym (get_or-map (λ key. keys_before key keys) keys i d [] below) ∙ sym (get_or_append_left (map (λ key. keys_before key keys) keys) (keys ∷ []) [] i below) ∙ ap (λ ls. get_or ls i []) fronts
+    ∙ get_or_from_slice_get (prefixes keys) i (take i keys) [] (prefixes_get keys i (omega arith))
 
 -- ---- reading
 

@@ -1,5 +1,6 @@
 -- The parts of a lawful match have the shape of a record, and stand in its record tree.
 use Rattle.std.proofs.Common.{◌≡◌, ℕ, zero, suc, ◌<◌, ◌≤◌, Bool, true, false, Option, Some, None, List, [], ◌∷◌, ◌++◌, length, get_or, map, inl, inr, refl, sym, ap, ◌∙◌, subst, arith, length-append, if◌then◌else◌, nat_le, ◌==◌}
+use Rattle.std.proofs.lemmas.List.{length-map}
 use Rattle.std.specs.Prelude.{All, IfSome, slice_index_or, is_none, option_to_list}
 use Rattle.std.specs.Option.{option_or}
 use Rattle.std.proofs.lemmas.List.Elements.{All-from_get_or, All-map, All-append}
@@ -27,7 +28,6 @@ use Rattle.match_record.specs.RecordTree.{key_text, key_tree, keys, members_at, 
 use Rattle.match_record.specs.declared.record_parts.Key.{Key}
 use Rattle.match_record.specs.declared.record_parts.Key.TheVariants.{Cause as AtCause, EndMarks, Errors, GoalValues, MatchId, Moves, Phase as AtPhase, PlayClock, Players, Roles, StartClock, StartMarks, States}
 use Rattle.match_record.specs.declared.record_parts.RecordParts.{RecordParts}
-use Rattle.match_record.proofs.JsonData.{length_map}
 use Rattle.match_record.proofs.KeyTable.{each_key, each_same}
 use Rattle.match_record.proofs.RecordParts.{length_prefixes}
 
@@ -44,7 +44,7 @@ lowest_below (suc n) p r is = go (lowest_role n p) (p n) refl is (lowest_below n
 
 settled_names : {S M : Type 0} (g : Rules S M) (t : ℕ) (s : S) → IfSome (cause_in (settled g t s)) (NamesRole g.roles)
 unfolding settled
-settled_names g t s = go (g.terminal s) (nat_le 10000 t) (lowest_role g.roles (has_no_goal g s)) (lowest_role g.roles (λ r. length (g.legal s r) == 0)) (lowest_below g.roles (has_no_goal g s)) (lowest_below g.roles (λ r. length (g.legal s r) == 0))
+settled_names g t s = go (g.terminal s) (nat_le max_turns t) (lowest_role g.roles (has_no_goal g s)) (lowest_role g.roles (λ r. length (g.legal s r) == 0)) (lowest_below g.roles (has_no_goal g s)) (lowest_below g.roles (λ r. length (g.legal s r) == 0))
   where
     go : (ended long : Bool) (goal move : Option ℕ) → ((r : ℕ) → goal ≡ Some r → r < g.roles) → ((r : ℕ) → move ≡ Some r → r < g.roles)
         → IfSome (cause_in (if ended then after_the_end goal else (if long then Aborting TooLong else before_the_end move))) (NamesRole g.roles)
@@ -67,7 +67,7 @@ cause_names g m = go m.abort_asked (every_role g.roles (is_there m.start_marks))
 
 stopping : {S M : Type 0} (g : Rules S M) (t : ℕ) (s : S) → settled g t s ≡ Stopping → lowest_role g.roles (has_no_goal g s) ≡ None
 unfolding settled
-stopping g t s is = go (g.terminal s) (nat_le 10000 t) (lowest_role g.roles (has_no_goal g s)) (lowest_role g.roles (λ r. length (g.legal s r) == 0)) is
+stopping g t s is = go (g.terminal s) (nat_le max_turns t) (lowest_role g.roles (has_no_goal g s)) (lowest_role g.roles (λ r. length (g.legal s r) == 0)) is
   where
     go : (ended long : Bool) (goal move : Option ℕ) → (if ended then after_the_end goal else (if long then Aborting TooLong else before_the_end move)) ≡ Stopping → goal ≡ None
     go true long None move h = refl
@@ -153,7 +153,7 @@ turns_errors g turns lawful =
     (λ k d below. let turn = lawful k d below in (turn.one_error, turn_errors g _ (slice_index_or turns k d) turn))
 
 turns_moves : {S M : Type 0} (g : Rules S M) (turns : List (Turn M)) → AreLawful g turns → All (λ texts. length texts ≡ g.roles) (map (λ t. map g.move_text t.moves) turns)
-turns_moves g turns lawful = All-map (λ texts. length texts ≡ g.roles) (λ t. map g.move_text t.moves) turns (λ k d below. length_map g.move_text (slice_index_or turns k d).moves ∙ (lawful k d below).joint.width)
+turns_moves g turns lawful = All-map (λ texts. length texts ≡ g.roles) (λ t. map g.move_text t.moves) turns (λ k d below. length-map (slice_index_or turns k d).moves g.move_text ∙ (lawful k d below).joint.width)
 
 -- ---- the whole
 
@@ -163,7 +163,7 @@ shaped_at g laws m lawful setup EndMarks = lawful.one_end_mark
 shaped_at g laws m lawful setup Errors = turns_errors g m.turns lawful.turns
 shaped_at g laws m lawful setup GoalValues = goals_shape g laws (state_after g m.turns) (state_after-is_state g laws m.turns lawful.turns) (stage g m) (stage_stopping g m)
 shaped_at g laws m lawful setup MatchId = setup.id
-shaped_at g laws m lawful setup Moves = (turns_moves g m.turns lawful.turns, subst (λ (n : ℕ). n ≤ max_turns) (sym (length_map (λ t. map g.move_text t.moves) m.turns)) lawful.few_turns)
+shaped_at g laws m lawful setup Moves = (turns_moves g m.turns lawful.turns, subst (λ (n : ℕ). n ≤ max_turns) (sym (length-map m.turns (λ t. map g.move_text t.moves))) lawful.few_turns)
 shaped_at g laws m lawful setup AtPhase = tt
 shaped_at g laws m lawful setup PlayClock = setup.play
 shaped_at g laws m lawful setup Players = (lawful.one_player, setup.players)
@@ -175,10 +175,10 @@ shaped_at g laws m lawful setup States = tt
 pub lawful_parts_have_shape : {S M : Type 0} (g : Rules S M) → IsLawful g → LawfulPartsHaveShape g
 lawful_parts_have_shape g laws m lawful setup = record {
   keys = shaped_at g laws m lawful setup;
-  as_many_errors = length_map (λ t. t.errors) m.turns ∙ sym (length_map (λ t. map g.move_text t.moves) m.turns);
+  as_many_errors = length-map m.turns (λ t. t.errors) ∙ sym (length-map m.turns (λ t. map g.move_text t.moves));
   one_state_more =
-      length_map (λ front. g.state_text (state_after g front)) (prefixes m.turns) ∙ length_prefixes m.turns
-      ∙ ap suc (sym (length_map (λ t. map g.move_text t.moves) m.turns));
+      length-map (prefixes m.turns) (λ front. g.state_text (state_after g front)) ∙ length_prefixes m.turns
+      ∙ ap suc (sym (length-map m.turns (λ t. map g.move_text t.moves)));
 }
 
 members_hold : (p : RecordParts) → HoldsForEach (λ key. get_member (key_text key) (members_at keys p) ≡ Some (key_tree key p)) keys

@@ -1,5 +1,6 @@
 -- The end of a record: goals, phase, cause and marks.
-use Rattle.std.proofs.Common.{◌≡◌, ℕ, zero, suc, ◌<◌, ◌≤◌, Bool, true, false, Option, Some, None, List, [], ◌∷◌, ◌++◌, length, take, refl, sym, ap, ap₂, ◌∙◌, subst, arith, inl, inr, ◌⊎◌, add-one}
+use Rattle.std.proofs.Common.{◌≡◌, ℕ, zero, suc, ◌<◌, ◌≤◌, Bool, true, false, Option, Some, None, List, [], ◌∷◌, ◌++◌, length, take, refl, sym, ap, ap₂, ◌∙◌, subst, arith, inl, inr, add-one}
+use Rattle.std.proofs.Math.Nat.{eq-or-lt_of_le}
 use Rattle.std.specs.Prelude.{slice_index_or, slice_get, option_to_list, is_none, if◌then◌else◌, nat_le, IsTrue, ◌↔◌}
 use Rattle.std.proofs.lemmas.List.{length_push, nil_from_length, take_all}
 use Rattle.std.proofs.lemmas.Option.{slice_get-get_or}
@@ -31,9 +32,6 @@ get-last : {A : Type 0} (xs : List A) (y : A) → slice_get (xs ++ y ∷ []) (le
 get-last [] y = refl
 get-last (x ∷ xs) y = get-last xs y
 
-below_or_last : (k n : ℕ) → k < suc n → (k ≡ n) ⊎ (k < n)
-below_or_last k n lt = grind arith
-
 goals_from-none : (n : ℕ) (f : ℕ → Option ℕ) → ((r : ℕ) → f r ≡ None) → goals_from n f ≡ []
 goals_from-none zero f none = refl
 goals_from-none (suc n) f none = rw (goals_from-none n f none, none n) refl
@@ -55,7 +53,7 @@ goals_from-all (suc n) f some = step (f n) refl (some n (omega arith)) (goals_fr
         (record {
           many = length_push (goals_from n f) v ∙ omega (arith, far.many);
           each = λ r lt.
-              elim (below_or_last r n lt) [
+              elim (eq-or-lt_of_le {n = r} {m = n} (omega (arith, lt))) [
                 | inl last ↦
                     subst (λ k. f k ≡ slice_get (goals_from n f ++ v ∷ []) k) (sym last)
                     (is ∙ sym (ap (slice_get (goals_from n f ++ v ∷ [])) (sym far.many) ∙ get-last (goals_from n f) v))

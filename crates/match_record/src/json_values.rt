@@ -1,10 +1,10 @@
 //! Texts, lists and numbers, taken from JSON. A missing value is of no shape.
 ghost use Rattle.std.specs.Prelude.{◌≡◌, IfOk, IsTrue, is_some, map, option_and_then, option_copied, option_map};
-ghost use Rattle.serde_json.specs.Data.{string};
+ghost use Rattle.serde_json.specs.Data.{Data, string};
 ghost use Rattle.serde_json.specs.Find.{as_array, as_null, as_str};
 ghost use Rattle.serde_json.specs.View.{items_view};
 ghost use Rattle.match_record.specs.Internal.JsonValues.{as_whole, data_in};
-ghost use Rattle.match_record.specs.RecordTree.{text_lists_tree, texts_tree};
+ghost use Rattle.match_record.specs.RecordTree.{list_tree, text_lists_tree, texts_tree};
 ghost use Rattle.match_record.specs.Internal.Shown.{AnyShape, Shows};
 
 use crate::record_parts::TextLists;
@@ -45,46 +45,64 @@ pub fn whole_in(found: Option<&Value>) -> Option<u64>
     found?.as_u64()
 }
 
-/// A text.
-pub fn text_in(alloc: Global, found: Option<&Value>) -> Result<Option<Text>, AllocError>
-    ensures { IfOk result (λ o. Shows string AnyShape (data_in found.entry) o) }
-{
-    match bytes_in(found) {
-        Some(bytes) => Ok(Some(Text::from_slice(alloc, bytes)?)),
-        None => Ok(None),
-    }
+/// What is written in one way in JSON.
+pub trait FromJson: Sized + Drop {
+    ghost written: { Self → Data };
+
+    /// The value that is written there, if it is one of these.
+    fn value_in(alloc: Global, found: Option<&Value>) -> Result<Option<Self>, AllocError>
+        ensures { IfOk result (λ o. Shows written AnyShape (data_in found.entry) o) };
 }
 
-/// A list of texts.
-pub fn texts_in(alloc: Global, found: Option<&Value>) -> Result<Option<Texts>, AllocError>
-    ensures { IfOk result (λ o. Shows texts_tree AnyShape (data_in found.entry) o) }
+/// The values that are listed there.
+pub fn list_in<T: FromJson>(
+    alloc: Global,
+    found: Option<&Value>,
+) -> Result<Option<Vec<T>>, AllocError>
+    ensures { IfOk result (λ o. Shows (λ xs. list_tree (map T.written xs)) AnyShape (data_in found.entry) (option_map (λ v. v.items) o)) }
 {
     let Some(members) = members_in(found) else {
         return Ok(None);
     };
     let mut items = Vec::with_capacity(alloc, members.len())?;
     for member in members {
-        match text_in(alloc, Some(member))? {
-            Some(text) => items.push(text)?,
+        match T::value_in(alloc, Some(member))? {
+            Some(value) => items.push(value)?,
             None => return Ok(None),
         }
     }
-    Ok(Some(Texts { items }))
+    Ok(Some(items))
 }
 
-/// A list of lists of texts.
-pub fn text_lists_in(alloc: Global, found: Option<&Value>) -> Result<Option<TextLists>, AllocError>
-    ensures { IfOk result (λ o. Shows text_lists_tree AnyShape (data_in found.entry) o) }
-{
-    let Some(members) = members_in(found) else {
-        return Ok(None);
-    };
-    let mut items = Vec::with_capacity(alloc, members.len())?;
-    for member in members {
-        match texts_in(alloc, Some(member))? {
-            Some(texts) => items.push(texts)?,
-            None => return Ok(None),
+impl FromJson for Text {
+    ghost written = { string };
+
+    fn value_in(alloc: Global, found: Option<&Value>) -> Result<Option<Text>, AllocError> {
+        match bytes_in(found) {
+            Some(bytes) => Ok(Some(Text::from_slice(alloc, bytes)?)),
+            None => Ok(None),
         }
     }
-    Ok(Some(TextLists { items }))
+}
+
+impl FromJson for Texts {
+    ghost written = { texts_tree };
+
+    fn value_in(alloc: Global, found: Option<&Value>) -> Result<Option<Texts>, AllocError> {
+        match list_in(alloc, found)? {
+            Some(items) => Ok(Some(Texts { items })),
+            None => Ok(None),
+        }
+    }
+}
+
+impl FromJson for TextLists {
+    ghost written = { text_lists_tree };
+
+    fn value_in(alloc: Global, found: Option<&Value>) -> Result<Option<TextLists>, AllocError> {
+        match list_in(alloc, found)? {
+            Some(items) => Ok(Some(TextLists { items })),
+            None => Ok(None),
+        }
+    }
 }

@@ -14,7 +14,7 @@ ghost use Rattle.match_record.specs.declared.record_parts.Key.{Key};
 ghost use Rattle.match_record.specs.declared.verify_fault.VerifyFault.TheVariants.{BadShape, Memory, NotJson};
 
 use crate::error_texts::are_errors;
-use crate::json_values::{bytes_in, members_in, text_lists_in, texts_in, whole_in};
+use crate::json_values::{FromJson, bytes_in, members_in, whole_in};
 use crate::record_parts::{Goals, Key, Marks, RecordParts, TextLists};
 use crate::record_words::{cause_in, mark_in, phase_in};
 use crate::verify_fault::VerifyFault;
@@ -118,7 +118,7 @@ fn errors_in(
 ) -> Result<Option<TextLists>, AllocError>
     ensures { IfOk result (λ o. Shows text_lists_tree (AreErrors roles) (data_in found.entry) o) }
 {
-    let Some(errors) = text_lists_in(alloc, found)? else {
+    let Some(errors) = TextLists::value_in(alloc, found)? else {
         return Ok(None);
     };
     if are_errors(alloc, errors.items.as_slice(), roles)? {
@@ -149,7 +149,7 @@ fn moves_in(
 ) -> Result<Option<TextLists>, AllocError>
     ensures { IfOk result (λ o. Shows text_lists_tree (AreMoves roles) (data_in found.entry) o) }
 {
-    let Some(moves) = text_lists_in(alloc, found)? else {
+    let Some(moves) = TextLists::value_in(alloc, found)? else {
         return Ok(None);
     };
     if are_moves(moves.items.as_slice(), roles) {
@@ -173,7 +173,7 @@ fn players_in(
 ) -> Result<Option<Texts>, AllocError>
     ensures { IfOk result (λ o. Shows texts_tree (ArePlayers roles) (data_in found.entry) o) }
 {
-    let Some(players) = texts_in(alloc, found)? else {
+    let Some(players) = Texts::value_in(alloc, found)? else {
         return Ok(None);
     };
     if are_players(players.as_slice(), roles) {
@@ -206,7 +206,7 @@ fn roles_in<G: Game>(
 ) -> Result<Option<Texts>, AllocError>
     ensures { IfOk result (λ o. Shows texts_tree (λ names. names ≡ each_role (G.rules game.now).roles (G.rules game.now).role_name) (data_in found.entry) o) }
 {
-    let Some(names) = texts_in(alloc, found)? else {
+    let Some(names) = Texts::value_in(alloc, found)? else {
         return Ok(None);
     };
     if are_role_names(game, names.as_slice()) {
@@ -254,7 +254,7 @@ fn read_into<G: Game>(
         Key::Roles => keep(&mut parts.roles, roles_in(alloc, game, found)?),
         Key::StartClock => keep(&mut parts.start, clock_in(found)),
         Key::StartMarks => keep(&mut parts.start_marks, marks_in(alloc, found, roles)?),
-        Key::States => keep(&mut parts.states, text_lists_in(alloc, found)?),
+        Key::States => keep(&mut parts.states, TextLists::value_in(alloc, found)?),
     })
 }
 

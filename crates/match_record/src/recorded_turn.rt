@@ -5,12 +5,12 @@ ghost use Rattle.match_book.specs.Judgement.{error_text};
 ghost use Rattle.match_book.specs.declared.judgement.Substitution.TheVariants.{Illegal};
 ghost use Rattle.match_record.specs.RecordParts.{IsErrorText};
 ghost use Rattle.match_record.specs.Replaying.{GoesOn, DeniesOne};
-ghost use Rattle.match_record.specs.Internal.ReplaySteps.{all_moves, IsPlaceOf, IsRecorded, IsJointAnswer, IsTurnAnswer};
+ghost use Rattle.match_record.specs.Internal.ReplaySteps.{all_moves, IsRecorded, IsJointAnswer, IsTurnAnswer};
 
-use crate::error_texts::ILLEGAL;
 use crate::record_words::after;
 use crate::verify_fault::VerifyFault;
 use game_core::{Game, Joint, Text};
+use match_book::{ILLEGAL_PREFIX, place_of};
 use std::alloc::{AllocError, Global};
 use std::marker::Model;
 
@@ -47,30 +47,11 @@ enum RecordedMove<M> {
     WrongError,
 }
 
-/// The place of a move with this text, if there is one.
-fn place_of<G: Game>(
-    alloc: Global,
-    game: &G,
-    moves: &[G::Move],
-    wanted: &[u8],
-) -> Result<Option<usize>, AllocError>
-    requires { All (λ m. (G.rules game.now).IsMove m) moves.now }
-    ensures { IfOk result (λ o. IsPlaceOf (G.rules game.now) moves.now wanted.now o) }
-{
-    for (place, taken) in moves.iter().enumerate() {
-        let text = game.move_text(alloc, taken)?;
-        if text.as_slice() == wanted {
-            return Ok(Some(place));
-        }
-    }
-    Ok(None)
-}
-
 /// The answer that was not legal, if the error says so of one.
 fn denied_answer(error: &[u8]) -> Option<&[u8]>
     ensures { MatchOption result ((x : List ℕ) → error.now ≢ error_text (Illegal x)) (λ x. error.now ≡ error_text (Illegal x.now)) }
 {
-    after(error, ILLEGAL)
+    after(error, ILLEGAL_PREFIX)
 }
 
 /// Whether the error says that the answer was the text of one of these moves.

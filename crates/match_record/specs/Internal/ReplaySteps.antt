@@ -1,9 +1,8 @@
 -- Facts of a replay that only the contracts of private functions cite.
-use Rattle.std.specs.Prelude.{◌≡◌, ◌↔◌, ℕ, ◌<◌, Bool, true, false, IsTrue, if◌then◌else◌, List, length, map, Option, Some, None, slice_index_or, Result, Ok, Err}
-use Rattle.std.specs.List.{HoldsAt}
+use Rattle.std.specs.Prelude.{◌≡◌, ◌↔◌, ℕ, ◌<◌, Bool, true, false, IsTrue, if◌then◌else◌, List, length, map, slice_index_or, Result, Ok, Err}
 use Rattle.game_core.specs.Play.{Rules, IsJoint}
 use Rattle.match_book.specs.Roles.{every_role, is_there, blank}
-use Rattle.match_book.specs.Judgement.{IsJudged}
+use Rattle.match_book.specs.Judgement.{NamesNone, IsJudged}
 use Rattle.match_book.specs.MatchValue.{state_after}
 use Rattle.match_book.specs.Phase.{phase_in, cause_in, is_live}
 use Rattle.match_book.specs.declared.phase.Cause.TheVariants.{Asked}
@@ -11,7 +10,7 @@ use Rattle.match_book.specs.declared.phase.Stage.{Stage}
 use Rattle.match_book.specs.declared.phase.Stage.TheVariants.{Starting, Aborting}
 use Rattle.match_book.specs.declared.turn.Turn.{Turn}
 use Rattle.match_record.specs.RecordParts.{each_role}
-use Rattle.match_record.specs.Replaying.{GoesOn, NamesNone, IsWrongError, AreRightBelow, text_at, IsReplayed, IsFirstFault, IsRightEnd, is_asked}
+use Rattle.match_record.specs.Replaying.{GoesOn, IsWrongError, AreRightBelow, text_at, IsReplayed, IsFirstFault, IsRightEnd, is_asked}
 use Rattle.match_record.specs.declared.record_parts.RecordParts.{RecordParts}
 use Rattle.match_record.specs.declared.recorded_turn.RecordedMove.{RecordedMove}
 use Rattle.match_record.specs.declared.recorded_turn.RecordedMove.TheVariants.{Right, NoMove, WrongError}
@@ -21,11 +20,6 @@ use Rattle.match_record.specs.declared.verify_fault.VerifyFault.TheVariants.{Not
 -- the legal moves of each role
 abbrev pub all_moves : {S M : Type 0} → Rules S M → S → List (List M)
 all_moves g s = each_role g.roles (g.legal s)
-
--- the place of a move with this text
-abbrev pub IsPlaceOf : {S M : Type 0} → Rules S M → List M → List ℕ → Option ℕ → Type 0
-IsPlaceOf g moves x None = NamesNone g moves x
-IsPlaceOf g moves x (Some p) = (p < length moves) × HoldsAt (λ m. g.move_text m ≡ x) moves p
 
 -- what the move with this text and this error is, where these moves are legal
 abbrev pub IsRecorded : {S M : Type 0} → Rules S M → List M → List ℕ → List ℕ → RecordedMove M → Type 0

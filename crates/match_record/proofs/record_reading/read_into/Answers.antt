@@ -41,5 +41,5 @@ returns-in-StartClock-clause-read g c = rw (c.in-StartClock.is, sym c.keep-in-St
 pub returns-in_ok-marks_in-in-StartMarks-clause-read : goal.returns-in_ok-marks_in-in-StartMarks-clause-read
 returns-in_ok-marks_in-in-StartMarks-clause-read g c = rw (c.in-StartMarks.is, sym c.keep-in-StartMarks.ensures) (by_roles marks_tree (λ n marks. length marks ≡ n) _ _ c.roles-roles.ensures c.in_ok-marks_in-in-StartMarks.ensures)
 
-pub returns-in_ok-text_lists_in-in-States-clause-read : goal.returns-in_ok-text_lists_in-in-States-clause-read
-returns-in_ok-text_lists_in-in-States-clause-read g c = rw (c.in-States.is, sym c.keep-in-States.ensures) c.in_ok-text_lists_in-in-States.ensures
+pub returns-in_ok-value_in-in-States-clause-read : goal.returns-in_ok-value_in-in-States-clause-read
+returns-in_ok-value_in-in-States-clause-read g c = rw (c.in-States.is, sym c.keep-in-States.ensures) c.in_ok-value_in-in-States.ensures

@@ -3,7 +3,8 @@ use Rattle.std.specs.Prelude.{All, AllPairs, vec_len}
 use Rattle.std.proofs.lemmas.List.{get_or_read}
 use Rattle.std.proofs.lemmas.Option.{MatchOption-at_some}
 use Rattle.match_record.specs.RecordParts.{IsErrorText}
-use Rattle.match_record.specs.Replaying.{GoesOn, NamesNone, IsWrongError, text_at}
+use Rattle.match_book.specs.Judgement.{NamesNone}
+use Rattle.match_record.specs.Replaying.{GoesOn, IsWrongError, text_at}
 use Rattle.match_record.specs.Internal.ReplaySteps.{IsRecorded, all_moves}
 use Rattle.match_record.specs.declared.recorded_turn.RecordedMove.TheVariants.{Right, WrongError}
 use Rattle.match_record.proofs.RecordShapes.{length_each_role}
