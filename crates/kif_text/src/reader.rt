@@ -8,12 +8,9 @@ ghost use Rattle.kif_text.specs.Internal.Following.{state_of, flush, Reaches, Gi
 
 use crate::expr::Expr;
 use crate::fault::KifFault;
-use game_core::Text;
+use game_core::{MAX_DEPTH, Text};
 use std::alloc::Global;
 use std::mem;
-
-/// How many lists are open at most.
-const MAX_DEPTH: usize = 64;
 
 /// A list that is open: the expressions before it at its level, and the place of its parenthesis.
 #[derive(Drop)]

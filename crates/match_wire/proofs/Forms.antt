@@ -1,10 +1,9 @@
 -- Expressions by their members, and those that have not the form of a message.
-use Rattle.std.proofs.Common.{◌≡◌, ◌≢◌, ◌⊎◌, inl, inr, ℕ, ◌<◌, ◌≤◌, Option, Some, None, Err, List, [], ◌∷◌, map, length, refl, ap, arith}
-use Rattle.game_core.specs.Expression.{Expression, atom, list, Expressions, more, folded, all_folded}
+use Rattle.std.proofs.Common.{◌≡◌, ◌≢◌, ◌<◌, ◌≤◌, Some, None, Err, List, [], ◌∷◌, map, length, refl, ap, arith}
+use Rattle.game_core.specs.Expression.{Expression, atom, list, more, folded, all_folded}
 use Rattle.kif_text.specs.View.{view, views, expressions}
 use Rattle.kif_text.specs.declared.expr.Expr.{Expr}
 use Rattle.match_wire.specs.InfoReading.{status_pair}
-use Rattle.match_wire.specs.MessageValue.{MessageValue}
 use Rattle.match_wire.specs.MessageReading.{members_in, moves_in, info_in, start_in, id_and_moves, abort_in}
 use Rattle.match_wire.specs.declared.messages.MessageFault.TheVariants.{BadMessage}
 
