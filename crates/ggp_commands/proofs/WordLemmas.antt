@@ -1,7 +1,8 @@
 -- Words are cut off one by one, and put together again.
-use Rattle.std.proofs.Common.{◌≡◌, ℕ, ◌+◌, ◌==◌, Bool, List, [], ◌∷◌, ◌++◌, take, drop, refl, Option, Some, None, ap}
+use Rattle.std.proofs.Common.{◌≡◌, ℕ, ◌+◌, ◌==◌, Bool, List, [], ◌∷◌, ◌++◌, take, drop, refl, sym, Option, Some, None, ap}
 use Rattle.std.specs.Prelude.{position, unwrap_or}
 use Rattle.std.specs.List.{slice_split, join_with_byte}
+use Rattle.std.proofs.lemmas.List.{append-nil}
 use Rattle.std.proofs.lemmas.List.Splits.{join_with_byte-slice_split}
 use Rattle.game_core.specs.Bytes.{space}
 use Rattle.ggp_commands.specs.Words.{words, words_behind, spaced}
@@ -27,5 +28,5 @@ behind_spaces [] = []
 behind_spaces (word ∷ more) = space ∷ (word ++ behind_spaces more)
 
 pub spaced_first : (word : List ℕ) (more : List (List ℕ)) → spaced (word ∷ more) ≡ word ++ behind_spaces more
-spaced_first word [] = search
+spaced_first word [] = sym (append-nil word)
 spaced_first word (next ∷ more) = ap (λ rest. word ++ space ∷ rest) (spaced_first next more)

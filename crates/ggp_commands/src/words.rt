@@ -1,5 +1,6 @@
 //! The words of a script line.
-ghost use Rattle.std.specs.Prelude.{◌≡◌, ◌∷◌, IfOk, map, option_copied};
+ghost use Rattle.std.specs.Prelude.{◌≡◌, ◌==◌, ◌∷◌, IfOk, map, option_copied, position};
+ghost use Rattle.game_core.specs.Bytes.{space};
 ghost use Rattle.ggp_commands.specs.Words.{words, words_behind, number_of};
 
 use game_core::numeral::plain_number;
@@ -12,11 +13,17 @@ pub fn words<'a>(alloc: Global, text: &'a [u8]) -> Result<Vec<&'a [u8]>, AllocEr
     text.split(|b| *b == b' ').collect(alloc)
 }
 
+fn word_end(text: &[u8]) -> Option<usize>
+    ensures { result ≡ position (λ b. b == space) text.now }
+{
+    text.iter().position(|b| *b == b' ')
+}
+
 /// The first word of a text, and what stands behind the space after it.
 pub fn first_word(text: &[u8]) -> (&[u8], Option<&[u8]>)
     ensures { words text.now ≡ result.0.now ∷ words_behind (option_copied result.1) }
 {
-    match text.iter().position(|b| *b == b' ') {
+    match word_end(text) {
         Some(end) => (&text[..end], Some(&text[end + 1..])),
         None => (text, None),
     }
