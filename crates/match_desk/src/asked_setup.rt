@@ -30,7 +30,13 @@ pub fn copy_texts(alloc: Global, texts: &[Text]) -> Result<Texts, AllocError>
 }
 
 impl<'a> AskedSetup<'a> {
-    pub fn new(id: &'a Text, game: usize, start: u32, play: u32, players: &'a Texts) -> AskedSetup<'a>
+    pub fn new(
+        id: &'a Text,
+        game: usize,
+        start: u32,
+        play: u32,
+        players: &'a Texts,
+    ) -> AskedSetup<'a>
         ensures { result ≡ record { id = id.entry; game = game; start = start; play = play; players = players.entry } }
     {
         AskedSetup {

@@ -7,8 +7,8 @@ ghost use Rattle.match_desk.specs.Internal.Given.{asked_setup, answer_given};
 ghost use Rattle.match_desk.specs.Steps.{next_reply, answer_reply, query_reply, abort_reply, reply_of, refused_or, is_refused, with_change};
 ghost use Rattle.match_desk.specs.declared.call.Reply.TheVariants.{Opened};
 
-use crate::call::{Call, Refusal, Reply};
 use crate::asked_setup::AskedSetup;
+use crate::call::{Call, Refusal, Reply};
 use crate::slot::{self, GivenAnswer, Slot};
 use call_history::Object;
 use game_core::Game;

@@ -3,3 +3,6 @@ pub mod CallStops
 pub mod HandedOver
 pub mod Workers
 pub mod Sends
+pub mod Places
+pub mod SeatEnds
+pub mod DeskEnds

@@ -1,4 +1,4 @@
--- A manager may go from thread to thread where its games, their states and their moves may.
+-- A manager may go from thread to thread where its games, their states and their moves may; so may calls and replies.
 use denote.RattleType.{RattleType}
 use denote.Struct.Declared.{shape, fields}
 use denote.Param.Send.{IsSend, AllSend, recorded_send, struct_send, sendable}
@@ -12,6 +12,9 @@ use Rattle.match_book.specs.contracts.matches.Match.TheInside as Inside
 use Rattle.match_book.specs.contracts.turn.Turn as Turn
 use Rattle.match_book.proofs.judgement.Judgement.TheSendSync.{the_send as judgement}
 use Rattle.match_book.proofs.turn.Turn.TheSendSync.{the_send as turn}
+use Rattle.match_desk.proofs.call.Reply.TheSendSync.{the_send as reply}
+use Rattle.match_desk.specs.contracts.call.Call as Call
+use Rattle.match_desk.specs.contracts.call.Reply as Reply
 use Rattle.match_desk.specs.contracts.manager.Manager as Manager
 use Rattle.match_desk.specs.contracts.slot.Slot as Slot
 
@@ -56,3 +59,9 @@ module _ (G S M : RattleType) (game : Ghosts G.Denot S.Denot M.Denot) (g : IsSen
 
   pub manager-send : IsSend (Manager.the_row G S M game)
   manager-send = let slot = slot-send in search (sendable, crosses, index_map) depth 20
+
+pub call-send : IsSend Call.the_row
+call-send = search (sendable, crosses) depth 20
+
+pub reply-send : IsSend Reply.the_row
+reply-send = reply

@@ -16,12 +16,12 @@ use Rattle.match_workers.specs.Steps.{Step, finds_the_end, events_of, goes_on, f
 abbrev pub events_of_all : Brief → ℕ → List Step → List Event
 events_of_all brief role steps = flat_map (events_of brief role) steps
 
--- The worker attended the role to the end of the match, in at most so many turns: some steps after each of which it goes on, and the
+-- The worker attended the role to the end of the match, in at most so many tries: some steps after each of which it goes on, and the
 -- one that finds the end. It handed over so many messages.
-pub record Attends (brief : Brief) (role turns : ℕ) (before after : Telling) (messages : ℕ) : Type 0 where
+pub record Attends (brief : Brief) (role tries : ℕ) (before after : Telling) (messages : ℕ) : Type 0 where
   pub steps : List Step
   pub go_on : All (λ step. goes_on step ≡ true) steps
-  pub within : length steps < turns
+  pub within : length steps < tries
   pub told : after ≡ telling_with before (events_of_all brief role (steps ++ finds_the_end ∷ []))
   pub count : messages ≡ length (filter_map message_in (events_of_all brief role steps))
 
@@ -37,20 +37,20 @@ pub data StopsAmid (whole : List Event) (last_fault : Option AttendFault) (fault
   for_memory : (next : Event) (others : List Event) → fault ≡ Memory → events ++ next ∷ others ≡ whole → StopsAmid whole last_fault fault events
 
 -- Why the worker stopped after these steps, with these events of a further one.
-pub data StopsAfter (brief : Brief) (role turns : ℕ) (steps : List Step) (fault : AttendFault) (events : List Event) : Type 0 where
-  -- its turns are used up
-  out_of_turns : length steps ≡ turns → fault ≡ Stalled → events ≡ [] → StopsAfter brief role turns steps fault events
+pub data StopsAfter (brief : Brief) (role tries : ℕ) (steps : List Step) (fault : AttendFault) (events : List Event) : Type 0 where
+  -- its tries are used up
+  out_of_tries : length steps ≡ tries → fault ≡ Stalled → events ≡ [] → StopsAfter brief role tries steps fault events
   -- a step of which the end may be missing
-  in_a_step : length steps < turns → (step : Step) → StopsAmid (events_of brief role step) (fault_after step) fault events
-      → StopsAfter brief role turns steps fault events
+  in_a_step : length steps < tries → (step : Step) → StopsAmid (events_of brief role step) (fault_after step) fault events
+      → StopsAfter brief role tries steps fault events
 
 -- The worker stopped early: some whole steps after each of which it goes on, and of one more step a part, or none.
-pub record StopsEarly (brief : Brief) (role turns : ℕ) (before after : Telling) (fault : AttendFault) : Type 0 where
+pub record StopsEarly (brief : Brief) (role tries : ℕ) (before after : Telling) (fault : AttendFault) : Type 0 where
   pub steps : List Step
   pub go_on : All (λ step. goes_on step ≡ true) steps
   pub events : List Event
   pub told : after ≡ telling_with before (events_of_all brief role steps ++ events)
-  pub why : StopsAfter brief role turns steps fault events
+  pub why : StopsAfter brief role tries steps fault events
 
 -- A call stopped the worker with this fault: there is no memory for it, or no reply came, and it went out or did not, or the reply
 -- brings the fault.

@@ -1,6 +1,8 @@
+pub mod Briefs
 pub mod Handing
 pub mod Events
 pub mod AttendFaults
 pub mod Steps
 pub mod Attending
-pub mod DeskLines
+pub mod Ends
+pub mod Internal

@@ -15,7 +15,7 @@ pub enum AttendFault {
     /// or that no one waits for any more is no such refusal: it is passed by.
     #[error("refused: {0}")]
     Refused(Refusal),
-    /// The turns are used up, the wire gave up, or a reply came that its call never gets.
+    /// The tries are used up, the wire gave up, or a reply came that its call never gets.
     #[error("no reply came")]
     Stalled,
     /// The desk's history is full.

@@ -148,7 +148,7 @@ fn hand_over<W: Wire<Call = Call, Reply = Reply>, P: Player>(
 /// Attends one role of a match to its end: asks what is due to the role, hands each owed message to the
 /// player once and gives the answer back for its round. It answers how many messages it handed over.
 ///
-/// Each time that it asks is a turn, also where the player has to rest; after the last turn it stops
+/// Each time that it asks is a try, also where the player has to rest; after the last try it stops
 /// with `Stalled`. What came before a fault stays: the messages that were handed over, the calls that
 /// were made and the player's rests.
 pub fn attend<W: Wire<Call = Call, Reply = Reply>, P: Player>(
@@ -157,19 +157,19 @@ pub fn attend<W: Wire<Call = Call, Reply = Reply>, P: Player>(
     player: &mut P,
     brief: &Brief,
     role: usize,
-    turns: u64,
+    tries: u64,
 ) -> Result<u64, AttendFault>
     requires { role < length brief.now.roles }
     ensures line { W.same_line wire.old wire.new }
-    ensures attends { IfOk result (λ messages. Attends brief.now role turns
+    ensures attends { IfOk result (λ messages. Attends brief.now role tries
         (telling (W.calls wire.old) (W.replies wire.old) (P.handed player.old))
         (telling (W.calls wire.new) (W.replies wire.new) (P.handed player.new)) messages) }
-    ensures early { IfErr result (λ fault. StopsEarly brief.now role turns
+    ensures early { IfErr result (λ fault. StopsEarly brief.now role tries
         (telling (W.calls wire.old) (W.replies wire.old) (P.handed player.old))
         (telling (W.calls wire.new) (W.replies wire.new) (P.handed player.new)) fault) }
 {
     let mut messages = 0;
-    for _ in 0..turns {
+    for _ in 0..tries {
         match next_due(alloc, wire, brief, role)? {
             Due::Owe { round, owed } => {
                 hand_over(alloc, wire, player, brief, role, round, owed)?;

@@ -8,6 +8,7 @@ mod attend_fault;
 mod attending;
 mod player;
 mod refereeing;
+mod seat;
 mod seats;
 
 pub use attend_fault::AttendFault;

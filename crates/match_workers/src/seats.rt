@@ -1,184 +1,210 @@
-//! The roles of a match, each attended in a thread of its own.
-ghost use Rattle.std.specs.Prelude.{◌<◌, length, All};
-ghost use Rattle.match_workers.specs.DeskLines.{IsSeatLine, HasOpened};
+//! Roles of matches, each attended over a wire of its own in a thread of its own.
+ghost use Rattle.std.specs.Prelude.{◌≡◌, ◌<◌, ℕ, [], Some, length, slice_get, IfOk};
+ghost use Rattle.match_workers.specs.Internal.Seats.{AreSeatsOf, IsLeftBy, AreLeftBy};
+ghost use Rattle.match_workers.specs.Internal.Promises.{IsKept};
 ghost use denote.Param.Send.{IsSend, IsSync};
 
 use crate::attend_fault::AttendFault;
 use crate::attending::attend;
 use crate::player::Player;
-use call_history::{CallFault, LockDesk, LockLine, LockWire, Object};
+use crate::seat::{Attended, Seat};
+use call_history::Wire;
 use match_book::Due;
 use match_desk::{Call, Reply};
 use match_wire::Brief;
 use std::alloc::{AllocError, Global};
+use std::snapshot::Snapshot;
 use std::sync::Wait;
-use std::sync::ledger::Ledger;
 use std::thread;
-use std::thread::Threads;
+use std::thread::{Promise, PromisedHandle, Threads};
 
-/// A role of a match, with its player and its line of the desk.
+/// What seats leave that were all attended: each in its place, beside the wire that was not a role's.
 #[derive(Drop)]
-pub struct Seat<'a, P, L: Ledger> {
+pub struct Attendance<W> {
+    pub first: W,
+    pub attended: Vec<Attended<W>>,
+}
+
+/// What the thread of a seat promises of its result.
+#[derive(Drop)]
+struct LeftBy<'a, P, W> {
     brief: &'a Brief,
     role: usize,
-    player: P,
-    line: LockLine<L>,
-    ghost is_role: { role < length brief.now.roles },
-    ghost is_seat_line: { IsSeatLine line },
+    tries: u64,
+    player: Snapshot<P>,
+    wire: Snapshot<W>,
 }
 
-/// What attending a role leaves.
-#[derive(Drop)]
-struct Attended<L: Ledger> {
-    line: LockLine<L>,
-    end: Result<u64, AttendFault>,
-    ghost is_seat_line: { IsSeatLine line },
+impl<'a, P: Player, W: Wire<Call = Call, Reply = Reply>> Promise<Attended<W>> for LeftBy<'a, P, W> {
+    ghost use Rattle.match_workers.specs.Internal.Seats.{IsLeftBy};
+
+    ghost kept_by = { λ p left. IsLeftBy W.Wire P.Player p.brief.now p.role p.tries p.player.value p.wire.value left };
 }
 
-/// What a match leaves whose roles were all attended: the lines of its desk, and how attending each role ended.
-#[derive(Drop)]
-pub struct Attendance<L: Ledger> {
-    pub lines: Vec<LockLine<L>>,
-    pub ends: Vec<Result<u64, AttendFault>>,
-    ghost has_opened: { All HasOpened lines.items },
+/// A role of a match that nobody attends.
+#[derive(Clone, Copy)]
+struct Unattended<'a> {
+    brief: &'a Brief,
+    role: usize,
 }
 
-/// A seat for each role of the match: the roles, the lines and the players are taken in their order.
-pub fn seat_players<'a, P: Drop, L: Ledger>(
+/// A seat for each role of the match: the roles, the wires and the players are taken in their order.
+pub fn seat_players<'a, P: Drop, W: Drop>(
     alloc: Global,
     brief: &'a Brief,
-    lines: Vec<LockLine<L>>,
+    wires: Vec<W>,
     players: Vec<P>,
-) -> Result<Vec<Seat<'a, P, L>>, AllocError>
-    requires { All IsSeatLine lines.items }
+) -> Result<Vec<Seat<'a, P, W>>, AllocError>
+    ensures { IfOk result (λ seats. AreSeatsOf brief.now players.items wires.items seats.items) }
 {
     let mut seats = Vec::with_capacity(alloc, players.len())?;
-    let mut lines = lines.into_iter();
+    let mut wires = wires.into_iter();
     let mut players = players.into_iter();
     for role in 0..brief.roles.as_slice().len() {
-        let (Some(line), Some(player)) = (lines.next(), players.next()) else {
-            break;
+        let Some(wire) = wires.next() else {
+            return Ok(seats);
+        };
+        let Some(player) = players.next() else {
+            return Ok(seats);
         };
         seats.push(Seat {
             brief,
             role,
             player,
-            line,
+            wire,
         })?;
     }
     Ok(seats)
 }
 
-/// Attends the role of a seat over its line.
-fn attend_seat<O, L: Ledger, P: Player + Drop, R: Wait>(
-    rt: &R,
+/// Attends a role over its wire.
+fn attend_seat<P: Player + Drop, W: Wire<Call = Call, Reply = Reply>>(
     alloc: Global,
-    desk: &LockDesk<O, L>,
-    seat: Seat<'_, P, L>,
-    turns: u64,
-) -> Attended<L>
-where
-    O: Object<Call = Call, Reply = Reply>,
+    brief: &Brief,
+    role: usize,
+    player: P,
+    wire: W,
+    tries: u64,
+) -> Attended<W>
+    requires { role < length brief.now.roles }
+    ensures { IsLeftBy W.Wire P.Player brief.now role tries player wire result }
 {
-    let Seat {
-        brief,
-        role,
-        mut player,
-        line,
-    } = seat;
-    let mut wire = LockWire::new(rt, desk, line);
-    let end = attend(alloc, &mut wire, &mut player, brief, role, turns);
-    Attended {
-        line: wire.end(),
-        end,
-    }
+    let mut player = player;
+    let mut wire = wire;
+    let end = attend(alloc, &mut wire, &mut player, brief, role, tries);
+    Attended { wire, end }
 }
 
-/// Aborts a match whose roles from `first` on nobody attends, and misses the answers of these roles: so the match ends, and
-/// with it the work of those who attend the others.
-fn abort_without<O, L: Ledger, R: Wait>(
-    rt: &R,
+/// The roles of these seats.
+fn roles_of<'a, P, W>(
     alloc: Global,
-    desk: &LockDesk<O, L>,
-    line: &mut LockLine<L>,
-    brief: &Brief,
-    first: usize,
-) -> Result<(), CallFault>
-where
-    O: Object<Call = Call, Reply = Reply>,
+    seats: &[Seat<'a, P, W>],
+) -> Result<Vec<Unattended<'a>>, AllocError>
+    ensures { IfOk result (λ roles. length roles.items ≡ length seats.entry.now) }
 {
-    let id = brief.id.copy(alloc)?;
-    desk.ask(rt, line, Call::Abort { id })?;
-    for role in first..brief.roles.as_slice().len() {
+    let mut roles = Vec::with_capacity(alloc, seats.len())?;
+    for seat in seats {
+        roles.push(Unattended {
+            brief: seat.brief,
+            role: seat.role,
+        })?;
+    }
+    Ok(roles)
+}
+
+/// Aborts the matches of these roles, and misses the roles' answers: so the matches end, and with them the work of those who
+/// attend their other roles.
+fn abort_without<W: Wire<Call = Call, Reply = Reply>>(
+    alloc: Global,
+    wire: &mut W,
+    roles: &[Unattended<'_>],
+) -> Result<(), AttendFault> {
+    for unattended in roles {
+        let Unattended { brief, role } = *unattended;
         let id = brief.id.copy(alloc)?;
-        let reply = desk.ask(rt, line, Call::Next { id, role })?;
+        wire.ask(Call::Abort { id })?;
+        let id = brief.id.copy(alloc)?;
+        let reply = wire.ask(Call::Next { id, role })?;
         if let Reply::Due(Due::Owe { round, .. }) = reply {
             let id = brief.id.copy(alloc)?;
             let broken = true;
-            desk.ask(
-                rt,
-                line,
-                Call::Miss {
-                    id,
-                    role,
-                    round,
-                    broken,
-                },
-            )?;
+            wire.ask(Call::Miss {
+                id,
+                role,
+                round,
+                broken,
+            })?;
         }
     }
     Ok(())
 }
 
-/// The workers of a match, one for each seat, with the first line of its desk.
-#[derive(Drop)]
-pub struct Workers<'a, P, L: Ledger, R> {
-    pub rt: &'a R,
-    pub alloc: Global,
-    pub first: LockLine<L>,
-    pub brief: &'a Brief,
-    pub seats: Vec<Seat<'a, P, L>>,
-    pub turns: u64,
-    ghost has_opened: { HasOpened first },
+/// Joins the threads of seats, and puts what they leave into this list, which is empty and has room for it.
+fn join_seats<'a, P: Player, W: Wire<Call = Call, Reply = Reply> + Drop, R: Threads>(
+    rt: &R,
+    handles: Vec<PromisedHandle<Attended<W>, LeftBy<'a, P, W>>>,
+    attended: Vec<Attended<W>>,
+) -> Result<Vec<Attended<W>>, AllocError>
+    requires { attended.items ≡ [] }
+    ensures one_each { IfOk result (λ all. length all.items ≡ length handles.entry.items) }
+    ensures each { IfOk result (λ all. (k : ℕ) (left : _) → slice_get all.items k ≡ Some left → IsKept W.Wire P.Player handles.entry.items k left) }
+{
+    let mut attended = attended;
+    for handle in handles {
+        attended.push(handle.join(rt))?;
+    }
+    Ok(attended)
 }
 
-/// Attends each seat in a thread of its own. The lines are answered from the first on, and the ends in the order of the seats.
+/// Attends each seat in a thread of its own, for so many tries at most. What the seats leave stands in their order.
 ///
-/// Where a thread can't be made no further one starts, and the match is aborted on the first line: a match waits for all its
-/// roles. Once those that run have ended, the answer is want of memory.
-pub fn attend_all<O, L, P, R>(
-    desk: &LockDesk<O, L>,
-    workers: Workers<'_, P, L, R>,
-) -> Result<Attendance<L>, AllocError>
+/// Where a thread can't be made no further one starts, and the matches of the seats that are left are aborted over the first
+/// wire: a match waits for all its roles. Once those that run have ended, the answer is want of memory.
+pub fn attend_all<W, P, R>(
+    rt: &R,
+    alloc: Global,
+    first: W,
+    seats: Vec<Seat<'_, P, W>>,
+    tries: u64,
+) -> Result<Attendance<W>, AllocError>
 where
-    O: Object<Call = Call, Reply = Reply> + Send,
-    L: Ledger + Send + Sync,
+    W: Wire<Call = Call, Reply = Reply> + Drop + Send,
     P: Player + Drop + Send,
     R: Threads + Wait + Sync,
+    ensures first { IfOk result (λ a. a.first ≡ first) }
+    ensures left { IfOk result (λ a. AreLeftBy W.Wire P.Player tries seats.entry.items a.attended.items) }
 {
-    let Workers {
-        rt,
-        alloc,
-        first,
-        brief,
-        seats,
-        turns,
-    } = workers;
     thread::scope(
         thread::scope_env(),
         rt,
-        move |scope| -> Result<Attendance<L>, AllocError>
-            requires sent { IsSend O.row × IsSend L.row × IsSend P.row }
-            requires shared { IsSync L.row × IsSync R.row }
-            requires opened { HasOpened first }
+        move |scope| -> Result<Attendance<W>, AllocError>
+            requires sent { IsSend W.row × IsSend P.row }
+            ensures first { IfOk result (λ a. a.first ≡ first) }
+            ensures left { IfOk result (λ a. AreLeftBy W.Wire P.Player tries seats.entry.items a.attended.items) }
         {
             let count = seats.len();
+            let roles = roles_of(alloc, seats.as_slice())?;
             let mut handles = Vec::with_capacity(alloc, count)?;
-            let mut lines = Vec::with_capacity(alloc, count + 1)?;
-            let mut ends = Vec::with_capacity(alloc, count)?;
+            let attended = Vec::with_capacity(alloc, count)?;
             for seat in seats {
-                let Ok(handle) = scope.spawn(move || attend_seat(rt, alloc, desk, seat, turns))
-                else {
+                let Seat {
+                    brief,
+                    role,
+                    player,
+                    wire,
+                } = seat;
+                let promise = LeftBy {
+                    brief,
+                    role,
+                    tries,
+                    player: Snapshot::of(&player),
+                    wire: Snapshot::of(&wire),
+                };
+                let work = move || -> Attended<W>
+                    requires { role < length brief.now.roles }
+                    ensures { IsLeftBy W.Wire P.Player brief.entry.now role tries player wire result }
+                { attend_seat(alloc, brief, role, player, wire, tries) };
+                let Ok(handle) = scope.spawn_with(promise, work) else {
                     break;
                 };
                 handles.push(handle)?;
@@ -186,19 +212,14 @@ where
             let started = handles.len();
             if started < count {
                 let mut first = first;
-                let _ = abort_without(rt, alloc, desk, &mut first, brief, started);
+                let _ = abort_without(alloc, &mut first, &roles[started..]);
                 for handle in handles {
                     let _ = handle.join(rt);
                 }
                 return Err(AllocError);
             }
-            lines.push(first)?;
-            for handle in handles {
-                let Attended { line, end } = handle.join(rt);
-                lines.push(line)?;
-                ends.push(end)?;
-            }
-            Ok(Attendance { lines, ends })
+            let attended = join_seats(rt, handles, attended)?;
+            Ok(Attendance { first, attended })
         },
     )
 }

@@ -144,12 +144,12 @@ fn attend_in_memory<R: Abort>(
     player: &mut MemoryPlayer<R>,
     brief: &Brief,
     role: usize,
-    turns: u64,
+    tries: u64,
 ) -> Result<u64, AttendFault>
     requires { role < length brief.now.roles }
     ensures { IfOk result (λ messages. length player.new.handed.items ≡ length player.old.handed.items + messages) }
 {
-    attend(alloc, wire, player, brief, role, turns)
+    attend(alloc, wire, player, brief, role, tries)
 }
 
 /// What is left once a worker has ended: the calls of the wire and the messages of the player, a line
@@ -167,7 +167,7 @@ fn attend_red<R: Abort>(
     rt: &R,
     alloc: Global,
     outcomes: VecDeque<Result<Reply, AskFault>>,
-    turns: u64,
+    tries: u64,
 ) -> Result<Left, Fail> {
     let roles = vec![in alloc; text(alloc, "red")?, text(alloc, "blue")?]?;
     let brief = Brief {
@@ -194,7 +194,7 @@ fn attend_red<R: Abort>(
         handed: Vec::new(alloc),
         rests: 0,
     };
-    let end = attend_in_memory(alloc, &mut wire, &mut player, &brief, 0, turns);
+    let end = attend_in_memory(alloc, &mut wire, &mut player, &brief, 0, tries);
     Ok(Left {
         end,
         calls: call_lines(alloc, wire.calls.as_slice())?,
@@ -254,13 +254,13 @@ const MESSAGES: &str = "10 (START m red () 10 5)\n5 (PLAY m NIL)\n5 (STOP m ((ta
 #[test]
 fn attends_to_the_end_of_the_match(rt: HostRuntime) -> Result<(), Fail> {
     let alloc = rt.alloc();
-    for (turns, end, last_call) in [
+    for (tries, end, last_call) in [
         (100, Ok(3), "next m 0\n"),
         (4, Ok(3), "next m 0\n"),
         (3, Err(AttendFault::Stalled), ""),
     ] {
-        let left = attend_red(&rt, alloc, whole_match(alloc)?, turns)?;
-        assert_eq!(rt; left.end, end, "{turns} turns");
+        let left = attend_red(&rt, alloc, whole_match(alloc)?, tries)?;
+        assert_eq!(rt; left.end, end, "{tries} tries");
         assert_eq!(rt; left.calls, format!(in alloc; "{CALLS}{last_call}")?);
         assert_eq!(rt; left.handed.as_str(), MESSAGES);
         assert_eq!(rt; left.rests, 0);

@@ -16,7 +16,7 @@ use std::time::{Clock, Duration};
 const LOOKS: u32 = 2_000;
 
 /// How often an attended role may ask what is due to it.
-const TURNS: u64 = 100_000;
+const TRIES: u64 = 100_000;
 
 /// A player with ready answers. It counts its messages where others can see it, and gives its first answer once it has seen
 /// that another player has been handed a message: where it never sees that, the first answer is a silence.
@@ -130,7 +130,7 @@ fn roles_are_attended_at_once(rt: HostRuntime) -> Result<(), Fail> {
     let game = Countdown::new(1).ok_or("no such game")?;
     let setup = setup(alloc, b"m", (1, 1), &[b"ann", b"bob"])?;
     assert_eq!(rt; players.len(), setup.players.as_slice().len());
-    let refereed = referee(&rt, alloc, game, setup, Vec::new(alloc), players, TURNS)?;
+    let refereed = referee(&rt, alloc, game, setup, Vec::new(alloc), players, TRIES)?;
     check_refereed(&rt, &refereed)
 }
 
@@ -224,7 +224,7 @@ fn players_are_handed_what_they_are_owed(rt: HostRuntime) -> Result<(), Fail> {
     let game = Countdown::new(1).ok_or("no such game")?;
     let setup = setup(alloc, b"M", (7, 5), &[b"ann", b"bob"])?;
     assert_eq!(rt; players.len(), setup.players.as_slice().len());
-    let refereed = referee(&rt, alloc, game, setup, rules, players, TURNS)?;
+    let refereed = referee(&rt, alloc, game, setup, rules, players, TRIES)?;
     check_all_answered(&rt, &refereed.closed.object)
 }
 
@@ -266,7 +266,7 @@ fn matches_that_are_not_opened_reach_no_player(rt: HostRuntime) -> Result<(), Fa
         }
         let game = Countdown::new(3).ok_or("no such game")?;
         assert_eq!(rt; players.len(), setup.players.as_slice().len());
-        let refereed = referee(&rt, alloc, game, setup, Vec::new(alloc), players, TURNS);
+        let refereed = referee(&rt, alloc, game, setup, Vec::new(alloc), players, TRIES);
         assert_eq!(rt; refereed.err(), Some(RefereeFault::Refused(refusal)));
         assert_eq!(rt; messages.load(Ordering::SeqCst), 0);
     }

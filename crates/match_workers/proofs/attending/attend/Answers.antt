@@ -7,17 +7,17 @@ use Rattle.match_workers.proofs.attending.attend.Goals.{in-Owe+in_ok-hand_over-i
 pub returns-in_err-round-clause-early : goal.returns-in_err-round-clause-early
 returns-in_err-round-clause-early g c =
     let p = err_from_is_err_and c.from_residual.result c.from_residual.ensures.1 in
-    rw (p.1, p.2) (stops-asking c.args.brief.now c.args.role c.loop.counter c.args.turns _ _ _ _ _ _ _ _ c.loop.invariant.goes c.loop-test.true c.in_err-round.ensures.fault)
+    rw (p.1, p.2) (stops-asking c.args.brief.now c.args.role c.loop.counter c.args.tries _ _ _ _ _ _ _ _ c.loop.invariant.goes c.loop-test.true c.in_err-round.ensures.fault)
 
 pub returns-in_err-hand_over-in-Owe-clause-early : goal.returns-in_err-hand_over-in-Owe-clause-early
 returns-in_err-hand_over-in-Owe-clause-early g c =
     let p = err_from_is_err_and c.from_residual-in_err-hand_over-in-Owe.result c.from_residual-in_err-hand_over-in-Owe.ensures.1 in
-    rw (p.1, p.2) (stops-handing c.args.brief.now c.args.role c.loop.counter c.args.turns c.in-Owe.round c.in-Owe.owed _ _ _ _ _ _ _ _ _ _
+    rw (p.1, p.2) (stops-handing c.args.brief.now c.args.role c.loop.counter c.args.tries c.in-Owe.round c.in-Owe.owed _ _ _ _ _ _ _ _ _ _
     c.loop.invariant.goes c.loop-test.true c.in-Owe.is c.in_ok-round.ensures.call c.in_ok-round.ensures.reply c.in_err-hand_over-in-Owe.ensures.fault)
 
 pub returns-in-Over-clause-attends : goal.returns-in-Over-clause-attends
 returns-in-Over-clause-attends g c =
-    attends-over c.args.brief.now c.args.role c.loop.counter c.args.turns _ _ _ _ _ _ _ _ c.loop.invariant.goes c.loop-test.true c.in-Over.is c.in_ok-round.ensures.call c.in_ok-round.ensures.reply
+    attends-over c.args.brief.now c.args.role c.loop.counter c.args.tries _ _ _ _ _ _ _ _ c.loop.invariant.goes c.loop-test.true c.in-Over.is c.in_ok-round.ensures.call c.in_ok-round.ensures.reply
 
 pub loop-preserved : goal.loop-preserved
 loop-preserved g c =

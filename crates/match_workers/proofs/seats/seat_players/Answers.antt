@@ -1,14 +1,47 @@
-use Rattle.std.proofs.Common.{rules, ◌≡◌, ◌∷◌, All, subst}
-use Rattle.std.proofs.lemmas.List.Elements.{All-head, All-tail}
-use Rattle.match_workers.specs.DeskLines.{IsSeatLine}
+use Rattle.std.proofs.Common.{◌∷◌, [], ◌∙◌, sym, ap, refl, length, length-append, subst, arith}
+use Rattle.match_workers.specs.Internal.Seats.{IsSeatOf}
+use Rattle.match_workers.specs.declared.seat.Seat.{Seat}
+use Rattle.match_workers.proofs.Places.{EachAt-push, first_of}
 use Rattle.match_workers.proofs.seats.seat_players.Goals as goal
-
-pub invariant_of-push : goal.invariant_of-push
-invariant_of-push g c =
-    let first : c.loop-role.lines.rest.items ≡ c.in-Some-Some.line ∷ c.next.new.self.rest.items = search rules in
-    record { is_role = search rules; is_seat_line = All-head IsSeatLine _ _ (subst (All IsSeatLine) first c.loop-role.invariant) }
 
 pub loop-role-preserved : goal.loop-role-preserved
 loop-role-preserved g c =
-    let first : c.loop-role.lines.rest.items ≡ c.in-Some-Some.line ∷ c.next.new.self.rest.items = search rules in
-    All-tail IsSeatLine _ _ (subst (All IsSeatLine) first c.loop-role.invariant)
+    let was = c.loop-role.invariant in
+    let w = first_of c.loop-role.role c.args.wires.items c.in-Some.wire c.next.new.self.rest.items (sym c.in-Some.ensures.cases.0 ∙ was.wires) in
+    let p = first_of c.loop-role.role c.args.players.items c.in-Some-next.player c.next-in-loop-role.new.self.rest.items (sym c.in-Some-next.ensures.cases.0 ∙ was.players) in
+    let seat : Seat g.row.P.Denot g.row.W.Denot = record { brief = c.args.brief; role = c.loop-role.role; player = c.in-Some-next.player; wire = c.in-Some.wire; is_role = c.push-arg-1.given.0 } in
+    let here : IsSeatOf c.args.brief.now c.args.players.items c.args.wires.items c.loop-role.role seat = record { brief_is = refl; role_is = refl; player_is = p.at; wire_is = w.at } in
+    let old = c.loop-role.seats.items in
+    record {
+      wires = w.left;
+      players = p.left;
+      wires_left = omega (arith, was.wires_left, c.in-Some.ensures.cases.1);
+      players_left = omega (arith, was.players_left, c.in-Some-next.ensures.cases.1);
+      count = omega (arith, ap length c.in_ok-push.ensures.items, length-append old (seat ∷ []), was.count);
+      each = EachAt-push (IsSeatOf c.args.brief.now c.args.players.items c.args.wires.items) old c.push.new.self.items seat c.in_ok-push.ensures.items was.each
+          (subst (λ n. IsSeatOf c.args.brief.now c.args.players.items c.args.wires.items n seat) (sym was.count) here);
+    }
+
+pub returns : goal.returns
+returns g c =
+    let was = c.loop-role.invariant in
+    record {
+      one_each = λ players wires. omega (arith, players, wires, was.count, ap length c.as_slice-role-end.ensures);
+      each = was.each;
+    }
+
+pub returns-in_default : goal.returns-in_default
+returns-in_default g c =
+    let was = c.loop-role.invariant in
+    record {
+      one_each = λ players wires. absurd (omega (arith, wires, c.in_default.ensures, c.next.ensures.len, was.wires_left, c.loop-role-test.true, ap length c.as_slice-role-end.ensures));
+      each = was.each;
+    }
+
+pub returns-in_default-next : goal.returns-in_default-next
+returns-in_default-next g c =
+    let was = c.loop-role.invariant in
+    record {
+      one_each = λ players wires. absurd (omega (arith, players, c.in_default-next.ensures, c.next-in-loop-role.ensures.len, was.players_left, c.loop-role-test.true, ap length c.as_slice-role-end.ensures));
+      each = was.each;
+    }

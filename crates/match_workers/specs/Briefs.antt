@@ -1,0 +1,19 @@
+-- What the players of a match are told of it.
+use Rattle.std.specs.Prelude.{◌≡◌, ℕ, ◌<◌, List, [], length, slice_index_or}
+use Rattle.game_core.specs.Play.{Rules}
+use Rattle.kif_text.specs.declared.expr.Expr.{Expr}
+use Rattle.match_book.specs.declared.setup.Setup.{Setup}
+use Rattle.match_wire.specs.declared.brief.Brief.{Brief}
+
+-- the names of the game's roles, in their order
+pub record AreRoleNames {S M : Type 0} (g : Rules S M) (names : List (List ℕ)) : Type 0 where
+  pub one_each : length names ≡ g.roles
+  pub each : (role : ℕ) → role < g.roles → slice_index_or names role [] ≡ g.role_name role
+
+-- the setup's id and clocks, the names of the game's roles, and these rules
+pub record IsBriefOf {S M : Type 0} (g : Rules S M) (setup : Setup) (rules : List Expr) (brief : Brief) : Type 0 where
+  pub id : brief.id ≡ setup.id
+  pub roles : AreRoleNames g brief.roles
+  pub rules_are : brief.rules.items ≡ rules
+  pub start : brief.start ≡ setup.start
+  pub play : brief.play ≡ setup.play

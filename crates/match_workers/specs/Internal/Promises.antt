@@ -1,0 +1,16 @@
+-- What the threads of seats promise.
+use Rattle.std.specs.Prelude.{◌≡◌, ℕ, List, Some, slice_get}
+use Rattle.std.specs.declared.thread.PromisedHandle.{PromisedHandle}
+use Rattle.call_history.specs.declared.wire.Wire as Wire
+use Rattle.match_desk.specs.declared.call.Call.{Call}
+use Rattle.match_desk.specs.declared.call.Reply.{Reply}
+use Rattle.match_workers.specs.declared.player.Player as Player
+use Rattle.match_workers.specs.declared.seat.Attended.{Attended}
+use Rattle.match_workers.specs.declared.seats.LeftBy.{LeftBy}
+use Rattle.match_workers.specs.Internal.Seats.{IsLeftBy}
+
+-- what the thread at this place left keeps the promise that it was started with
+pub record IsKept {P W : Type 0} (w : Wire.Ghosts W Call Reply) (p : Player.Ghosts P) (handles : List (PromisedHandle (Attended W) (LeftBy P W))) (k : ℕ) (left : Attended W) : Type 0 where
+  pub handle : PromisedHandle (Attended W) (LeftBy P W)
+  pub is_handle : slice_get handles k ≡ Some handle
+  pub left_by : IsLeftBy w p handle.promise.brief.now handle.promise.role handle.promise.tries handle.promise.player.value handle.promise.wire.value left

@@ -1,0 +1,22 @@
+//! A seat: a role of a match that is to be attended.
+ghost use Rattle.std.specs.Prelude.{◌<◌, length};
+
+use crate::attend_fault::AttendFault;
+use match_wire::Brief;
+
+/// A role of a match, with its player and its wire to the desk.
+#[derive(Drop)]
+pub struct Seat<'a, P, W> {
+    pub brief: &'a Brief,
+    pub role: usize,
+    pub player: P,
+    pub wire: W,
+    ghost is_role: { role < length brief.now.roles },
+}
+
+/// What attending a role leaves.
+#[derive(Drop)]
+pub struct Attended<W> {
+    pub wire: W,
+    pub end: Result<u64, AttendFault>,
+}
