@@ -1,6 +1,6 @@
 -- The words of a script line.
-use Rattle.std.specs.Prelude.{ℕ, ◌==◌, List, [], ◌∷◌, Option, Some, None}
-use Rattle.std.specs.List.{slice_split, join_with_byte}
+use Rattle.std.specs.Prelude.{ℕ, ◌==◌, List, [], ◌∷◌, ◌++◌, Option, Some, None}
+use Rattle.std.specs.List.{slice_split}
 use Rattle.game_core.specs.Bytes.{space}
 use Rattle.game_core.specs.Numerals.{plain_number}
 
@@ -13,9 +13,15 @@ abbrev pub words_behind : Option (List ℕ) → List (List ℕ)
 words_behind None = []
 words_behind (Some rest) = words rest
 
+-- these words, each behind a space
+abbrev pub behind_spaces : List (List ℕ) → List ℕ
+behind_spaces [] = []
+behind_spaces (word ∷ more) = space ∷ (word ++ behind_spaces more)
+
 -- these words with one space between each two
 abbrev pub spaced : List (List ℕ) → List ℕ
-spaced words = join_with_byte space words
+spaced [] = []
+spaced (word ∷ more) = word ++ behind_spaces more
 
 -- the largest number that a line may name
 abbrev pub max_number : ℕ

@@ -1,5 +1,5 @@
 use Rattle.std.proofs.Common.{◌≡◌, ◌++◌, drop}
-use Rattle.ggp_commands.proofs.WordLemmas.{behind_spaces}
+use Rattle.ggp_commands.specs.Words.{behind_spaces}
 use Rattle.ggp_commands.proofs.reply_lines.push_spaced.Given as goal
 
 abbrev pub invariant-loop-text : goal.invariant-loop-text
