@@ -1,6 +1,5 @@
 -- The plain expression: what a KIF expression is, apart from where it lies in memory.
 use Rattle.std.specs.Prelude.{ℕ, suc, ◌≡◌, ◌<◌, ◌≤◌, max, map, length, List, [], ◌∷◌, true}
-use Rattle.game_core.specs.declared.limits.TheConstants.{MAX_DEPTH}
 use Rattle.game_core.specs.Bytes.{is_atom_byte, lower}
 
 mutual
@@ -52,7 +51,7 @@ abbrev mutual
 
 -- how many lists a proper expression nests at most
 abbrev pub max_depth : ℕ
-max_depth = MAX_DEPTH
+max_depth = 64
 
 -- an expression that some text spells, and that is read back from its text
 abbrev pub IsProper : Expression → Type 0

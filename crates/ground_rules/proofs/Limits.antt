@@ -2,7 +2,7 @@
 use Rattle.std.proofs.Common.{◌≡◌, ℕ, ◌<◌, ◌≤◌, Bool, true, false, ◌&&◌, nat_le, List, [], ◌∷◌, length, map, refl, sym, ap, ◌∙◌, arith}
 use Rattle.std.proofs.lemmas.Bool.Decides.{nat_tests}
 use Rattle.game_core.specs.Play.{max_roles}
-use Rattle.ground_rules.specs.declared.sizes.TheConstants.{MAX_SENTENCES, MAX_ATOMIC_SENTENCES, MAX_MOVES}
+use Rattle.ground_rules.specs.Sizes.{max_sentences, max_atomic_sentences, max_moves}
 use Rattle.ground_rules.specs.declared.sentence.Derived.{Derived}
 use Rattle.ground_rules.specs.Internal.Bools.{and-both}
 use Rattle.ground_rules.specs.Described.{Description, each_once, role_names, heads, moves_in}
@@ -27,17 +27,17 @@ more m n lt = grind (arith, nat_tests)
 most : (m n : ℕ) → m ≤ n → nat_le m n ≡ true
 most m n le = grind (arith, nat_tests)
 
-pub too-many-sentences : (n : ℕ) (d : Description) → MAX_SENTENCES < n → is_small n d ≡ false
-too-many-sentences n d lt = left-false _ _ (left-false _ _ (left-false (nat_le n MAX_SENTENCES) _ (more n MAX_SENTENCES lt)))
+pub too-many-sentences : (n : ℕ) (d : Description) → max_sentences < n → is_small n d ≡ false
+too-many-sentences n d lt = left-false _ _ (left-false _ _ (left-false (nat_le n max_sentences) _ (more n max_sentences lt)))
 
-pub too-many-atomics : (n k : ℕ) (d : Description) → k ≡ length (each_once same_atomic (atomics d)) → MAX_ATOMIC_SENTENCES < k → is_small n d ≡ false
-too-many-atomics n k d e lt = left-false _ _ (left-false _ _ (right-false (nat_le n MAX_SENTENCES) _ (more (length (each_once same_atomic (atomics d))) MAX_ATOMIC_SENTENCES (omega (arith, e, lt)))))
+pub too-many-atomics : (n k : ℕ) (d : Description) → k ≡ length (each_once same_atomic (atomics d)) → max_atomic_sentences < k → is_small n d ≡ false
+too-many-atomics n k d e lt = left-false _ _ (left-false _ _ (right-false (nat_le n max_sentences) _ (more (length (each_once same_atomic (atomics d))) max_atomic_sentences (omega (arith, e, lt)))))
 
 pub too-many-roles : (n k : ℕ) (d : Description) → k ≡ length (role_names d) → max_roles < k → is_small n d ≡ false
-too-many-roles n k d e lt = left-false _ _ (right-false (nat_le n MAX_SENTENCES && nat_le (length (each_once same_atomic (atomics d))) MAX_ATOMIC_SENTENCES) _ (more (length (role_names d)) max_roles (omega (arith, e, lt))))
+too-many-roles n k d e lt = left-false _ _ (right-false (nat_le n max_sentences && nat_le (length (each_once same_atomic (atomics d))) max_atomic_sentences) _ (more (length (role_names d)) max_roles (omega (arith, e, lt))))
 
-pub few-so-far : (n k m : ℕ) (d : Description) → n ≤ MAX_SENTENCES → k ≡ length (each_once same_atomic (atomics d)) → k ≤ MAX_ATOMIC_SENTENCES → m ≡ length (role_names d) → m ≤ max_roles → is_small_so_far n d ≡ true
-few-so-far n k m d le e le' f le'' = and-both _ _ (and-both _ _ (most n MAX_SENTENCES le) (most _ MAX_ATOMIC_SENTENCES (omega (arith, e, le')))) (most _ max_roles (omega (arith, f, le'')))
+pub few-so-far : (n k m : ℕ) (d : Description) → n ≤ max_sentences → k ≡ length (each_once same_atomic (atomics d)) → k ≤ max_atomic_sentences → m ≡ length (role_names d) → m ≤ max_roles → is_small_so_far n d ≡ true
+few-so-far n k m d le e le' f le'' = and-both _ _ (and-both _ _ (most n max_sentences le) (most _ max_atomic_sentences (omega (arith, e, le')))) (most _ max_roles (omega (arith, f, le'')))
 
 one-more : (terms : List (List ℕ)) (n : ℕ) (o : Option (List ℕ)) (ms : List Mention) (ts : List (List ℕ)) → length ms ≡ length ts → length (with_mention terms n o ms) ≡ length (with_text o ts)
 one-more terms n (Some t) ms ts e = ap suc e
@@ -52,7 +52,7 @@ few-moves t d [] same = refl
 few-moves t d (n ∷ ns) same =
     let size : length (role_table t n).legal ≡ length (moves_in n (heads d)) =
     ap length (legal-mentions t.terms n 0 t.heads) ∙ mentions-length (legal_pick n) t.terms 0 t.heads ∙ ap length (sym (moves-texts n t.heads)) ∙ ap (λ hs. length (moves_in n hs)) same in
-    let first = ap (λ k. nat_le k MAX_MOVES) size in
+    let first = ap (λ k. nat_le k max_moves) size in
     let rest = few-moves t d ns same in
     cc
 

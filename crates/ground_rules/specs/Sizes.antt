@@ -1,12 +1,23 @@
 -- How large a description may be.
 use Rattle.std.specs.Prelude.{ℕ, Bool, true, false, ◌&&◌, nat_le, bytes_eq, List, [], ◌∷◌, ◌++◌, length}
 use Rattle.game_core.specs.Play.{max_roles}
-use Rattle.ground_rules.specs.declared.sizes.TheConstants.{MAX_SENTENCES, MAX_ATOMIC_SENTENCES, MAX_MOVES}
 use Rattle.ground_rules.specs.declared.sentence.Atomic.{Atomic}
 use Rattle.ground_rules.specs.declared.sentence.Atomic.TheVariants.{Derived as IsDerived, InState as IsInState, Does as IsDoes}
 use Rattle.ground_rules.specs.Literals.{Holds, InState, Does, Distinct, Not, Or, End, More}
 use Rattle.ground_rules.specs.Sentences.{TextLiteral, TextLiterals}
 use Rattle.ground_rules.specs.Described.{Description, same_derived, each_once, heads, moves_in, role_names}
+
+-- how many sentences a description has at most
+abbrev pub max_sentences : ℕ
+max_sentences = 8192
+
+-- how many distinct atomic sentences
+abbrev pub max_atomic_sentences : ℕ
+max_atomic_sentences = 16384
+
+-- how many distinct moves in `legal` heads of one role
+abbrev pub max_moves : ℕ
+max_moves = 4096
 
 abbrev pub same_atomic : Atomic → Atomic → Bool
 same_atomic (IsDerived a) (IsDerived b) = same_derived a b
@@ -35,12 +46,12 @@ atomics (r ∷ rs) = (IsDerived r.head ∷ all_atomics_in r.body) ++ atomics rs
 
 abbrev pub have_few_moves : List (List ℕ) → Description → Bool
 have_few_moves [] d = true
-have_few_moves (n ∷ ns) d = nat_le (length (moves_in n (heads d))) MAX_MOVES && have_few_moves ns d
+have_few_moves (n ∷ ns) d = nat_le (length (moves_in n (heads d))) max_moves && have_few_moves ns d
 
 -- the size is within the limits, for a description of so many sentences
 abbrev pub is_small : ℕ → Description → Bool
 is_small sentences d =
-    nat_le sentences MAX_SENTENCES
-    && nat_le (length (each_once same_atomic (atomics d))) MAX_ATOMIC_SENTENCES
+    nat_le sentences max_sentences
+    && nat_le (length (each_once same_atomic (atomics d))) max_atomic_sentences
     && nat_le (length (role_names d)) max_roles
     && have_few_moves (role_names d) d

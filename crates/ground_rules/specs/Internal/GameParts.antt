@@ -3,7 +3,7 @@ use Rattle.std.specs.Prelude.{ℕ, ◌≡◌, Bool, true, false, ◌&&◌, nat_l
 use Rattle.std.specs.List.{list_all}
 use Rattle.std.specs.List.Sorted.{IsPermutation}
 use Rattle.game_core.specs.Play.{max_roles}
-use Rattle.ground_rules.specs.declared.sizes.TheConstants.{MAX_SENTENCES, MAX_ATOMIC_SENTENCES, MAX_MOVES}
+use Rattle.ground_rules.specs.Sizes.{max_sentences, max_atomic_sentences, max_moves}
 use Rattle.ground_rules.specs.Literals.{Rule}
 use Rattle.ground_rules.specs.Described.{Description, is_among, role_names, heads, each_once}
 use Rattle.ground_rules.specs.Internal.TableTests.{are_in_order}
@@ -22,10 +22,10 @@ pub record IsTableOf (d : Description) (t : NameTable) : Type 0 where
 
 -- the size without the moves
 abbrev pub is_small_so_far : ℕ → Description → Bool
-is_small_so_far n d = nat_le n MAX_SENTENCES && nat_le (length (each_once same_atomic (atomics d))) MAX_ATOMIC_SENTENCES && nat_le (length (role_names d)) max_roles
+is_small_so_far n d = nat_le n max_sentences && nat_le (length (each_once same_atomic (atomics d))) max_atomic_sentences && nat_le (length (role_names d)) max_roles
 
 abbrev pub have_few_moves_by : List RoleTable → Bool
-have_few_moves_by rs = list_all (λ r. nat_le (length r.legal) MAX_MOVES) rs
+have_few_moves_by rs = list_all (λ r. nat_le (length r.legal) max_moves) rs
 
 -- the rules are those of the description with numbers, in the order of a ranking
 pub record AreRankedOf (d : Description) (t : NameTable) (rules : List (Rule ℕ ℕ)) : Type 0 where
