@@ -1,6 +1,6 @@
 -- What a game is, and where joint moves lead in it.
 use Rattle.std.specs.Prelude.{ℕ, Bool, false, List, [], ◌∷◌, Option, Contains, length, slice_index_or, AllPairs, codes, Some, ◌≡◌, ◌≢◌, ◌<◌, ◌≤◌, All}
-use Rattle.game_core.specs.declared.limits.TheConstants.{MAX_ROLES, MAX_GOAL}
+use Rattle.game_core.specs.declared.limits.TheConstants.{MAX_ROLES}
 use Rattle.game_core.specs.Canonical.{IsCanonicalText, IsFoldedText}
 use Rattle.game_core.specs.Texts.{AreInByteOrder}
 
@@ -10,7 +10,7 @@ max_roles = MAX_ROLES
 
 -- the highest goal value
 abbrev pub max_goal : ℕ
-max_goal = MAX_GOAL
+max_goal = 100
 
 -- The rules of a game whose states are of type S and whose moves are of type M. Roles are numbered from 0.
 -- IsState and IsMove say which values of these types are of this game.

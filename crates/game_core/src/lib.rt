@@ -16,7 +16,7 @@ pub use countdown::{Countdown, Position, Side, Take};
 pub use counted::Counted;
 pub use game::Game;
 pub use joint::Joint;
-pub use limits::{MAX_DEPTH, MAX_GOAL, MAX_ROLES};
+pub use limits::{MAX_DEPTH, MAX_ROLES};
 pub use play::{PlayFault, play_list};
 pub use text::Text;
 pub use texts::Texts;
