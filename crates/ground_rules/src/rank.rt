@@ -90,10 +90,10 @@ impl Search {
         ensures passed { (i : ℕ) → from ≤ i → i < result → IsPlaced self.now.marks.items (slice_index wants.now i) }
         ensures stop { result < length wants.now → ¬ (IsPlaced self.now.marks.items (slice_index wants.now result)) }
     {
-        for at in from..wants.len() {
-            match self.marks[wants[at]] {
+        for place in from..wants.len() {
+            match self.marks[wants[place]] {
                 Mark::Done(_) => {}
-                _ => return at,
+                _ => return place,
             }
         }
         wants.len()
