@@ -1,6 +1,6 @@
 //! Countdown: a small game for two roles.
 ghost use Rattle.std.specs.Prelude.{◌≡◌, ◌≤◌, ◌↔◌, IsSome, IfSome};
-ghost use Rattle.game_core.specs.declared.countdown.TheConstants.{MAX_HEAP};
+ghost use Rattle.game_core.specs.Countdown.{max_heap};
 
 use crate::game::Game;
 use crate::text::Text;
@@ -17,7 +17,7 @@ const MAX_HEAP: u8 = 100;
 pub struct Countdown {
     pub size: u8,
     pub ghost some: { 1 ≤ size },
-    pub ghost few: { size ≤ MAX_HEAP },
+    pub ghost few: { size ≤ max_heap },
 }
 
 /// A move: to take none, one or two.
@@ -49,7 +49,7 @@ pub struct Position {
 impl Countdown {
     /// The game that begins with a heap of `size`: `Some` for 1 to 100.
     pub fn new(size: u8) -> Option<Countdown>
-        ensures some { IsSome result ↔ ((1 ≤ size) × (size ≤ MAX_HEAP)) }
+        ensures some { IsSome result ↔ ((1 ≤ size) × (size ≤ max_heap)) }
         ensures value { IfSome result (λ g. g.size ≡ size) }
     {
         if size >= 1 && size <= MAX_HEAP {
