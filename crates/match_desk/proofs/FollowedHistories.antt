@@ -12,8 +12,8 @@ use Rattle.match_book.specs.Steps.{new_match, refusal, with_answer, after_answer
 use Rattle.match_book.specs.declared.setup.Setup.{Setup}
 use Rattle.match_book.specs.declared.answer.Answer.{Answer}
 use Rattle.match_book.specs.declared.answer.Answer.TheVariants.{Text}
-use Rattle.match_book.specs.declared.answer.AnswerFault.{AnswerFault}
-use Rattle.match_book.specs.declared.answer.AnswerFault.TheVariants.{NoRole, Over, Stale, Twice, Memory}
+use Rattle.match_book.specs.declared.answer.AnswerRefusal.{AnswerRefusal}
+use Rattle.match_book.specs.declared.answer.AnswerRefusal.TheVariants.{NoRole, Over, Stale, Twice}
 use Rattle.match_book.proofs.AnswerLaws.{taken_for_the_round, recorded_moves_are_legal}
 use Rattle.call_history.specs.History.{run, IsLegalHistory, IsReplay}
 use Rattle.call_history.specs.declared.journal.Entry.{Entry}
@@ -73,16 +73,6 @@ find-append-none {M} id (m ∷ ms) ys none = step (bytes_eq id m.value.setup.id)
     step : (b : Bool) → (if b then Some m else find (has_id id) (ms ++ ys)) ≡ None → (find (has_id id) (ms ++ ys) ≡ None → find (has_id id) ms ≡ None) → (if b then Some m else find (has_id id) ms) ≡ None
     step true none later = absurd cc
     step false none later = later none
-
-not_memory : {S M : Type 0} (g : Rules S M) (m : MatchValue M) (role n : ℕ) → refusal g m role n ≢ Some Memory
-not_memory g m role n e = step (nat_lt role g.roles) (is_over g m) (n == round g m) (has_answered g m role) e
-  where
-    step : (within over here answered : Bool) → (if within then (if over then Some Over else (if here then (if answered then Some Twice else None) else Some (Stale (round g m)))) else Some NoRole) ≢ Some Memory
-    step false over here answered e = cc
-    step true true here answered e = cc
-    step true false false answered e = cc
-    step true false true true e = cc
-    step true false true false e = cc
 
 record IsFollowedMatch {G S M : Type 0} (rules : G → Rules S M) (games : List G) (history : List (Entry Call Reply)) (m : DeskMatch M) : Type 0 where
   game : G
@@ -235,12 +225,11 @@ module _ {G S M : Type 0} (rules : G → Rules S M) (laws : (g : G) → IsLawful
       let here : match_with_id d id ≡ None = ap (option_and_then (game_match d)) none in
       ap is_taken (is ∙ ap (λ (o : Option (GameMatch G M)). unwrap_or (option_map (λ x. answer_reply role round' (rules x.game) x.value) o) (Refused NoMatch)) here)
 
-  refused-not_taken : (f : AnswerFault) → f ≢ Memory → is_taken (refused_or (answer_refused (Some f)) Taken) ≡ false
-  refused-not_taken NoRole ne = refl
-  refused-not_taken Over ne = refl
-  refused-not_taken (Stale n) ne = refl
-  refused-not_taken Twice ne = refl
-  refused-not_taken Memory ne = absurd (ne refl)
+  refused-not_taken : (reason : AnswerRefusal) → is_taken (refused_or (answer_refused (Some reason)) Taken) ≡ false
+  refused-not_taken NoRole = refl
+  refused-not_taken Over = refl
+  refused-not_taken (Stale n) = refl
+  refused-not_taken Twice = refl
 
   mine : (m : DeskMatch M) (g : G) → match_of d id ≡ Some m → slice_get d.games m.game ≡ Some g → bytes_eq id m.value.setup.id ≡ true → IsLawfulMatch (rules g) m.value
       → IsFollowed (rules g) m.value (λ r n. taken_answers m.value.setup.id r n history)
@@ -253,10 +242,9 @@ module _ {G S M : Type 0} (rules : G → Rules S M) (laws : (g : G) → IsLawful
       replied : e.reply ≡ refused_or (answer_refused (refusal (rules g) m.value role round')) Taken
       replied = reply-found m g found is_game
 
-      step : (o : Option AnswerFault) → refusal (rules g) m.value role round' ≡ o → IsFollowed (rules g) (if is_none o then with_answer (rules g) m.value role answer else m.value) (λ r n. taken_answers mid r n (history ++ e ∷ []))
-      step (Some f) refused =
-          let not_memory' : f ≢ Memory = λ w. not_memory (rules g) m.value role round' (refused ∙ ap Some w) in
-          let quiet : is_taken e.reply ≡ false = ap is_taken (replied ∙ ap (λ o. refused_or (answer_refused o) Taken) refused) ∙ refused-not_taken f not_memory' in
+      step : (o : Option AnswerRefusal) → refusal (rules g) m.value role round' ≡ o → IsFollowed (rules g) (if is_none o then with_answer (rules g) m.value role answer else m.value) (λ r n. taken_answers mid r n (history ++ e ∷ []))
+      step (Some reason) refused =
+          let quiet : is_taken e.reply ≡ false = ap is_taken (replied ∙ ap (λ o. refused_or (answer_refused o) Taken) refused) ∙ refused-not_taken reason in
           followed-same (rules g) m.value (λ r n. taken_answers mid r n history) (λ r n. taken_answers mid r n (history ++ e ∷ []))
           (λ r n. quiet-same mid r n history e (gives mid r n ∙ not_taken e.reply (bytes_eq id mid && role == r && round' == n) answer quiet)) follows
       step None free =

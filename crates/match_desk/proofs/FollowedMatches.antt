@@ -14,8 +14,8 @@ use Rattle.match_book.specs.declared.setup.Setup.{Setup}
 use Rattle.match_book.specs.declared.answer.Answer.{Answer}
 use Rattle.match_book.specs.Marks.{mark_of}
 use Rattle.match_book.specs.declared.answer.Mark.{Mark}
-use Rattle.match_book.specs.declared.answer.AnswerFault.{AnswerFault}
-use Rattle.match_book.specs.declared.answer.AnswerFault.TheVariants.{NoRole, Over, Stale, Twice}
+use Rattle.match_book.specs.declared.answer.AnswerRefusal.{AnswerRefusal}
+use Rattle.match_book.specs.declared.answer.AnswerRefusal.TheVariants.{NoRole, Over, Stale, Twice}
 use Rattle.match_book.specs.declared.judgement.Judgement.{Judgement}
 use Rattle.match_book.specs.declared.turn.Turn.{Turn}
 use Rattle.match_book.specs.declared.phase.Cause.TheVariants.{Asked, NoLegal, NoGoal, TooLong}
@@ -318,6 +318,6 @@ module _ {S M : Type 0} (g : Rules S M) (laws : IsLawful g) (m : MatchValue M) (
     pub followed-after_answer : IsFollowed g (after_answer g m role (round g m) answer) new
     followed-after_answer = step (refusal g m role (round g m)) free
       where
-        step : (o : Option AnswerFault) → o ≡ None → IsFollowed g (if is_none o then with_answer_in (stage g m) g m role answer else m) new
+        step : (o : Option AnswerRefusal) → o ≡ None → IsFollowed g (if is_none o then with_answer_in (stage g m) g m role answer else m) new
         step None e = followed-in (stage g m) refl
         step (Some f) e = absurd cc

@@ -1,10 +1,11 @@
 -- Replies that are no refusals.
-use Rattle.std.proofs.Common.{◌≡◌, ℕ, false, Option, Some, None, List, ap, sym, ◌∙◌}
-use Rattle.std.specs.Prelude.{option_map, unwrap_or}
+use Rattle.std.proofs.Common.{◌≡◌, ℕ, false, Option, Some, None, List, ap, subst, sym, ◌∙◌}
+use Rattle.std.specs.Prelude.{option_map, unwrap_or, IsSomeAnd}
 use Rattle.game_core.specs.Play.{Rules}
 use Rattle.match_book.specs.MatchValue.{GameMatch}
-use Rattle.match_book.specs.Steps.{refusal}
+use Rattle.match_book.specs.Steps.{refusal, MayWantMemory}
 use Rattle.match_desk.specs.ManagerValue.{ManagerValue, match_with_id}
+use Rattle.match_desk.specs.Memory.{AnswerWantsMemory}
 use Rattle.match_desk.specs.Steps.{answer_reply, answer_refused, refused_or, reply_of, is_refused}
 use Rattle.match_desk.specs.declared.call.Reply.TheVariants.{Taken, Refused}
 use Rattle.match_desk.specs.declared.call.Refusal.TheVariants.{NoMatch}
@@ -15,3 +16,8 @@ pub accepted-answer : {G S M : Type 0} (rules : G → Rules S M) (d : ManagerVal
 accepted-answer {G} {S} {M} rules d id role round m found none =
     ap (λ (o : Option (GameMatch G M)). is_refused (unwrap_or (option_map (λ x. answer_reply role round (rules x.game) x.value) o) (Refused NoMatch))) (sym found)
     ∙ ap (λ o. is_refused (refused_or (answer_refused o) Taken)) none
+
+-- where taking the answer may want memory, the match with this id may
+pub answer_wants_memory : {G S M : Type 0} (rules : G → Rules S M) (d : ManagerValue G M) (id : List ℕ) (role : ℕ) (m : GameMatch G M) → Some m ≡ match_with_id d id
+    → MayWantMemory (rules m.game) m.value role → AnswerWantsMemory rules d id role
+answer_wants_memory {G} {S} {M} rules d id role m found may = subst (λ (o : Option (GameMatch G M)). IsSomeAnd o (λ x. MayWantMemory (rules x.game) x.value role)) found may

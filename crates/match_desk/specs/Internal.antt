@@ -1,4 +1,4 @@
 -- What private functions and proofs alone cite: nothing in it needs to be believed.
 pub mod Slots
-pub mod Given
+pub mod AskedSetups
 pub mod StepLaws

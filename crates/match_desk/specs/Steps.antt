@@ -8,8 +8,8 @@ use Rattle.match_book.specs.Steps.{refusal, after_answer, after_abort}
 use Rattle.match_book.specs.declared.setup.Setup.{Setup}
 use Rattle.match_book.specs.declared.answer.Answer.{Answer}
 use Rattle.match_book.specs.declared.answer.Answer.TheVariants.{Text, Silent, Broken}
-use Rattle.match_book.specs.declared.answer.AnswerFault.{AnswerFault}
-use Rattle.match_book.specs.declared.answer.AnswerFault.TheVariants.{NoRole as FaultNoRole, Over as FaultOver, Stale as FaultStale, Twice as FaultTwice, Memory}
+use Rattle.match_book.specs.declared.answer.AnswerRefusal.{AnswerRefusal}
+use Rattle.match_book.specs.declared.answer.AnswerRefusal.TheVariants.{NoRole as MatchNoRole, Over as MatchOver, Stale as MatchStale, Twice as MatchTwice}
 use Rattle.match_desk.specs.ManagerValue.{ManagerValue, DeskMatch, has_id, game_of, match_with_id}
 use Rattle.match_desk.specs.Open.{open_refusal, after_open}
 use Rattle.match_desk.specs.declared.call.Call.{Call}
@@ -41,14 +41,13 @@ abbrev pub refused_or : Option Refusal → Reply → Reply
 refused_or None reply = reply
 refused_or (Some reason) reply = Refused reason
 
--- The match's own refusal of an answer. Want of memory is no refusal of a match.
-abbrev pub answer_refused : Option AnswerFault → Option Refusal
+-- the match's own refusal of an answer
+abbrev pub answer_refused : Option AnswerRefusal → Option Refusal
 answer_refused None = None
-answer_refused (Some FaultNoRole) = Some NoRole
-answer_refused (Some FaultOver) = Some Over
-answer_refused (Some (FaultStale n)) = Some (Stale n)
-answer_refused (Some FaultTwice) = Some Twice
-answer_refused (Some Memory) = None
+answer_refused (Some MatchNoRole) = Some NoRole
+answer_refused (Some MatchOver) = Some Over
+answer_refused (Some (MatchStale n)) = Some (Stale n)
+answer_refused (Some MatchTwice) = Some Twice
 
 -- the replies of a match, by its rules
 abbrev pub next_reply : {S M : Type 0} → ℕ → Rules S M → MatchValue M → Reply

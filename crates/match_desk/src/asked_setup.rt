@@ -1,6 +1,6 @@
 //! What an `Open` carries.
 ghost use Rattle.std.specs.Prelude.{◌≡◌, IfOk};
-ghost use Rattle.match_desk.specs.Internal.Given.{asked_setup};
+ghost use Rattle.match_desk.specs.Internal.AskedSetups.{asked_setup};
 ghost use Rattle.match_desk.specs.declared.call.Call.TheVariants.{Open};
 
 use crate::call::Call;

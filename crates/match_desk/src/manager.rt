@@ -1,19 +1,21 @@
 //! The manager of all matches.
 ghost use Rattle.std.specs.Prelude.{◌≡◌, [], false, None, IfOk, IfSome, OnOk, OnErr, length, slice_get, is_some, option_copied, option_map, option_and_then};
+ghost use Rattle.match_book.specs.Marks.{answer_lent};
 ghost use Rattle.match_book.specs.Steps.{after_answer, after_abort};
 ghost use Rattle.match_desk.specs.ManagerValue.{game_of, game_match, match_of, match_with_id, IsLawfulManager};
+ghost use Rattle.match_desk.specs.Memory.{CarriesTexts, AnswerWantsMemory, WantsMemory};
 ghost use Rattle.match_desk.specs.Open.{open_refusal, after_open};
-ghost use Rattle.match_desk.specs.Internal.Given.{asked_setup, answer_given};
+ghost use Rattle.match_desk.specs.Internal.AskedSetups.{asked_setup};
 ghost use Rattle.match_desk.specs.Steps.{next_reply, answer_reply, query_reply, abort_reply, reply_of, refused_or, is_refused, with_change};
 ghost use Rattle.match_desk.specs.declared.call.Reply.TheVariants.{Opened};
 
 use crate::asked_setup::AskedSetup;
 use crate::call::{Call, Refusal, Reply};
-use crate::slot::{self, GivenAnswer, Slot};
+use crate::slot::{self, Slot};
 use call_history::Object;
 use game_core::Game;
 use indexmap::IndexMap;
-use match_book::{Match, are_clocks, are_names, is_name};
+use match_book::{LentAnswer, Match, are_clocks, are_names, is_name};
 use std::alloc::{AllocError, Global};
 use std::marker::Model;
 
@@ -174,6 +176,7 @@ impl<G: Game> Manager<G> {
     fn next_reply(&self, alloc: Global, id: &[u8], role: usize) -> Result<Reply, AllocError>
         ensures reply { IfOk result (λ r. r ≡ reply_of G.rules self.now id.now (next_reply role)) }
         ensures accepted { OnErr result (is_refused (reply_of G.rules self.now id.now (next_reply role)) ≡ false) }
+        ensures memory { OnErr result (CarriesTexts (reply_of G.rules self.now id.now (next_reply role))) }
     {
         match self.game_and_match(id) {
             Some((game, held)) => slot::next_reply(alloc, game, held, role),
@@ -218,11 +221,12 @@ impl<G: Game> Manager<G> {
         id: &[u8],
         role: usize,
         round: u64,
-        given: &GivenAnswer<'_>,
+        given: &LentAnswer<'_>,
     ) -> Result<(), AllocError>
-        ensures ok { OnOk result (self.new ≡ with_change G.rules self.old id.now (λ g m. after_answer g m role round (answer_given given.now))) }
+        ensures ok { OnOk result (self.new ≡ with_change G.rules self.old id.now (λ g m. after_answer g m role round (answer_lent given.now))) }
         ensures err { OnErr result (self.new ≡ self.old) }
         ensures accepted { OnErr result (is_refused (reply_of G.rules self.old id.now (answer_reply role round)) ≡ false) }
+        ensures memory { OnErr result (AnswerWantsMemory G.rules self.old id.now role) }
     {
         let Some(slot) = self.matches.get_mut(id) else {
             return Ok(());
@@ -260,8 +264,9 @@ impl<G: Game> Object for Manager<G> {
 
     fn answer(&self, alloc: Global, call: &Call) -> Result<Reply, AllocError>
         ensures reply { IfOk result (λ r. r ≡ reply G.rules self.now call.now) }
-        // A refused call wants no memory.
+        // A refused call wants no memory, and of the others those alone that are told moves' texts.
         ensures accepted { OnErr result (is_refused (reply G.rules self.now call.now) ≡ false) }
+        ensures memory { OnErr result (CarriesTexts (reply G.rules self.now call.now)) }
     {
         match call {
             Call::Open {
@@ -292,8 +297,9 @@ impl<G: Game> Object for Manager<G> {
     fn apply(&mut self, alloc: Global, call: &Call) -> Result<(), AllocError>
         ensures ok { OnOk result (self.new ≡ after G.rules self.old call.now) }
         ensures err { OnErr result (self.new ≡ self.old) }
-        // A refused call wants no memory.
+        // A refused call wants no memory, and of the others those alone that open a match or take an answer into a turn.
         ensures accepted { OnErr result (is_refused (reply G.rules self.old call.now) ≡ false) }
+        ensures memory { OnErr result (WantsMemory G.rules self.old call.now) }
     {
         match call {
             Call::Open {
@@ -309,7 +315,7 @@ impl<G: Game> Object for Manager<G> {
                 round,
                 text,
             } => {
-                let given = GivenAnswer::Text(text);
+                let given = LentAnswer::Text(text);
                 self.take_answer(alloc, id.as_slice(), *role, *round, &given)
             }
             Call::Miss {
@@ -318,7 +324,7 @@ impl<G: Game> Object for Manager<G> {
                 round,
                 broken,
             } => {
-                let given = GivenAnswer::Missed { broken: *broken };
+                let given = slot::missed(*broken);
                 self.take_answer(alloc, id.as_slice(), *role, *round, &given)
             }
             Call::Abort { id } => {

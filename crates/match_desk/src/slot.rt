@@ -1,12 +1,13 @@
 //! One match of the desk.
 ghost use Rattle.std.specs.Prelude.{◌≡◌, false, None, IfOk, OnErr, OnOk};
-ghost use Rattle.match_book.specs.Steps.{refusal, after_answer, after_abort};
-ghost use Rattle.match_desk.specs.Internal.Given.{answer_given};
+ghost use Rattle.match_book.specs.Marks.{answer_lent};
+ghost use Rattle.match_book.specs.Steps.{refusal, after_answer, after_abort, MayWantMemory};
+ghost use Rattle.match_desk.specs.Memory.{CarriesTexts};
 ghost use Rattle.match_desk.specs.Steps.{next_reply, answer_reply, query_reply, abort_reply, missed, is_refused};
 
 use crate::call::{Refusal, Reply};
-use game_core::{Game, Text};
-use match_book::{Answer, AnswerFault, Match, OwedFault, Phase};
+use game_core::Game;
+use match_book::{AnswerRefusal, LentAnswer, Match, OwedFault, Phase};
 use std::alloc::{AllocError, Global};
 
 /// A match, and the number of its game.
@@ -14,25 +15,6 @@ use std::alloc::{AllocError, Global};
 pub struct Slot<G: Game> {
     pub game: usize,
     pub held: Match<G>,
-}
-
-/// An answer as a call gives it: its text is the call's own.
-#[derive(Clone, Copy)]
-pub enum GivenAnswer<'a> {
-    Text(&'a Text),
-    Missed { broken: bool },
-}
-
-impl<'a> GivenAnswer<'a> {
-    /// The answer, in memory of its own.
-    fn to_answer(&self, alloc: Global) -> Result<Answer, AllocError>
-        ensures { IfOk result (λ answer. answer ≡ answer_given self.now) }
-    {
-        match self {
-            GivenAnswer::Text(text) => Ok(Answer::Text(text.copy(alloc)?)),
-            GivenAnswer::Missed { broken } => Ok(missed(*broken)),
-        }
-    }
 }
 
 /// What is due to a role, as a reply.
@@ -45,6 +27,7 @@ pub fn next_reply<G: Game>(
     requires { held.now.game ≡ game.now }
     ensures reply { IfOk result (λ r. r ≡ next_reply role (G.rules game.now) held.now.value) }
     ensures accepted { OnErr result (is_refused (next_reply role (G.rules game.now) held.now.value) ≡ false) }
+    ensures memory { OnErr result (CarriesTexts (next_reply role (G.rules game.now) held.now.value)) }
 {
     match held.owed(alloc, game, role) {
         Ok(due) => Ok(Reply::Due(due)),
@@ -59,12 +42,10 @@ pub fn answer_reply<G: Game>(held: &Match<G>, role: usize, round: u64) -> Reply
 {
     let refusal = match held.refusal(role, round) {
         None => return Reply::Taken,
-        Some(AnswerFault::NoRole) => Refusal::NoRole,
-        Some(AnswerFault::Over) => Refusal::Over,
-        Some(AnswerFault::Stale(now)) => Refusal::Stale(now),
-        Some(AnswerFault::Twice) => Refusal::Twice,
-        // A match refuses no answer for want of memory.
-        Some(AnswerFault::Memory) => unreachable!(),
+        Some(AnswerRefusal::NoRole) => Refusal::NoRole,
+        Some(AnswerRefusal::Over) => Refusal::Over,
+        Some(AnswerRefusal::Stale(now)) => Refusal::Stale(now),
+        Some(AnswerRefusal::Twice) => Refusal::Twice,
     };
     Reply::Refused(refusal)
 }
@@ -93,21 +74,17 @@ pub fn take_answer<G: Game>(
     held: &mut Match<G>,
     role: usize,
     round: u64,
-    given: &GivenAnswer<'_>,
+    given: &LentAnswer<'_>,
 ) -> Result<(), AllocError>
     requires { held.old.game ≡ game.now }
     ensures game { held.new.game ≡ held.old.game }
-    ensures ok { OnOk result (held.new.value ≡ after_answer (G.rules held.old.game) held.old.value role round (answer_given given.now)) }
+    ensures ok { OnOk result (held.new.value ≡ after_answer (G.rules held.old.game) held.old.value role round (answer_lent given.now)) }
     ensures err { OnErr result (held.new ≡ held.old) }
     ensures accepted { OnErr result (refusal (G.rules held.old.game) held.old.value role round ≡ None) }
+    ensures memory { OnErr result (MayWantMemory (G.rules held.old.game) held.old.value role) }
 {
-    // An answer that is refused wants no memory, so the copy comes after the test.
-    if held.refusal(role, round).is_some() {
-        return Ok(());
-    }
-    let answer = given.to_answer(alloc)?;
-    held.answer(alloc, game, role, round, answer)
-        .map_err(|_| AllocError)
+    let _ = held.offer(alloc, game, role, round, given)?;
+    Ok(())
 }
 
 /// Aborts the match, where it is neither stopping nor aborting.
@@ -119,12 +96,12 @@ pub fn take_abort<G: Game>(held: &mut Match<G>)
 }
 
 /// The answer that a miss stands for.
-pub fn missed(broken: bool) -> Answer
-    ensures { result ≡ missed broken }
+pub fn missed<'a>(broken: bool) -> LentAnswer<'a>
+    ensures { answer_lent result ≡ missed broken }
 {
     if broken {
-        Answer::Broken
+        LentAnswer::Broken
     } else {
-        Answer::Silent
+        LentAnswer::Silent
     }
 }

@@ -128,12 +128,18 @@ fn open_match<G: Game, L: Ledger, R: Wait>(
     ensures number { line.new.number ≡ line.old.number }
     ensures made { OnOk result (line.new.made ≡ line.old.made + 1) }
 {
+    let Setup {
+        id,
+        start,
+        play,
+        players,
+    } = setup;
     let call = Call::Open {
-        id: setup.id,
+        id,
         game: 0,
-        start: setup.start,
-        play: setup.play,
-        players: setup.players,
+        start,
+        play,
+        players,
     };
     match desk.ask(rt, line, call)? {
         Reply::Refused(refusal) => Err(RefereeFault::Refused(refusal)),
@@ -261,7 +267,7 @@ where
 /// is closed. What it leaves is known as of any closed desk of matches: the history, replayed call by call on a manager of one
 /// thread from the games without a match, gives every kept reply and the manager as it stands, and holds as many calls as the
 /// lines made; each match is lawful, its recorded moves were legal, and the history took exactly one answer for each of them, of
-/// which the move and its error are the judgement.
+/// which the move and its error are the judgement. Of each player it is known what it was told, and how attending it ended.
 pub fn referee<G, P, R>(
     rt: &R,
     alloc: Global,

@@ -2,7 +2,7 @@ use Rattle.std.proofs.Common.{◌∙◌, Result, Ok, Err, OnErr}
 use Rattle.std.specs.Prelude.{bytes_eq}
 use Rattle.indexmap.proofs.CallerLemmas.{insert_entry-new}
 use Rattle.match_desk.specs.Open.{open_refusal}
-use Rattle.match_desk.specs.Internal.Given.{asked_setup}
+use Rattle.match_desk.specs.Internal.AskedSetups.{asked_setup}
 use Rattle.match_desk.proofs.OpenTests.{not_refused}
 use Rattle.match_desk.proofs.NewMatches.{index-none, one_each, value-opened, kept-opened}
 use Rattle.match_desk.proofs.manager.Manager.open.Goals as goal
