@@ -16,8 +16,8 @@ use Rattle.match_book.specs.Steps.{refusal, turn_of, with_answer_in, with_answer
 use Rattle.match_book.specs.Laws.{NewMatchIsLawful, AnswersKeepLawful, AbortKeepsLawful, RecordedMovesAreLegal, NoErrorMeansNamed, IsPlayed, AnswersInPlay, AnswersOutOfPlay, TakenForTheRound}
 use Rattle.match_book.specs.declared.answer.Answer.{Answer}
 use Rattle.match_book.specs.declared.answer.Answer.TheVariants.{Text, Silent, Broken}
-use Rattle.match_book.specs.declared.answer.AnswerFault.{AnswerFault}
-use Rattle.match_book.specs.declared.answer.AnswerFault.TheVariants.{NoRole, Over, Stale, Twice}
+use Rattle.match_book.specs.declared.answer.AnswerRefusal.{AnswerRefusal}
+use Rattle.match_book.specs.declared.answer.AnswerRefusal.TheVariants.{NoRole, Over, Stale, Twice}
 use Rattle.match_book.specs.declared.judgement.Judgement.{Judgement}
 use Rattle.match_book.specs.declared.judgement.Substitution.{Substitution}
 use Rattle.match_book.specs.declared.judgement.Substitution.TheVariants.{TimeOut, ConnectionError, Unreadable, Illegal}
@@ -92,11 +92,11 @@ module _ {S M : Type 0} (g : Rules S M) (laws : IsLawful g) (m : MatchValue M) (
 pub answers_keep_lawful : {S M : Type 0} (g : Rules S M) → IsLawful g → AnswersKeepLawful g
 answers_keep_lawful {S} {M} g laws m role n answer lawful = step (refusal g m role n) refl
   where
-    step : (o : Option AnswerFault) → refusal g m role n ≡ o → IsLawfulMatch g (if is_none o then with_answer g m role answer else m)
+    step : (o : Option AnswerRefusal) → refusal g m role n ≡ o → IsLawfulMatch g (if is_none o then with_answer g m role answer else m)
     step None e = with_answer-lawful g laws m lawful role (taken g m role n e).0 answer
     step (Some f) e = lawful
 
-taken_or_same : {M : Type 0} (o : Option AnswerFault) (m n : MatchValue M) → o ≡ None → (if is_none o then n else m) ≡ n
+taken_or_same : {M : Type 0} (o : Option AnswerRefusal) (m n : MatchValue M) → o ≡ None → (if is_none o then n else m) ≡ n
 taken_or_same None m n e = refl
 taken_or_same (Some f) m n e = absurd cc
 
@@ -110,7 +110,7 @@ answers_in_play {S} {M} g laws m role n answer lawful playing none =
 pub answers_out_of_play : {S M : Type 0} (g : Rules S M) → AnswersOutOfPlay g
 answers_out_of_play {S} {M} g m role n answer out = step (refusal g m role n) (stage g m) out
   where
-    step : (o : Option AnswerFault) (at : Stage) → at ≢ Playing
+    step : (o : Option AnswerRefusal) (at : Stage) → at ≢ Playing
         → ((if is_none o then with_answer_in at g m role answer else m).turns ≡ m.turns) × ((if is_none o then with_answer_in at g m role answer else m).open_answers ≡ m.open_answers)
     step (Some f) at out = (refl, refl)
     step None Starting out = (refl, refl)

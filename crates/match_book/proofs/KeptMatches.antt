@@ -2,16 +2,17 @@
 use Rattle.std.proofs.Common.{◌≡◌, ◌≢◌, ℕ, ◌+◌, ◌*◌, ◌<◌, ◌≤◌, true, false, eqb, Option, Some, None, List, [], ◌∷◌, ◌++◌, length, set, refl, arith, ap, sym, ◌∙◌, subst, length-append}
 use Rattle.std.proofs.lemmas.List.Sums.{sum_by_push}
 use Rattle.std.proofs.lemmas.Bool.Decides.{nat_tests}
-use Rattle.std.specs.Prelude.{IsSome, IfSome, slice_index_or, count_by}
+use Rattle.std.specs.Prelude.{All, IsSome, IfSome, is_some, slice_index_or, count_by}
 use Rattle.game_core.specs.Play.{Rules, IsLawful, IsJoint, max_roles}
-use Rattle.match_book.specs.Roles.{every_role, count_roles, at_role, is_there, blank}
-use Rattle.match_book.specs.Judgement.{judgement, IsJudged}
+use Rattle.match_book.specs.Roles.{every_role, at_role, is_there, blank}
+use Rattle.match_book.specs.Judgement.{judged_answer, judgement, IsJudged}
 use Rattle.match_book.specs.MatchValue.{MatchValue, GameMatch, state_after, substitutions, is_error}
 use Rattle.match_book.specs.Phase.{stage, settled, answered_in, goal_in, is_live, max_turns}
+use Rattle.match_book.specs.LegalMoves.{AreLegalMoves}
 use Rattle.match_book.specs.Lawful.{IsLawfulTurn, IsLawfulMatch}
-use Rattle.match_book.specs.Searches.{AreMoves}
-use Rattle.match_book.specs.Steps.{new_match, with_abort, with_start_mark, with_end_mark, with_open_answer, turn_of}
-use Rattle.match_book.specs.Kept.{IsKept}
+use Rattle.match_book.specs.Internal.OpenAnswers.{AreMoves}
+use Rattle.match_book.specs.Steps.{new_match, with_abort, with_start_mark, with_end_mark, with_open_answer, turn_of, IsLastToStart}
+use Rattle.match_book.specs.Internal.Kept.{count_roles, IsKept}
 use Rattle.match_book.specs.declared.setup.Setup.{Setup}
 use Rattle.match_book.specs.declared.answer.Answer.{Answer}
 use Rattle.match_book.specs.declared.answer.Mark.{Mark}
@@ -20,7 +21,7 @@ use Rattle.match_book.specs.declared.turn.Turn.{Turn}
 use Rattle.match_book.specs.declared.phase.Cause.TheVariants.{Asked}
 use Rattle.match_book.specs.declared.phase.Stage.{Stage}
 use Rattle.match_book.specs.declared.phase.Stage.TheVariants.{Starting, Playing, Stopping, Aborting}
-use Rattle.match_book.proofs.RoleTests.{every_role-but, every_role-count, count-blank, count-set, count_roles-none, count_roles-le, is_there-blank}
+use Rattle.match_book.proofs.RoleTests.{every_role-but, every_role-at, every_role-count, at_role-other, count-blank, count-set, count_roles-none, count_roles-le, is_there-blank}
 use Rattle.match_book.proofs.Stages.{stage-by, stage-asked, stage-starting, stage-settled, live-not_asked, settled-not_starting, goal_in-live, answered_in-none, playing-settled}
 use Rattle.match_book.proofs.Judgements.{Contains-move}
 use Rattle.match_book.proofs.TurnParts.{at_role-read}
@@ -36,7 +37,7 @@ all_there c n le ge = grind (arith, nat_tests)
 pub game_match : {G M : Type 0} (x : G) (b c : MatchValue M) → b ≡ c → ◌≡◌ {A = GameMatch G M} (record { game = x; value = b }) (record { game = x; value = c })
 game_match {G} {M} x b c e = let f : MatchValue M → GameMatch G M = λ y. record { game = x; value = y } in ap f e
 
-pub kept-new_match : {S M : Type 0} (g : Rules S M) → IsLawful g → (setup : Setup) → length setup.players ≡ g.roles → IsKept g (new_match {M = M} g setup) g.initial Starting 0 0 []
+pub kept-new_match : {S M : Type 0} (g : Rules S M) → IsLawful g → (setup : Setup) → length setup.players ≡ g.roles → IsKept g (new_match {M = M} g setup) g.initial Starting 0 0 [] []
 kept-new_match {S} {M} g laws setup players =
     let missing : every_role g.roles (is_there {A = Mark} (blank g.roles)) ≡ false = every_role-but g.roles 0 (is_there (blank g.roles)) laws.some_role (is_there-blank Mark g.roles 0) in
     record {
@@ -46,15 +47,16 @@ kept-new_match {S} {M} g laws setup players =
       stage_is = sym (stage-starting g (new_match g setup) refl missing);
       answered_is = sym (count-blank Mark g.roles);
       substituted_is = refl;
+      legal_are = λ e. absurd cc;
       goals_are = λ r lt. refl;
     }
 
 -- a round that the settling rule begins
-kept-settled : {S M : Type 0} (g : Rules S M) (laws : IsLawful g) (m : MatchValue M) (s : S) (at : Stage) (substituted : ℕ) (goals : List (Option ℕ)) → IsLawfulMatch g m
+kept-settled : {S M : Type 0} (g : Rules S M) (laws : IsLawful g) (m : MatchValue M) (s : S) (at : Stage) (substituted : ℕ) (legal : List (List M)) (goals : List (Option ℕ)) → IsLawfulMatch g m
     → m.abort_asked ≡ false → every_role g.roles (is_there m.start_marks) ≡ true → m.open_answers ≡ blank g.roles → m.end_marks ≡ blank g.roles
-    → s ≡ state_after g m.turns → at ≡ settled g (length m.turns) s → substituted ≡ substitutions m.turns → ((r : ℕ) → r < g.roles → at_role goals r ≡ goal_in at g s r)
-    → IsKept g m s at 0 substituted goals
-kept-settled {S} {M} g laws m s at substituted goals lawful asked all answers ends state settles total are =
+    → s ≡ state_after g m.turns → at ≡ settled g (length m.turns) s → substituted ≡ substitutions m.turns → (at ≡ Playing → AreLegalMoves g s legal) → ((r : ℕ) → r < g.roles → at_role goals r ≡ goal_in at g s r)
+    → IsKept g m s at 0 substituted legal goals
+kept-settled {S} {M} g laws m s at substituted legal goals lawful asked all answers ends state settles total moves are =
     let now : stage g m ≡ at = stage-settled g m asked all ∙ ap (settled g (length m.turns)) (sym state) ∙ sym settles in
     let not_start : at ≢ Starting = λ e. settled-not_starting g (length m.turns) s (sym settles ∙ e) in
     record {
@@ -64,10 +66,11 @@ kept-settled {S} {M} g laws m s at substituted goals lawful asked all answers en
       stage_is = sym now;
       answered_is = sym (count_roles-none g.roles (answered_in at m) (λ k lt. answered_in-none at m g.roles k not_start answers ends));
       substituted_is = total;
+      legal_are = moves;
       goals_are = are;
     }
 
-module _ {S M : Type 0} (g : Rules S M) (laws : IsLawful g) {m : MatchValue M} {s : S} {at : Stage} {answered substituted : ℕ} {goals : List (Option ℕ)} (kept : IsKept g m s at answered substituted goals) where
+module _ {S M : Type 0} (g : Rules S M) (laws : IsLawful g) {m : MatchValue M} {s : S} {at : Stage} {answered substituted : ℕ} {legal : List (List M)} {goals : List (Option ℕ)} (kept : IsKept g m s at answered substituted legal goals) where
   -- there are few roles to answer
   pub answered-few : answered ≤ max_roles
   answered-few = let few = count_roles-le g.roles (answered_in at m) in let e = kept.answered_is in let roles = laws.few_roles in omega arith
@@ -75,8 +78,8 @@ module _ {S M : Type 0} (g : Rules S M) (laws : IsLawful g) {m : MatchValue M} {
   pub substituted-few : substituted ≤ max_turns * max_roles
   substituted-few = let few = substitutions-few g laws m.turns kept.lawful.turns in let long = kept.lawful.few_turns in let e = kept.substituted_is in omega arith
 
-  pub kept-with_abort : is_live at ≡ true → IsKept g (with_abort g m) s (Aborting Asked) 0 substituted goals
-  kept-with_abort live =
+  pub kept-with_abort : (lists : List (List M)) → is_live at ≡ true → IsKept g (with_abort g m) s (Aborting Asked) 0 substituted lists goals
+  kept-with_abort lists live =
       let live_now : is_live (stage g m) ≡ true = rw (← kept.stage_is) live in
       record {
         lawful = lawful-with_abort g laws m kept.lawful live_now;
@@ -85,6 +88,7 @@ module _ {S M : Type 0} (g : Rules S M) (laws : IsLawful g) {m : MatchValue M} {
         stage_is = sym (stage-asked g (with_abort g m) refl);
         answered_is = rw (kept.lawful.ends_at_end live_now) (sym (count-blank Mark g.roles));
         substituted_is = kept.substituted_is;
+        legal_are = λ e. absurd cc;
         goals_are = λ r lt. kept.goals_are r lt ∙ goal_in-live g at s r live;
       }
 
@@ -95,7 +99,7 @@ module _ {S M : Type 0} (g : Rules S M) (laws : IsLawful g) {m : MatchValue M} {
     ended_count Stopping e free = count-set m.end_marks g.roles r mark kept.lawful.one_end_mark lt free
     ended_count (Aborting c) e free = count-set m.end_marks g.roles r mark kept.lawful.one_end_mark lt free
 
-    pub kept-with_end_mark : is_live at ≡ false → is_there m.end_marks r ≡ false → IsKept g (with_end_mark m r mark) s at (answered + 1) substituted goals
+    pub kept-with_end_mark : is_live at ≡ false → is_there m.end_marks r ≡ false → IsKept g (with_end_mark m r mark) s at (answered + 1) substituted legal goals
     kept-with_end_mark ended free =
         let ended_now : is_live (stage g m) ≡ false = rw (← kept.stage_is) ended in
         let same : stage g (with_end_mark m r mark) ≡ stage g m = stage-by g m (with_end_mark m r mark) refl refl refl in
@@ -106,6 +110,7 @@ module _ {S M : Type 0} (g : Rules S M) (laws : IsLawful g) {m : MatchValue M} {
           stage_is = kept.stage_is ∙ sym same;
           answered_is = sym (ended_count at ended free ∙ ap (λ n. n + 1) (sym kept.answered_is));
           substituted_is = kept.substituted_is;
+          legal_are = kept.legal_are;
           goals_are = kept.goals_are;
         }
 
@@ -122,7 +127,7 @@ module _ {S M : Type 0} (g : Rules S M) (laws : IsLawful g) {m : MatchValue M} {
           ∙ ap (λ n. n + 1) (sym (kept.answered_is ∙ ap (λ (x : Stage). count_roles g.roles (answered_in x m)) starting))
 
       -- a START mark that is not the last
-      pub kept-with_start_mark : answered + 1 < g.roles → IsKept g (with_start_mark m r mark) s at (answered + 1) substituted goals
+      pub kept-with_start_mark : answered + 1 < g.roles → IsKept g (with_start_mark m r mark) s at (answered + 1) substituted legal goals
       kept-with_start_mark not_last =
           let missing : every_role g.roles (is_there (with_start_mark m r mark).start_marks) ≡ false = every_role-count g.roles (is_there (with_start_mark m r mark).start_marks) ∙ rw start_count (not_all (answered + 1) g.roles not_last) in
           record {
@@ -132,19 +137,25 @@ module _ {S M : Type 0} (g : Rules S M) (laws : IsLawful g) {m : MatchValue M} {
             stage_is = starting ∙ sym (stage-starting g (with_start_mark m r mark) asked missing);
             answered_is = subst (λ (x : Stage). answered + 1 ≡ count_roles g.roles (answered_in x (with_start_mark m r mark))) (sym starting) (sym start_count);
             substituted_is = kept.substituted_is;
+            legal_are = kept.legal_are;
             goals_are = kept.goals_are;
           }
 
-      -- the last START mark
-      pub kept-with_last_start_mark : (to : Stage) (are : List (Option ℕ)) → g.roles ≤ answered + 1 → to ≡ settled g (length m.turns) s → ((k : ℕ) → k < g.roles → at_role are k ≡ goal_in to g s k)
-          → IsKept g (with_start_mark m r mark) s to 0 substituted are
-      kept-with_last_start_mark to are last settles goals_are =
+      all_started : g.roles ≤ answered + 1 → every_role g.roles (is_there (with_start_mark m r mark).start_marks) ≡ true
+      all_started last =
           let few = count_roles-le g.roles (is_there (with_start_mark m r mark).start_marks) in
-          let all : every_role g.roles (is_there (with_start_mark m r mark).start_marks) ≡ true =
           every_role-count g.roles (is_there (with_start_mark m r mark).start_marks) ∙ rw start_count (all_there (answered + 1) g.roles (rw start_count at few) last)
-          in
-          kept-settled g laws (with_start_mark m r mark) s to substituted are (lawful-with_start_mark g laws m kept.lawful r mark starting_now) asked all
-          (kept.lawful.answers_in_play (rw starting_now refl)) (kept.lawful.ends_at_end (rw starting_now refl)) kept.state_is settles kept.substituted_is goals_are
+
+      pub last-to_start : g.roles ≤ answered + 1 → IsLastToStart g m r
+      last-to_start last =
+          (starting_now, λ k below other. sym (ap is_some (at_role-other m.start_marks r k (Some mark) other)) ∙ every_role-at g.roles k (is_there (with_start_mark m r mark).start_marks) (all_started last) below)
+
+      -- the last START mark
+      pub kept-with_last_start_mark : (to : Stage) (lists : List (List M)) (are : List (Option ℕ)) → g.roles ≤ answered + 1 → to ≡ settled g (length m.turns) s → (to ≡ Playing → AreLegalMoves g s lists) → ((k : ℕ) → k < g.roles → at_role are k ≡ goal_in to g s k)
+          → IsKept g (with_start_mark m r mark) s to 0 substituted lists are
+      kept-with_last_start_mark to lists are last settles moves goals_are =
+          kept-settled g laws (with_start_mark m r mark) s to substituted lists are (lawful-with_start_mark g laws m kept.lawful r mark starting_now) asked (all_started last)
+          (kept.lawful.answers_in_play (rw starting_now refl)) (kept.lawful.ends_at_end (rw starting_now refl)) kept.state_is settles kept.substituted_is moves goals_are
 
   module _ (playing : at ≡ Playing) where
     playing_now : stage g m ≡ Playing
@@ -161,9 +172,26 @@ module _ {S M : Type 0} (g : Rules S M) (laws : IsLawful g) {m : MatchValue M} {
             rw (at_role-read m.open_answers k d within, e) (Contains-move g laws (state_after g m.turns) k j.taken (state_after-is_state g laws m.turns kept.lawful.turns) lt among)
 
     module _ (r : ℕ) (lt : r < g.roles) where
+      -- there is a list for the role
+      pub legal-within : r < length legal
+      legal-within = let wide = (kept.legal_are playing).one_list in omega arith
+
+      -- what stands in the role's place are its legal moves
+      pub legal-at : (moves : List M) → moves ≡ slice_index_or legal r moves → moves ≡ g.legal (state_after g m.turns) r
+      legal-at moves read = read ∙ ((kept.legal_are playing).legal r moves lt ∙ ap (λ x. g.legal x r) kept.state_is)
+
+      pub legal-moves : (moves : List M) → moves ≡ slice_index_or legal r moves → All (λ n. g.IsMove n) moves
+      legal-moves moves read =
+          subst (λ (l : List M). All (λ n. g.IsMove n) l) (sym (legal-at moves read)) (laws.legal_are_moves (state_after g m.turns) r (state_after-is_state g laws m.turns kept.lawful.turns) lt)
+
+      -- what is made of them is the judgement
+      pub judged-is : (moves : List M) (a : Answer) (o : Option (Judgement M)) → moves ≡ slice_index_or legal r moves → o ≡ judged_answer g moves a → o ≡ judgement g (state_after g m.turns) r a
+      unfolding judgement
+      judged-is moves a o read is = is ∙ ap (λ l. judged_answer g l a) (legal-at moves read)
+
       -- each answer is judged
-      pub judged-some : (a : Answer) → IsSome (judgement g s r a)
-      judged-some a = subst (λ (x : S). IsSome (judgement g x r a)) (sym kept.state_is) (answer-judged g laws m kept.lawful playing_now r lt a)
+      pub judged-some : (moves : List M) (a : Answer) (o : Option (Judgement M)) → moves ≡ slice_index_or legal r moves → o ≡ judged_answer g moves a → IsSome o
+      judged-some moves a o read is = subst IsSome (sym (judged-is moves a o read is)) (answer-judged g laws m kept.lawful playing_now r lt a)
 
       module _ (j : Judgement M) (judged : IsJudged g (g.legal (state_after g m.turns) r) j.taken j.error) where
         module _ (free : is_there m.open_answers r ≡ false) where
@@ -181,7 +209,7 @@ module _ {S M : Type 0} (g : Rules S M) (laws : IsLawful g) {m : MatchValue M} {
               ∙ rw answer_count (all_there (answered + 1) g.roles (rw answer_count at (count_roles-le g.roles (is_there (set m.open_answers r (Some j))))) last)
 
           -- an answer that is not the last
-          pub kept-open_answer : answered + 1 < g.roles → IsKept g (record m { open_answers = set m.open_answers r (Some j) }) s at (answered + 1) substituted goals
+          pub kept-open_answer : answered + 1 < g.roles → IsKept g (record m { open_answers = set m.open_answers r (Some j) }) s at (answered + 1) substituted legal goals
           kept-open_answer not_last =
               let same : stage g (record m { open_answers = set m.open_answers r (Some j) }) ≡ stage g m = stage-by g m (record m { open_answers = set m.open_answers r (Some j) }) refl refl refl in
               record {
@@ -191,6 +219,7 @@ module _ {S M : Type 0} (g : Rules S M) (laws : IsLawful g) {m : MatchValue M} {
                 stage_is = kept.stage_is ∙ sym same;
                 answered_is = subst (λ (x : Stage). answered + 1 ≡ count_roles g.roles (answered_in x (record m { open_answers = set m.open_answers r (Some j) }))) (sym playing) (sym answer_count);
                 substituted_is = kept.substituted_is;
+                legal_are = kept.legal_are;
                 goals_are = kept.goals_are;
               }
 
@@ -214,14 +243,14 @@ module _ {S M : Type 0} (g : Rules S M) (laws : IsLawful g) {m : MatchValue M} {
           recorded_errors-few t turn = turn_errors-few g laws m.turns t (subst (λ (x : Turn M). IsLawfulTurn g m.turns x) (sym turn) turn-lawful)
 
           -- the last answer: a turn, and the settling rule
-          pub kept-recorded : (t : Turn M) (next : S) (to : Stage) (total : ℕ) (are : List (Option ℕ)) → t ≡ turn_of (set m.open_answers r (Some j)) → next ≡ g.next s t.moves
-              → to ≡ settled g (length m.turns + 1) next → total ≡ substituted + count_by is_error t.errors → ((k : ℕ) → k < g.roles → at_role are k ≡ goal_in to g next k)
-              → IsKept g (record m { turns = m.turns ++ t ∷ []; open_answers = blank g.roles }) next to 0 total are
-          kept-recorded t next to total are turn is_next is_to is_total goals_are =
+          pub kept-recorded : (t : Turn M) (next : S) (to : Stage) (total : ℕ) (lists : List (List M)) (are : List (Option ℕ)) → t ≡ turn_of (set m.open_answers r (Some j)) → next ≡ g.next s t.moves
+              → to ≡ settled g (length m.turns + 1) next → total ≡ substituted + count_by is_error t.errors → (to ≡ Playing → AreLegalMoves g next lists) → ((k : ℕ) → k < g.roles → at_role are k ≡ goal_in to g next k)
+              → IsKept g (record m { turns = m.turns ++ t ∷ []; open_answers = blank g.roles }) next to 0 total lists are
+          kept-recorded t next to total lists are turn is_next is_to is_total moves goals_are =
               let lawful : IsLawfulMatch g (record m { turns = m.turns ++ t ∷ []; open_answers = blank g.roles }) =
               subst (λ (x : Turn M). IsLawfulMatch g (record m { turns = m.turns ++ x ∷ []; open_answers = blank g.roles })) (sym turn) (lawful-recorded g laws m kept.lawful playing_now r lt j judged all)
               in
               let wide : length (m.turns ++ t ∷ []) ≡ length m.turns + 1 = length-append m.turns (t ∷ []) in
-              kept-settled g laws (record m { turns = m.turns ++ t ∷ []; open_answers = blank g.roles }) next to total are lawful (live-not_asked g m (rw playing_now refl)) (playing-settled g m playing_now).0 refl
+              kept-settled g laws (record m { turns = m.turns ++ t ∷ []; open_answers = blank g.roles }) next to total lists are lawful (live-not_asked g m (rw playing_now refl)) (playing-settled g m playing_now).0 refl
               (kept.lawful.ends_at_end (rw playing_now refl)) (is_next ∙ (ap (λ x. g.next x t.moves) kept.state_is ∙ sym (state_after-push g m.turns t))) (is_to ∙ ap (λ n. settled g n next) (sym wide))
-              (is_total ∙ (ap (λ n. n + count_by is_error t.errors) kept.substituted_is ∙ sym (sum_by_push (λ u. count_by is_error u.errors) m.turns t))) goals_are
+              (is_total ∙ (ap (λ n. n + count_by is_error t.errors) kept.substituted_is ∙ sym (sum_by_push (λ u. count_by is_error u.errors) m.turns t))) moves goals_are

@@ -1,5 +1,5 @@
 -- What lawful turns keep.
-use Rattle.std.proofs.Common.{◌≡◌, ℕ, zero, suc, ◌+◌, ◌*◌, ◌<◌, ◌≤◌, List, [], ◌∷◌, ◌++◌, length, take, slice_index_or, refl, arith, ap, sym, ◌∙◌, subst, inl, inr, ◌⊎◌, length-append, add-one}
+use Rattle.std.proofs.Common.{◌≡◌, ℕ, zero, suc, ◌*◌, ◌<◌, ◌≤◌, List, [], ◌∷◌, ◌++◌, length, take, slice_index_or, refl, arith, ap, sym, ◌∙◌, subst, inl, inr, length-append, add-one}
 use Rattle.std.proofs.lemmas.List.{map-append, take-append-le, take_all, take_more, get_or_append_left}
 use Rattle.std.proofs.lemmas.List.Sums.{count_by-le-length, sum_by-le}
 use Rattle.std.proofs.lemmas.Option.{slice_get_read, slice_get_within, get_or_from_slice_get}
@@ -11,18 +11,16 @@ use Rattle.match_book.specs.MatchValue.{state_after, substitutions, move_at, err
 use Rattle.match_book.specs.Due.{last_move_texts}
 use Rattle.match_book.specs.Lawful.{IsLawfulTurn, AreLawful}
 use Rattle.match_book.specs.declared.turn.Turn.{Turn}
+use Rattle.match_book.proofs.RoleTests.{below_or_at}
 use Rattle.match_book.proofs.Judgements.{Contains-move}
 
 pub state_after-push : {S M : Type 0} (g : Rules S M) (turns : List (Turn M)) (t : Turn M) → state_after g (turns ++ t ∷ []) ≡ g.next (state_after g turns) t.moves
 state_after-push g turns t = ap (play g) (map-append (λ u. u.moves) turns (t ∷ [])) ∙ play-push g (joint_moves turns) t.moves
 
-below_or_last : (k n : ℕ) → k < n + 1 → (k ≡ n) ⊎ (k < n)
-below_or_last k n lt = grind arith
-
 -- one lawful turn more
 pub AreLawful-push : {S M : Type 0} (g : Rules S M) (turns : List (Turn M)) (t : Turn M) → AreLawful g turns → IsLawfulTurn g turns t → AreLawful g (turns ++ t ∷ [])
 AreLawful-push {S} {M} g turns t lawful turn k d lt =
-    elim (below_or_last k (length turns) (omega (arith, length-append turns (t ∷ [])))) [
+    elim (below_or_at k (length turns) (omega (arith, length-append turns (t ∷ [])))) [
       | inl last ↦
           subst (λ (n : ℕ). IsLawfulTurn g (take n (turns ++ t ∷ [])) (slice_index_or (turns ++ t ∷ []) n d)) (sym last)
           (subst (λ (x : List (Turn M)). IsLawfulTurn g x (slice_index_or (turns ++ t ∷ []) (length turns) d)) (sym (take-append_seam turns (t ∷ [])))

@@ -1,9 +1,11 @@
 -- Tests over the roles of a game.
 use Rattle.std.proofs.Common.{◌≡◌, ◌≢◌, ℕ, zero, suc, ◌+◌, ◌<◌, ◌≤◌, Bool, true, false, eqb, Option, Some, None, List, [], ◌∷◌, ◌++◌, length, set, slice_index_or, refl, arith, ap, sym, ◌∙◌, subst, add-one, inl, inr, ◌⊎◌}
+use Rattle.std.proofs.lemmas.List.{get_or_push, get_or_append_left}
 use Rattle.std.proofs.lemmas.Bool.Decides.{nat_tests}
 use Rattle.std.specs.Prelude.{is_some, if◌then◌else◌}
 use Rattle.std.specs.Option.{option_or}
-use Rattle.match_book.specs.Roles.{every_role, count_roles, lowest_role, at_role, is_there, blank}
+use Rattle.match_book.specs.Roles.{every_role, lowest_role, at_role, is_there, blank}
+use Rattle.match_book.specs.Internal.Kept.{count_roles}
 
 pub lowest_role-more : (n : ℕ) (p : ℕ → Bool) → lowest_role n p ≡ None → p n ≡ false → lowest_role (n + 1) p ≡ None
 lowest_role-more n p none not' = rw (add-one, none, not') refl
@@ -11,7 +13,7 @@ lowest_role-more n p none not' = rw (add-one, none, not') refl
 some_first : (n k : ℕ) (p : ℕ → Bool) (o : Option ℕ) → o ≡ Some k → option_or o (if p n then Some n else None) ≡ Some k
 some_first n k p o e = rw e refl
 
-below_or_at : (k n : ℕ) → k < suc n → (k ≡ n) ⊎ (k < n)
+pub below_or_at : (k n : ℕ) → k < suc n → (k ≡ n) ⊎ (k < n)
 below_or_at k n lt = grind arith
 
 pub lowest_role-found : (n k : ℕ) (p : ℕ → Bool) → lowest_role k p ≡ None → p k ≡ true → k < n → lowest_role n p ≡ Some k
@@ -139,6 +141,13 @@ at_role-push xs n x f wide so_far here r lt =
     before [] x r lt = absurd (omega arith)
     before (y ∷ ys) x zero lt = refl
     before (y ∷ ys) x (suc r) lt = before ys x r (omega arith)
+
+pub get-push : {A : Type 0} (xs : List A) (n : ℕ) (f : ℕ → A) → length xs ≡ n → ((r : ℕ) (d : A) → r < n → slice_index_or xs r d ≡ f r) → (r : ℕ) (d : A) → r < n + 1 → slice_index_or (xs ++ f n ∷ []) r d ≡ f r
+get-push xs n f wide so_far r d lt =
+    elim (below_or_at r n (omega arith)) [
+      | inl e ↦ subst (λ m. slice_index_or (xs ++ f n ∷ []) m d ≡ f m) (sym e) (get_or_push xs (f n) d n wide)
+      | inr less ↦ get_or_append_left xs (f n ∷ []) d r (omega arith) ∙ so_far r d less
+    ]
 
 pub every_role-all : (n : ℕ) (p : ℕ → Bool) → ((k : ℕ) → k < n → p k ≡ true) → every_role n p ≡ true
 every_role-all zero p all = refl

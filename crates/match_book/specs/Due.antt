@@ -1,5 +1,5 @@
 -- What a match owes to each role.
-use Rattle.std.specs.Prelude.{◌≡◌, ◌<◌, ℕ, ◌-◌, if◌then◌else◌, List, map, length, Option, option_map, slice_get, Result, Ok, Err}
+use Rattle.std.specs.Prelude.{◌≡◌, ◌<◌, ℕ, ◌-◌, if◌then◌else◌, List, map, length, Option, IsSome, option_map, slice_get, Result, Ok, Err}
 use Rattle.game_core.specs.Play.{Rules}
 use Rattle.match_book.specs.MatchValue.{MatchValue}
 use Rattle.match_book.specs.Phase.{stage, has_answered, is_over, round}
@@ -27,8 +27,20 @@ owed_in (Aborting c) texts = Abort
 abbrev pub due : {S M : Type 0} → Rules S M → MatchValue M → ℕ → Due
 due g m r = if is_over g m then Over else (if has_answered g m r then Hold (round g m) else Owe (round g m) (owed_in (stage g m) (last_move_texts g m.turns)))
 
--- what is due, where there is such a role
+-- the message carries the texts of a joint move
+abbrev pub CarriesMoves : Owed → Type 0
+CarriesMoves Start = ⊥
+CarriesMoves (Play texts) = IsSome texts
+CarriesMoves (Stop texts) = IsSome texts
+CarriesMoves Abort = ⊥
+
+abbrev pub OwesMoves : Due → Type 0
+OwesMoves (Owe round owed) = CarriesMoves owed
+OwesMoves (Hold round) = ⊥
+OwesMoves Over = ⊥
+
+-- What is due, where there is such a role. Memory can be wanted for the texts of a joint move alone.
 abbrev pub IsDueAnswer : {S M : Type 0} → Rules S M → MatchValue M → ℕ → Result Due OwedFault → Type 0
 IsDueAnswer g m r (Ok d) = (r < g.roles) × (d ≡ due g m r)
 IsDueAnswer g m r (Err NoRole) = ¬ (r < g.roles)
-IsDueAnswer g m r (Err Memory) = r < g.roles
+IsDueAnswer g m r (Err Memory) = (r < g.roles) × OwesMoves (due g m r)

@@ -4,10 +4,10 @@ pub mod AnswerReading
 pub mod Judgement
 pub mod MatchValue
 pub mod Phase
+pub mod LegalMoves
 pub mod Due
 pub mod Lawful
 pub mod Steps
-pub mod Kept
 pub mod Laws
-pub mod Searches
 pub mod Names
+pub mod Internal

@@ -1,9 +1,17 @@
--- What is kept of an answer outside of play.
+-- Answers, and what is kept of them outside of play.
 use Rattle.std.specs.Prelude.{List, ℕ, [], codes}
 use Rattle.match_book.specs.declared.answer.Answer.{Answer}
 use Rattle.match_book.specs.declared.answer.Answer.TheVariants.{Text, Silent, Broken}
+use Rattle.match_book.specs.declared.answer.LentAnswer.{LentAnswer}
+use Rattle.match_book.specs.declared.answer.LentAnswer.TheVariants.{Text as LentText, Silent as LentSilent, Broken as LentBroken}
 use Rattle.match_book.specs.declared.answer.Mark.{Mark}
 use Rattle.match_book.specs.declared.answer.Mark.TheVariants.{Clear, TimeOut, ConnectionError}
+
+-- the answer that is lent
+abbrev pub answer_lent : LentAnswer → Answer
+answer_lent (LentText text) = Text text.now
+answer_lent LentSilent = Silent
+answer_lent LentBroken = Broken
 
 -- no answer came in time
 abbrev pub time_out_text : List ℕ

@@ -40,10 +40,14 @@ settled g t s = if g.terminal s then after_the_end (lowest_role g.roles (has_no_
 unfoldable pub stage : {S M : Type 0} → Rules S M → MatchValue M → Stage
 stage g m = if m.abort_asked then Aborting Asked else (if every_role g.roles (is_there m.start_marks) then settled g (length m.turns) (state_after g m.turns) else Starting)
 
+-- the role still has to answer in play: each role of the game
+abbrev pub still_answers : {M : Type 0} → MatchValue M → ℕ → Bool
+still_answers m r = true
+
 -- the role has answered this round, where the match is at this stage
 abbrev pub answered_in : {M : Type 0} → Stage → MatchValue M → ℕ → Bool
 answered_in Starting m r = is_there m.start_marks r
-answered_in Playing m r = is_there m.open_answers r
+answered_in Playing m r = if still_answers m r then is_there m.open_answers r else true
 answered_in Stopping m r = is_there m.end_marks r
 answered_in (Aborting c) m r = is_there m.end_marks r
 

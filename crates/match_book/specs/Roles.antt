@@ -1,16 +1,11 @@
 -- Tests over the roles of a game, which are numbered from 0, and lists with one place for each role.
-use Rattle.std.specs.Prelude.{ℕ, zero, suc, ◌+◌, Bool, true, false, if◌then◌else◌, List, [], ◌∷◌, Option, Some, None, is_some, slice_index_or, replicate}
+use Rattle.std.specs.Prelude.{ℕ, zero, suc, Bool, true, false, if◌then◌else◌, List, [], ◌∷◌, Option, Some, None, is_some, slice_index_or, replicate}
 use Rattle.std.specs.Option.{option_or}
 
 -- the test passes at each role of n
 abbrev pub every_role : ℕ → (ℕ → Bool) → Bool
 every_role zero p = true
 every_role (suc n) p = if p n then every_role n p else false
-
--- at how many roles of n the test passes
-abbrev pub count_roles : ℕ → (ℕ → Bool) → ℕ
-count_roles zero p = 0
-count_roles (suc n) p = if p n then count_roles n p + 1 else count_roles n p
 
 -- the lowest role of n at which the test passes
 abbrev pub lowest_role : ℕ → (ℕ → Bool) → Option ℕ

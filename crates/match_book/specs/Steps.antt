@@ -1,7 +1,7 @@
 -- What an answer and an abort make of a match.
-use Rattle.std.specs.Prelude.{◌≡◌, ℕ, nat_lt, ◌==◌, true, false, if◌then◌else◌, List, [], ◌∷◌, ◌++◌, map, Option, Some, None, is_none, slice_set, Result, Ok, Err}
+use Rattle.std.specs.Prelude.{◌≡◌, ◌≢◌, ◌⊎◌, ◌<◌, ℕ, nat_lt, ◌==◌, true, false, if◌then◌else◌, List, [], ◌∷◌, ◌++◌, map, Option, Some, None, is_none, slice_set, Result, Ok, Err}
 use Rattle.game_core.specs.Play.{Rules}
-use Rattle.match_book.specs.Roles.{every_role, blank, present}
+use Rattle.match_book.specs.Roles.{every_role, is_there, blank, present}
 use Rattle.match_book.specs.Marks.{mark_of}
 use Rattle.match_book.specs.Judgement.{judgement}
 use Rattle.match_book.specs.MatchValue.{MatchValue, state_after}
@@ -11,8 +11,10 @@ use Rattle.match_book.specs.declared.judgement.Judgement.{Judgement}
 use Rattle.match_book.specs.declared.turn.Turn.{Turn}
 use Rattle.match_book.specs.declared.answer.Answer.{Answer}
 use Rattle.match_book.specs.declared.answer.Mark.{Mark}
+use Rattle.match_book.specs.declared.answer.AnswerRefusal.{AnswerRefusal}
+use Rattle.match_book.specs.declared.answer.AnswerRefusal.TheVariants.{NoRole, Over, Stale, Twice}
 use Rattle.match_book.specs.declared.answer.AnswerFault.{AnswerFault}
-use Rattle.match_book.specs.declared.answer.AnswerFault.TheVariants.{NoRole, Over, Stale, Twice, Memory}
+use Rattle.match_book.specs.declared.answer.AnswerFault.TheVariants.{NoRole as FaultNoRole, Over as FaultOver, Stale as FaultStale, Twice as FaultTwice, Memory}
 use Rattle.match_book.specs.declared.phase.Stage.{Stage}
 use Rattle.match_book.specs.declared.phase.Stage.TheVariants.{Starting, Playing, Stopping, Aborting}
 
@@ -21,7 +23,7 @@ abbrev pub new_match : {S M : Type 0} → Rules S M → Setup → MatchValue M
 new_match g setup = record { setup = setup; start_marks = blank g.roles; turns = []; open_answers = blank g.roles; abort_asked = false; end_marks = blank g.roles }
 
 -- why an answer of the role r for the round n is refused: none where it is taken
-abbrev pub refusal : {S M : Type 0} → Rules S M → MatchValue M → ℕ → ℕ → Option AnswerFault
+abbrev pub refusal : {S M : Type 0} → Rules S M → MatchValue M → ℕ → ℕ → Option AnswerRefusal
 refusal g m r n = if nat_lt r g.roles then (if is_over g m then Some Over else (if n == round g m then (if has_answered g m r then Some Twice else None) else Some (Stale (round g m)))) else Some NoRole
 
 -- the turn that is made of these judgements, one for each role
@@ -63,11 +65,26 @@ with_abort g m = record m { abort_asked = true; open_answers = blank g.roles }
 abbrev pub after_abort : {S M : Type 0} → Rules S M → MatchValue M → MatchValue M
 after_abort g m = if is_live (stage g m) then with_abort g m else m
 
+-- The START mark of the role r is the last one that is missing.
+abbrev pub IsLastToStart : {S M : Type 0} → Rules S M → MatchValue M → ℕ → Type 0
+IsLastToStart g m r = (stage g m ≡ Starting) × ((k : ℕ) → k < g.roles → k ≢ r → is_there m.start_marks k ≡ true)
+
+-- Memory may be wanted to take an answer of the role r: in play, and for the last START mark.
+abbrev pub MayWantMemory : {S M : Type 0} → Rules S M → MatchValue M → ℕ → Type 0
+MayWantMemory g m r = (stage g m ≡ Playing) ⊎ IsLastToStart g m r
+
+-- the fault that a refusal is
+abbrev pub fault_of : AnswerRefusal → AnswerFault
+fault_of NoRole = FaultNoRole
+fault_of Over = FaultOver
+fault_of (Stale n) = FaultStale n
+fault_of Twice = FaultTwice
+
 -- An answer is taken where nothing refuses it, and else its refusal is given. Want of memory comes after the tests.
-abbrev pub IsTakenUnless : Option AnswerFault → Result (Unit {0}) AnswerFault → Type 0
+abbrev pub IsTakenUnless : Option AnswerRefusal → Result (Unit {0}) AnswerFault → Type 0
 IsTakenUnless o (Ok u) = o ≡ None
-IsTakenUnless o (Err NoRole) = o ≡ Some NoRole
-IsTakenUnless o (Err Over) = o ≡ Some Over
-IsTakenUnless o (Err (Stale n)) = o ≡ Some (Stale n)
-IsTakenUnless o (Err Twice) = o ≡ Some Twice
+IsTakenUnless o (Err FaultNoRole) = o ≡ Some NoRole
+IsTakenUnless o (Err FaultOver) = o ≡ Some Over
+IsTakenUnless o (Err (FaultStale n)) = o ≡ Some (Stale n)
+IsTakenUnless o (Err FaultTwice) = o ≡ Some Twice
 IsTakenUnless o (Err Memory) = o ≡ None

@@ -1,7 +1,8 @@
 //! What comes from a player, and why it is refused.
 ghost use Rattle.std.specs.Prelude.{◌≡◌};
 ghost use Rattle.match_book.specs.declared.answer.AnswerFault.TheVariants.{Memory};
-ghost use Rattle.match_book.specs.Marks.{mark_of, mark_text};
+ghost use Rattle.match_book.specs.Marks.{answer_lent, mark_of, mark_text};
+ghost use Rattle.match_book.specs.Steps.{fault_of};
 
 use game_core::Text;
 use std::alloc::AllocError;
@@ -18,6 +19,14 @@ pub enum Answer {
     Broken,
 }
 
+/// An answer whose text whoever gives it keeps.
+#[derive(Clone, Copy)]
+pub enum LentAnswer<'a> {
+    Text(&'a Text),
+    Silent,
+    Broken,
+}
+
 /// What is kept of an answer to START, STOP or ABORT, whatever the answer says.
 #[derive(Clone, Copy, Debug, PartialEq, Eq)]
 pub enum Mark {
@@ -27,8 +36,20 @@ pub enum Mark {
     ConnectionError,
 }
 
-/// Why an answer is not taken: the first of these that holds, with want of memory last. A refused answer
-/// changes nothing.
+/// Why an answer is refused: the first of these that holds. A refused answer changes nothing.
+#[derive(Clone, Copy, Debug, PartialEq, Eq)]
+pub enum AnswerRefusal {
+    /// The game has no such role.
+    NoRole,
+    /// The match is finished or aborted.
+    Over,
+    /// The answer is for another round than this, the present one.
+    Stale(u64),
+    /// The role has answered this round.
+    Twice,
+}
+
+/// Why an answer is not taken: it is refused, or else memory is wanted. Nothing changes then.
 #[derive(Clone, Copy, Debug, PartialEq, Eq, Error)]
 pub enum AnswerFault {
     /// The game has no such role.
@@ -48,6 +69,19 @@ pub enum AnswerFault {
     Memory,
 }
 
+impl From<AnswerRefusal> for AnswerFault {
+    ghost from_gives = { λ refusal fault. fault ≡ fault_of refusal };
+
+    fn from(refusal: AnswerRefusal) -> AnswerFault {
+        match refusal {
+            AnswerRefusal::NoRole => AnswerFault::NoRole,
+            AnswerRefusal::Over => AnswerFault::Over,
+            AnswerRefusal::Stale(round) => AnswerFault::Stale(round),
+            AnswerRefusal::Twice => AnswerFault::Twice,
+        }
+    }
+}
+
 impl From<AllocError> for AnswerFault {
     ghost from_gives = { λ _ fault. fault ≡ Memory };
 
@@ -65,13 +99,26 @@ pub enum AbortFault {
 }
 
 impl Answer {
-    pub(crate) fn mark(&self) -> Mark
-        ensures { result ≡ mark_of self.now }
+    /// The answer, lent.
+    pub fn lend(&self) -> LentAnswer<'_>
+        ensures { answer_lent result ≡ self.now }
     {
         match self {
-            Answer::Text(_) => Mark::Clear,
-            Answer::Silent => Mark::TimeOut,
-            Answer::Broken => Mark::ConnectionError,
+            Answer::Text(text) => LentAnswer::Text(text),
+            Answer::Silent => LentAnswer::Silent,
+            Answer::Broken => LentAnswer::Broken,
+        }
+    }
+}
+
+impl<'a> LentAnswer<'a> {
+    pub(crate) fn mark(&self) -> Mark
+        ensures { result ≡ mark_of (answer_lent self.now) }
+    {
+        match self {
+            LentAnswer::Text(_) => Mark::Clear,
+            LentAnswer::Silent => Mark::TimeOut,
+            LentAnswer::Broken => Mark::ConnectionError,
         }
     }
 }

@@ -1,8 +1,9 @@
 //! The judge of the answers in play.
-ghost use Rattle.std.specs.Prelude.{◌≡◌, ◌<◌, IfOk, All};
-ghost use Rattle.match_book.specs.Judgement.{error_text, substitute, move_named, IsPlaceOf, taken_or_substituted, judgement};
+ghost use Rattle.std.specs.Prelude.{◌≡◌, IfOk, All};
+ghost use Rattle.match_book.specs.Marks.{answer_lent};
+ghost use Rattle.match_book.specs.Judgement.{error_text, substitute, move_named, IsPlaceOf, taken_or_substituted, judged_answer};
 
-use crate::answer::{Answer, Mark};
+use crate::answer::{LentAnswer, Mark};
 use crate::answer_text::read_answer;
 use game_core::{Game, Text};
 use std::alloc::{AllocError, Global};
@@ -50,17 +51,19 @@ impl Substitution {
 }
 
 /// The first of these moves, if there is one, with the error of this reason.
-fn substitute<M: Drop>(
+fn substitute<G: Game>(
     alloc: Global,
-    mut moves: Vec<M>,
+    game: &G,
+    moves: &[G::Move],
     why: &Substitution,
-) -> Result<Option<Judgement<M>>, AllocError>
-    ensures { IfOk result (λ o. o ≡ substitute moves.items why.now) }
+) -> Result<Option<Judgement<G::Move>>, AllocError>
+    requires { All (λ m. (G.rules game.now).IsMove m) moves.now }
+    ensures { IfOk result (λ o. o ≡ substitute moves.now why.now) }
 {
     if moves.is_empty() {
         return Ok(None);
     }
-    let taken = moves.swap_remove(0);
+    let taken = game.copy_move(alloc, &moves[0])?;
     let error = why.error(alloc)?;
     Ok(Some(Judgement { taken, error }))
 }
@@ -88,42 +91,38 @@ pub fn place_of<G: Game>(
 fn judge_text<G: Game>(
     alloc: Global,
     game: &G,
-    mut moves: Vec<G::Move>,
+    moves: &[G::Move],
     read: Text,
 ) -> Result<Option<Judgement<G::Move>>, AllocError>
-    requires { All (λ m. (G.rules game.now).IsMove m) moves.items }
-    ensures { IfOk result (λ o. o ≡ taken_or_substituted moves.items read (move_named (G.rules game.now) moves.items read)) }
+    requires { All (λ m. (G.rules game.now).IsMove m) moves.now }
+    ensures { IfOk result (λ o. o ≡ taken_or_substituted moves.now read (move_named (G.rules game.now) moves.now read)) }
 {
-    match place_of(alloc, game, moves.as_slice(), read.as_slice())? {
+    match place_of(alloc, game, moves, read.as_slice())? {
         Some(place) => {
-            let taken = moves.swap_remove(place);
+            let taken = game.copy_move(alloc, &moves[place])?;
             let error = Text::from_slice(alloc, b"")?;
             Ok(Some(Judgement { taken, error }))
         }
-        None => substitute(alloc, moves, &Substitution::Illegal(read)),
+        None => substitute(alloc, game, moves, &Substitution::Illegal(read)),
     }
 }
 
-/// What a role's answer counts as in a state: `None` where the role has no legal move.
-#[tactic(auto, unfolding(crate::specs::Judgement::judgement))]
+/// What an answer counts as where these are the role's legal moves: `None` where there is none.
 pub fn judge<G: Game>(
     alloc: Global,
     game: &G,
-    state: &G::State,
-    role: usize,
-    answer: &Answer,
+    moves: &[G::Move],
+    answer: &LentAnswer<'_>,
 ) -> Result<Option<Judgement<G::Move>>, AllocError>
-    requires state { (G.rules game.now).IsState state.now }
-    requires role { role < (G.rules game.now).roles }
-    ensures { IfOk result (λ o. o ≡ judgement (G.rules game.now) state.now role answer.now) }
+    requires { All (λ m. (G.rules game.now).IsMove m) moves.now }
+    ensures { IfOk result (λ o. o ≡ judged_answer (G.rules game.now) moves.now (answer_lent answer.now)) }
 {
-    let moves = game.legal(alloc, state, role)?;
     match answer {
-        Answer::Text(text) => match read_answer(alloc, text.as_slice())? {
+        LentAnswer::Text(text) => match read_answer(alloc, text.as_slice())? {
             Some(read) => judge_text(alloc, game, moves, read),
-            None => substitute(alloc, moves, &Substitution::Unreadable),
+            None => substitute(alloc, game, moves, &Substitution::Unreadable),
         },
-        Answer::Silent => substitute(alloc, moves, &Substitution::TimeOut),
-        Answer::Broken => substitute(alloc, moves, &Substitution::ConnectionError),
+        LentAnswer::Silent => substitute(alloc, game, moves, &Substitution::TimeOut),
+        LentAnswer::Broken => substitute(alloc, game, moves, &Substitution::ConnectionError),
     }
 }

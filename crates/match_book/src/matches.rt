@@ -1,21 +1,23 @@
 //! A match.
-ghost use Rattle.std.specs.Prelude.{◌≡◌, ◌<◌, ◌≤◌, ◌+◌, length, true, false, IfOk, OnOk, OnErr, option_copied, option_map, Some, slice_set};
+ghost use Rattle.std.specs.Prelude.{◌≡◌, ◌<◌, ◌≤◌, ◌+◌, length, true, false, IfOk, OnOk, OnErr, Err, None, IsSome, option_copied, option_map, Some, slice_set};
 ghost use Rattle.game_core.specs.Play.{Rules};
 ghost use Rattle.match_book.specs.Roles.{at_role, is_there, every_role};
-ghost use Rattle.match_book.specs.Marks.{mark_text};
+ghost use Rattle.match_book.specs.Marks.{answer_lent, mark_text};
 ghost use Rattle.match_book.specs.Judgement.{judgement, IsJudged};
 ghost use Rattle.match_book.specs.MatchValue.{state_after, move_at, error_at};
+ghost use Rattle.match_book.specs.declared.answer.AnswerFault.TheVariants.{Memory};
 ghost use Rattle.match_book.specs.declared.phase.Stage.TheVariants.{Starting, Playing};
 ghost use Rattle.match_book.specs.Phase.{stage, has_answered, status, round, cause, goal_of, is_live};
-ghost use Rattle.match_book.specs.Due.{IsDueAnswer, owed_in, last_move_texts};
+ghost use Rattle.match_book.specs.Due.{IsDueAnswer, CarriesMoves, owed_in, last_move_texts};
 ghost use Rattle.match_book.specs.Lawful.{IsLawfulMatch};
-ghost use Rattle.match_book.specs.Steps.{new_match, after_abort, after_answer, with_start_mark, with_open_answer, with_end_mark, refusal, IsTakenUnless};
+ghost use Rattle.match_book.specs.Steps.{new_match, after_abort, after_answer, with_start_mark, with_open_answer, with_end_mark, refusal, IsTakenUnless, IsLastToStart, MayWantMemory};
 
-use crate::answer::{AbortFault, Answer, AnswerFault, Mark};
+use crate::answer::{AbortFault, Answer, AnswerFault, AnswerRefusal, LentAnswer, Mark};
 use crate::due::{Due, Owed, OwedFault};
 use crate::judgement::{Judgement, judge};
 use crate::phase::{Cause, Stage, Status};
 use crate::places::{are_all_there, blank, clear};
+use crate::role_moves::RoleMoves;
 use crate::settlement::settle;
 use crate::setup::Setup;
 use crate::turn::{Turn, count_errors, move_texts, turn_with};
@@ -41,12 +43,13 @@ pub struct Match<G: Game> {
     stage: Stage,
     answered: usize,
     substituted: u64,
+    legal: Vec<RoleMoves<G::Move>>,
     goals: Vec<Option<u8>>,
 }
 
 impl<G: Game> Model for Match<G> {
     ghost use Rattle.match_book.specs.MatchValue.{GameMatch};
-    ghost use Rattle.match_book.specs.Kept.{IsKept};
+    ghost use Rattle.match_book.specs.Internal.Kept.{IsKept};
 
     ghost Value = { GameMatch G G.Move };
 
@@ -69,7 +72,7 @@ impl<G: Game> Model for Match<G> {
       open_answers = m.open_answers.items;
       abort_asked = m.abort_asked;
       end_marks = m.end_marks.items;
-    }) m.state m.stage m.answered m.substituted m.goals.items };
+    }) m.state m.stage m.answered m.substituted m.legal.items m.goals.items };
 }
 
 impl<G: Game> Match<G> {
@@ -95,6 +98,7 @@ impl<G: Game> Match<G> {
             stage: Stage::Starting,
             answered: 0,
             substituted: 0,
+            legal: Vec::new(alloc),
             goals: Vec::new(alloc),
         })
     }
@@ -236,7 +240,8 @@ impl<G: Game> Match<G> {
     /// The message that this round owes to the roles.
     fn owed_message(&self, alloc: Global, game: &G) -> Result<Owed, AllocError>
         requires { self.now.game ≡ game.now }
-        ensures { IfOk result (λ o. o ≡ owed_in (stage (G.rules self.now.game) self.now.value) (last_move_texts (G.rules self.now.game) self.now.value.turns)) }
+        ensures ok { IfOk result (λ o. o ≡ owed_in (stage (G.rules self.now.game) self.now.value) (last_move_texts (G.rules self.now.game) self.now.value.turns)) }
+        ensures err { OnErr result (CarriesMoves (owed_in (stage (G.rules self.now.game) self.now.value) (last_move_texts (G.rules self.now.game) self.now.value.turns))) }
     {
         match self.stage() {
             Stage::Starting => Ok(Owed::Start),
@@ -248,7 +253,8 @@ impl<G: Game> Match<G> {
 
     fn last_move_texts(&self, alloc: Global, game: &G) -> Result<Option<Texts>, AllocError>
         requires { self.now.game ≡ game.now }
-        ensures { IfOk result (λ o. o ≡ last_move_texts (G.rules self.now.game) self.now.value.turns) }
+        ensures ok { IfOk result (λ o. o ≡ last_move_texts (G.rules self.now.game) self.now.value.turns) }
+        ensures err { OnErr result (IsSome (last_move_texts (G.rules self.now.game) self.now.value.turns)) }
     {
         let count = self.turns.len();
         if count == 0 {
@@ -259,21 +265,21 @@ impl<G: Game> Match<G> {
     }
 
     /// Why an answer of the role for a round is refused: none where `answer` takes it.
-    pub fn refusal(&self, role: usize, round: u64) -> Option<AnswerFault>
+    pub fn refusal(&self, role: usize, round: u64) -> Option<AnswerRefusal>
         ensures { result ≡ refusal (G.rules self.now.game) self.now.value role round }
     {
         if role >= self.start_marks.len() {
-            return Some(AnswerFault::NoRole);
+            return Some(AnswerRefusal::NoRole);
         }
         let status = self.status();
         if status.phase.is_last() {
-            return Some(AnswerFault::Over);
+            return Some(AnswerRefusal::Over);
         }
         if round != status.round {
-            return Some(AnswerFault::Stale(status.round));
+            return Some(AnswerRefusal::Stale(status.round));
         }
         if self.has_answered(role) {
-            return Some(AnswerFault::Twice);
+            return Some(AnswerRefusal::Twice);
         }
         None
     }
@@ -292,19 +298,43 @@ impl<G: Game> Match<G> {
         ensures taken { IsTakenUnless (refusal (G.rules self.old.game) self.old.value role round) result }
         ensures ok { OnOk result (self.new.value ≡ after_answer (G.rules self.old.game) self.old.value role round answer) }
         ensures err { OnErr result (self.new ≡ self.old) }
+        ensures memory { result ≡ Err Memory → MayWantMemory (G.rules self.old.game) self.old.value role }
     {
-        if let Some(fault) = self.refusal(role, round) {
-            return Err(fault);
+        match self.offer(alloc, game, role, round, &answer.lend())? {
+            None => Ok(()),
+            Some(refusal) => Err(AnswerFault::from(refusal)),
+        }
+    }
+
+    /// Takes a role's answer for a round as `answer` does, or says why it is refused: none where it is taken.
+    pub fn offer(
+        &mut self,
+        alloc: Global,
+        game: &G,
+        role: usize,
+        round: u64,
+        answer: &LentAnswer<'_>,
+    ) -> Result<Option<AnswerRefusal>, AllocError>
+        requires game { self.old.game ≡ game.now }
+        ensures game { self.new.game ≡ self.old.game }
+        ensures refusal { IfOk result (λ o. o ≡ refusal (G.rules self.old.game) self.old.value role round) }
+        ensures ok { OnOk result (self.new.value ≡ after_answer (G.rules self.old.game) self.old.value role round (answer_lent answer.now)) }
+        ensures err { OnErr result (self.new ≡ self.old) }
+        ensures accepted { OnErr result (refusal (G.rules self.old.game) self.old.value role round ≡ None) }
+        ensures memory { OnErr result (MayWantMemory (G.rules self.old.game) self.old.value role) }
+    {
+        if let Some(refusal) = self.refusal(role, round) {
+            return Ok(Some(refusal));
         }
         match self.stage() {
             Stage::Starting => self.take_start_mark(alloc, game, role, answer.mark())?,
             Stage::Playing => {
-                let judged = self.judged(alloc, game, role, &answer)?;
+                let judged = self.judged(alloc, game, role, answer)?;
                 self.take_open_answer(alloc, game, role, judged)?;
             }
             Stage::Stopping | Stage::Aborting(_) => self.take_end_mark(role, answer.mark()),
         }
-        Ok(())
+        Ok(None)
     }
 
     fn take_start_mark(
@@ -321,6 +351,7 @@ impl<G: Game> Match<G> {
         ensures game { self.new.game ≡ self.old.game }
         ensures ok { OnOk result (self.new.value ≡ with_start_mark self.old.value role mark) }
         ensures err { OnErr result (self.new ≡ self.old) }
+        ensures last { OnErr result (IsLastToStart (G.rules self.old.game) self.old.value role) }
     {
         if self.answered + 1 < self.start_marks.len() {
             self.start_marks[role] = Some(mark);
@@ -330,6 +361,7 @@ impl<G: Game> Match<G> {
         let settlement = settle(alloc, game, &self.state, self.turns.len())?;
         self.start_marks[role] = Some(mark);
         self.stage = settlement.stage;
+        self.legal = settlement.legal;
         self.goals = settlement.goals;
         self.answered = 0;
         Ok(())
@@ -352,14 +384,15 @@ impl<G: Game> Match<G> {
         alloc: Global,
         game: &G,
         role: usize,
-        answer: &Answer,
+        answer: &LentAnswer<'_>,
     ) -> Result<Judgement<G::Move>, AllocError>
         requires game { self.now.game ≡ game.now }
         requires role { role < (G.rules self.now.game).roles }
         requires stage { stage (G.rules self.now.game) self.now.value ≡ Playing }
-        ensures { IfOk result (λ j. judgement (G.rules self.now.game) (state_after (G.rules self.now.game) self.now.value.turns) role answer.now ≡ Some j) }
+        ensures { IfOk result (λ j. judgement (G.rules self.now.game) (state_after (G.rules self.now.game) self.now.value.turns) role (answer_lent answer.now) ≡ Some j) }
     {
-        Ok(judge(alloc, game, &self.state, role, answer)?.unwrap())
+        let moves = self.legal[role].as_slice();
+        Ok(judge(alloc, game, moves, answer)?.unwrap())
     }
 
     fn take_open_answer(
@@ -411,6 +444,7 @@ impl<G: Game> Match<G> {
         clear(&mut self.open_answers);
         self.state = state;
         self.stage = settlement.stage;
+        self.legal = settlement.legal;
         self.goals = settlement.goals;
         self.answered = 0;
         self.substituted += errors as u64;
@@ -429,6 +463,7 @@ impl<G: Game> Match<G> {
             Stage::Stopping | Stage::Aborting(_) => return Err(AbortFault::Ended),
         }
         clear(&mut self.open_answers);
+        self.legal.clear();
         self.abort_asked = true;
         self.stage = Stage::Aborting(Cause::Asked);
         self.answered = 0;

@@ -1,38 +1,25 @@
 //! The settling rule: what comes after START and after each turn.
 ghost use Rattle.std.specs.Prelude.{◌≡◌, ◌<◌, ℕ, IfOk, None};
 ghost use Rattle.match_book.specs.Roles.{lowest_role, at_role};
-ghost use Rattle.match_book.specs.Phase.{settled, goal_in, has_no_goal, has_no_move};
+ghost use Rattle.match_book.specs.declared.phase.Stage.TheVariants.{Playing, Aborting};
+ghost use Rattle.match_book.specs.Phase.{settled, goal_in, has_no_goal};
+ghost use Rattle.match_book.specs.LegalMoves.{AreLegalMoves};
 
 use crate::phase::{Cause, Stage};
+use crate::role_moves::{RoleMoves, legal_moves};
 use game_core::Game;
 use std::alloc::{AllocError, Global};
 
 /// The most turns of a match.
 pub const MAX_TURNS: usize = 10_000;
 
-/// What a match does in a state, and the roles' goals where it stops: elsewhere there are none.
+/// What a match does in a state: where it plays on with the legal moves of each role, and where it stops with
+/// the roles' goals.
 #[derive(Drop)]
-pub struct Settlement {
+pub struct Settlement<M> {
     pub stage: Stage,
+    pub legal: Vec<RoleMoves<M>>,
     pub goals: Vec<Option<u8>>,
-}
-
-/// The lowest role without a legal move, if there is one.
-fn first_without_move<G: Game>(
-    alloc: Global,
-    game: &G,
-    state: &G::State,
-) -> Result<Option<usize>, AllocError>
-    requires { (G.rules game.now).IsState state.now }
-    ensures { IfOk result (λ o. o ≡ lowest_role (G.rules game.now).roles (has_no_move (G.rules game.now) state.now)) }
-{
-    for role in 0..game.roles() {
-        let moves = game.legal(alloc, state, role)?;
-        if moves.as_slice().is_empty() {
-            return Ok(Some(role));
-        }
-    }
-    Ok(None)
 }
 
 /// The lowest role without a goal, if there is one, and the goals of the roles below it.
@@ -63,9 +50,10 @@ pub fn settle<G: Game>(
     game: &G,
     state: &G::State,
     turns: usize,
-) -> Result<Settlement, AllocError>
+) -> Result<Settlement<G::Move>, AllocError>
     requires { (G.rules game.now).IsState state.now }
     ensures stage { IfOk result (λ o. o.stage ≡ settled (G.rules game.now) turns state.now) }
+    ensures legal { IfOk result (λ o. o.stage ≡ Playing → AreLegalMoves (G.rules game.now) state.now o.legal.items) }
     ensures goals { IfOk result (λ o. (r : ℕ) → r < (G.rules game.now).roles → at_role o.goals.items r ≡ goal_in (settled (G.rules game.now) turns state.now) (G.rules game.now) state.now r) }
 {
     if game.terminal(alloc, state)? {
@@ -73,33 +61,36 @@ pub fn settle<G: Game>(
         return match without {
             None => Ok(Settlement {
                 stage: Stage::Stopping,
+                legal: Vec::new(alloc),
                 goals,
             }),
-            Some(role) => Ok(Settlement::without_goals(
-                alloc,
-                Stage::Aborting(Cause::NoGoal(role)),
-            )),
+            Some(role) => Ok(Settlement::aborting(alloc, Cause::NoGoal(role))),
         };
     }
     if turns >= MAX_TURNS {
-        return Ok(Settlement::without_goals(alloc, Stage::Aborting(Cause::TooLong)));
+        return Ok(Settlement::aborting(alloc, Cause::TooLong));
     }
-    let stage = match first_without_move(alloc, game, state)? {
-        None => Stage::Playing,
-        Some(role) => Stage::Aborting(Cause::NoLegal(role)),
-    };
-    Ok(Settlement::without_goals(alloc, stage))
+    let (without, legal) = legal_moves(alloc, game, state)?;
+    match without {
+        None => Ok(Settlement {
+            stage: Stage::Playing,
+            legal,
+            goals: Vec::new(alloc),
+        }),
+        Some(role) => Ok(Settlement::aborting(alloc, Cause::NoLegal(role))),
+    }
 }
 
-impl Settlement {
+impl<M: Drop> Settlement<M> {
     ghost use Rattle.std.specs.Prelude.{[]};
 
-    fn without_goals(alloc: Global, stage: Stage) -> Settlement
-        ensures stage { result.stage ≡ stage }
+    fn aborting(alloc: Global, cause: Cause) -> Settlement<M>
+        ensures stage { result.stage ≡ Aborting cause }
         ensures goals { result.goals.items ≡ [] }
     {
         Settlement {
-            stage,
+            stage: Stage::Aborting(cause),
+            legal: Vec::new(alloc),
             goals: Vec::new(alloc),
         }
     }

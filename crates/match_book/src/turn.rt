@@ -2,7 +2,7 @@
 ghost use Rattle.std.specs.Prelude.{◌≡◌, ◌<◌, ◌++◌, All, IfOk, IfSome, OnOk, Some, map, count_by, length, option_to_list, slice_set};
 ghost use Rattle.match_book.specs.Roles.{present};
 ghost use Rattle.match_book.specs.MatchValue.{is_error};
-ghost use Rattle.match_book.specs.Searches.{AreMoves};
+ghost use Rattle.match_book.specs.Internal.OpenAnswers.{AreMoves};
 ghost use Rattle.match_book.specs.Steps.{turn_of};
 
 use crate::judgement::Judgement;

@@ -1,2 +1,4 @@
 pub mod Lone
 pub mod LoneLaws
+pub mod Crowd
+pub mod CrowdLaws

@@ -5,7 +5,7 @@ use Rattle.game_core.specs.Expression.{atom}
 use Rattle.game_core.specs.Canonical.{IsCanonicalText, IsFoldedText}
 use Rattle.game_core.specs.Texts.{AreInByteOrder}
 use Rattle.game_core.specs.Play.{IsLawful}
-use Rattle.match_trials.specs.Lone.{lone}
+use Rattle.match_trials.specs.Lone.{lone, lone_texts}
 
 role_is_folded : IsFoldedText (codes "a")
 role_is_folded = (atom (codes "a"), ((lit< tt, (refl, tt)), lit≤ tt), refl, refl)
@@ -17,11 +17,11 @@ state_is_canonical : (is_second : Bool) → IsCanonicalText (if is_second then c
 state_is_canonical true = (atom (codes "u"), ((lit< tt, (refl, tt)), lit≤ tt), refl)
 state_is_canonical false = (atom (codes "s"), ((lit< tt, (refl, tt)), lit≤ tt), refl)
 
-texts_are_canonical : (is_second : Bool) → All IsCanonicalText ((if is_second then codes "u" else codes "s") ∷ [])
+pub texts_are_canonical : (is_second : Bool) → All IsCanonicalText (lone_texts is_second)
 texts_are_canonical is_second zero d within = state_is_canonical is_second
 texts_are_canonical is_second (suc k) d within = absurd (omega arith)
 
-texts_are_ordered : (text : List ℕ) → AreInByteOrder (text ∷ [])
+pub texts_are_ordered : (text : List ℕ) → AreInByteOrder (text ∷ [])
 texts_are_ordered text i j d before within = absurd (omega arith)
 
 legal_are_moves : (is_second : Bool) → All (λ (m : ℕ). m ≡ 0) (if is_second then [] else (0 ∷ []))

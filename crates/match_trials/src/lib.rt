@@ -2,6 +2,10 @@
 #![tactic(auto)]
 
 #[cfg(test)]
+mod crowd;
+#[cfg(test)]
+mod last_role;
+#[cfg(test)]
 mod lone;
 #[cfg(test)]
 mod script;

@@ -1,4 +1,7 @@
 //! Small games of one role.
+ghost use Rattle.std.specs.Prelude.{◌≡◌, IfOk};
+ghost use Rattle.match_trials.specs.Lone.{lone_texts};
+
 use game_core::{Game, Text};
 use std::alloc::{AllocError, Global};
 
@@ -68,13 +71,7 @@ impl Game for Lone {
     }
 
     fn state_text(&self, alloc: Global, state: &bool) -> Result<Vec<Text>, AllocError> {
-        let mut texts = Vec::new(alloc);
-        if *state {
-            texts.push(Text::from_slice(alloc, b"u")?)?;
-        } else {
-            texts.push(Text::from_slice(alloc, b"s")?)?;
-        }
-        Ok(texts)
+        state_texts(alloc, *state)
     }
 
     fn copy_state(&self, alloc: Global, state: &bool) -> Result<bool, AllocError> {
@@ -84,4 +81,17 @@ impl Game for Lone {
     fn copy_move(&self, alloc: Global, taken: &u8) -> Result<u8, AllocError> {
         Ok(*taken)
     }
+}
+
+/// The text of the first state is `s`, that of the second `u`.
+pub fn state_texts(alloc: Global, is_second: bool) -> Result<Vec<Text>, AllocError>
+    ensures { IfOk result (λ v. v.items ≡ lone_texts is_second) }
+{
+    let mut texts = Vec::new(alloc);
+    if is_second {
+        texts.push(Text::from_slice(alloc, b"u")?)?;
+    } else {
+        texts.push(Text::from_slice(alloc, b"s")?)?;
+    }
+    Ok(texts)
 }

@@ -1,10 +1,11 @@
 //! Scripts of calls on one match.
 //!
 //! Each line is a call and, behind an arrow, what it gives. `next R` is what is due to role R; `submit R N TEXT`
-//! answers for role R and round N, `pad L R N TEXT` the same with spaces behind, L bytes in all, and `repeat K R N TEXT`
-//! the same for K rounds from N on, of which the last is shown; `miss R N silent` and `miss R N broken` say that no
-//! answer came; `abort` asks for the abort. The readers are `query`, `turns` (the moves, each with its error behind a
-//! slash), `cause`, `goal R`, `start R` and `end R` (the marks, in brackets).
+//! answers for role R and round N, `pad L R N TEXT` the same with spaces behind, L bytes in all, `repeat K R N TEXT`
+//! the same for K rounds from N on, and `each K N TEXT` for round N and each of the first K roles: of many answers the
+//! last is shown. `miss R N silent` and `miss R N broken` say that no answer came; `abort` asks for the abort. The
+//! readers are `query`, `turns` (the moves, each with its error behind a slash), `cause`, `goal R`, `start R` and
+//! `end R` (the marks, in brackets).
 ghost use Rattle.std.specs.Prelude.{◌≡◌, IfOk, length};
 
 use game_core::{Game, Text, Texts};
@@ -73,6 +74,7 @@ fn reply<G: Game>(alloc: Global, game: &G, held: &mut Match<G>, call: &str) -> R
             let (count, rest) = split_word(rest);
             submit(alloc, game, held, rest, 0, count.parse::<u64>()?)
         }
+        "each" => submit_each(alloc, game, held, rest),
         "miss" => miss(alloc, game, held, rest),
         "abort" => match held.abort() {
             Ok(()) => Ok(String::from_str(alloc, "aborting")?),
@@ -104,6 +106,27 @@ fn submit<G: Game>(
         if bytes.len() < length {
             bytes.resize(length, b' ')?;
         }
+        given = held.answer(alloc, game, role, round, Answer::Text(Text { bytes }));
+    }
+    Ok(given_line(alloc, given)?)
+}
+
+/// Answers for each of the first roles.
+fn submit_each<G: Game>(
+    alloc: Global,
+    game: &G,
+    held: &mut Match<G>,
+    words: &str,
+) -> Result<String, Fail>
+    requires { held.old.game ≡ game.now }
+    ensures game { held.new.game ≡ held.old.game }
+{
+    let (count, words) = split_word(words);
+    let (round, text) = split_word(words);
+    let round = round.parse::<u64>()?;
+    let mut given = Ok(());
+    for role in 0..count.parse::<usize>()? {
+        let bytes = Vec::from_slice(alloc, text.as_bytes())?;
         given = held.answer(alloc, game, role, round, Answer::Text(Text { bytes }));
     }
     Ok(given_line(alloc, given)?)

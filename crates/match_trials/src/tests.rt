@@ -2,6 +2,7 @@
 use crate::lone::Lone;
 use crate::script::play_script;
 use game_core::Countdown;
+use match_book::{AbortFault, AnswerFault, OwedFault};
 use std::alloc::Global;
 use std::process::Abort;
 use std::test::Fail;
@@ -275,4 +276,34 @@ fn ten_thousand_turns(rt: HostRuntime) -> Result<(), Fail> {
         cause -> toolong
     ";
     play_script(&rt, rt.alloc(), &game, &["ann"], script)
+}
+
+const ANSWER_FAULTS: [(AnswerFault, &str); 5] = [
+    (AnswerFault::NoRole, "there is no such role"),
+    (AnswerFault::Over, "the match is over"),
+    (AnswerFault::Stale(3), "the present round is 3"),
+    (AnswerFault::Twice, "the role has answered this round"),
+    (AnswerFault::Memory, "want of memory"),
+];
+
+const OWED_FAULTS: [(OwedFault, &str); 2] = [
+    (OwedFault::NoRole, "there is no such role"),
+    (OwedFault::Memory, "want of memory"),
+];
+
+/// What each fault says.
+#[test]
+fn messages_of_faults(rt: HostRuntime) -> Result<(), Fail> {
+    for (fault, wanted) in ANSWER_FAULTS {
+        assert_eq!(rt; format!(in rt.alloc(); "{fault}")?.as_str(), wanted);
+    }
+    for (fault, wanted) in OWED_FAULTS {
+        assert_eq!(rt; format!(in rt.alloc(); "{fault}")?.as_str(), wanted);
+    }
+    let ended = AbortFault::Ended;
+    assert_eq!(rt;
+        format!(in rt.alloc(); "{ended}")?.as_str(),
+        "the match has come to its end"
+    );
+    Ok(())
 }

@@ -5,13 +5,14 @@ use Rattle.match_book.proofs.judgement.judge_text.Goals as goal
 
 pub returns-in_ok-error-in-Some : goal.returns-in_ok-error-in-Some
 returns-in_ok-error-in-Some g c =
-    let moves = c.args.moves.items in
-    let place = rw (c.in-Some.is, c.as_slice.ensures.value, c.as_slice-2.ensures) at c.in_ok-place.ensures in
-    let named = place_some (g.G.Game.rules c.args.game.now) moves c.args.read c.in-Some.place place ∙ slice_get_read moves (length moves) c.in-Some.place c.swap_remove-taken.result refl place.0 c.swap_remove-taken.ensures.value in
-    rw (named, c.in_ok-error-in-Some.ensures) refl
+    let moves = c.args.moves.now in
+    let place = rw (c.in-Some.is, c.as_slice.ensures) at c.in_ok-place.ensures in
+    let named = place_some (g.G.Game.rules c.args.game.now) moves c.args.read c.in-Some.place place
+    ∙ slice_get_read moves (length moves) c.in-Some.place c.index-moves-place.result refl place.0 c.index-moves-place.is in
+    rw (named, c.in_ok-taken-in-Some.ensures, c.in_ok-error-in-Some.ensures) refl
 
 pub returns-in-None : goal.returns-in-None
 returns-in-None g c =
-    let place = rw (c.in-None.is, c.as_slice.ensures.value, c.as_slice-2.ensures) at c.in_ok-place.ensures in
-    let named = place_none (g.G.Game.rules c.args.game.now) c.args.moves.items c.args.read place in
+    let place = rw (c.in-None.is, c.as_slice.ensures) at c.in_ok-place.ensures in
+    let named = place_none (g.G.Game.rules c.args.game.now) c.args.moves.now c.args.read place in
     rw named c.substitute.ensures

@@ -3,6 +3,7 @@ use Rattle.std.specs.Prelude.{◌+◌, count_by}
 use Rattle.game_core.specs.Play.{IsJoint}
 use Rattle.match_book.specs.MatchValue.{is_error}
 use Rattle.match_book.specs.Phase.{settled}
+use Rattle.match_book.specs.LegalMoves.{AreLegalMoves}
 use Rattle.match_book.proofs.TurnParts.{turn_of-same}
 use Rattle.match_book.proofs.KeptMatches.{open_answers-moves, turn-joint, next-is_state, recorded_errors-few, kept-recorded, value-recorded, substituted-few}
 use Rattle.match_book.proofs.matches.Match.record_turn.Goals as goal
@@ -66,7 +67,8 @@ invariant_of-self-2 g c =
     (
     kept-recorded rules (g.met.G.Game.laws c.self.inside.game.value) c.self.invariant playing c.args.role (rw (← c.self.view_is) at c.requires.role) c.args.judged
     (rw (← c.self.view_is) at c.requires.judged) (rw (← c.self.view_is) at c.requires.last) c.in_ok-turn.turn c.in_ok-state.state c.in_ok-settlement.settlement.stage (c.self.inside.substituted + c.count_errors-errors.result)
-    c.in_ok-settlement.settlement.goals.items turn next stage (ap (λ n. c.self.inside.substituted + n) errors)
+    c.in_ok-settlement.settlement.legal.items c.in_ok-settlement.settlement.goals.items turn next stage (ap (λ n. c.self.inside.substituted + n) errors)
+    (λ playing. subst (λ x. AreLegalMoves (g.G.Game.rules x) c.in_ok-state.state c.in_ok-settlement.settlement.legal.items) (sym same) (c.in_ok-settlement.ensures.legal playing))
     (λ k lt. cc (c.in_ok-settlement.ensures.stage, c.in_ok-settlement.ensures.goals k (subst (λ x. k < (g.G.Game.rules x).roles) same lt), same))
     )
 

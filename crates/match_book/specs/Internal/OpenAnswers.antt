@@ -1,4 +1,4 @@
--- Facts that only the contracts of private functions cite.
+-- What the open answers of a match are.
 use Rattle.std.specs.Prelude.{List, Option, All, IfSome}
 use Rattle.game_core.specs.Play.{Rules}
 use Rattle.match_book.specs.declared.judgement.Judgement.{Judgement}

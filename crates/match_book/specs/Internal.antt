@@ -1,0 +1,2 @@
+pub mod OpenAnswers
+pub mod Kept
