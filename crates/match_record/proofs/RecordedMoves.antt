@@ -8,14 +8,14 @@ use Rattle.std.proofs.lemmas.Bool.Decides.{nat_tests}
 use Rattle.std.proofs.lemmas.List.Elements.{Contains-get_or}
 use Rattle.std.proofs.lemmas.Option.{get_or_from_slice_get, slice_get_read}
 use Rattle.game_core.specs.Play.{Rules, IsLawful}
+use Rattle.match_book.specs.LegalMoves.{AreLegalMoves}
 use Rattle.match_book.specs.Judgement.{error_text, MayStand, IsJudged, NamesNone, IsPlaceOf, illegal_prefix}
 use Rattle.match_book.specs.declared.judgement.Substitution.{Substitution}
 use Rattle.match_book.specs.declared.judgement.Substitution.TheVariants.{TimeOut, ConnectionError, Unreadable, Illegal}
 use Rattle.match_book.proofs.Judgements.{first-contains, Contains-move}
 use Rattle.match_record.specs.RecordParts.{IsErrorText, MayBeGiven}
 use Rattle.match_record.specs.Replaying.{GoesOn, IsRightMove, DeniesOne, IsWrongError, text_at}
-use Rattle.match_record.specs.Internal.ReplaySteps.{all_moves, IsRightJoint}
-use Rattle.match_record.proofs.RecordShapes.{at_each_role}
+use Rattle.match_record.specs.Internal.ReplaySteps.{IsRightJoint}
 
 -- ---- members
 
@@ -128,8 +128,8 @@ judged-not_wrong {S} {M} g laws s r m text e is_state role named judged wrong =
 -- ---- the joint move of a turn
 
 -- the moves that stand in a role's place
-pub moves-at : {S M : Type 0} (g : Rules S M) (s : S) (lists : List (List M)) (r : ℕ) (x : List M) → lists ≡ all_moves g s → r < g.roles → x ≡ slice_index_or lists r x → x ≡ g.legal s r
-moves-at g s lists r x same within at = at ∙ ap (λ ls. slice_index_or ls r x) same ∙ at_each_role g.roles (g.legal s) r x within
+pub moves-at : {S M : Type 0} (g : Rules S M) (s : S) (lists : List (List M)) (r : ℕ) (x : List M) → AreLegalMoves g s lists → r < g.roles → x ≡ slice_index_or lists r x → x ≡ g.legal s r
+moves-at g s lists r x are within at = at ∙ are.legal r x within
 
 pub none-below : {S M : Type 0} (g : Rules S M) (s : S) (moves errors : List (List ℕ)) (q : ℕ) → q < 0 → IsRightMove g (g.legal s q) (text_at moves q) (text_at errors q)
 none-below g s moves errors q lt = absurd (omega arith)

@@ -28,7 +28,7 @@ impl Key {
     ghost use Rattle.match_record.specs.RecordTree.{key_text};
 
     /// All keys, in the order in which they are written and tested.
-    pub const ALL: [Key; 13] = [
+    pub(crate) const ALL: [Key; 13] = [
         Key::Cause,
         Key::EndMarks,
         Key::Errors,

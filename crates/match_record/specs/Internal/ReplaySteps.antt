@@ -9,17 +9,12 @@ use Rattle.match_book.specs.declared.phase.Cause.TheVariants.{Asked}
 use Rattle.match_book.specs.declared.phase.Stage.{Stage}
 use Rattle.match_book.specs.declared.phase.Stage.TheVariants.{Starting, Aborting}
 use Rattle.match_book.specs.declared.turn.Turn.{Turn}
-use Rattle.match_record.specs.RecordParts.{each_role}
 use Rattle.match_record.specs.Replaying.{GoesOn, IsWrongError, AreRightBelow, text_at, IsReplayed, IsFirstFault, IsRightEnd, is_asked}
 use Rattle.match_record.specs.declared.record_parts.RecordParts.{RecordParts}
 use Rattle.match_record.specs.declared.recorded_turn.RecordedMove.{RecordedMove}
 use Rattle.match_record.specs.declared.recorded_turn.RecordedMove.TheVariants.{Right, NoMove, WrongError}
 use Rattle.match_record.specs.declared.verify_fault.VerifyFault.{VerifyFault}
 use Rattle.match_record.specs.declared.verify_fault.VerifyFault.TheVariants.{NotJson, BadShape, Illegal, NotFirst, WrongState, WrongGoals, WrongEnd, Memory}
-
--- the legal moves of each role
-abbrev pub all_moves : {S M : Type 0} → Rules S M → S → List (List M)
-all_moves g s = each_role g.roles (g.legal s)
 
 -- what the move with this text and this error is, where these moves are legal
 abbrev pub IsRecorded : {S M : Type 0} → Rules S M → List M → List ℕ → List ℕ → RecordedMove M → Type 0
