@@ -25,7 +25,7 @@ fn resolve(alloc: Global, names: &Names, literal: &Literal) -> Result<numbered::
     ensures { IfOk result (λ l. numbered l ≡ resolved (table_of names.now) (view literal.now)) }
 {
     match literal {
-        Literal::Atomic(atomic) => resolve_atomic(alloc, names, atomic),
+        Literal::Atomic(atomic) => Ok(resolve_atomic(names, atomic)),
         Literal::Not(inner) => {
             let inner = resolve(alloc, names, inner)?;
             Ok(numbered::Literal::Not(Box::new(alloc, inner)?))
@@ -35,26 +35,16 @@ fn resolve(alloc: Global, names: &Names, literal: &Literal) -> Result<numbered::
     }
 }
 
-fn resolve_atomic(
-    alloc: Global,
-    names: &Names,
-    atomic: &Atomic,
-) -> Result<numbered::Literal, AllocError>
-    ensures { IfOk result (λ l. numbered l ≡ resolved (table_of names.now) (literal_of atomic.now)) }
+fn resolve_atomic(names: &Names, atomic: &Atomic) -> numbered::Literal
+    ensures { numbered result ≡ resolved (table_of names.now) (literal_of atomic.now) }
 {
     match atomic {
-        Atomic::Derived(atom) => {
-            let number = place_of_head(&names.heads, atom);
-            Ok(numbered::Literal::Holds(number))
-        }
-        Atomic::InState(term) => {
-            let number = place_of_text(&names.terms, term);
-            Ok(numbered::Literal::InState(number))
-        }
+        Atomic::Derived(atom) => numbered::Literal::Holds(place_of_head(&names.heads, atom)),
+        Atomic::InState(term) => numbered::Literal::InState(place_of_text(&names.terms, term)),
         Atomic::Does(role, taken) => {
             let role = place_of_text(&names.roles, role);
             let taken = place_of_text(&names.terms, taken);
-            Ok(numbered::Literal::Does(role, taken))
+            numbered::Literal::Does(role, taken)
         }
     }
 }

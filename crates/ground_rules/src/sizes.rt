@@ -27,31 +27,23 @@ fn add_atomic(set: &mut IndexSet<Atomic>, atomic: &Atomic) -> Result<(), AllocEr
 }
 
 #[cycle(add_literal)]
-fn add_literal(
-    alloc: Global,
-    set: &mut IndexSet<Atomic>,
-    literal: &Literal,
-) -> Result<(), AllocError>
+fn add_literal(set: &mut IndexSet<Atomic>, literal: &Literal) -> Result<(), AllocError>
     ensures { OnOk result (set.new.keys ≡ with_all_new same_atomic set.old.keys (atomics_in (view literal.now))) }
 {
     match literal {
         Literal::Atomic(atomic) => add_atomic(set, atomic),
-        Literal::Not(inner) => add_literal(alloc, set, inner),
-        Literal::Or(literals) => add_all_literals(alloc, set, literals),
+        Literal::Not(inner) => add_literal(set, inner),
+        Literal::Or(literals) => add_all_literals(set, literals),
         Literal::Distinct(_, _) => Ok(()),
     }
 }
 
 #[cycle(add_literal)]
-fn add_all_literals(
-    alloc: Global,
-    set: &mut IndexSet<Atomic>,
-    literals: &Vec<Literal>,
-) -> Result<(), AllocError>
+fn add_all_literals(set: &mut IndexSet<Atomic>, literals: &Vec<Literal>) -> Result<(), AllocError>
     ensures { OnOk result (set.new.keys ≡ with_all_new same_atomic set.old.keys (all_atomics_in (views literals.now.items))) }
 {
     for literal in literals {
-        add_literal(alloc, set, literal)?;
+        add_literal(set, literal)?;
     }
     Ok(())
 }
@@ -70,7 +62,7 @@ pub fn count_atomic_sentences(alloc: Global, rules: &[Rule]) -> Result<usize, Al
     for rule in rules {
         let head = atomic_head(&rule.head)?;
         add_atomic(&mut set, &head)?;
-        add_all_literals(alloc, &mut set, &rule.body)?;
+        add_all_literals(&mut set, &rule.body)?;
     }
     Ok(set.len())
 }
