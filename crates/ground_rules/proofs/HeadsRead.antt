@@ -1,6 +1,6 @@
 -- What is known of the heads of a description that was read.
-use Rattle.std.proofs.Common.{◌≡◌, ℕ, ◌+◌, ◌-◌, ◌*◌, ◌≤◌, Bool, true, false, not, ◌&&◌, if◌then◌else◌, nat_le, nat_eq, bytes_eq, List, [], ◌∷◌, map, Option, Some, None, option_map, refl, ap, ◌∙◌, arith, subst}
-use Rattle.std.specs.Prelude.{codes, option_and_then}
+use Rattle.std.proofs.Common.{◌≡◌, ℕ, ◌≤◌, Bool, true, false, ◌&&◌, if◌then◌else◌, nat_le, List, [], ◌∷◌, map, Option, Some, None, option_map, refl, ap, ◌∙◌, arith, subst}
+use Rattle.std.specs.Prelude.{option_and_then}
 use Rattle.std.specs.List.{cons_option}
 use Rattle.std.specs.Str.Parse.{digits_value}
 use Rattle.std.proofs.lemmas.Bool.Decides.{nat_tests}
@@ -15,7 +15,7 @@ use Rattle.ground_rules.specs.declared.sentence.Atomic.{Atomic}
 use Rattle.ground_rules.specs.declared.sentence.Atomic.TheVariants.{Derived as IsDerived, InState as IsInState, Does as IsDoes}
 use Rattle.ground_rules.specs.declared.words.Word.{Word}
 use Rattle.ground_rules.specs.declared.words.Word.TheVariants.{Role as RoleWord, Init as InitWord, True as TrueWord, Next as NextWord, Does as DoesWord, Legal as LegalWord, Goal as GoalWord, Terminal as TerminalWord, If as IfWord, Not as NotWord, Or as OrWord, Distinct as DistinctWord, And as AndWord, Plain as PlainWord}
-use Rattle.ground_rules.specs.Internal.Bools.{and-left, and-right, and-both, or-left, or-right}
+use Rattle.ground_rules.specs.Internal.Bools.{and-both, or-left, or-right}
 use Rattle.ground_rules.specs.Internal.Names.{text-same}
 use Rattle.ground_rules.specs.Terms.{is_ground_term, term_text}
 use Rattle.ground_rules.specs.Internal.TermTexts.{is_term_in, is_term_in_any}
@@ -84,6 +84,7 @@ number-small w n e = by-test (is_plain_numeral w) e
     by-test false f = absurd cc
 
 value-small : (x : Expression) (n : ℕ) → goal_value x ≡ Some n → n ≤ max_goal
+unfolding goal_value
 value-small (atom w) n e = number-small w n e
 value-small (list xs) n e = absurd cc
 

@@ -1,5 +1,5 @@
 -- The reading of an expression as a sentence, none where it has not the form of one.
-use Rattle.std.specs.Prelude.{ℕ, Bool, ◌&&◌, nat_le, List, [], ◌∷◌, Option, Some, None, option_map, if◌then◌else◌}
+use Rattle.std.specs.Prelude.{ℕ, nat_le, List, Option, Some, None, option_map, if◌then◌else◌}
 use Rattle.game_core.specs.Expression.{Expression, atom, list, Expressions, none, more, depth, max_depth}
 use Rattle.game_core.specs.Numerals.{plain_number}
 use Rattle.game_core.specs.Play.{max_goal}
@@ -20,7 +20,7 @@ both f (Some x) None = None
 both f None o = None
 
 -- the goal that an expression is: a number from 0 to 100 without leading zeros
-abbrev pub goal_value : Expression → Option ℕ
+unfoldable pub goal_value : Expression → Option ℕ
 goal_value (atom w) = plain_number w max_goal
 goal_value (list xs) = None
 

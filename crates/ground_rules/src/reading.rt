@@ -17,6 +17,7 @@ use kif_text::Expr;
 use std::alloc::{AllocError, Global};
 
 /// The goal that an expression is: a number from 0 to 100, in decimal digits without leading zeros.
+#[tactic(auto, unfolding(crate::specs::Reading::goal_value))]
 fn goal_value(expr: &Expr) -> Option<u8>
     ensures { result ≡ goal_value (expression expr.now) }
 {
