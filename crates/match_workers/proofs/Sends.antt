@@ -9,8 +9,10 @@ use Rattle.game_core.specs.declared.game.Game.{Ghosts}
 use Rattle.match_book.specs.contracts.judgement.Judgement as Judgement
 use Rattle.match_book.specs.contracts.matches.Match as Match
 use Rattle.match_book.specs.contracts.matches.Match.TheInside as Inside
+use Rattle.match_book.specs.contracts.role_moves.RoleMoves as RoleMoves
 use Rattle.match_book.specs.contracts.turn.Turn as Turn
 use Rattle.match_book.proofs.judgement.Judgement.TheSendSync.{the_send as judgement}
+use Rattle.match_book.proofs.role_moves.RoleMoves.TheSendSync.{the_send as role_moves}
 use Rattle.match_book.proofs.turn.Turn.TheSendSync.{the_send as turn}
 use Rattle.match_desk.proofs.call.Reply.TheSendSync.{the_send as reply}
 use Rattle.match_desk.specs.contracts.call.Call as Call
@@ -38,7 +40,7 @@ module _ (G S M : RattleType) (game : Ghosts G.Denot S.Denot M.Denot) (s : IsSen
               search sendable depth 20,
               (
                 search (sendable, crosses) depth 20,
-                (s, (search sendable depth 20, (search sendable depth 20, (search sendable depth 20, (search (sendable, crosses) depth 20, tt))))),
+                (s, (search sendable depth 20, (search sendable depth 20, (search sendable depth 20, (Vec-send (RoleMoves.the_row M) (role_moves M m), (search (sendable, crosses) depth 20, tt)))))),
               ),
             ),
           ),
