@@ -4,14 +4,13 @@ use crate::outcomes::{Outcome, Wanted, expect_outcome, outcome_of};
 use game_core::Text;
 use match_wire::{Message, read_message};
 use std::alloc::{AllocError, Global};
-use std::fmt;
 use std::fmt::Write as _;
 use std::net::{Net, TcpListener, TcpStream};
 use std::process::Abort;
 use std::sync::Wait;
 use std::test::Fail;
-use std::thread;
 use std::thread::Threads;
+use std::{fmt, thread};
 
 const ROLES: usize = 16;
 
@@ -20,9 +19,15 @@ const SENTENCES: usize = 8_192;
 /// A description of as many roles and sentences as there may be: each role moves once, and all have the goal 50.
 fn largest_rules(alloc: Global) -> Result<String, fmt::Error> {
     let mut rules = String::new(alloc);
-    write!(rules, "(init s) (<= (next t) (true s)) (<= terminal (true t))")?;
+    write!(
+        rules,
+        "(init s) (<= (next t) (true s)) (<= terminal (true t))"
+    )?;
     for role in 0..ROLES {
-        write!(rules, " (role r{role}) (legal r{role} go) (goal r{role} 50)")?;
+        write!(
+            rules,
+            " (role r{role}) (legal r{role} go) (goal r{role} 50)"
+        )?;
     }
     for number in 0..SENTENCES - 3 - 3 * ROLES {
         write!(rules, " (<= (idle {number} of many) (true s))")?;
@@ -66,12 +71,7 @@ fn play(alloc: Global, seat: &Seat) -> Option<bool> {
 }
 
 /// The words of the match, and who sits at each role.
-fn seats<N>(
-    net: &N,
-    alloc: Global,
-    rules: &str,
-    words: &mut Vec<String>,
-) -> Result<Vec<Seat>, Fail>
+fn seats<N>(net: &N, alloc: Global, rules: &str, words: &mut Vec<String>) -> Result<Vec<Seat>, Fail>
 where
     N: Net<Listener = TcpListener, Stream = TcpStream>,
 {
