@@ -9,7 +9,7 @@ loop-role-preserved g c =
     let was = c.loop-role.invariant in
     let w = first_of c.loop-role.role c.args.wires.items c.in-Some.wire c.next.new.self.rest.items (sym c.in-Some.ensures.cases.0 ∙ was.wires) in
     let p = first_of c.loop-role.role c.args.players.items c.in-Some-next.player c.next-in-loop-role.new.self.rest.items (sym c.in-Some-next.ensures.cases.0 ∙ was.players) in
-    let seat : Seat g.row.P.Denot g.row.W.Denot = record { brief = c.args.brief; role = c.loop-role.role; player = c.in-Some-next.player; wire = c.in-Some.wire; is_role = search rules } in
+    let seat : Seat g.row.P.Denot g.row.W.Denot = record { brief = c.args.brief; role = c.loop-role.role; player = c.in-Some-next.player; wire = c.in-Some.wire; is_role = c.push-arg-1.given.0 } in
     let here : IsSeatOf c.args.brief.now c.args.players.items c.args.wires.items c.loop-role.role seat = record { brief_is = refl; role_is = refl; player_is = p.at; wire_is = w.at } in
     let old = c.loop-role.seats.items in
     record {
