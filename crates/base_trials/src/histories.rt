@@ -17,8 +17,8 @@ use std::thread::Threads;
 /// A number that each call replaces. The reply is the number that stood there before, so each reply
 /// of a history names the call before it.
 #[derive(Clone, Copy)]
-struct Register {
-    value: u64,
+pub(crate) struct Register {
+    pub(crate) value: u64,
 }
 
 impl Object for Register {

@@ -7,3 +7,5 @@ mod expressions;
 mod games;
 #[cfg(test)]
 mod histories;
+#[cfg(test)]
+mod limits;

@@ -2,3 +2,4 @@ pub mod History
 pub mod Lines
 pub mod Told
 pub mod Faults
+pub mod Limits

@@ -2,6 +2,7 @@
 ghost use Rattle.std.specs.Prelude.{◌≡◌, ◌≤◌, ◌↔◌, [], ◌∷◌, ◌++◌, length, IfOk, OnOk, OnErr, IsErrOf};
 ghost use Rattle.call_history.specs.declared.journal.CallFault.TheVariants.{Memory};
 ghost use Rattle.call_history.specs.History.{IsReplay};
+ghost use Rattle.call_history.specs.Limits.{max_entries};
 
 use crate::object::Object;
 use std::alloc::{AllocError, Global};
@@ -49,8 +50,8 @@ pub struct Journal<O: Object> {
 
 impl<O: Object> Model for Journal<O> {
     ghost use Rattle.std.specs.Prelude.{◌≡◌, ◌≤◌, length};
-    ghost use Rattle.call_history.specs.declared.journal.TheConstants.{MAX_ENTRIES};
     ghost use Rattle.call_history.specs.History.{Recorded, IsReplay};
+    ghost use Rattle.call_history.specs.Limits.{max_entries};
 
     ghost Value = { Recorded O O.Call O.Reply };
 
@@ -58,13 +59,13 @@ impl<O: Object> Model for Journal<O> {
 
     ghost invariant = { λ j. IsReplay O.reply O.after O.opening j.object j.entries.items
         × (length j.entries.items ≤ j.most)
-        × (j.most ≤ MAX_ENTRIES) };
+        × (j.most ≤ max_entries) };
 }
 
 impl<O: Object> Journal<O> {
     /// A journal without entries, of at most `most`.
     pub fn new(alloc: Global, object: O, most: u64) -> Journal<O>
-        requires most { (1 ≤ most) × (most ≤ MAX_ENTRIES) }
+        requires most { (1 ≤ most) × (most ≤ max_entries) }
         requires opening { O.opening object ≡ object }
         ensures object { result.object ≡ object }
         ensures history { result.history ≡ [] }
@@ -91,7 +92,7 @@ impl<O: Object> Journal<O> {
         // What the type keeps.
         ensures kept { IsReplay O.reply O.after O.opening self.new.object self.new.history }
         ensures within { length self.new.history ≤ self.new.most }
-        ensures bound { self.new.most ≤ MAX_ENTRIES }
+        ensures bound { self.new.most ≤ max_entries }
     {
         if self.entries.len() as u64 >= self.most {
             return Err(CallFault::Full);

@@ -1,11 +1,13 @@
 //! Laws of the definitions of this crate, each on a function that does nothing.
 //!
-//! The definitions read a history from its front. These two laws say what they make of its end, and
-//! so, by the number of entries, of each entry.
+//! The definitions read a history from its front. Two laws say what they make of its end, and so, by
+//! the number of entries, of each entry. One law says that the constants are the definitions' limits.
 ghost use Rattle.std.specs.Prelude.{◌≡◌, ◌↔◌, [], ◌∷◌, ◌++◌};
 ghost use Rattle.call_history.specs.History.{run, IsLegalHistory};
+ghost use Rattle.call_history.specs.Limits.{max_entries, max_lines};
 
-use crate::journal::Entry;
+use crate::journal::{Entry, MAX_ENTRIES};
+use crate::lock::MAX_LINES;
 use crate::object::Object;
 
 /// A history with one more entry leaves what the last call leaves.
@@ -28,4 +30,10 @@ pub fn legal_with_one_more<O: Object>(
     ensures { IsLegalHistory O.reply O.after object.now (history.now ++ last.now ∷ [])
         ↔ (IsLegalHistory O.reply O.after object.now history.now
         × (last.now.reply ≡ O.reply (run O.after object.now history.now) last.now.call)) }
+{}
+
+/// A history may be opened for as many entries as `MAX_ENTRIES` says, and a desk for as many lines as `MAX_LINES` says.
+pub fn constants_are_the_limits()
+    ensures entries { MAX_ENTRIES ≡ max_entries }
+    ensures lines { MAX_LINES ≡ max_lines }
 {}

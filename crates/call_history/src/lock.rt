@@ -1,10 +1,11 @@
 //! A desk through which many threads share an object behind a lock.
 ghost use Rattle.std.specs.Prelude.{◌≡◌, ◌+◌, ◌<◌, ◌≤◌, ◌↔◌, ℕ, [], ◌∷◌, ◌++◌, length, sum, slice_index, IfOk, IfErr, OnOk, OnErr, IsOk, IsErrOf, Contains};
 ghost use Rattle.call_history.specs.History.{IsReplay, EndsLegalHistory};
+ghost use Rattle.call_history.specs.Limits.{max_entries, max_lines};
 ghost use Rattle.call_history.specs.Lines.{new_lines, numbers, HasAll, IsLowestMissing};
 
 use crate::gathering::{gather, lowest_missing};
-use crate::journal::{CallFault, Entry, Journal, MAX_ENTRIES};
+use crate::journal::{CallFault, Entry, Journal};
 use crate::line::LockLine;
 use crate::object::Object;
 use std::alloc::{AllocError, Global};
@@ -46,7 +47,7 @@ impl<O: Object, L: Ledger> Locked<O, L> {
         ensures parts { mine.new.parts ≡ mine.old.parts }
         ensures made { OnOk result (mine.new.amount ≡ mine.old.amount + 1) }
         ensures made_nothing { OnErr result (mine.new.amount ≡ mine.old.amount) }
-        ensures bound { mine.new.amount ≤ MAX_ENTRIES }
+        ensures bound { mine.new.amount ≤ max_entries }
     {
         let Locked {
             journal,
@@ -76,7 +77,7 @@ pub struct LockDesk<O: Object, L: Ledger> {
 
 impl<O: Object, L: Ledger> Model for LockDesk<O, L> {
     ghost use Rattle.std.specs.Prelude.{◌≡◌, ◌≤◌, length, replicate};
-    ghost use Rattle.call_history.specs.declared.lock.TheConstants.{MAX_LINES};
+    ghost use Rattle.call_history.specs.Limits.{max_lines};
     ghost use Rattle.call_history.specs.Lines.{Desk};
 
     ghost Value = { Desk };
@@ -84,7 +85,7 @@ impl<O: Object, L: Ledger> Model for LockDesk<O, L> {
     ghost view = { λ d. record { lines = length d.found.items } };
 
     ghost invariant = { λ d. (length d.found.items ≡ L.parts)
-        × (length d.found.items ≤ MAX_LINES)
+        × (length d.found.items ≤ max_lines)
         × (d.made_by_line.items ≡ replicate (length d.found.items) 0) };
 }
 
@@ -130,8 +131,8 @@ pub fn open_lock<O: Object, L: Ledger>(
     requires name { blank.name ≡ L.name }
     requires parts { blank.parts ≡ L.parts }
     requires one_each { blank.parts ≡ lines }
-    requires lines { (1 ≤ lines) × (lines ≤ MAX_LINES) }
-    requires most { (1 ≤ most) × (most ≤ MAX_ENTRIES) }
+    requires lines { (1 ≤ lines) × (lines ≤ max_lines) }
+    requires most { (1 ≤ most) × (most ≤ max_entries) }
     requires opening { O.opening object ≡ object }
     ensures desk { IfOk result (λ opened. opened.0.lines ≡ lines) }
     ensures lines { IfOk result (λ opened. opened.1.items ≡ new_lines lines) }

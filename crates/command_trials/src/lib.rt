@@ -6,9 +6,13 @@ mod command_lines;
 #[cfg(test)]
 mod example_games;
 #[cfg(test)]
+mod largest;
+#[cfg(test)]
 mod network;
 #[cfg(test)]
 mod outcomes;
+#[cfg(test)]
+mod patience;
 #[cfg(test)]
 mod records;
 #[cfg(test)]

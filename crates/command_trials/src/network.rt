@@ -40,7 +40,7 @@ where
 }
 
 /// A port of this computer, and the word for a player of that name there.
-fn listen<N>(net: &N, alloc: Global, name: &str) -> io::Result<(TcpListener, String)>
+pub fn listen<N>(net: &N, alloc: Global, name: &str) -> io::Result<(TcpListener, String)>
 where
     N: Net<Listener = TcpListener, Stream = TcpStream>,
 {
@@ -50,7 +50,7 @@ where
 }
 
 /// Takes one request and answers it with that body; the body of the request is answered.
-fn answer<S: Read + Write + Drop>(alloc: Global, stream: S, reply: &[u8]) -> Option<Text> {
+pub fn answer<S: Read + Write + Drop>(alloc: Global, stream: S, reply: &[u8]) -> Option<Text> {
     let mut stream = Counted::new(stream);
     let body = take_request(alloc, &mut stream).ok()?;
     give_reply(alloc, &mut stream, reply).ok()?;

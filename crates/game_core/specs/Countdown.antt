@@ -8,6 +8,10 @@ use Rattle.game_core.specs.declared.countdown.Take.{Take}
 use Rattle.game_core.specs.declared.countdown.Take.TheVariants.{Noop, One, Two}
 use Rattle.game_core.specs.Play.{Rules}
 
+-- the largest heap of a new game
+abbrev pub max_heap : ℕ
+max_heap = 100
+
 -- how many a move takes
 abbrev pub count_of : Take → ℕ
 count_of Noop = 0

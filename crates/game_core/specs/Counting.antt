@@ -11,6 +11,10 @@ pub record Counting (S : Type 0) : Type 0 where
 abbrev pub last_count : ℕ
 last_count = 2 ^ 64 - 1
 
+-- how many reads, or writes, are made of a stream for one input or output at most
+abbrev pub max_stream_calls : ℕ
+max_stream_calls = 200000
+
 -- one more, up to the last number
 abbrev pub one_more : ℕ → ℕ
 one_more n = min (n + 1) last_count

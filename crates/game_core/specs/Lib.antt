@@ -1,9 +1,10 @@
 pub mod Bytes
 pub mod Expression
 pub mod Canonical
+pub mod Numerals
 pub mod Texts
 pub mod Play
 pub mod PlayAnswer
 pub mod Countdown
 pub mod Counting
-pub mod CountdownLaws
+pub mod Internal

@@ -1,5 +1,6 @@
 //! Countdown: a small game for two roles.
 ghost use Rattle.std.specs.Prelude.{◌≡◌, ◌≤◌, ◌↔◌, IsSome, IfSome};
+ghost use Rattle.game_core.specs.Countdown.{max_heap};
 
 use crate::game::Game;
 use crate::text::Text;
@@ -7,13 +8,16 @@ use std::alloc::{AllocError, Global};
 
 const ROLES: usize = 2;
 
+/// The largest heap of a new game.
+const MAX_HEAP: u8 = 100;
+
 /// Two roles, `red` and `blue`, in turn take one or two from a heap, red first. Who finds it empty
 /// has goal 0, the other 100.
 #[derive(Drop)]
 pub struct Countdown {
     pub size: u8,
     pub ghost some: { 1 ≤ size },
-    pub ghost few: { size ≤ 100 },
+    pub ghost few: { size ≤ max_heap },
 }
 
 /// A move: to take none, one or two.
@@ -45,10 +49,10 @@ pub struct Position {
 impl Countdown {
     /// The game that begins with a heap of `size`: `Some` for 1 to 100.
     pub fn new(size: u8) -> Option<Countdown>
-        ensures some { IsSome result ↔ ((1 ≤ size) × (size ≤ 100)) }
+        ensures some { IsSome result ↔ ((1 ≤ size) × (size ≤ max_heap)) }
         ensures value { IfSome result (λ g. g.size ≡ size) }
     {
-        if size >= 1 && size <= 100 {
+        if size >= 1 && size <= MAX_HEAP {
             Some(Countdown { size })
         } else {
             None
@@ -112,7 +116,7 @@ impl Side {
 
 impl Game for Countdown {
     ghost use Rattle.game_core.specs.Countdown.{countdown};
-    ghost use Rattle.game_core.specs.CountdownLaws.{countdown_laws};
+    ghost use Rattle.game_core.specs.Internal.CountdownLaws.{countdown_laws};
 
     type State = Position;
 

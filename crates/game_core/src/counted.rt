@@ -8,6 +8,9 @@ use std::io;
 use std::io::{Read, Write};
 use std::marker::Model;
 
+/// The most reads, and the most writes, that are made of a stream for one input or output: whoever never ends is given up then.
+pub const MAX_STREAM_CALLS: u32 = 200_000;
+
 /// A stream, and how many of its reads and writes have failed: each `Err`, interruptions included,
 /// and each write that takes 0 of some bytes. The count stops at 2^64 - 1.
 ///

@@ -7,14 +7,17 @@ mod countdown;
 mod counted;
 mod game;
 mod joint;
+mod limits;
+pub mod numeral;
 mod play;
 mod text;
 mod texts;
 
 pub use countdown::{Countdown, Position, Side, Take};
-pub use counted::Counted;
+pub use counted::{Counted, MAX_STREAM_CALLS};
 pub use game::Game;
 pub use joint::Joint;
+pub use limits::{MAX_DEPTH, MAX_GOAL, MAX_ROLES};
 pub use play::{PlayFault, play_list};
 pub use text::Text;
 pub use texts::Texts;

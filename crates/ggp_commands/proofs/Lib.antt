@@ -1,3 +1,5 @@
 pub mod LineLemmas
-pub mod Numbers
+pub mod Pieces
 pub mod Records
+pub mod Submits
+pub mod WordLemmas

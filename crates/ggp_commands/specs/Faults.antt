@@ -10,19 +10,24 @@ use Rattle.match_workers.specs.declared.refereeing.RefereeFault.TheVariants.{Ref
 use Rattle.ggp_commands.specs.declared.streams.InputFault.{InputFault}
 use Rattle.ggp_commands.specs.declared.streams.InputFault.TheVariants.{ReadFault as InputReadFault, TooLong, Memory as InputMemory}
 use Rattle.ggp_commands.specs.declared.script_fault.ScriptFault.{ScriptFault}
-use Rattle.ggp_commands.specs.declared.script_fault.ScriptFault.TheVariants.{ReadFault as ScriptReadFault, TooLong as ScriptTooLong, Memory as ScriptMemory}
+use Rattle.ggp_commands.specs.declared.script_fault.ScriptFault.TheVariants.{ReadFault as ScriptReadFault, TooLong as ScriptTooLong, Memory as ScriptMemory, WriteFault as ScriptWriteFault}
 use Rattle.ggp_commands.specs.declared.fault.Fault.{Fault}
-use Rattle.ggp_commands.specs.declared.fault.Fault.TheVariants.{Memory, BadDescription, ReadFault, InputTooLong, Refused, MatchNotEnded, NotLawful}
-
-abbrev pub input_fault : InputFault → Fault
-input_fault InputReadFault = ReadFault
-input_fault TooLong = InputTooLong
-input_fault InputMemory = Memory
+use Rattle.ggp_commands.specs.declared.fault.Fault.TheVariants.{Memory, BadDescription, ReadFault, InputTooLong, WriteFault, Refused, MatchNotEnded, NotLawful}
 
 abbrev pub script_input_fault : InputFault → ScriptFault
 script_input_fault InputReadFault = ScriptReadFault
 script_input_fault TooLong = ScriptTooLong
 script_input_fault InputMemory = ScriptMemory
+
+abbrev pub script_fault : ScriptFault → Fault
+script_fault ScriptReadFault = ReadFault
+script_fault ScriptTooLong = InputTooLong
+script_fault ScriptMemory = Memory
+script_fault ScriptWriteFault = WriteFault
+
+-- an input that is no script fails as a script does
+abbrev pub input_fault : InputFault → Fault
+input_fault fault = script_fault (script_input_fault fault)
 
 -- a record that fails a test is not lawful
 abbrev pub check_fault : VerifyFault → Fault

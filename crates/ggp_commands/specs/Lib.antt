@@ -7,3 +7,4 @@ pub mod Faults
 pub mod Commands
 pub mod Checks
 pub mod Games
+pub mod Contacts

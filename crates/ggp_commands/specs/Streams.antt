@@ -1,16 +1,12 @@
 -- What reading a whole input and writing a whole output do to the streams.
 use Rattle.std.specs.Prelude.{◌≡◌, ℕ, ◌<◌, ◌≤◌, ◌⊎◌, List, length}
-use Rattle.game_core.specs.Counting.{Counting, CallsMade, one_more}
+use Rattle.game_core.specs.Counting.{Counting, CallsMade, max_stream_calls, one_more}
 use Rattle.ggp_commands.specs.declared.streams.InputFault.{InputFault}
 use Rattle.ggp_commands.specs.declared.streams.InputFault.TheVariants.{ReadFault, TooLong, Memory}
 
--- how many reads an input takes at most
-abbrev pub max_reads : ℕ
-max_reads = 200000
-
 -- The last read failed; or as many reads as there may be were made, and each gave a byte at least.
 abbrev pub StopsReading : {R : Type 0} → ℕ → Counting R → Counting R → Type 0
-StopsReading given old new = (new.faults ≡ one_more old.faults) ⊎ (CallsMade max_reads old.calls new.calls × (max_reads ≤ given) × (new.faults ≡ old.faults))
+StopsReading given old new = (new.faults ≡ one_more old.faults) ⊎ (CallsMade max_stream_calls old.calls new.calls × (max_stream_calls ≤ given) × (new.faults ≡ old.faults))
 
 -- What a fault says of the bytes given before it, where an input has at most this many, and of the reader before and after.
 abbrev pub InputFails : {R : Type 0} → ℕ → InputFault → List ℕ → Counting R → Counting R → Type 0

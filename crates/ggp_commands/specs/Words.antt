@@ -1,13 +1,17 @@
 -- The words of a script line.
-use Rattle.std.specs.Prelude.{ℕ, ◌==◌, ◌&&◌, ◌||◌, not, nat_le, nat_lt, Bool, List, [], ◌∷◌, ◌++◌, length, slice_index, Option, Some, None, if◌then◌else◌}
-use Rattle.std.specs.List.{slice_split, list_all}
-use Rattle.std.specs.Str.Parse.{digits_value}
-use Rattle.std.specs.Char.{is_ascii_digit}
+use Rattle.std.specs.Prelude.{ℕ, ◌==◌, List, [], ◌∷◌, ◌++◌, Option, Some, None}
+use Rattle.std.specs.List.{slice_split}
 use Rattle.game_core.specs.Bytes.{space}
+use Rattle.game_core.specs.Numerals.{plain_number}
 
--- the pieces of a line between its spaces: one more than it has spaces
+-- the pieces of a text between its spaces: one more than it has spaces
 abbrev pub words : List ℕ → List (List ℕ)
-words line = slice_split (λ b. b == space) line
+words text = slice_split (λ b. b == space) text
+
+-- the words behind a word: none, where no space stands after it
+abbrev pub words_behind : Option (List ℕ) → List (List ℕ)
+words_behind None = []
+words_behind (Some rest) = words rest
 
 -- these words, each behind a space
 abbrev pub behind_spaces : List (List ℕ) → List ℕ
@@ -23,16 +27,9 @@ spaced (word ∷ more) = word ++ behind_spaces more
 abbrev pub max_number : ℕ
 max_number = 1000000000
 
-abbrev pub digit_zero : ℕ
-digit_zero = 48
-
--- a decimal number without a leading zero, other than 0 itself
-abbrev pub is_numeral : List ℕ → Bool
-is_numeral word = nat_lt 0 (length word) && list_all is_ascii_digit word && (length word == 1 || not (slice_index word 0 == digit_zero))
-
 -- the number that a word is, up to the largest
 abbrev pub number_of : List ℕ → Option ℕ
-number_of word = if is_numeral word && nat_le (digits_value 10 word) max_number then Some (digits_value 10 word) else None
+number_of word = plain_number word max_number
 
 -- a word that names something is not empty
 abbrev pub name_of : List ℕ → Option (List ℕ)

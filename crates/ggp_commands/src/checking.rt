@@ -5,6 +5,7 @@ ghost use Rattle.match_record.specs.LawfulRecord.{IsLawfulRecord};
 ghost use Rattle.ggp_commands.specs.Checks.{lawful_line, CheckFails};
 
 use crate::fault::Fault;
+use crate::script_fault::ScriptFault;
 use crate::streams::{InputFault, read_to_end, write_all};
 use game_core::{Counted, Game};
 use match_record::{VerifyFault, verify};
@@ -21,11 +22,7 @@ impl From<InputFault> for Fault {
     ghost from_gives = { λ fault given. given ≡ input_fault fault };
 
     fn from(fault: InputFault) -> Fault {
-        match fault {
-            InputFault::ReadFault => Fault::ReadFault,
-            InputFault::TooLong => Fault::InputTooLong,
-            InputFault::Memory => Fault::Memory,
-        }
+        Fault::from(ScriptFault::from(fault))
     }
 }
 

@@ -35,6 +35,11 @@ impl From<ArgumentFault> for Fault {
 }
 
 impl From<ScriptFault> for Fault {
+    ghost use Rattle.std.specs.Prelude.{◌≡◌};
+    ghost use Rattle.ggp_commands.specs.Faults.{script_fault};
+
+    ghost from_gives = { λ fault given. given ≡ script_fault fault };
+
     fn from(fault: ScriptFault) -> Fault {
         match fault {
             ScriptFault::ReadFault => Fault::ReadFault,
@@ -132,61 +137,73 @@ where
     let words: Vec<&str> = words.iter().map(|word| word.as_str()).collect(alloc)?;
     match read_arguments(alloc, words.as_slice())? {
         Task::Help(text) => Ok(write_all(writer, text.as_bytes())?),
-        Task::Desk(game) => desk(alloc, game, reader, writer),
-        Task::Verify(game) => check(alloc, game, reader, writer),
+        Task::Desk(game) => for_game::<Desk, R, W>(alloc, game, reader, writer),
+        Task::Verify(game) => for_game::<Verify, R, W>(alloc, game, reader, writer),
         Task::Run(plan) => run::<H, P, S, W>(rt, alloc, reach, &plan, writer),
         Task::Info(player) => info(rt, alloc, &player, writer),
     }
 }
 
-fn desk<R: Read, W: Write>(
+/// A command over standard input and output that wants one game.
+trait GameCommand {
+    /// Does the command's work for this game.
+    fn perform<G: Game + Drop, R: Read, W: Write>(
+        alloc: Global,
+        game: G,
+        reader: &mut Counted<R>,
+        writer: &mut Counted<W>,
+    ) -> Result<(), Fault>;
+}
+
+/// Does a command's work for the game that the command line gives.
+fn for_game<C: GameCommand, R: Read, W: Write>(
     alloc: Global,
-    game: GameSource<'_>,
+    source: GameSource<'_>,
     reader: &mut Counted<R>,
     writer: &mut Counted<W>,
 ) -> Result<(), Fault> {
-    match game {
+    match source {
         GameSource::Countdown(size) => {
             let game = Countdown::new(size).ok_or(Fault::WrongUse)?;
-            desk_of(alloc, game, reader, writer)
+            C::perform(alloc, game, reader, writer)
         }
         GameSource::Rules(text) => {
             let game = described_game(alloc, text)?;
-            desk_of(alloc, game, reader, writer)
+            C::perform(alloc, game, reader, writer)
         }
     }
 }
 
-/// Answers a script, with this game as number 0.
-fn desk_of<R: Read, W: Write, G: Game + Drop>(
-    alloc: Global,
-    game: G,
-    reader: &mut Counted<R>,
-    writer: &mut Counted<W>,
-) -> Result<(), Fault> {
-    let mut games = Vec::new(alloc);
-    games.push(game)?;
-    match run_script(alloc, reader, writer, games)? {
-        0 => Ok(()),
-        count => Err(Fault::BadLines(count)),
+/// Answers a script, with the game as number 0.
+struct Desk;
+
+impl GameCommand for Desk {
+    fn perform<G: Game + Drop, R: Read, W: Write>(
+        alloc: Global,
+        game: G,
+        reader: &mut Counted<R>,
+        writer: &mut Counted<W>,
+    ) -> Result<(), Fault> {
+        let mut games = Vec::new(alloc);
+        games.push(game)?;
+        match run_script(alloc, reader, writer, games)? {
+            0 => Ok(()),
+            count => Err(Fault::BadLines(count)),
+        }
     }
 }
 
-fn check<R: Read, W: Write>(
-    alloc: Global,
-    game: GameSource<'_>,
-    reader: &mut Counted<R>,
-    writer: &mut Counted<W>,
-) -> Result<(), Fault> {
-    match game {
-        GameSource::Countdown(size) => {
-            let game = Countdown::new(size).ok_or(Fault::WrongUse)?;
-            check_record(alloc, &game, reader, writer)
-        }
-        GameSource::Rules(text) => {
-            let game = described_game(alloc, text)?;
-            check_record(alloc, &game, reader, writer)
-        }
+/// Checks a record of the game.
+struct Verify;
+
+impl GameCommand for Verify {
+    fn perform<G: Game + Drop, R: Read, W: Write>(
+        alloc: Global,
+        game: G,
+        reader: &mut Counted<R>,
+        writer: &mut Counted<W>,
+    ) -> Result<(), Fault> {
+        check_record(alloc, &game, reader, writer)
     }
 }
 

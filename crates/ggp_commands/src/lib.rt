@@ -31,4 +31,4 @@ pub use commands::{command, report};
 pub use contact::ContactFault;
 pub use fault::Fault;
 pub use script_fault::ScriptFault;
-pub use socket_player::{Reach, SocketPlayer, Sockets};
+pub use socket_player::{Reach, SocketPlayer, Sockets, answer_of};

@@ -1,7 +1,7 @@
 //! The lines of replies.
 ghost use Rattle.std.specs.Prelude.{◌≡◌, ◌++◌, OnOk, IfOk};
 ghost use Rattle.std.specs.Fmt.{decimal};
-ghost use Rattle.ggp_commands.specs.Words.{spaced, behind_spaces};
+ghost use Rattle.ggp_commands.specs.Words.{spaced};
 ghost use Rattle.ggp_commands.specs.ScriptLines.{joint_text, owed_text, due_text, status_text, refusal_word, refusal_text, reply_text};
 
 use game_core::{Text, Texts};

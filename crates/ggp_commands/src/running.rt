@@ -20,7 +20,7 @@ use std::sync::Wait;
 use std::thread::Threads;
 
 /// How often a role may ask what is due to it. With the pause of a player at rest that is under three hours.
-const TURNS: u64 = 100_000;
+const MAX_TRIES: u64 = 100_000;
 
 impl From<RefereeFault> for Fault {
     ghost use Rattle.std.specs.Prelude.{◌≡◌};
@@ -114,6 +114,6 @@ where
     let rules = copies(alloc, game.description())?;
     let setup = setup_of(alloc, plan)?;
     let players: Vec<P> = players_of(alloc, reach, plan)?;
-    let refereed = referee(rt, alloc, game, setup, rules, players, TURNS)?;
+    let refereed = referee(rt, alloc, game, setup, rules, players, MAX_TRIES)?;
     ended_record(alloc, &refereed.closed.object)
 }

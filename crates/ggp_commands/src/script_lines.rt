@@ -1,10 +1,10 @@
 //! The calls of script lines.
-ghost use Rattle.std.specs.Prelude.{◌≡◌, ◌==◌, IfOk, map};
+ghost use Rattle.std.specs.Prelude.{◌≡◌, ◌≢◌, ◌∷◌, IfOk, map, codes};
 ghost use Rattle.std.specs.List.{list_all};
-ghost use Rattle.ggp_commands.specs.Words.{spaced};
+ghost use Rattle.ggp_commands.specs.Words.{words};
 ghost use Rattle.ggp_commands.specs.ScriptLines.{open_call, next_call, submit_call, miss_call, query_call, abort_call, call_of_words, call_of, is_named, is_broken};
 
-use crate::words::{number, words};
+use crate::words::{first_word, number, words};
 use game_core::{Text, Texts};
 use match_desk::Call;
 use std::alloc::{AllocError, Global};
@@ -28,21 +28,6 @@ fn texts(alloc: Global, words: &[&[u8]]) -> Result<Texts, AllocError>
         items.push(Text::from_slice(alloc, word)?)?;
     }
     Ok(Texts { items })
-}
-
-/// The words with one space between them, as they stood in the line.
-fn spaced(alloc: Global, words: &[&[u8]]) -> Result<Text, AllocError>
-    ensures { IfOk result (λ t. t ≡ spaced (map (λ w. w.now) words.now)) }
-{
-    let mut bytes = Vec::new(alloc);
-    if let Some((first, others)) = words.split_first() {
-        bytes.extend_from_slice(first)?;
-        for word in others {
-            bytes.push(b' ')?;
-            bytes.extend_from_slice(word)?;
-        }
-    }
-    Ok(Text { bytes })
 }
 
 fn open_call(alloc: Global, words: &[&[u8]]) -> Result<Option<Call>, AllocError>
@@ -85,12 +70,17 @@ fn next_call(alloc: Global, words: &[&[u8]]) -> Result<Option<Call>, AllocError>
     }))
 }
 
-fn submit_call(alloc: Global, words: &[&[u8]]) -> Result<Option<Call>, AllocError>
-    ensures { IfOk result (λ o. o ≡ submit_call (map (λ w. w.now) words.now)) }
+/// The text is the rest of the line as it stands, or empty where the line ends at the round.
+fn submit_call(alloc: Global, rest: &[u8]) -> Result<Option<Call>, AllocError>
+    ensures { IfOk result (λ o. o ≡ submit_call (words rest.now)) }
 {
-    let [id, role, round, text @ ..] = words else {
+    let (id, Some(rest)) = first_word(rest) else {
         return Ok(None);
     };
+    let (role, Some(rest)) = first_word(rest) else {
+        return Ok(None);
+    };
+    let (round, text) = first_word(rest);
     let (Some(role), Some(round)) = (number(role), number(round)) else {
         return Ok(None);
     };
@@ -98,7 +88,7 @@ fn submit_call(alloc: Global, words: &[&[u8]]) -> Result<Option<Call>, AllocErro
         return Ok(None);
     }
     let id = Text::from_slice(alloc, id)?;
-    let text = spaced(alloc, text)?;
+    let text = Text::from_slice(alloc, text.unwrap_or(b""))?;
     Ok(Some(Call::Submit {
         id,
         role: role as usize,
@@ -165,25 +155,21 @@ fn abort_call(alloc: Global, words: &[&[u8]]) -> Result<Option<Call>, AllocError
     }
 }
 
-fn call_of_words(alloc: Global, words: &[&[u8]]) -> Result<Option<Call>, AllocError>
-    ensures { IfOk result (λ o. o ≡ call_of_words (map (λ w. w.now) words.now)) }
+/// The call of a keyword other than `submit` and of the words behind it.
+fn call_of_words(alloc: Global, keyword: &[u8], words: &[&[u8]]) -> Result<Option<Call>, AllocError>
+    requires { keyword.now ≢ codes "submit" }
+    ensures { IfOk result (λ o. o ≡ call_of_words (keyword.now ∷ map (λ w. w.now) words.now)) }
 {
-    let Some((keyword, rest)) = words.split_first() else {
-        return Ok(None);
-    };
-    let keyword = *keyword;
     if keyword == b"open".as_slice() {
-        open_call(alloc, rest)
+        open_call(alloc, words)
     } else if keyword == b"next".as_slice() {
-        next_call(alloc, rest)
-    } else if keyword == b"submit".as_slice() {
-        submit_call(alloc, rest)
+        next_call(alloc, words)
     } else if keyword == b"miss".as_slice() {
-        miss_call(alloc, rest)
+        miss_call(alloc, words)
     } else if keyword == b"query".as_slice() {
-        query_call(alloc, rest)
+        query_call(alloc, words)
     } else if keyword == b"abort".as_slice() {
-        abort_call(alloc, rest)
+        abort_call(alloc, words)
     } else {
         Ok(None)
     }
@@ -193,6 +179,12 @@ fn call_of_words(alloc: Global, words: &[&[u8]]) -> Result<Option<Call>, AllocEr
 pub fn call_of(alloc: Global, line: &[u8]) -> Result<Option<Call>, AllocError>
     ensures { IfOk result (λ o. o ≡ call_of line.now) }
 {
-    let words = words(alloc, line)?;
-    call_of_words(alloc, words.as_slice())
+    let (keyword, Some(rest)) = first_word(line) else {
+        return Ok(None);
+    };
+    if keyword == b"submit".as_slice() {
+        return submit_call(alloc, rest);
+    }
+    let words = words(alloc, rest)?;
+    call_of_words(alloc, keyword, words.as_slice())
 }

@@ -1,4 +1,6 @@
 //! Players that are reached over the network.
+ghost use Rattle.std.specs.Prelude.{◌≡◌};
+ghost use Rattle.ggp_commands.specs.Contacts.{answer_of, contact_answer};
 
 use crate::addresses::PlayerAddress;
 use crate::contact::{ContactFault, contact};
@@ -54,17 +56,25 @@ impl<'a, H: Net + Clock> Reach<SocketPlayer<'a, H>> for Sockets<'a, H> {
     }
 }
 
-/// What handing a message over came to. No answer in time is a silence; no connection, and every other fault, is a broken
-/// answer.
-fn answer_of(reached: Result<Text, ContactFault>) -> Answer {
-    match reached {
+/// What an exchange with a player came to: no answer in time is a silence, every other fault a broken answer.
+pub fn answer_of(exchanged: Result<Text, WireFault>) -> Answer
+    ensures { result ≡ answer_of exchanged }
+{
+    match exchanged {
         Ok(text) => Answer::Text(text),
-        Err(
-            ContactFault::Exchange(
-                WireFault::ReadFault(ErrorKind::WouldBlock | ErrorKind::TimedOut),
-            ),
-        ) => Answer::Silent,
+        Err(WireFault::ReadFault(ErrorKind::WouldBlock | ErrorKind::TimedOut)) => Answer::Silent,
         Err(_) => Answer::Broken,
+    }
+}
+
+/// What handing a message over came to: where no connection was made, a broken answer.
+fn contact_answer(reached: Result<Text, ContactFault>) -> Answer
+    ensures { result ≡ contact_answer reached }
+{
+    match reached {
+        Ok(text) => answer_of(Ok(text)),
+        Err(ContactFault::Exchange(fault)) => answer_of(Err(fault)),
+        Err(ContactFault::NoConnection | ContactFault::Memory) => Answer::Broken,
     }
 }
 
@@ -80,7 +90,7 @@ impl<H: Net + Clock> Player for SocketPlayer<'_, H> {
             host: self.host.as_str(),
             port: self.port,
         };
-        answer_of(contact(self.rt, self.alloc, &address, seconds, body))
+        contact_answer(contact(self.rt, self.alloc, &address, seconds, body))
     }
 
     fn rest(&mut self) {

@@ -4,7 +4,7 @@ ghost use Rattle.std.specs.Io.KnownBytes.{Consumes, Appends, IsAtEnd};
 ghost use Rattle.game_core.specs.Counting.{one_more};
 ghost use Rattle.ggp_commands.specs.Streams.{InputFails};
 
-use game_core::Counted;
+use game_core::{Counted, MAX_STREAM_CALLS};
 use std::alloc::Global;
 use std::io::{Read, Write};
 
@@ -22,8 +22,6 @@ pub enum InputFault {
 /// A write failed, or took none of some bytes.
 #[derive(Clone, Copy, Debug, PartialEq, Eq)]
 pub struct WriteFault;
-
-const MAX_READS: u32 = 200_000;
 
 /// How many bytes a read is given room for.
 const READ_SIZE: usize = 16_384;
@@ -44,7 +42,7 @@ pub fn read_to_end<R: Read>(
 {
     let mut input = Vec::new(alloc);
     let mut chunk = [0u8; READ_SIZE];
-    for turn in 0..MAX_READS {
+    for call in 0..MAX_STREAM_CALLS {
         let count = match reader.read(&mut chunk) {
             Ok(count) => count,
             Err(_) => return Err(InputFault::ReadFault),

@@ -1,45 +1,40 @@
 //! The words of a script line.
-ghost use Rattle.std.specs.Prelude.{◌≡◌, ◌==◌, IfOk, map};
-ghost use Rattle.std.specs.List.{list_all};
-ghost use Rattle.std.specs.Char.{is_ascii_digit};
-ghost use Rattle.ggp_commands.specs.Words.{words, is_numeral, number_of};
+ghost use Rattle.std.specs.Prelude.{◌≡◌, ◌==◌, ◌∷◌, IfOk, map, option_copied, position};
+ghost use Rattle.game_core.specs.Bytes.{space};
+ghost use Rattle.ggp_commands.specs.Words.{words, words_behind, number_of};
 
+use game_core::numeral::plain_number;
 use std::alloc::{AllocError, Global};
 
-/// The pieces of a line between its spaces. A doubled space gives an empty one.
-pub fn words<'a>(alloc: Global, line: &'a [u8]) -> Result<Vec<&'a [u8]>, AllocError>
-    ensures { IfOk result (λ v. map (λ w. w.now) v.items ≡ words line.now) }
+/// The words of a text: the pieces between its spaces. A doubled space gives an empty one.
+pub fn words<'a>(alloc: Global, text: &'a [u8]) -> Result<Vec<&'a [u8]>, AllocError>
+    ensures { IfOk result (λ v. map (λ w. w.now) v.items ≡ words text.now) }
 {
-    line.split(|b| *b == b' ').collect(alloc)
+    text.split(|b| *b == b' ').collect(alloc)
 }
 
-fn is_digits(word: &[u8]) -> bool
-    ensures { result ≡ list_all is_ascii_digit word.now }
+fn word_end(text: &[u8]) -> Option<usize>
+    ensures { result ≡ position (λ b. b == space) text.now }
 {
-    word.iter().all(|b| b.is_ascii_digit())
+    text.iter().position(|b| *b == b' ')
 }
 
-fn is_numeral(word: &[u8]) -> bool
-    ensures { result ≡ is_numeral word.now }
+/// The first word of a text, and what stands behind the space after it.
+pub fn first_word(text: &[u8]) -> (&[u8], Option<&[u8]>)
+    ensures { words text.now ≡ result.0.now ∷ words_behind (option_copied result.1) }
 {
-    !word.is_empty() && is_digits(word) && (word.len() == 1 || word[0] != b'0')
+    match word_end(text) {
+        Some(end) => (&text[..end], Some(&text[end + 1..])),
+        None => (text, None),
+    }
 }
 
-const MAX_NUMBER: u64 = 1_000_000_000;
+/// The largest number that a script line may name.
+const MAX_NUMBER: usize = 1_000_000_000;
 
 /// The number that a word is: decimal, without sign or leading zeros, at most 1,000,000,000.
 pub fn number(word: &[u8]) -> Option<u64>
     ensures { result ≡ number_of word.now }
 {
-    if !is_numeral(word) {
-        return None;
-    }
-    let mut value = 0;
-    for digit in word {
-        value = value * 10 + u64::from(*digit - b'0');
-        if value > MAX_NUMBER {
-            return None;
-        }
-    }
-    Some(value)
+    Some(plain_number(word, MAX_NUMBER)? as u64)
 }

@@ -5,7 +5,8 @@ use Rattle.kif_text.specs.View.{view, views}
 use Rattle.kif_text.specs.declared.expr.Expr.{Expr}
 use Rattle.ground_rules.specs.Sentences.{TextLiterals}
 use Rattle.ground_rules.specs.declared.sentence.Atomic.{Atomic}
-use Rattle.ground_rules.specs.Reading.{one_argument, two_arguments, both, sentence, read_atomic, read_literals, without_first, read_rule}
+use Rattle.ground_rules.specs.Reading.{one_argument, two_arguments, both, sentence, read_atomic, read_literals, read_rule}
+use Rattle.ground_rules.specs.Internal.Members.{without_first}
 
 pub one_argument-none : (xs : List Expr) → length xs ≢ 2 → None ≡ one_argument (views xs)
 one_argument-none [] ne = refl

@@ -3,27 +3,24 @@ use Rattle.std.proofs.Common.{◌≡◌, ◌≢◌, ℕ, ◌≤◌, true, nat_le
 use Rattle.std.proofs.lemmas.List.{length-map}
 use Rattle.std.proofs.lemmas.Bool.Decides.{nat_tests}
 use Rattle.game_core.specs.Expression.{Expression}
-use Rattle.game_core.specs.Play.{max_roles}
-use Rattle.kif_text.specs.View.{view, expressions}
+use Rattle.game_core.specs.Play.{max_roles, IsLawful}
+use Rattle.kif_text.specs.View.{expressions}
 use Rattle.ground_rules.specs.declared.sentence.Derived.{Derived}
 use Rattle.ground_rules.specs.declared.sentence.Derived.TheVariants.{Legal, Terminal}
-use Rattle.ground_rules.specs.declared.ground_game.GroundGame.{GroundGame}
 use Rattle.ground_rules.specs.declared.lookups.StateHead.TheVariants.{Init as InitHead, Next as NextHead}
-use Rattle.ground_rules.specs.Bools.{and-left, and-right, or-left}
-use Rattle.ground_rules.specs.Names.{text-same}
+use Rattle.ground_rules.specs.Internal.Bools.{and-left, and-right, or-left}
+use Rattle.ground_rules.specs.Internal.Names.{text-same}
 use Rattle.ground_rules.specs.Literals.{Rule}
-use Rattle.ground_rules.specs.Terms.{are_terms_in_any}
-use Rattle.ground_rules.specs.Described.{Description, is_among, role_names, are_different}
+use Rattle.ground_rules.specs.Internal.TermTexts.{are_terms_in_any}
+use Rattle.ground_rules.specs.Described.{Description, is_among, role_names, are_different, IsGameOf}
 use Rattle.ground_rules.specs.Roles.{RoleTable}
-use Rattle.ground_rules.specs.Tables.{are_roles, names}
+use Rattle.ground_rules.specs.Internal.TableTests.{are_roles, names}
 use Rattle.ground_rules.specs.Sizes.{have_few_moves}
-use Rattle.ground_rules.specs.Resolved.{NameTable, atom_number, role_table, state_mentions, head_terms}
-use Rattle.ground_rules.specs.Numbered.{rules_of}
-use Rattle.ground_rules.specs.LoadedGameLaws.{loaded_game_laws}
-use Rattle.ground_rules.specs.Loading.{AreSentences, description_of}
-use Rattle.ground_rules.specs.GameParts.{AreGameParts, IsTableOf}
-use Rattle.ground_rules.specs.Loaded.{IsLoaded}
-use Rattle.ground_rules.proofs.GameOf.{EachIs, each-new, heads-stand, picked-in, IsBuilt, game-of}
+use Rattle.ground_rules.specs.Internal.Resolved.{NameTable, atom_number, role_table, state_mentions, head_terms}
+use Rattle.ground_rules.specs.LoadedGame.{GameTables, loaded_game}
+use Rattle.ground_rules.specs.Loading.{description_of}
+use Rattle.ground_rules.specs.Internal.GameParts.{AreGameParts, IsTableOf}
+use Rattle.ground_rules.proofs.GameOf.{EachIs, each-new, heads-stand, picked-in, game-of}
 use Rattle.ground_rules.proofs.Mentions.{AreIn, texts_by, legal_pick, legal-picks}
 use Rattle.ground_rules.proofs.LawfulTables.{HeadFrom, role-tables, head-terms, terms-spelled, names-spelled}
 use Rattle.ground_rules.proofs.HeadsRead.{heads-read}
@@ -79,12 +76,12 @@ terms-read n xs t roles rules terms p e =
     ap (are_terms_in_any (expressions xs)) e
     ∙ terms-spelled (expressions xs) t.terms (λ u h. head-terms (expressions xs) (description_of xs) u (heads-read xs) (sym (p.table.terms u) ∙ h))
 
-pub loaded : (t : NameTable) (g : GroundGame) → (xs : List Expression) → xs ≡ map view g.description.items → AreSentences xs → AreGameParts (length xs) (description_of xs) t g.roles.items (rules_of g.rules.items)
-    → g.terms.items ≡ t.terms → g.init.items ≡ state_mentions InitHead t.terms 0 t.heads → g.next.items ≡ state_mentions NextHead t.terms 0 t.heads → g.terminal ≡ atom_number t Terminal → g.atoms ≡ length t.heads → IsLoaded xs g
-loaded t g xs same sentences p terms init next terminal atoms =
+-- the game of tables that are those of the description
+pub game-of-tables : (xs : List Expression) (t : NameTable) (g : GameTables) → IsLawful (loaded_game g) → AreGameParts (length xs) (description_of xs) t g.roles g.rules
+    → g.terms ≡ t.terms → g.init ≡ state_mentions InitHead t.terms 0 t.heads → g.next ≡ state_mentions NextHead t.terms 0 t.heads → g.terminal ≡ atom_number t Terminal → g.atoms ≡ length t.heads → IsGameOf (description_of xs) (loaded_game g)
+game-of-tables xs t g lawful p terms init next terminal atoms =
     let d = description_of xs in
-    let lawful = loaded_game_laws g g.some_role g.few_roles g.tables g.names_differ g.names_spelled g.terms_ordered g.terms_spelled in
-    let built : IsBuilt d t p.ranked.rank g = record {
+    game-of d t p.ranked.rank g record {
       heads' = p.table.heads';
       roles = p.table.roles;
       terms = terms;
@@ -99,5 +96,4 @@ loaded t g xs same sentences p terms init next terminal atoms =
       ordered = p.table.ordered;
       has_terms = has-terms d t p.table;
       acyclic = p.sound.acyclic;
-    } in
-    record { sentences = sentences; sound = p.sound; game = game-of d t p.ranked.rank g built lawful; description = sym same }
+    } lawful

@@ -4,7 +4,7 @@ use Rattle.ground_rules.specs.declared.sentence.Atomic.{Atomic}
 use Rattle.ground_rules.specs.declared.sentence.Atomic.TheVariants.{Derived as IsDerived}
 use Rattle.ground_rules.specs.declared.sentence.Literal.{Literal as CodeLiteral}
 use Rattle.ground_rules.specs.declared.sentence.Rule.{Rule as CodeRule}
-use Rattle.ground_rules.specs.Sentences.{view, views, rules_of}
+use Rattle.ground_rules.specs.Internal.SentenceViews.{view, views, rules_of}
 use Rattle.ground_rules.specs.Described.{with_new, with_all_new}
 use Rattle.ground_rules.specs.Sizes.{same_atomic, atomics_in, all_atomics_in, atomics}
 use Rattle.ground_rules.proofs.NameLists.{with_all_new-append, rules-at}

@@ -1,16 +1,15 @@
 -- A sorted set of texts is in byte order.
-use Rattle.std.proofs.Common.{◌≡◌, ℕ, zero, suc, ◌<◌, ◌≤◌, Bool, true, false, ◌||◌, bytes_eq, nat_eq, nat_lt, nat_cmp, is_lt, List, [], ◌∷◌, ◌++◌, if◌then◌else◌, length, get_or, Vec, Global, refl, sym, ap, ◌∙◌, arith, inl, inr}
+use Rattle.std.proofs.Common.{◌≡◌, ℕ, zero, suc, ◌<◌, ◌≤◌, Bool, true, false, ◌||◌, bytes_eq, nat_eq, nat_lt, nat_cmp, is_lt, List, [], ◌∷◌, ◌++◌, if◌then◌else◌, length, get_or, refl, sym, ap, ◌∙◌, arith, inl, inr}
 use Rattle.std.specs.List.{IsDistinct, AllByRecursion, Contains}
 use Rattle.std.specs.List.Sorted.{IsSorted, IsPermutation}
 use Rattle.std.specs.Cmp.Lexicographic.{slice_cmp, nat_list_cmp_total}
 use Rattle.std.proofs.lemmas.Bool.{cases_order}
 use Rattle.std.proofs.lemmas.Bool.Decides.{Decides-ltb}
-use Rattle.std.proofs.lemmas.List.Sorted.{sorted_far, ranks_by, Contains-permutation, IsPermutation-sym, IsPermutation-map}
-use Rattle.ground_rules.specs.Bools.{and-both, or-left, or-right, bool-same}
-use Rattle.ground_rules.specs.Names.{text-sound, text-same, number-same}
+use Rattle.std.proofs.lemmas.List.Sorted.{sorted_far, ranks_by, Contains-permutation, IsPermutation-sym}
+use Rattle.ground_rules.specs.Internal.Bools.{and-both, or-left, or-right, bool-same}
+use Rattle.ground_rules.specs.Internal.Names.{text-sound, text-same, number-same}
 use Rattle.ground_rules.specs.Described.{is_among, with_new, with_all_new}
-use Rattle.ground_rules.specs.Tables.{comes_before, comes_before_all, are_in_order}
-use Rattle.ground_rules.specs.Keys.{texts}
+use Rattle.ground_rules.specs.Internal.TableTests.{comes_before, comes_before_all, are_in_order}
 use Rattle.ground_rules.proofs.NameLists.{among-any}
 
 is-false : (b : Bool) → (b ≡ true → ⊥) → b ≡ false
@@ -36,19 +35,19 @@ cmp-before (a ∷ as') (b ∷ bs) f e = elim (cases_order a b) [
   ]
 ]
 
-first : (k : Vec ℕ Global) (ks : List (Vec ℕ Global)) → AllByRecursion (λ y. bytes_eq k.items y.items ≡ false) ks → ((j : ℕ) (d : Vec ℕ Global) → j < length ks → is_lt (slice_cmp nat_cmp (get_or ks j d).items k.items) ≡ false) → comes_before_all k.items (texts ks) ≡ true
+first : (k : List ℕ) (ks : List (List ℕ)) → AllByRecursion (λ y. bytes_eq k y ≡ false) ks → ((j : ℕ) (d : List ℕ) → j < length ks → is_lt (slice_cmp nat_cmp (get_or ks j d) k) ≡ false) → comes_before_all k ks ≡ true
 first k [] u far = refl
-first k (y ∷ ys) u far = and-both (comes_before k.items y.items) _ (cmp-before k.items y.items (far 0 y (omega arith)) u.0) (first k ys u.1 (λ j d lt. far (suc j) d (omega (arith, lt))))
+first k (y ∷ ys) u far = and-both (comes_before k y) _ (cmp-before k y (far 0 y (omega arith)) u.0) (first k ys u.1 (λ j d lt. far (suc j) d (omega (arith, lt))))
 
-order-from : (ks : List (Vec ℕ Global)) → IsDistinct (λ x y. bytes_eq x.items y.items) ks → ((i j : ℕ) (d : Vec ℕ Global) → i ≤ j → j < length ks → is_lt (slice_cmp nat_cmp (get_or ks j d).items (get_or ks i d).items) ≡ false) → are_in_order (texts ks) ≡ true
+order-from : (ks : List (List ℕ)) → IsDistinct bytes_eq ks → ((i j : ℕ) (d : List ℕ) → i ≤ j → j < length ks → is_lt (slice_cmp nat_cmp (get_or ks j d) (get_or ks i d)) ≡ false) → are_in_order ks ≡ true
 unfolding IsDistinct
 order-from [] u far = refl
 order-from (k ∷ ks) u far =
-    and-both (comes_before_all k.items (texts ks)) _ (first k ks u.0 (λ j d lt. far 0 (suc j) d (omega arith) (omega (arith, lt))))
+    and-both (comes_before_all k ks) _ (first k ks u.0 (λ j d lt. far 0 (suc j) d (omega arith) (omega (arith, lt))))
     (order-from ks u.1 (λ i j d le lt. far (suc i) (suc j) d (omega (arith, le)) (omega (arith, lt))))
 
-pub sorted-in-order : (ks : List (Vec ℕ Global)) → IsDistinct (λ x y. bytes_eq x.items y.items) ks → IsSorted (λ x y. slice_cmp nat_cmp x.items y.items) ks → are_in_order (texts ks) ≡ true
-sorted-in-order ks u sorted = order-from ks u (sorted_far (λ x y. is_lt (slice_cmp nat_cmp x.items y.items)) (ranks_by nat_list_cmp_total (λ (v : Vec ℕ Global). v.items)) ks sorted)
+pub sorted-in-order : (ks : List (List ℕ)) → IsDistinct bytes_eq ks → IsSorted (slice_cmp nat_cmp) ks → are_in_order ks ≡ true
+sorted-in-order ks u sorted = order-from ks u (sorted_far (λ x y. is_lt (slice_cmp nat_cmp x y)) (ranks_by nat_list_cmp_total (λ (t : List ℕ). t)) ks sorted)
 
 among-contains : (xs : List (List ℕ)) (t : List ℕ) → is_among xs t ≡ true → Contains xs t
 among-contains [] t h = absurd cc
@@ -99,6 +98,6 @@ among-all-new seen [] t = sym (or-false (is_among seen t))
 among-all-new seen (x ∷ xs) t = among-all-new (with_new bytes_eq seen x) xs t ∙ ap (λ b. b || is_among xs t) (among-new seen x t) ∙ or-assoc (is_among seen t) (bytes_eq x t) (is_among xs t)
 
 -- a sorted set has the texts that were added
-pub sorted-same : (ks js : List (Vec ℕ Global)) (xs : List (List ℕ)) (t : List ℕ) → IsPermutation ks js → texts ks ≡ with_all_new bytes_eq [] xs → is_among (texts js) t ≡ is_among xs t
+pub sorted-same : (ks js xs : List (List ℕ)) (t : List ℕ) → IsPermutation ks js → ks ≡ with_all_new bytes_eq [] xs → is_among js t ≡ is_among xs t
 sorted-same ks js xs t moved e =
-    sym (among-permuted (texts ks) (texts js) t (IsPermutation-map (λ v. v.items) ks js moved)) ∙ ap (λ ys. is_among ys t) e ∙ among-all-new [] xs t
+    sym (among-permuted ks js t moved) ∙ ap (λ ys. is_among ys t) e ∙ among-all-new [] xs t

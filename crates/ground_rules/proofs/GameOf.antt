@@ -8,21 +8,21 @@ use Rattle.game_core.specs.Play.{IsJoint, IsLawful}
 use Rattle.ground_rules.specs.declared.sentence.Derived.{Derived}
 use Rattle.ground_rules.specs.declared.sentence.Derived.TheVariants.{Init, Next, Legal, Terminal}
 use Rattle.ground_rules.specs.declared.tables.GroundMove.{GroundMove}
-use Rattle.ground_rules.specs.declared.ground_game.GroundGame.{GroundGame}
 use Rattle.ground_rules.specs.declared.lookups.StateHead.TheVariants.{Init as InitHead, Next as NextHead}
-use Rattle.ground_rules.specs.Bools.{or-left, or-right, bool-same}
-use Rattle.ground_rules.specs.Names.{text-sound, text-same, derived-sound}
+use Rattle.ground_rules.specs.Internal.Bools.{or-left, or-right, bool-same}
+use Rattle.ground_rules.specs.Internal.Names.{text-sound, text-same, derived-sound}
 use Rattle.ground_rules.specs.Literals.{Rule}
 use Rattle.ground_rules.specs.Fit.{Situation, all_true, Fits}
 use Rattle.ground_rules.specs.Acyclic.{IsAcyclic}
 use Rattle.ground_rules.specs.Described.{Description, same_derived, situation, is_among, makes, role_names, heads, with_new, with_all_new, moves_in, names_of, at_rest, at_turn, IsGameOf, IsGoalAnswer, are_different}
 use Rattle.ground_rules.specs.Roles.{RoleTable, no_role}
-use Rattle.ground_rules.specs.Numbered.{bit, numbered, rules_of, row_after, unset, AreRankedFrom, is_number}
-use Rattle.ground_rules.specs.Tables.{marked, chosen, only_goal, picked, are_in_order, names}
-use Rattle.ground_rules.specs.LoadedGame.{loaded_game, row_of, role_at, terms_of}
-use Rattle.ground_rules.specs.LoadedGameLaws.{ordered-different, marked-size}
-use Rattle.ground_rules.specs.Keys.{place}
-use Rattle.ground_rules.specs.Resolved.{NameTable, atom_number, term_number, role_number, resolved_rules, terms_in, head_terms, role_table, mentions_by, state_term, state_mentions}
+use Rattle.ground_rules.specs.Numbered.{bit, numbered, row_after, unset, is_number}
+use Rattle.ground_rules.specs.Internal.Ranked.{AreRankedFrom}
+use Rattle.ground_rules.specs.Tables.{marked, chosen, only_goal, picked}
+use Rattle.ground_rules.specs.Internal.TableTests.{are_in_order, names}
+use Rattle.ground_rules.specs.LoadedGame.{GameTables, loaded_game, row_of, role_at, terms_of}
+use Rattle.ground_rules.specs.Internal.LoadedGameLaws.{ordered-different, marked-size}
+use Rattle.ground_rules.specs.Internal.Resolved.{NameTable, atom_number, term_number, role_number, resolved_rules, terms_in, head_terms, role_table, mentions_by, state_term, state_mentions, place}
 use Rattle.ground_rules.proofs.NameLists.{among-any, among-left, among-right}
 use Rattle.ground_rules.proofs.TablePlaces.{place-within}
 use Rattle.ground_rules.proofs.Transfer.{Agrees, fit-is-row}
@@ -31,18 +31,18 @@ use Rattle.ground_rules.proofs.Situations.{picked-bit, makes-bit, text_of}
 use Rattle.ground_rules.proofs.Mentions.{IsByRow, StandFrom, IsPick, AreIn, texts_by, with_text, hits-by, marked-bit, chosen-texts, legal_pick, init-picks, next-picks, legal-picks, legal-mentions, moves-texts}
 use Rattle.ground_rules.proofs.Goals.{goal-answer}
 
--- the game's parts are those that the description gives
-pub record IsBuilt (d : Description) (table : NameTable) (rank : ℕ → ℕ) (g : GroundGame) : Type 0 where
+-- the tables are those that the description gives
+pub record IsBuilt (d : Description) (table : NameTable) (rank : ℕ → ℕ) (g : GameTables) : Type 0 where
   pub heads' : table.heads ≡ heads d
   pub roles : table.roles ≡ role_names d
-  pub terms : g.terms.items ≡ table.terms
-  pub role_tables : g.roles.items ≡ map (role_table table) table.roles
-  pub init : g.init.items ≡ state_mentions InitHead table.terms 0 table.heads
-  pub next : g.next.items ≡ state_mentions NextHead table.terms 0 table.heads
+  pub terms : g.terms ≡ table.terms
+  pub role_tables : g.roles ≡ map (role_table table) table.roles
+  pub init : g.init ≡ state_mentions InitHead table.terms 0 table.heads
+  pub next : g.next ≡ state_mentions NextHead table.terms 0 table.heads
   pub terminal : g.terminal ≡ atom_number table Terminal
   pub atoms : g.atoms ≡ length table.heads
-  pub moved : IsPermutation (resolved_rules table d) (rules_of g.rules.items)
-  pub ranked : AreRankedFrom rank 0 (length table.heads) (rules_of g.rules.items)
+  pub moved : IsPermutation (resolved_rules table d) g.rules
+  pub ranked : AreRankedFrom rank 0 (length table.heads) g.rules
   pub differ : are_different table.roles ≡ true
   pub ordered : are_in_order table.terms ≡ true
   pub has_terms : (t : List ℕ) → is_among (head_terms d) t ≡ true → is_among table.terms t ≡ true
@@ -129,12 +129,12 @@ pub record IsRead (d : Description) (table : NameTable) (v : Derived → Bool) (
   pub by : IsByRow table v row
   pub size : length row ≡ length table.heads
 
-read-row : (d : Description) (table : NameTable) (rank : ℕ → ℕ) (g : GroundGame) (w : Situation Derived (List ℕ)) (state : List Bool) (joint : List ℕ) (v : Derived → Bool) → IsBuilt d table rank g → Agrees table w (numbered state joint) → Fits w d v → IsRead d table v (row_of g state joint)
+read-row : (d : Description) (table : NameTable) (rank : ℕ → ℕ) (g : GameTables) (w : Situation Derived (List ℕ)) (state : List Bool) (joint : List ℕ) (v : Derived → Bool) → IsBuilt d table rank g → Agrees table w (numbered state joint) → Fits w d v → IsRead d table v (row_of g state joint)
 read-row d table rank g w state joint v built agree fits =
     let u = numbered state joint in
     record {
-      by = λ a. fit-is-row table d w u rank (length table.heads) (rules_of g.rules.items) v agree (heads-there table d built.heads') built.acyclic built.moved built.ranked fits a ∙ ap (λ n. bit (row_after u (unset n) (rules_of g.rules.items)) (atom_number table a)) (sym built.atoms);
-      size = row-length u (unset g.atoms) (rules_of g.rules.items) ∙ length-replicate g.atoms false ∙ built.atoms;
+      by = λ a. fit-is-row table d w u rank (length table.heads) g.rules v agree (heads-there table d built.heads') built.acyclic built.moved built.ranked fits a ∙ ap (λ n. bit (row_after u (unset n) g.rules) (atom_number table a)) (sym built.atoms);
+      size = row-length u (unset g.atoms) g.rules ∙ length-replicate g.atoms false ∙ built.atoms;
     }
 
 bit-none : (k : ℕ) → bit [] k ≡ false
@@ -211,18 +211,18 @@ name-at [] r lt = absurd (omega (arith, lt))
 name-at (x ∷ rs) zero lt = refl
 name-at (x ∷ rs) (suc r) lt = name-at rs r (omega (arith, lt))
 
-names-front : (g : GroundGame) (n : ℕ) → n ≤ length g.roles.items → names_of (loaded_game g) n ≡ take n (names g.roles.items)
+names-front : (g : GameTables) (n : ℕ) → n ≤ length g.roles → names_of (loaded_game g) n ≡ take n (names g.roles)
 names-front g zero le = refl
 names-front g (suc n) le =
-    let lt : n < length (names g.roles.items) = omega (arith, length-map g.roles.items (λ (r : RoleTable). r.name), le) in
-    ap (λ xs. xs ++ (get_or g.roles.items n no_role).name ∷ []) (names-front g n (omega (arith, le)))
-    ∙ ap (λ x. take n (names g.roles.items) ++ x ∷ []) (name-at g.roles.items n (omega (arith, le)))
-    ∙ take-last (names g.roles.items) n lt
+    let lt : n < length (names g.roles) = omega (arith, length-map g.roles (λ (r : RoleTable). r.name), le) in
+    ap (λ xs. xs ++ (get_or g.roles n no_role).name ∷ []) (names-front g n (omega (arith, le)))
+    ∙ ap (λ x. take n (names g.roles) ++ x ∷ []) (name-at g.roles n (omega (arith, le)))
+    ∙ take-last (names g.roles) n lt
 
-all-names : (g : GroundGame) → names_of (loaded_game g) (length g.roles.items) ≡ names g.roles.items
-all-names g = names-front g (length g.roles.items) (omega arith) ∙ take_all (length g.roles.items) (names g.roles.items) (omega (arith, length-map g.roles.items (λ (r : RoleTable). r.name)))
+all-names : (g : GameTables) → names_of (loaded_game g) (length g.roles) ≡ names g.roles
+all-names g = names-front g (length g.roles) (omega arith) ∙ take_all (length g.roles) (names g.roles) (omega (arith, length-map g.roles (λ (r : RoleTable). r.name)))
 
-game-names : (d : Description) (table : NameTable) (rank : ℕ → ℕ) (g : GroundGame) → IsBuilt d table rank g → names g.roles.items ≡ table.roles
+game-names : (d : Description) (table : NameTable) (rank : ℕ → ℕ) (g : GameTables) → IsBuilt d table rank g → names g.roles ≡ table.roles
 game-names d table rank g built = ap names built.role_tables ∙ table-names table table.roles
 
 -- no term and no move
@@ -239,25 +239,25 @@ state-agrees : (table : NameTable) (terms : List (List ℕ)) (s : List Bool) (t 
 state-agrees table terms s t same ordered size =
     ap (λ ts. is_among (picked s ts) t) same ∙ picked-bit s table.terms t (size ∙ ap length same) (ordered-different table.terms ordered)
 
-agrees-rest : (d : Description) (table : NameTable) (rank : ℕ → ℕ) (g : GroundGame) (s : List Bool) → IsBuilt d table rank g → length s ≡ length g.terms.items → Agrees table (at_rest (loaded_game g) s) (numbered s [])
+agrees-rest : (d : Description) (table : NameTable) (rank : ℕ → ℕ) (g : GameTables) (s : List Bool) → IsBuilt d table rank g → length s ≡ length g.terms → Agrees table (at_rest (loaded_game g) s) (numbered s [])
 agrees-rest d table rank g s built size = record {
   same = λ a b. refl;
   numbers = λ m n. refl;
   same_term = λ t u. refl;
-  in_state = λ t. state-agrees table g.terms.items s t built.terms built.ordered size;
+  in_state = λ t. state-agrees table g.terms s t built.terms built.ordered size;
   does = λ r m. sym (no-joint (role_number table r) (term_number table m));
 }
 
-joint-terms : (g : GroundGame) (s : List Bool) (joint : List GroundMove) → IsLawful (loaded_game g) → length s ≡ length g.terms.items → IsJoint (loaded_game g) s joint → (k : ℕ) (x : GroundMove) → k < length joint → (get_or joint k x).term < length g.terms.items
+joint-terms : (g : GameTables) (s : List Bool) (joint : List GroundMove) → IsLawful (loaded_game g) → length s ≡ length g.terms → IsJoint (loaded_game g) s joint → (k : ℕ) (x : GroundMove) → k < length joint → (get_or joint k x).term < length g.terms
 joint-terms g s joint lawful size is k x lt =
-    let within : k < length g.roles.items = omega (arith, is.width, lt) in
+    let within : k < length g.roles = omega (arith, is.width, lt) in
     let c = is.legal k x within in
     let m = get_or joint k x in
     let h = lawful.legal_are_moves s k size within c.0 m c.1 in
     let e = ap (λ (y : GroundMove). y.term) c.2 in
     omega (arith, h, e)
 
-agrees-turn : (d : Description) (table : NameTable) (rank : ℕ → ℕ) (g : GroundGame) (s : List Bool) (joint : List GroundMove) → IsBuilt d table rank g → IsLawful (loaded_game g) → length s ≡ length g.terms.items → IsJoint (loaded_game g) s joint → Agrees table (at_turn (loaded_game g) s joint) (numbered s (terms_of joint))
+agrees-turn : (d : Description) (table : NameTable) (rank : ℕ → ℕ) (g : GameTables) (s : List Bool) (joint : List GroundMove) → IsBuilt d table rank g → IsLawful (loaded_game g) → length s ≡ length g.terms → IsJoint (loaded_game g) s joint → Agrees table (at_turn (loaded_game g) s joint) (numbered s (terms_of joint))
 agrees-turn d table rank g s joint built lawful size is =
     let same = game-names d table rank g built in
     let all = all-names g ∙ same in
@@ -265,27 +265,27 @@ agrees-turn d table rank g s joint built lawful size is =
       same = λ a b. refl;
       numbers = λ m n. refl;
       same_term = λ t u. refl;
-      in_state = λ t. state-agrees table g.terms.items s t built.terms built.ordered size;
+      in_state = λ t. state-agrees table g.terms s t built.terms built.ordered size;
       does = λ r m.
-          ap (λ ns. makes ns (map (text_of g.terms.items) joint) r m) all
+          ap (λ ns. makes ns (map (text_of g.terms) joint) r m) all
           ∙ ap (λ ts. makes table.roles (map (text_of ts) joint) r m) built.terms
-          ∙ makes-bit table.roles table.terms joint r m (is.width ∙ sym (length-map g.roles.items (λ (x : RoleTable). x.name)) ∙ ap length same) built.differ (ordered-different table.terms built.ordered)
+          ∙ makes-bit table.roles table.terms joint r m (is.width ∙ sym (length-map g.roles (λ (x : RoleTable). x.name)) ∙ ap length same) built.differ (ordered-different table.terms built.ordered)
           (λ k x lt. let h = joint-terms g s joint lawful size is k x lt in omega (arith, h, ap length built.terms));
     }
 
-role-is : (d : Description) (table : NameTable) (rank : ℕ → ℕ) (g : GroundGame) (r : ℕ) → IsBuilt d table rank g → r < length g.roles.items → role_at g r ≡ role_table table (role_at g r).name
+role-is : (d : Description) (table : NameTable) (rank : ℕ → ℕ) (g : GameTables) (r : ℕ) → IsBuilt d table rank g → r < length g.roles → role_at g r ≡ role_table table (role_at g r).name
 role-is d table rank g r built lt =
     let lt' : r < length table.roles = omega (arith, lt, ap length built.role_tables, length-map table.roles (role_table table)) in
     let e : role_at g r ≡ role_table table (get_or table.roles r []) = ap (λ rs. get_or rs r no_role) built.role_tables ∙ table-at table table.roles r lt' in
     e ∙ ap (role_table table) (sym (ap (λ (x : RoleTable). x.name) e))
 
 -- the game answers what any fit of the description says
-pub game-of : (d : Description) (table : NameTable) (rank : ℕ → ℕ) (g : GroundGame) → IsBuilt d table rank g → IsLawful (loaded_game g) → IsGameOf d (loaded_game g)
+pub game-of : (d : Description) (table : NameTable) (rank : ℕ → ℕ) (g : GameTables) → IsBuilt d table rank g → IsLawful (loaded_game g) → IsGameOf d (loaded_game g)
 game-of d table rank g built lawful = record {
   roles = all-names g ∙ game-names d table rank g built ∙ built.roles;
   initial = λ v fits t.
       let read = read-row d table rank g (situation [] [] []) [] [] v built (agrees-empty table) fits in
-      ap (λ ms. is_among (picked (marked (unset (length g.terms.items)) (row_of g [] []) ms) g.terms.items) t) built.init
+      ap (λ ms. is_among (picked (marked (unset (length g.terms)) (row_of g [] []) ms) g.terms) t) built.init
       ∙ ap (λ ts. is_among (picked (marked (unset (length ts)) (row_of g [] []) (mentions_by (state_term InitHead) table.terms 0 table.heads)) ts) t) built.terms
       ∙ set-is d table v (row_of g [] []) (state_term InitHead) Init t read built.heads' init-picks one-about built.has_terms built.ordered;
   legal = λ s r v is within fits.
@@ -298,7 +298,7 @@ game-of d table rank g built lawful = record {
       ∙ ap (filter (λ m. v (Legal name m))) (sym (moves-texts name table.heads) ∙ ap (moves_in name) built.heads');
   next = λ s joint v is lawful' fits t.
       let read = read-row d table rank g (at_turn (loaded_game g) s joint) s (terms_of joint) v built (agrees-turn d table rank g s joint built lawful is lawful') fits in
-      ap (λ ms. is_among (picked (marked (unset (length g.terms.items)) (row_of g s (terms_of joint)) ms) g.terms.items) t) built.next
+      ap (λ ms. is_among (picked (marked (unset (length g.terms)) (row_of g s (terms_of joint)) ms) g.terms) t) built.next
       ∙ ap (λ ts. is_among (picked (marked (unset (length ts)) (row_of g s (terms_of joint)) (mentions_by (state_term NextHead) table.terms 0 table.heads)) ts) t) built.terms
       ∙ set-is d table v (row_of g s (terms_of joint)) (state_term NextHead) Next t read built.heads' next-picks one-about built.has_terms built.ordered;
   terminal = λ s v is fits.

@@ -4,12 +4,12 @@ use Rattle.std.specs.List.{list_any}
 use Rattle.ground_rules.specs.declared.sentence.Derived.{Derived}
 use Rattle.ground_rules.specs.declared.sentence.Derived.TheVariants.{Role, Init, Next, Legal, Goal, Terminal, Other}
 use Rattle.ground_rules.specs.declared.tables.GoalHead.{GoalHead}
-use Rattle.ground_rules.specs.Bools.{and-left, and-right}
-use Rattle.ground_rules.specs.Names.{text-sound, text-same, number-sound}
+use Rattle.ground_rules.specs.Internal.Bools.{and-left, and-right}
+use Rattle.ground_rules.specs.Internal.Names.{text-sound, text-same, number-sound}
 use Rattle.ground_rules.specs.Described.{same_derived, IsGoalAnswer}
 use Rattle.ground_rules.specs.Tables.{only, only_goal}
 use Rattle.ground_rules.specs.Numbered.{bit}
-use Rattle.ground_rules.specs.Resolved.{NameTable, atom_number, goal_heads}
+use Rattle.ground_rules.specs.Internal.Resolved.{NameTable, atom_number, goal_heads}
 use Rattle.ground_rules.proofs.Mentions.{StandFrom, IsByRow}
 
 -- each goal head stands at its place, and the places rise

@@ -1,8 +1,11 @@
 -- What is known of the heads of a description that was read.
-use Rattle.std.proofs.Common.{◌≡◌, ℕ, ◌+◌, ◌-◌, ◌*◌, ◌≤◌, Bool, true, false, not, ◌&&◌, if◌then◌else◌, nat_le, nat_eq, bytes_eq, List, [], ◌∷◌, map, Option, Some, None, option_map, refl, ap, ◌∙◌, arith, subst}
-use Rattle.std.specs.Prelude.{codes, option_and_then}
+use Rattle.std.proofs.Common.{◌≡◌, ℕ, ◌≤◌, Bool, true, false, ◌&&◌, if◌then◌else◌, nat_le, List, [], ◌∷◌, map, Option, Some, None, option_map, refl, ap, ◌∙◌, arith, subst}
+use Rattle.std.specs.Prelude.{option_and_then}
 use Rattle.std.specs.List.{cons_option}
+use Rattle.std.specs.Str.Parse.{digits_value}
 use Rattle.std.proofs.lemmas.Bool.Decides.{nat_tests}
+use Rattle.game_core.specs.Numerals.{is_plain_numeral, number_up_to, plain_number}
+use Rattle.game_core.specs.Play.{max_goal}
 use Rattle.game_core.specs.Expression.{Expression, atom, list, Expressions, none, more, depth, max_depth}
 use Rattle.game_core.specs.Canonical.{canonical}
 use Rattle.kif_text.specs.View.{expressions}
@@ -12,12 +15,13 @@ use Rattle.ground_rules.specs.declared.sentence.Atomic.{Atomic}
 use Rattle.ground_rules.specs.declared.sentence.Atomic.TheVariants.{Derived as IsDerived, InState as IsInState, Does as IsDoes}
 use Rattle.ground_rules.specs.declared.words.Word.{Word}
 use Rattle.ground_rules.specs.declared.words.Word.TheVariants.{Role as RoleWord, Init as InitWord, True as TrueWord, Next as NextWord, Does as DoesWord, Legal as LegalWord, Goal as GoalWord, Terminal as TerminalWord, If as IfWord, Not as NotWord, Or as OrWord, Distinct as DistinctWord, And as AndWord, Plain as PlainWord}
-use Rattle.ground_rules.specs.Bools.{and-left, and-right, and-both, or-left, or-right}
-use Rattle.ground_rules.specs.Names.{text-same}
-use Rattle.ground_rules.specs.Terms.{is_ground_term, term_text, is_term_in, is_term_in_any}
+use Rattle.ground_rules.specs.Internal.Bools.{and-both, or-left, or-right}
+use Rattle.ground_rules.specs.Internal.Names.{text-same}
+use Rattle.ground_rules.specs.Terms.{is_ground_term, term_text}
+use Rattle.ground_rules.specs.Internal.TermTexts.{is_term_in, is_term_in_any}
 use Rattle.ground_rules.specs.Words.{word_of}
 use Rattle.ground_rules.specs.Sentences.{TextLiterals, TextRule, Sentence}
-use Rattle.ground_rules.specs.Reading.{both, is_digit, goal_number, goal_value, one_argument, two_arguments, head_word, read_relation, read_alone, read_atomic, read_literals, sentence, fact, read_rule, read_list, read_form, read_sentence}
+use Rattle.ground_rules.specs.Reading.{both, goal_value, one_argument, two_arguments, head_word, read_relation, read_alone, read_atomic, read_literals, sentence, fact, read_rule, read_list, read_form, read_sentence}
 use Rattle.ground_rules.specs.Places.{place, place_head, is_head_of, are_placed}
 use Rattle.ground_rules.specs.Loading.{rule_in, description_of}
 use Rattle.ground_rules.proofs.GameOf.{EachIs}
@@ -69,32 +73,18 @@ two-are read (more f (more x (more y (more z xs)))) p e = absurd cc
 second-in : (f x y : Expression) (t : List ℕ) → term_text y ≡ Some t → is_term_in_any (more f (more x (more y none))) t ≡ true
 second-in f x y t e = or-right _ _ (or-right _ _ (or-left _ _ (text-in y t e)))
 
-digit-small : (a : ℕ) → is_digit a ≡ true → a - 48 ≤ 9
-digit-small a h = let b = and-right (nat_le 48 a) _ h in grind (arith, nat_tests)
+up-to-small : (v n : ℕ) → (if nat_le v max_goal then Some v else None) ≡ Some n → n ≤ max_goal
+up-to-small v n e = grind (arith, nat_tests)
 
-number-small : (w : List ℕ) (n : ℕ) → goal_number w ≡ Some n → n ≤ 100
-number-small [] n e = absurd cc
-number-small (a ∷ []) n e = by-test (is_digit a) refl e
+number-small : (w : List ℕ) (n : ℕ) → plain_number w max_goal ≡ Some n → n ≤ max_goal
+number-small w n e = by-test (is_plain_numeral w) e
   where
-    by-test : (b : Bool) → is_digit a ≡ b → (if b then Some (a - 48) else None) ≡ Some n → n ≤ 100
-    by-test true is f = let d = digit-small a is in let g : a - 48 ≡ n = cc in omega (arith, d, g)
-    by-test false is f = absurd cc
-number-small (a ∷ b ∷ []) n e = by-test (is_digit a && not (nat_eq a 48) && is_digit b) refl e
-  where
-    by-test : (t : Bool) → (is_digit a && not (nat_eq a 48) && is_digit b) ≡ t → (if t then Some ((a - 48) * 10 + (b - 48)) else None) ≡ Some n → n ≤ 100
-    by-test true is f =
-        let d = digit-small a (and-left (is_digit a) _ (and-left (is_digit a && not (nat_eq a 48)) _ is)) in
-        let k = digit-small b (and-right (is_digit a && not (nat_eq a 48)) _ is) in
-        let g : (a - 48) * 10 + (b - 48) ≡ n = cc in
-        omega (arith, d, k, g)
-    by-test false is f = absurd cc
-number-small (a ∷ b ∷ c ∷ ds) n e = by-test (bytes_eq (a ∷ b ∷ c ∷ ds) (codes "100")) e
-  where
-    by-test : (t : Bool) → (if t then Some 100 else None) ≡ Some n → n ≤ 100
-    by-test true f = let g : ◌≡◌ {A = ℕ} 100 n = cc in omega (arith, g)
+    by-test : (b : Bool) → (if b then number_up_to w max_goal else None) ≡ Some n → n ≤ max_goal
+    by-test true f = up-to-small (digits_value 10 w) n f
     by-test false f = absurd cc
 
-value-small : (x : Expression) (n : ℕ) → goal_value x ≡ Some n → n ≤ 100
+value-small : (x : Expression) (n : ℕ) → goal_value x ≡ Some n → n ≤ max_goal
+unfolding goal_value
 value-small (atom w) n e = number-small w n e
 value-small (list xs) n e = absurd cc
 

@@ -6,13 +6,12 @@ use Rattle.game_core.specs.Expression.{Expressions}
 use Rattle.ground_rules.specs.declared.sentence.Derived.{Derived}
 use Rattle.ground_rules.specs.declared.sentence.Derived.TheVariants.{Role, Init, Next, Legal, Goal, Terminal, Other}
 use Rattle.ground_rules.specs.declared.tables.GoalHead.{GoalHead}
-use Rattle.ground_rules.specs.Bools.{and-both, or-elim, or-left, or-right, not-false}
-use Rattle.ground_rules.specs.Names.{number-sound, text-same, text-sound}
-use Rattle.ground_rules.specs.Terms.{is_term_in_any, are_terms_in_any}
+use Rattle.ground_rules.specs.Internal.Bools.{and-both, or-elim, or-left, or-right, not-false}
+use Rattle.ground_rules.specs.Internal.Names.{number-sound, text-same, text-sound}
+use Rattle.ground_rules.specs.Internal.TermTexts.{is_term_in_any, are_terms_in_any}
 use Rattle.ground_rules.specs.Described.{Description, is_among, role_names, name_in}
-use Rattle.ground_rules.specs.Tables.{has_term, have_distinct_terms, are_goals, are_roles}
-use Rattle.ground_rules.specs.Keys.{place}
-use Rattle.ground_rules.specs.Resolved.{NameTable, atom_number, goal_heads, role_table, terms_in, head_terms, with_mention, mentions_by}
+use Rattle.ground_rules.specs.Internal.TableTests.{has_term, have_distinct_terms, are_goals, are_roles}
+use Rattle.ground_rules.specs.Internal.Resolved.{NameTable, atom_number, goal_heads, role_table, terms_in, head_terms, with_mention, mentions_by, place}
 use Rattle.ground_rules.proofs.TablePlaces.{place-one}
 use Rattle.ground_rules.proofs.Situations.{text-decides}
 use Rattle.ground_rules.proofs.Mentions.{StandFrom, IsPick, AreIn, texts_by, with_text, legal_pick, legal-picks, legal-mentions}
@@ -56,14 +55,14 @@ HeadFrom xs (Role r) = is_term_in_any xs r ≡ true
 HeadFrom xs (Init t) = is_term_in_any xs t ≡ true
 HeadFrom xs (Next t) = is_term_in_any xs t ≡ true
 HeadFrom xs (Legal r m) = is_term_in_any xs m ≡ true
-HeadFrom xs (Goal r n) = n ≤ 100
+HeadFrom xs (Goal r n) = n ≤ max_goal
 HeadFrom xs Terminal = Unit {0}
 HeadFrom xs (Other t) = Unit {0}
 
-at_most : (n : ℕ) → n ≤ 100 → nat_le n max_goal ≡ true
+at_most : (n : ℕ) → n ≤ max_goal → nat_le n max_goal ≡ true
 at_most n le = grind (arith, nat_tests)
 
-goals-by : (k n : ℕ) (gs : List GoalHead) (b : Bool) → k ≤ 100 → are_goals gs ≡ true → are_goals (if b then record { value = k; atom = n } ∷ gs else gs) ≡ true
+goals-by : (k n : ℕ) (gs : List GoalHead) (b : Bool) → k ≤ max_goal → are_goals gs ≡ true → are_goals (if b then record { value = k; atom = n } ∷ gs else gs) ≡ true
 goals-by k n gs true le h = and-both _ _ (at_most k le) h
 goals-by k n gs false le h = h
 

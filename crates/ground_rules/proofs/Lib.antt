@@ -8,7 +8,6 @@ pub mod GameOf
 pub mod Goals
 pub mod HeadTables
 pub mod HeadsRead
-pub mod KeyEquality
 pub mod LawfulTables
 pub mod Limits
 pub mod LiteralLists

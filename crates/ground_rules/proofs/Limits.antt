@@ -3,11 +3,11 @@ use Rattle.std.proofs.Common.{◌≡◌, ℕ, ◌<◌, ◌≤◌, Bool, true, fa
 use Rattle.std.proofs.lemmas.Bool.Decides.{nat_tests}
 use Rattle.game_core.specs.Play.{max_roles}
 use Rattle.ground_rules.specs.declared.sentence.Derived.{Derived}
-use Rattle.ground_rules.specs.Bools.{and-both}
+use Rattle.ground_rules.specs.Internal.Bools.{and-both}
 use Rattle.ground_rules.specs.Described.{Description, each_once, role_names, heads, moves_in}
 use Rattle.ground_rules.specs.Sizes.{max_sentences, max_atomic_sentences, max_moves, same_atomic, atomics, have_few_moves, is_small}
-use Rattle.ground_rules.specs.GameParts.{is_small_so_far, have_few_moves_by}
-use Rattle.ground_rules.specs.Resolved.{NameTable, role_table, with_mention, mentions_by}
+use Rattle.ground_rules.specs.Internal.GameParts.{is_small_so_far, have_few_moves_by}
+use Rattle.ground_rules.specs.Internal.Resolved.{NameTable, role_table, with_mention, mentions_by}
 use Rattle.ground_rules.specs.declared.tables.Mention.{Mention}
 use Rattle.ground_rules.proofs.Mentions.{texts_by, with_text, legal_pick, legal-mentions, moves-texts}
 use Rattle.std.proofs.Common.{Option, Some, None, ◌+◌, suc}

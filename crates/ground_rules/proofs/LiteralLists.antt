@@ -5,8 +5,10 @@ use Rattle.game_core.specs.Expression.{Expressions, none, more}
 use Rattle.kif_text.specs.View.{view as expression, views as expressions}
 use Rattle.kif_text.specs.declared.expr.Expr.{Expr}
 use Rattle.ground_rules.specs.Literals.{literals, Or, More, End}
-use Rattle.ground_rules.specs.Sentences.{TextLiteral, TextLiterals, view, views}
-use Rattle.ground_rules.specs.Reading.{both, negation, disjunction, read_literal, read_literals, without_first}
+use Rattle.ground_rules.specs.Sentences.{TextLiteral, TextLiterals}
+use Rattle.ground_rules.specs.Internal.SentenceViews.{view, views}
+use Rattle.ground_rules.specs.Reading.{both, negation, disjunction, read_literal, read_literals}
+use Rattle.ground_rules.specs.Internal.Members.{without_first}
 use Rattle.ground_rules.specs.declared.sentence.Literal.{Literal as CodeLiteral, Or as CodeOr, the_lemmas}
 
 pub negation-none : (ls : List CodeLiteral) → length ls ≢ 1 → None ≡ negation (Some (views ls))

@@ -7,13 +7,12 @@ use Rattle.ground_rules.specs.declared.sentence.Derived.{Derived}
 use Rattle.ground_rules.specs.declared.sentence.Derived.TheVariants.{Role, Init, Next, Legal, Goal, Terminal, Other}
 use Rattle.ground_rules.specs.declared.lookups.StateHead.TheVariants.{Init as InitHead, Next as NextHead}
 use Rattle.ground_rules.specs.declared.tables.Mention.{Mention}
-use Rattle.ground_rules.specs.Bools.{bool-same}
-use Rattle.ground_rules.specs.Names.{text-sound, text-same, number-sound, number-same}
+use Rattle.ground_rules.specs.Internal.Bools.{bool-same}
+use Rattle.ground_rules.specs.Internal.Names.{text-sound, text-same, number-sound, number-same}
 use Rattle.ground_rules.specs.Described.{moves_in}
 use Rattle.ground_rules.specs.Tables.{marked, chosen}
 use Rattle.ground_rules.specs.Numbered.{bit, unset}
-use Rattle.ground_rules.specs.Keys.{place}
-use Rattle.ground_rules.specs.Resolved.{NameTable, atom_number, with_mention, mentions_by, state_term, legal_mentions}
+use Rattle.ground_rules.specs.Internal.Resolved.{NameTable, atom_number, with_mention, mentions_by, state_term, legal_mentions, place}
 use Rattle.ground_rules.proofs.TablePlaces.{place-at, place-one}
 use Rattle.ground_rules.proofs.Situations.{text-decides, text_of}
 

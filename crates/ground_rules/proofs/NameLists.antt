@@ -1,10 +1,10 @@
 -- Lists of names, one after another.
 use Rattle.std.proofs.Common.{◌≡◌, ◌≢◌, ℕ, ◌+◌, ◌<◌, Bool, true, false, not, ◌&&◌, ◌||◌, bytes_eq, List, [], ◌∷◌, ◌++◌, drop, length, get_or, drop-cons, add-one, refl, sym, ap, ◌∙◌, append_assoc, append-nil}
 use Rattle.std.specs.List.{list_any}
-use Rattle.ground_rules.specs.Bools.{and-left, and-right, and-both, not-true, not-false, or-left, or-right, or-false-left, or-false-right, bool-same}
-use Rattle.ground_rules.specs.Names.{text-sound, text-same}
+use Rattle.ground_rules.specs.Internal.Bools.{and-left, and-right, and-both, not-true, not-false, or-left, or-right, or-false-left, or-false-right, bool-same}
+use Rattle.ground_rules.specs.Internal.Names.{text-sound, text-same}
 use Rattle.ground_rules.specs.Described.{is_among, with_new, with_all_new, role_names, name_in, are_different}
-use Rattle.ground_rules.specs.Sentences.{rule_of, rules_of}
+use Rattle.ground_rules.specs.Internal.SentenceViews.{rule_of, rules_of}
 use Rattle.ground_rules.specs.declared.sentence.Rule.{Rule as CodeRule}
 
 pub among-left : (xs ys : List (List ℕ)) (t : List ℕ) → is_among xs t ≡ true → is_among (xs ++ ys) t ≡ true

@@ -10,10 +10,11 @@ use Rattle.ground_rules.specs.Literals.{Literal, Literals, Holds, InState, Does,
 use Rattle.ground_rules.specs.Sentences.{TextLiteral, TextLiterals}
 use Rattle.ground_rules.specs.Acyclic.{IsNumbering, IsAcyclic}
 use Rattle.ground_rules.specs.Described.{Description, same_derived}
-use Rattle.ground_rules.specs.Names.{number-sound}
-use Rattle.ground_rules.specs.Numbered.{known, rule_of, rules_of, AreRankedFrom}
-use Rattle.ground_rules.specs.Order.{IsGraph, IsGraphAcyclic, IsRanking, needs_at}
-use Rattle.ground_rules.specs.Resolved.{NameTable, atom_number, resolved, all_resolved, resolved_rule, resolved_rules, atoms_in, all_atoms_in, needs_of}
+use Rattle.ground_rules.specs.Internal.Names.{number-sound}
+use Rattle.ground_rules.specs.Numbered.{known, rule_of, rules_of}
+use Rattle.ground_rules.specs.Internal.Ranked.{AreRankedFrom}
+use Rattle.ground_rules.specs.Internal.Order.{IsGraph, IsGraphAcyclic, IsRanking, needs_at}
+use Rattle.ground_rules.specs.Internal.Resolved.{NameTable, atom_number, resolved, all_resolved, resolved_rule, resolved_rules, atoms_in, all_atoms_in, needs_of}
 use Rattle.ground_rules.proofs.TablePlaces.{place-at}
 use Rattle.ground_rules.proofs.Transfer.{HaveHeads, derived-decides}
 

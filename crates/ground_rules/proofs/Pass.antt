@@ -5,7 +5,8 @@ use Rattle.std.proofs.lemmas.Grind.{get_or-set_at}
 use Rattle.std.proofs.lemmas.Bool.Decides.{Decides-eqb}
 use Rattle.ground_rules.specs.Literals.{Rule, AllAtomsAre}
 use Rattle.ground_rules.specs.Fit.{Situation, all_true, derived, Fits}
-use Rattle.ground_rules.specs.Numbered.{bit, row_after, AreRankedFrom, unset}
+use Rattle.ground_rules.specs.Numbered.{bit, row_after, unset}
+use Rattle.ground_rules.specs.Internal.Ranked.{AreRankedFrom}
 use Rattle.ground_rules.proofs.Fits.{all-agree, all_atoms-weaken}
 
 -- the rules speak of atoms of lower rank than this

@@ -8,12 +8,12 @@ use Rattle.ground_rules.specs.Literals.{Rule}
 use Rattle.ground_rules.specs.Acyclic.{IsAcyclic}
 use Rattle.ground_rules.specs.Described.{Description}
 use Rattle.ground_rules.specs.Dependence.{HasBarredHead}
-use Rattle.ground_rules.specs.Barred.{has_barred}
-use Rattle.ground_rules.specs.Exposed.{exposed_rules}
+use Rattle.ground_rules.specs.Internal.Barred.{has_barred}
+use Rattle.ground_rules.specs.Internal.Exposed.{exposed_rules}
 use Rattle.ground_rules.specs.Numbered.{rule_of, rules_of, bit, numbered, row_after, unset}
-use Rattle.ground_rules.specs.Order.{IsRanking, needs_at}
-use Rattle.ground_rules.specs.Resolved.{NameTable, atom_number, resolved_rules, needs_of}
-use Rattle.ground_rules.specs.GameParts.{IsTestOf, IsTableOf, AreRankedOf}
+use Rattle.ground_rules.specs.Internal.Order.{IsRanking, needs_at}
+use Rattle.ground_rules.specs.Internal.Resolved.{NameTable, atom_number, resolved_rules, needs_of}
+use Rattle.ground_rules.specs.Internal.GameParts.{IsTestOf, IsTableOf, AreRankedOf}
 use Rattle.ground_rules.proofs.HeadTables.{heads-there}
 use Rattle.ground_rules.proofs.Numberings.{AreNeedsOf, IsLower, rules-lower, ranked-from, ranks-number, rank_by}
 use Rattle.ground_rules.proofs.GameOf.{heads-stand, row-length}

@@ -6,9 +6,9 @@ use Rattle.ground_rules.specs.declared.sentence.Rule.{Rule as CodeRule}
 use Rattle.ground_rules.specs.declared.numbered.Literal.{Literal as NumberedLiteral}
 use Rattle.ground_rules.specs.declared.numbered.Rule.{Rule as NumberedRule}
 use Rattle.ground_rules.specs.Literals.{literals, More}
-use Rattle.ground_rules.specs.Sentences.{view, views, rule_of, rules_of}
+use Rattle.ground_rules.specs.Internal.SentenceViews.{view, views, rule_of, rules_of}
 use Rattle.ground_rules.specs.Numbered.{view as numbered, views as all_numbered, rule_of as numbered_rule, rules_of as numbered_rules}
-use Rattle.ground_rules.specs.Resolved.{NameTable, resolved, all_resolved, resolved_rule, resolved_rules}
+use Rattle.ground_rules.specs.Internal.Resolved.{NameTable, resolved, all_resolved, resolved_rule, resolved_rules}
 
 resolved-list : (names : NameTable) (xs : List CodeLiteral) → literals (map (λ x. resolved names (view x)) xs) ≡ all_resolved names (views xs)
 resolved-list names [] = refl

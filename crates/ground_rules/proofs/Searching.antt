@@ -6,7 +6,7 @@ use Rattle.std.proofs.lemmas.List.{get_or_append_left, get_or_push, get_or_defau
 use Rattle.std.proofs.lemmas.List.Sums.{sum_by-set}
 use Rattle.ground_rules.specs.declared.rank.Mark.{Mark}
 use Rattle.ground_rules.specs.declared.rank.Mark.TheVariants.{New, Open, Done}
-use Rattle.ground_rules.specs.Order.{IsSearching, IsDown, IsGraphAcyclic, IsRanking, IsPlaced, IsBefore, IsNeed, IsLinked, mark, needs_at, work, weight}
+use Rattle.ground_rules.specs.Internal.Order.{IsSearching, IsDown, IsGraphAcyclic, IsRanking, IsPlaced, IsBefore, IsNeed, IsLinked, mark, needs_at, work, weight}
 
 -- a mark that is not the one written is an old one, at another place
 mark-old : (marks : List Mark) (d n : ℕ) (x y : Mark) → d < length marks → mark (set marks d x) n ≡ y → x ≢ y → (n ≢ d) × (mark marks n ≡ y)

@@ -2,12 +2,12 @@
 use Rattle.std.proofs.Common.{◌≡◌, ℕ, zero, suc, ◌<◌, Bool, true, false, not, ◌&&◌, ◌||◌, if◌then◌else◌, nat_eq, bytes_eq, List, [], ◌∷◌, length, get_or, map, refl, sym, ap, ◌∙◌, arith}
 use Rattle.std.specs.Prelude.{slice_get}
 use Rattle.ground_rules.specs.declared.tables.GroundMove.{GroundMove}
-use Rattle.ground_rules.specs.Bools.{and-left, and-right, not-true, bool-same, or-false-left, or-false-right}
-use Rattle.ground_rules.specs.Names.{text-sound, text-same}
+use Rattle.ground_rules.specs.Internal.Bools.{and-left, and-right, not-true, bool-same, or-false-left, or-false-right}
+use Rattle.ground_rules.specs.Internal.Names.{text-sound, text-same}
 use Rattle.ground_rules.specs.Described.{is_among, makes, are_different}
 use Rattle.ground_rules.specs.Tables.{picked}
 use Rattle.ground_rules.specs.Numbered.{bit, is_number}
-use Rattle.ground_rules.specs.Keys.{place}
+use Rattle.ground_rules.specs.Internal.Resolved.{place}
 use Rattle.ground_rules.proofs.TablePlaces.{Decides, place-same}
 
 pub text-decides : Decides bytes_eq

@@ -1,9 +1,10 @@
 -- Places in a table of names.
-use Rattle.std.proofs.Common.{◌≡◌, ℕ, suc, ◌<◌, Bool, true, false, ◌||◌, if◌then◌else◌, List, [], ◌∷◌, length, get_or, refl, sym, ap, ◌∙◌, arith, nat_eq}
-use Rattle.std.specs.List.{list_any}
-use Rattle.ground_rules.specs.Bools.{bool-same}
-use Rattle.ground_rules.specs.Names.{number-sound, number-same}
-use Rattle.ground_rules.specs.Keys.{place}
+use Rattle.std.proofs.Common.{◌≡◌, ℕ, suc, ◌<◌, Bool, true, false, ◌||◌, if◌then◌else◌, List, [], ◌∷◌, length, get_or, refl, sym, ap, ◌∙◌, arith, nat_eq, nat_lt, not, ◌+◌, Some, None, unwrap_or}
+use Rattle.std.specs.List.{list_any, prefix_len, position}
+use Rattle.std.proofs.lemmas.Bool.Decides.{nat_tests}
+use Rattle.ground_rules.specs.Internal.Bools.{bool-same}
+use Rattle.ground_rules.specs.Internal.Names.{number-sound, number-same}
+use Rattle.ground_rules.specs.Internal.Resolved.{place}
 
 -- a test that decides equality
 pub record Decides {A : Type 0} (same : A → A → Bool) : Type 0 where
@@ -54,3 +55,22 @@ le-by false n m lt = omega (arith, lt)
 pub place-most : {A : Type 0} (same : A → A → Bool) (xs : List A) (x : A) → place same xs x < suc (length xs)
 place-most same [] x = omega arith
 place-most same (y ∷ ys) x = le-by (same x y) (place same ys x) (length ys) (place-most same ys x)
+
+prefix-place : {A : Type 0} (p : A → Bool) (same : A → A → Bool) (x : A) (xs : List A) → ((y : A) → p y ≡ same x y) → prefix_len (λ y. not (p y)) xs ≡ place same xs x
+prefix-place p same x [] tests = refl
+prefix-place p same x (y ∷ ys) tests = rw (tests y) (by-head (same x y) (prefix-place p same x ys tests))
+  where
+    by-head : (b : Bool) → prefix_len (λ z. not (p z)) ys ≡ place same ys x → (if not b then 1 + prefix_len (λ z. not (p z)) ys else 0) ≡ (if b then 0 else suc (place same ys x))
+    by-head true e = refl
+    by-head false e = omega (arith, e)
+
+unwrapped : (n m : ℕ) → n < suc m → (b : Bool) → nat_lt n m ≡ b → unwrap_or (if b then Some n else None) m ≡ n
+unwrapped n m le true is = refl
+unwrapped n m le false is = grind (arith, nat_tests)
+
+-- a look-up finds the first place, or the length
+pub place-found : {A : Type 0} (p : A → Bool) (same : A → A → Bool) (x : A) (xs : List A) → ((y : A) → p y ≡ same x y) → unwrap_or (position p xs) (length xs) ≡ place same xs x
+place-found p same x xs tests =
+    let e = prefix-place p same x xs tests in
+    let le : prefix_len (λ y. not (p y)) xs < suc (length xs) = omega (arith, e, place-most same xs x) in
+    unwrapped (prefix_len (λ y. not (p y)) xs) (length xs) le (nat_lt (prefix_len (λ y. not (p y)) xs) (length xs)) refl ∙ e

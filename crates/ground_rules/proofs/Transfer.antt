@@ -4,15 +4,16 @@ use Rattle.std.specs.List.{Contains}
 use Rattle.std.specs.List.Sorted.{IsPermutation}
 use Rattle.std.proofs.lemmas.List.Sorted.{Contains-permutation, IsPermutation-sym}
 use Rattle.ground_rules.specs.declared.sentence.Derived.{Derived}
-use Rattle.ground_rules.specs.Bools.{bool-same, or-left, or-right}
-use Rattle.ground_rules.specs.Names.{derived-sound, derived-same}
+use Rattle.ground_rules.specs.Internal.Bools.{bool-same, or-left, or-right}
+use Rattle.ground_rules.specs.Internal.Names.{derived-sound, derived-same}
 use Rattle.ground_rules.specs.Literals.{Holds, InState, Does, Distinct, Not, Or, End, More, Rule}
 use Rattle.ground_rules.specs.Sentences.{TextLiteral, TextLiterals}
 use Rattle.ground_rules.specs.Fit.{Situation, truth, any_true, all_true, derived, Fits}
 use Rattle.ground_rules.specs.Acyclic.{IsAcyclic}
 use Rattle.ground_rules.specs.Described.{Description, same_derived}
-use Rattle.ground_rules.specs.Numbered.{known, bit, row_after, unset, AreRankedFrom}
-use Rattle.ground_rules.specs.Resolved.{NameTable, atom_number, term_number, role_number, resolved, all_resolved, resolved_rules}
+use Rattle.ground_rules.specs.Numbered.{known, bit, row_after, unset}
+use Rattle.ground_rules.specs.Internal.Ranked.{AreRankedFrom}
+use Rattle.ground_rules.specs.Internal.Resolved.{NameTable, atom_number, term_number, role_number, resolved, all_resolved, resolved_rules}
 use Rattle.ground_rules.proofs.Fits.{fits-unique}
 use Rattle.ground_rules.proofs.Pass.{pass-fits}
 use Rattle.ground_rules.proofs.TablePlaces.{Decides, place-same}

@@ -1,6 +1,6 @@
--- What numbered rules stand for, and the pass over them. The loaded game's answers (LoadedGame) cite this module.
-use Rattle.std.specs.Prelude.{ℕ, ◌<◌, ◌≤◌, Bool, true, false, nat_eq, if◌then◌else◌, List, [], ◌∷◌, map, slice_index_or, slice_set, slice_get, Option, Some, None, replicate, box_value}
-use Rattle.ground_rules.specs.Literals.{Literal, Literals, literals, Holds, InState, Does, Not, Or, End, Rule, AllAtomsAre}
+-- What numbered rules stand for, and the pass over them.
+use Rattle.std.specs.Prelude.{ℕ, Bool, true, false, nat_eq, if◌then◌else◌, List, [], ◌∷◌, map, slice_index_or, slice_set, slice_get, Option, Some, None, replicate, box_value}
+use Rattle.ground_rules.specs.Literals.{Literal, Literals, literals, Holds, InState, Does, Not, Or, End, Rule}
 use Rattle.ground_rules.specs.Fit.{Situation, all_true}
 use Rattle.ground_rules.specs.declared.numbered.Literal.{Literal as CodeLiteral, fold-Literal}
 use Rattle.ground_rules.specs.declared.numbered.Literal.TheOpen.{Literal-F}
@@ -46,11 +46,6 @@ numbered state joint = record { same = nat_eq; same_term = nat_eq; in_state = bi
 
 abbrev pub unset : ℕ → List Bool
 unset n = replicate n false
-
--- the ranks of the heads rise from low on, the heads are below atoms, and each rule speaks of atoms of lower rank than its head
-abbrev pub AreRankedFrom : (ℕ → ℕ) → ℕ → ℕ → List (Rule ℕ ℕ) → Type 0
-AreRankedFrom rank low atoms [] = Unit {0}
-AreRankedFrom rank low atoms (r ∷ rs) = (low ≤ rank r.head) × (r.head < atoms) × AllAtomsAre (λ a. rank a < rank r.head) r.body × AreRankedFrom rank (rank r.head) atoms rs
 
 -- the row after a pass over the rules, each of which sets its head
 abbrev pub row_after : Situation ℕ ℕ → List Bool → List (Rule ℕ ℕ) → List Bool

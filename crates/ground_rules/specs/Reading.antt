@@ -1,6 +1,8 @@
 -- The reading of an expression as a sentence, none where it has not the form of one.
-use Rattle.std.specs.Prelude.{ℕ, zero, suc, Bool, not, ◌&&◌, ◌+◌, ◌-◌, ◌*◌, ◌==◌, nat_le, bytes_eq, codes, List, [], ◌∷◌, Option, Some, None, option_map, if◌then◌else◌}
+use Rattle.std.specs.Prelude.{ℕ, nat_le, List, Option, Some, None, option_map, if◌then◌else◌}
 use Rattle.game_core.specs.Expression.{Expression, atom, list, Expressions, none, more, depth, max_depth}
+use Rattle.game_core.specs.Numerals.{plain_number}
+use Rattle.game_core.specs.Play.{max_goal}
 use Rattle.ground_rules.specs.declared.sentence.Derived.TheVariants.{Role, Init, Next, Legal, Goal, Terminal, Other}
 use Rattle.ground_rules.specs.declared.sentence.Atomic.{Atomic}
 use Rattle.ground_rules.specs.declared.sentence.Atomic.TheVariants.{Derived as IsDerived, InState as IsInState, Does as IsDoes}
@@ -17,18 +19,9 @@ both f (Some x) (Some y) = Some (f x y)
 both f (Some x) None = None
 both f None o = None
 
-abbrev pub is_digit : ℕ → Bool
-is_digit b = nat_le 48 b && nat_le b 57
-
--- the number from 0 to 100 that the bytes write without leading zeros
-abbrev pub goal_number : List ℕ → Option ℕ
-goal_number [] = None
-goal_number (a ∷ []) = if is_digit a then Some (a - 48) else None
-goal_number (a ∷ b ∷ []) = if is_digit a && not (a == 48) && is_digit b then Some ((a - 48) * 10 + (b - 48)) else None
-goal_number (a ∷ b ∷ c ∷ ds) = if bytes_eq (a ∷ b ∷ c ∷ ds) (codes "100") then Some 100 else None
-
-abbrev pub goal_value : Expression → Option ℕ
-goal_value (atom w) = goal_number w
+-- the goal that an expression is: a number from 0 to 100 without leading zeros
+unfoldable pub goal_value : Expression → Option ℕ
+goal_value (atom w) = plain_number w max_goal
 goal_value (list xs) = None
 
 -- what the first member's word stands for, if it is an atom
@@ -107,12 +100,6 @@ abbrev mutual
   pub read_literals : Expressions → Option TextLiterals
   read_literals none = Some End
   read_literals (more x xs) = both More (read_literal x) (read_literals xs)
-
--- the members but the first ones
-abbrev pub without_first : ℕ → Expressions → Expressions
-without_first zero xs = xs
-without_first (suc n) none = none
-without_first (suc n) (more x xs) = without_first n xs
 
 abbrev pub sentence : Atomic → TextLiterals → Sentence
 sentence head body = record { head = head; body = body }

@@ -1,4 +1,4 @@
--- What a role's tables hold. The loaded game's answers (LoadedGame) and the ghost fields of GroundGame cite this module.
+-- What a role's tables hold.
 use Rattle.std.specs.Prelude.{ℕ, List, []}
 use Rattle.ground_rules.specs.declared.tables.Mention.{Mention}
 use Rattle.ground_rules.specs.declared.tables.GoalHead.{GoalHead}

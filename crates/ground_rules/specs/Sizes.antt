@@ -7,13 +7,15 @@ use Rattle.ground_rules.specs.Literals.{Holds, InState, Does, Distinct, Not, Or,
 use Rattle.ground_rules.specs.Sentences.{TextLiteral, TextLiterals}
 use Rattle.ground_rules.specs.Described.{Description, same_derived, each_once, heads, moves_in, role_names}
 
+-- how many sentences a description has at most
 abbrev pub max_sentences : ℕ
 max_sentences = 8192
 
+-- how many distinct atomic sentences
 abbrev pub max_atomic_sentences : ℕ
 max_atomic_sentences = 16384
 
--- how many moves the legal heads of one role have at most
+-- how many distinct moves in `legal` heads of one role
 abbrev pub max_moves : ℕ
 max_moves = 4096
 

@@ -1,10 +1,8 @@
--- Answers from a row of truth values, and the tests that a game's laws rest on. The loaded game's answers (LoadedGame) and the ghost fields of GroundGame cite this module.
-use Rattle.std.specs.Prelude.{ℕ, Bool, true, false, not, ◌&&◌, ◌||◌, if◌then◌else◌, List, [], ◌∷◌, map, filter, slice_set, Option, Some, None, nat_lt, nat_le, nat_eq}
-use Rattle.game_core.specs.Play.{max_goal}
+-- What a game's tables say by a row of truth values.
+use Rattle.std.specs.Prelude.{ℕ, Bool, true, if◌then◌else◌, List, [], ◌∷◌, map, filter, slice_set, Option, Some, None}
 use Rattle.ground_rules.specs.declared.tables.Mention.{Mention}
 use Rattle.ground_rules.specs.declared.tables.GoalHead.{GoalHead}
 use Rattle.ground_rules.specs.declared.tables.GroundMove.{GroundMove}
-use Rattle.ground_rules.specs.Roles.{RoleTable}
 use Rattle.ground_rules.specs.Numbered.{bit}
 
 -- the row of terms, with those of the true mentions set
@@ -20,12 +18,6 @@ only [] = None
 only (h ∷ []) = Some h.value
 only (h ∷ k ∷ hs) = None
 
--- the same, where a first one was found
-abbrev pub only_after : Option ℕ → List GoalHead → Option ℕ
-only_after None hs = only hs
-only_after (Some n) [] = Some n
-only_after (Some n) (h ∷ hs) = None
-
 abbrev pub only_goal : List Bool → List GoalHead → Option ℕ
 only_goal row heads = only (filter (λ h. bit row h.atom) heads)
 
@@ -34,39 +26,3 @@ abbrev pub picked : List Bool → List (List ℕ) → List (List ℕ)
 picked [] texts = []
 picked (b ∷ bs) [] = []
 picked (b ∷ bs) (x ∷ xs) = if b then x ∷ picked bs xs else picked bs xs
-
-abbrev pub has_term : ℕ → List Mention → Bool
-has_term t [] = false
-has_term t (h ∷ hs) = nat_eq t h.term || has_term t hs
-
--- the terms of the heads differ, and are below the number of terms
-abbrev pub have_distinct_terms : ℕ → List Mention → Bool
-have_distinct_terms terms [] = true
-have_distinct_terms terms (h ∷ hs) = nat_lt h.term terms && (not (has_term h.term hs) && have_distinct_terms terms hs)
-
-abbrev pub are_goals : List GoalHead → Bool
-are_goals [] = true
-are_goals (h ∷ hs) = nat_le h.value max_goal && are_goals hs
-
-abbrev pub are_roles : ℕ → List RoleTable → Bool
-are_roles terms [] = true
-are_roles terms (r ∷ rs) = have_distinct_terms terms r.legal && (are_goals r.goals && are_roles terms rs)
-
-abbrev pub names : List RoleTable → List (List ℕ)
-names rs = map (λ r. r.name) rs
-
--- whether the first text comes before the second in byte order
-abbrev pub comes_before : List ℕ → List ℕ → Bool
-comes_before [] [] = false
-comes_before [] (b ∷ bs) = true
-comes_before (a ∷ as') [] = false
-comes_before (a ∷ as') (b ∷ bs) = nat_lt a b || (nat_eq a b && comes_before as' bs)
-
-abbrev pub comes_before_all : List ℕ → List (List ℕ) → Bool
-comes_before_all t [] = true
-comes_before_all t (u ∷ us) = comes_before t u && comes_before_all t us
-
--- whether each text comes before all later ones
-abbrev pub are_in_order : List (List ℕ) → Bool
-are_in_order [] = true
-are_in_order (t ∷ ts) = comes_before_all t ts && are_in_order ts

@@ -1,5 +1,5 @@
 -- Terms without variables.
-use Rattle.std.specs.Prelude.{ℕ, Bool, true, false, not, ◌&&◌, ◌||◌, ◌==◌, nat_le, bytes_eq, List, [], ◌∷◌, Option, Some, None, if◌then◌else◌}
+use Rattle.std.specs.Prelude.{ℕ, Bool, true, false, not, ◌&&◌, ◌||◌, ◌==◌, nat_le, List, [], ◌∷◌, Option, Some, None, if◌then◌else◌}
 use Rattle.game_core.specs.Bytes.{is_atom_byte, lower}
 use Rattle.game_core.specs.Expression.{Expression, atom, list, Expressions, none, more, depth, max_depth}
 use Rattle.game_core.specs.Canonical.{canonical}
@@ -53,18 +53,3 @@ abbrev mutual
   pub have_variable : Expressions → Bool
   have_variable none = false
   have_variable (more x xs) = has_variable x || have_variable xs
-
--- whether the text is that of a term without variables in the expression
-abbrev mutual
-  pub is_term_in : Expression → List ℕ → Bool
-  is_term_in (atom w) t = is_ground_term (atom w) && bytes_eq w t
-  is_term_in (list xs) t = (is_ground_term (list xs) && bytes_eq (canonical (list xs)) t) || is_term_in_any xs t
-
-  pub is_term_in_any : Expressions → List ℕ → Bool
-  is_term_in_any none t = false
-  is_term_in_any (more x xs) t = is_term_in x t || is_term_in_any xs t
-
--- whether each text is that of a term without variables in the expressions
-abbrev pub are_terms_in_any : Expressions → List (List ℕ) → Bool
-are_terms_in_any xs [] = true
-are_terms_in_any xs (t ∷ ts) = is_term_in_any xs t && are_terms_in_any xs ts

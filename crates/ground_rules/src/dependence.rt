@@ -2,20 +2,20 @@
 ghost use Rattle.std.specs.Prelude.{◌≡◌, [], IfOk};
 ghost use Rattle.ground_rules.specs.Fit.{truth, any_true};
 ghost use Rattle.ground_rules.specs.Numbered.{bit, numbered, view, views, rules_of, row_after, unset};
-ghost use Rattle.ground_rules.specs.Exposed.{exposed, all_exposed, exposed_rules};
+ghost use Rattle.ground_rules.specs.Internal.Exposed.{exposed, all_exposed, exposed_rules};
 
 use crate::numbered::{Literal, Rule};
-use crate::row::{is_set, set};
+use crate::row::Row;
 use std::alloc::{AllocError, Global};
 
 /// Whether the literal speaks of a `does` sentence, or, if these count, of a `true` sentence, or of
 /// an atom that is set.
 #[cycle(speaks)]
-fn speaks(literal: &Literal, row: &[bool], of_state: bool) -> bool
+fn speaks(literal: &Literal, row: &Row, of_state: bool) -> bool
     ensures { result ≡ truth (numbered [] []) (bit row.now) (exposed of_state (view literal.now)) }
 {
     match literal {
-        Literal::Holds(atom) => is_set(row, *atom),
+        Literal::Holds(atom) => row.is_set(*atom),
         Literal::InState(_) => of_state,
         Literal::Does(_, _) => true,
         Literal::Not(inner) => speaks(inner, row, of_state),
@@ -25,7 +25,7 @@ fn speaks(literal: &Literal, row: &[bool], of_state: bool) -> bool
 }
 
 #[cycle(speaks)]
-fn any_speaks(literals: &Vec<Literal>, row: &[bool], of_state: bool) -> bool
+fn any_speaks(literals: &Vec<Literal>, row: &Row, of_state: bool) -> bool
     ensures { result ≡ any_true (numbered [] []) (bit row.now) (all_exposed of_state (views literals.now.items)) }
 {
     for literal in literals {
@@ -43,13 +43,13 @@ pub fn dependence(
     rules: &[Rule],
     atoms: usize,
     of_state: bool,
-) -> Result<Vec<bool>, AllocError>
-    ensures { IfOk result (λ row. row.items ≡ row_after (numbered [] []) (unset atoms) (exposed_rules of_state (rules_of rules.now))) }
+) -> Result<Row, AllocError>
+    ensures { IfOk result (λ row. row ≡ row_after (numbered [] []) (unset atoms) (exposed_rules of_state (rules_of rules.now))) }
 {
-    let mut row = vec![in alloc; false; atoms]?;
+    let mut row = Row::unset(alloc, atoms)?;
     for rule in rules {
         if any_speaks(&rule.body, &row, of_state) {
-            set(&mut row, rule.head);
+            row.set(rule.head);
         }
     }
     Ok(row)

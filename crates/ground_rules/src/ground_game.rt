@@ -2,16 +2,16 @@
 ghost use Rattle.std.specs.Prelude.{◌≡◌, ◌≤◌, length, IsTrue};
 ghost use Rattle.game_core.specs.Play.{max_roles};
 ghost use Rattle.kif_text.specs.View.{views};
-ghost use Rattle.ground_rules.specs.Tables.{are_roles, are_in_order, names};
+ghost use Rattle.ground_rules.specs.Internal.TableTests.{are_roles, are_in_order, names};
 ghost use Rattle.ground_rules.specs.Described.{are_different};
-ghost use Rattle.ground_rules.specs.Terms.{are_terms_in_any};
+ghost use Rattle.ground_rules.specs.Internal.TermTexts.{are_terms_in_any};
 
 use crate::evaluate::evaluate;
 use crate::loading::GameParts;
 use crate::lookups::{StateHead, state_mentions};
 use crate::names::{into_texts, place_of_head};
 use crate::numbered::Rule;
-use crate::row::is_set;
+use crate::row::Row;
 use crate::sentence::Derived;
 use crate::tables::{GroundMove, GroundState, Mention, Role, choose, find_goal, mark, pick};
 use game_core::{Game, Text};
@@ -43,15 +43,16 @@ pub struct GroundGame {
 
 impl Game for GroundGame {
     ghost use Rattle.ground_rules.specs.LoadedGame.{loaded_game};
-    ghost use Rattle.ground_rules.specs.LoadedGameLaws.{loaded_game_laws};
+    ghost use Rattle.ground_rules.specs.GroundGames.{tables_of};
+    ghost use Rattle.ground_rules.specs.Internal.LoadedGameLaws.{loaded_game_laws};
 
     type State = GroundState;
 
     type Move = GroundMove;
 
-    ghost rules = { λ g. loaded_game g };
+    ghost rules = { λ g. loaded_game (tables_of g) };
 
-    ghost laws = { λ g. loaded_game_laws g g.some_role g.few_roles g.tables g.names_differ g.names_spelled g.terms_ordered g.terms_spelled };
+    ghost laws = { λ g. loaded_game_laws (views g.description.items) (tables_of g) g.some_role g.few_roles g.tables g.names_differ g.names_spelled g.terms_ordered g.terms_spelled };
 
     fn roles(&self) -> usize {
         self.roles.len()
@@ -62,7 +63,8 @@ impl Game for GroundGame {
     }
 
     fn initial(&self, alloc: Global) -> Result<GroundState, AllocError> {
-        let truth = evaluate(alloc, &self.rules, self.atoms, &[], &[])?;
+        let none = Row::unset(alloc, 0)?;
+        let truth = evaluate(alloc, &self.rules, self.atoms, &none, &[])?;
         let row = mark(alloc, &self.init, &truth, self.terms.len())?;
         Ok(GroundState { row })
     }
@@ -92,7 +94,7 @@ impl Game for GroundGame {
 
     fn terminal(&self, alloc: Global, state: &GroundState) -> Result<bool, AllocError> {
         let truth = evaluate(alloc, &self.rules, self.atoms, &state.row, &[])?;
-        Ok(is_set(&truth, self.terminal))
+        Ok(truth.is_set(self.terminal))
     }
 
     fn goal(
@@ -106,7 +108,7 @@ impl Game for GroundGame {
     }
 
     fn move_text(&self, alloc: Global, taken: &GroundMove) -> Result<Text, AllocError> {
-        let text = self.terms[taken.term].copy(alloc)?;
+        let text = self.terms[taken.term].clone()?;
         Ok(text)
     }
 
@@ -115,7 +117,7 @@ impl Game for GroundGame {
     }
 
     fn copy_state(&self, alloc: Global, state: &GroundState) -> Result<GroundState, AllocError> {
-        let row = Vec::from_slice(alloc, &state.row)?;
+        let row = state.row.clone()?;
         Ok(GroundState { row })
     }
 
@@ -128,11 +130,11 @@ impl GroundGame {
     ghost use Rattle.std.specs.Prelude.{IfOk, map};
     ghost use Rattle.kif_text.specs.View.{view as expression};
     ghost use Rattle.ground_rules.specs.Numbered.{rules_of};
-    ghost use Rattle.ground_rules.specs.Resolved.{table_of};
+    ghost use Rattle.ground_rules.specs.Internal.Resolved.{table_of};
     ghost use Rattle.ground_rules.specs.Loading.{AreSentences, description_of};
-    ghost use Rattle.ground_rules.specs.GameParts.{AreGameParts};
+    ghost use Rattle.ground_rules.specs.Internal.GameParts.{AreGameParts};
     ghost use Rattle.ground_rules.specs.Loaded.{IsLoaded};
-    ghost use Rattle.ground_rules.specs.LoadedGame.{sentences_of};
+    ghost use Rattle.ground_rules.specs.GroundGames.{sentences_of};
 
     /// The game of a description, from its parts.
     pub(crate) fn new(
@@ -153,7 +155,7 @@ impl GroundGame {
         let atoms = heads.len();
         let init = state_mentions(alloc, heads, &names.terms, StateHead::Init)?;
         let next = state_mentions(alloc, heads, &names.terms, StateHead::Next)?;
-        let terminal = place_of_head(alloc, &names.heads, &Derived::Terminal)?;
+        let terminal = place_of_head(&names.heads, &Derived::Terminal);
         let terms = into_texts(alloc, names.terms)?;
         Ok(GroundGame {
             description,

@@ -13,7 +13,6 @@ mod dependence;
 mod evaluate;
 mod fault;
 mod ground_game;
-mod keys;
 pub mod laws;
 mod load_game;
 mod loading;

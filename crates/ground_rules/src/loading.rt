@@ -3,42 +3,38 @@ ghost use Rattle.std.specs.Prelude.{◌≡◌, ◌⊎◌, ℕ, true, false, IfOk
 ghost use Rattle.std.specs.List.Sorted.{IsPermutation, IsNonDecreasingBy};
 ghost use Rattle.game_core.specs.Expression.{folded};
 ghost use Rattle.kif_text.specs.View.{view as expression};
-ghost use Rattle.ground_rules.specs.Sentences.{rules_of};
+ghost use Rattle.ground_rules.specs.Internal.SentenceViews.{rules_of};
 ghost use Rattle.ground_rules.specs.Acyclic.{IsAcyclic};
 ghost use Rattle.ground_rules.specs.Numbered.{rules_of as numbered_rules};
-ghost use Rattle.ground_rules.specs.Keys.{derived_of, texts};
-ghost use Rattle.ground_rules.specs.Resolved.{table_of, role_table};
-ghost use Rattle.ground_rules.specs.Barred.{barred_by, has_barred};
+ghost use Rattle.ground_rules.specs.Internal.Resolved.{table_of, role_table};
+ghost use Rattle.ground_rules.specs.Internal.Barred.{barred_by, has_barred};
 ghost use Rattle.ground_rules.specs.Loading.{HasRoles, IsDescriptionFault};
 ghost use Rattle.ground_rules.specs.Described.{Description};
 ghost use Rattle.ground_rules.specs.Dependence.{HasBarredHead};
-ghost use Rattle.ground_rules.specs.GameParts.{IsTestOf, IsTableOf, is_small_so_far, have_few_moves_by, AreRankedOf, AreGameParts};
+ghost use Rattle.ground_rules.specs.Internal.GameParts.{IsTestOf, IsTableOf, is_small_so_far, have_few_moves_by, AreRankedOf, AreGameParts};
 
 use crate::dependence::dependence;
 use crate::fault::LoadFault;
-use crate::keys::DerivedKey;
 use crate::lookups::{goal_heads, legal_mentions};
 use crate::names::{head_terms, heads, role_names};
 use crate::needs::needs_of;
 use crate::numbered;
 use crate::rank::rank;
 use crate::resolve::{Names, resolve_rules};
-use crate::row::is_set;
-use crate::sentence::Rule;
-use crate::sizes::{
-    MAX_ATOMIC_SENTENCES, MAX_MOVES, MAX_ROLES, MAX_SENTENCES, count_atomic_sentences,
-};
+use crate::row::Row;
+use crate::sentence::{Derived, Rule};
+use crate::sizes::{MAX_ATOMIC_SENTENCES, MAX_MOVES, MAX_SENTENCES, count_atomic_sentences};
 use crate::tables::Role;
-use game_core::Text;
+use game_core::{MAX_ROLES, Text};
 use std::alloc::{AllocError, Global};
 
-fn role_of(alloc: Global, names: &Names, name: &[u8]) -> Result<Role, AllocError>
+fn role_of(alloc: Global, names: &Names, name: &Text) -> Result<Role, AllocError>
     ensures { IfOk result (λ r. r ≡ role_table (table_of names.now) name.now) }
 {
     let heads = names.heads.as_slice();
     let legal = legal_mentions(alloc, heads, &names.terms, name)?;
     let goals = goal_heads(alloc, heads, name)?;
-    let name = Text::from_slice(alloc, name)?;
+    let name = name.clone()?;
     Ok(Role { name, legal, goals })
 }
 
@@ -83,21 +79,21 @@ fn sort_by_rank(
 }
 
 /// Whether a head is barred that depends on `does` sentences, or on given sentences, as said.
-fn is_barred(head: &DerivedKey, on_moves: bool, on_given: bool) -> bool
-    ensures { result ≡ barred_by (derived_of head.now) on_moves on_given }
+fn is_barred(head: &Derived, on_moves: bool, on_given: bool) -> bool
+    ensures { result ≡ barred_by head.now on_moves on_given }
 {
     match head {
-        DerivedKey::Legal(_, _) | DerivedKey::Goal(_, _) | DerivedKey::Terminal => on_moves,
-        DerivedKey::Init(_) => on_given,
-        DerivedKey::Role(_) | DerivedKey::Next(_) | DerivedKey::Other(_) => false,
+        Derived::Legal(_, _) | Derived::Goal(_, _) | Derived::Terminal => on_moves,
+        Derived::Init(_) => on_given,
+        Derived::Role(_) | Derived::Next(_) | Derived::Other(_) => false,
     }
 }
 
-fn has_barred(heads: &[DerivedKey], on_moves: &[bool], on_given: &[bool]) -> bool
-    ensures { result ≡ has_barred on_moves.now on_given.now 0 (map derived_of heads.now) }
+fn has_barred(heads: &[Derived], on_moves: &Row, on_given: &Row) -> bool
+    ensures { result ≡ has_barred on_moves.now on_given.now 0 heads.now }
 {
     for (atom, head) in heads.iter().enumerate() {
-        if is_barred(head, is_set(on_moves, atom), is_set(on_given, atom)) {
+        if is_barred(head, on_moves.is_set(atom), on_given.is_set(atom)) {
             return true;
         }
     }

@@ -1,12 +1,12 @@
 //! The tables of a game, from the heads of its rules.
-ghost use Rattle.std.specs.Prelude.{◌≡◌, IfOk, map};
+ghost use Rattle.std.specs.Prelude.{◌≡◌, IfOk};
 ghost use Rattle.std.specs.Option.{option_copied};
-ghost use Rattle.ground_rules.specs.Keys.{derived_of, texts};
-ghost use Rattle.ground_rules.specs.Resolved.{state_term, state_mentions, legal_mentions, goal_heads};
+ghost use Rattle.ground_rules.specs.Internal.Resolved.{state_term, state_mentions, legal_mentions, goal_heads};
 
-use crate::keys::DerivedKey;
 use crate::names::place_of_text;
+use crate::sentence::Derived;
 use crate::tables::{GoalHead, Mention};
+use game_core::Text;
 use indexmap::IndexSet;
 use std::alloc::{AllocError, Global};
 
@@ -18,12 +18,12 @@ pub enum StateHead {
 }
 
 /// The term in the head, if it is of this kind.
-fn state_term(head: &DerivedKey, kind: StateHead) -> Option<&[u8]>
-    ensures { option_copied result ≡ state_term kind (derived_of head.now) }
+fn state_term(head: &Derived, kind: StateHead) -> Option<&Text>
+    ensures { option_copied result ≡ state_term kind head.now }
 {
     match (kind, head) {
-        (StateHead::Init, DerivedKey::Init(term)) | (StateHead::Next, DerivedKey::Next(term)) => {
-            Some(term.as_slice())
+        (StateHead::Init, Derived::Init(term)) | (StateHead::Next, Derived::Next(term)) => {
+            Some(term)
         }
         _ => None,
     }
@@ -32,11 +32,11 @@ fn state_term(head: &DerivedKey, kind: StateHead) -> Option<&[u8]>
 /// The heads of this kind, each with its term and its place among the heads.
 pub fn state_mentions(
     alloc: Global,
-    heads: &[DerivedKey],
-    terms: &IndexSet<Vec<u8>>,
+    heads: &[Derived],
+    terms: &IndexSet<Text>,
     kind: StateHead,
 ) -> Result<Vec<Mention>, AllocError>
-    ensures { IfOk result (λ v. v.items ≡ state_mentions kind (texts terms.now.keys) 0 (map derived_of heads.now)) }
+    ensures { IfOk result (λ v. v.items ≡ state_mentions kind terms.now.keys 0 heads.now) }
 {
     let mut mentions = Vec::new(alloc);
     for (atom, head) in heads.iter().enumerate() {
@@ -51,16 +51,16 @@ pub fn state_mentions(
 /// The `legal` heads about a role, each with the term of its move and its place among the heads.
 pub fn legal_mentions(
     alloc: Global,
-    heads: &[DerivedKey],
-    terms: &IndexSet<Vec<u8>>,
-    role: &[u8],
+    heads: &[Derived],
+    terms: &IndexSet<Text>,
+    role: &Text,
 ) -> Result<Vec<Mention>, AllocError>
-    ensures { IfOk result (λ v. v.items ≡ legal_mentions (texts terms.now.keys) role.now 0 (map derived_of heads.now)) }
+    ensures { IfOk result (λ v. v.items ≡ legal_mentions terms.now.keys role.now 0 heads.now) }
 {
     let mut mentions = Vec::new(alloc);
     for (atom, head) in heads.iter().enumerate() {
-        if let DerivedKey::Legal(name, term) = head {
-            if name.as_slice() == role {
+        if let Derived::Legal(name, term) = head {
+            if name == role {
                 let term = place_of_text(terms, term);
                 mentions.push(Mention { term, atom })?;
             }
@@ -72,15 +72,15 @@ pub fn legal_mentions(
 /// The `goal` heads about a role, each with its value and its place among the heads.
 pub fn goal_heads(
     alloc: Global,
-    heads: &[DerivedKey],
-    role: &[u8],
+    heads: &[Derived],
+    role: &Text,
 ) -> Result<Vec<GoalHead>, AllocError>
-    ensures { IfOk result (λ v. v.items ≡ goal_heads role.now 0 (map derived_of heads.now)) }
+    ensures { IfOk result (λ v. v.items ≡ goal_heads role.now 0 heads.now) }
 {
     let mut goals = Vec::new(alloc);
     for (atom, head) in heads.iter().enumerate() {
-        if let DerivedKey::Goal(name, value) = head {
-            if name.as_slice() == role {
+        if let Derived::Goal(name, value) = head {
+            if name == role {
                 goals.push(GoalHead {
                     value: *value,
                     atom,

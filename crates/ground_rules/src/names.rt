@@ -1,41 +1,38 @@
 //! The names of a description: its roles, the derived atoms at its heads and the terms of its states
 //! and moves, each numbered by its place in a table.
-ghost use Rattle.std.specs.Prelude.{◌≡◌, ℕ, not, true, false, IfOk, IfErr, OnOk, map, length, [], bytes_eq, ◌≢◌};
-ghost use Rattle.std.specs.List.{list_any};
-ghost use Rattle.ground_rules.specs.Sentences.{rules_of};
+ghost use Rattle.std.specs.Prelude.{◌≡◌, ℕ, not, true, IfOk, IfErr, OnOk, [], bytes_eq, ◌≢◌};
+ghost use Rattle.ground_rules.specs.Internal.SentenceViews.{rules_of};
 ghost use Rattle.ground_rules.specs.Described.{with_new, same_derived, role_names, name_in, heads, is_among, are_different};
+ghost use Rattle.std.specs.List.{list_any};
 ghost use Rattle.std.specs.Option.{option_copied, option_to_list};
-ghost use Rattle.ground_rules.specs.Tables.{are_in_order};
-ghost use Rattle.ground_rules.specs.Keys.{derived_of, texts, place};
-ghost use Rattle.ground_rules.specs.Resolved.{head_terms};
+ghost use Rattle.ground_rules.specs.Internal.TableTests.{are_in_order};
+ghost use Rattle.ground_rules.specs.Internal.Resolved.{head_terms, place};
 ghost use Rattle.ground_rules.specs.Loading.{IsDescriptionFault};
 
 use crate::fault::LoadFault;
-use crate::keys::DerivedKey;
 use crate::sentence::{Derived, Rule};
 use game_core::Text;
 use indexmap::IndexSet;
 use std::alloc::{AllocError, Global};
 
 /// Adds a text to a set, and whether it is new there.
-fn add_text(alloc: Global, set: &mut IndexSet<Vec<u8>>, text: &Text) -> Result<bool, AllocError>
-    ensures set { OnOk result (texts set.new.keys ≡ with_new bytes_eq (texts set.old.keys) text.now) }
-    ensures new { IfOk result (λ new. new ≡ not (list_any (bytes_eq text.now) (texts set.old.keys))) }
+fn add_text(set: &mut IndexSet<Text>, text: &Text) -> Result<bool, AllocError>
+    ensures set { OnOk result (set.new.keys ≡ with_new bytes_eq set.old.keys text.now) }
+    ensures new { IfOk result (λ new. new ≡ not (list_any (bytes_eq text.now) set.old.keys)) }
 {
-    let bytes = Vec::from_slice(alloc, text.as_slice())?;
-    let (_, new) = set.insert_full(bytes)?;
-    Ok(new)
+    if set.contains(text) {
+        return Ok(false);
+    }
+    set.insert(text.clone()?)?;
+    Ok(true)
 }
 
-fn add_head(
-    alloc: Global,
-    heads: &mut IndexSet<DerivedKey>,
-    atom: &Derived,
-) -> Result<(), AllocError>
-    ensures { OnOk result (map derived_of heads.new.keys ≡ with_new same_derived (map derived_of heads.old.keys) atom.now) }
+fn add_head(heads: &mut IndexSet<Derived>, atom: &Derived) -> Result<(), AllocError>
+    ensures { OnOk result (heads.new.keys ≡ with_new same_derived heads.old.keys atom.now) }
 {
-    let key = DerivedKey::of(alloc, atom)?;
-    heads.insert(key)?;
+    if !heads.contains(atom) {
+        heads.insert(atom.clone()?)?;
+    }
     Ok(())
 }
 
@@ -50,8 +47,8 @@ fn role_name(head: &Derived) -> Option<&Text>
 }
 
 /// The names in the role facts, in their order.
-pub fn role_names(alloc: Global, rules: &[Rule]) -> Result<IndexSet<Vec<u8>>, LoadFault>
-    ensures names { IfOk result (λ s. texts s.keys ≡ role_names (rules_of rules.now)) }
+pub fn role_names(alloc: Global, rules: &[Rule]) -> Result<IndexSet<Text>, LoadFault>
+    ensures names { IfOk result (λ s. s.keys ≡ role_names (rules_of rules.now)) }
     ensures differ { IfOk result (λ _. are_different (role_names (rules_of rules.now)) ≡ true) }
     ensures some { IfOk result (λ _. role_names (rules_of rules.now) ≢ []) }
     ensures fault { IfErr result (λ e. (n : ℕ) → IsDescriptionFault n (rules_of rules.now) e) }
@@ -59,7 +56,7 @@ pub fn role_names(alloc: Global, rules: &[Rule]) -> Result<IndexSet<Vec<u8>>, Lo
     let mut names = IndexSet::new(alloc);
     for rule in rules {
         if let Some(name) = role_name(&rule.head) {
-            if !add_text(alloc, &mut names, name)? {
+            if !add_text(&mut names, name)? {
                 return Err(LoadFault::RoleTwice);
             }
         }
@@ -71,26 +68,26 @@ pub fn role_names(alloc: Global, rules: &[Rule]) -> Result<IndexSet<Vec<u8>>, Lo
 }
 
 /// The heads, each once, by its first appearance.
-pub fn heads(alloc: Global, rules: &[Rule]) -> Result<IndexSet<DerivedKey>, AllocError>
-    ensures { IfOk result (λ s. map derived_of s.keys ≡ heads (rules_of rules.now)) }
+pub fn heads(alloc: Global, rules: &[Rule]) -> Result<IndexSet<Derived>, AllocError>
+    ensures { IfOk result (λ s. s.keys ≡ heads (rules_of rules.now)) }
 {
     let mut heads = IndexSet::new(alloc);
     for rule in rules {
-        add_head(alloc, &mut heads, &rule.head)?;
+        add_head(&mut heads, &rule.head)?;
     }
     Ok(heads)
 }
 
 /// The terms of states and moves in the heads, in byte order.
-pub fn head_terms(alloc: Global, rules: &[Rule]) -> Result<IndexSet<Vec<u8>>, AllocError>
-    ensures ordered { IfOk result (λ s. are_in_order (texts s.keys) ≡ true) }
-    ensures same { IfOk result (λ s. (t : _) → is_among (texts s.keys) t ≡ is_among (head_terms (rules_of rules.now)) t) }
+pub fn head_terms(alloc: Global, rules: &[Rule]) -> Result<IndexSet<Text>, AllocError>
+    ensures ordered { IfOk result (λ s. are_in_order s.keys ≡ true) }
+    ensures same { IfOk result (λ s. (t : _) → is_among s.keys t ≡ is_among (head_terms (rules_of rules.now)) t) }
 {
     let mut terms = IndexSet::new(alloc);
     for rule in rules {
         match &rule.head {
             Derived::Init(term) | Derived::Next(term) | Derived::Legal(_, term) => {
-                add_text(alloc, &mut terms, term)?;
+                add_text(&mut terms, term)?;
             }
             _ => {}
         }
@@ -100,27 +97,22 @@ pub fn head_terms(alloc: Global, rules: &[Rule]) -> Result<IndexSet<Vec<u8>>, Al
 }
 
 /// The texts of a set, which are moved out of it.
-pub fn into_texts(alloc: Global, set: IndexSet<Vec<u8>>) -> Result<Vec<Text>, AllocError>
-    ensures { IfOk result (λ v. v.items ≡ texts set.keys) }
+pub fn into_texts(alloc: Global, set: IndexSet<Text>) -> Result<Vec<Text>, AllocError>
+    ensures { IfOk result (λ v. v.items ≡ set.keys) }
 {
-    set.into_iter().map(|bytes| Text { bytes }).collect(alloc)
+    set.into_iter().collect(alloc)
 }
 
 /// The place of the text in the set, or the number of texts.
-pub fn place_of_text(set: &IndexSet<Vec<u8>>, text: &[u8]) -> usize
-    ensures { result ≡ place bytes_eq (texts set.now.keys) text.now }
+pub fn place_of_text(set: &IndexSet<Text>, text: &Text) -> usize
+    ensures { result ≡ place bytes_eq set.now.keys text.now }
 {
     set.get_index_of(text).unwrap_or(set.len())
 }
 
 /// The place of the atom among the heads, or the number of heads.
-pub fn place_of_head(
-    alloc: Global,
-    heads: &IndexSet<DerivedKey>,
-    atom: &Derived,
-) -> Result<usize, AllocError>
-    ensures { IfOk result (λ n. n ≡ place same_derived (map derived_of heads.now.keys) atom.now) }
+pub fn place_of_head(heads: &IndexSet<Derived>, atom: &Derived) -> usize
+    ensures { result ≡ place same_derived heads.now.keys atom.now }
 {
-    let key = DerivedKey::of(alloc, atom)?;
-    Ok(heads.get_index_of(&key).unwrap_or(heads.len()))
+    heads.get_index_of(atom).unwrap_or(heads.len())
 }

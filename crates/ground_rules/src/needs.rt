@@ -1,8 +1,8 @@
 //! What the derived atoms need.
 ghost use Rattle.std.specs.Prelude.{◌≡◌, ℕ, ◌<◌, ◌++◌, IfOk, OnOk, length, replicate, []};
 ghost use Rattle.ground_rules.specs.Numbered.{view, views, rules_of};
-ghost use Rattle.ground_rules.specs.Order.{needs_at};
-ghost use Rattle.ground_rules.specs.Resolved.{atoms_in, all_atoms_in, needs_of};
+ghost use Rattle.ground_rules.specs.Internal.Order.{needs_at};
+ghost use Rattle.ground_rules.specs.Internal.Resolved.{atoms_in, all_atoms_in, needs_of};
 
 use crate::numbered::{Literal, Rule};
 use crate::rank::Needs;

@@ -1,6 +1,6 @@
 //! Where atomic sentences may stand.
 ghost use Rattle.std.specs.Prelude.{◌≡◌, option_map};
-ghost use Rattle.ground_rules.specs.Sentences.{view, views, sentence_of, rule_of};
+ghost use Rattle.ground_rules.specs.Internal.SentenceViews.{view, views, sentence_of, rule_of};
 ghost use Rattle.ground_rules.specs.Places.{stands_in_bodies, is_placed, are_placed, is_head_of, place};
 
 use crate::sentence::{Atomic, Derived, Literal, Rule, Sentence};

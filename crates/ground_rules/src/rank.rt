@@ -1,6 +1,6 @@
 //! An order of the derived atoms in which each comes after those that it needs.
 ghost use Rattle.std.specs.Prelude.{◌≡◌, ◌<◌, ◌+◌, ◌≤◌, ℕ, length, IfOk, OnOk, IsTrue, [], Some, None, Contains, slice_index, false, true, IfSome, IfNone, MatchOption, vec_len, ◌-◌, ◌≢◌};
-ghost use Rattle.ground_rules.specs.Order.{IsSearching, IsGraph, IsGraphAcyclic, IsRanking, IsLinked, mark, needs_at, work, IsPlaced, AreOnlyOld};
+ghost use Rattle.ground_rules.specs.Internal.Order.{IsSearching, IsGraph, IsGraphAcyclic, IsRanking, IsLinked, mark, needs_at, work, IsPlaced, AreOnlyOld};
 ghost use Rattle.ground_rules.specs.declared.rank.Mark.TheVariants.{New, Open, Done};
 
 use std::alloc::{AllocError, Global};
@@ -90,10 +90,10 @@ impl Search {
         ensures passed { (i : ℕ) → from ≤ i → i < result → IsPlaced self.now.marks.items (slice_index wants.now i) }
         ensures stop { result < length wants.now → ¬ (IsPlaced self.now.marks.items (slice_index wants.now result)) }
     {
-        for at in from..wants.len() {
-            match self.marks[wants[at]] {
+        for place in from..wants.len() {
+            match self.marks[wants[place]] {
                 Mark::Done(_) => {}
-                _ => return at,
+                _ => return place,
             }
         }
         wants.len()

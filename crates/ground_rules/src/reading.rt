@@ -2,37 +2,27 @@
 ghost use Rattle.std.specs.Prelude.{◌≡◌, IfOk, ◌&&◌, option_map};
 ghost use Rattle.game_core.specs.Expression.{atom, list};
 ghost use Rattle.kif_text.specs.View.{view as expression, views as expressions};
-ghost use Rattle.ground_rules.specs.Sentences.{view, views, sentence_of};
-ghost use Rattle.ground_rules.specs.Reading.{goal_number, goal_value, head_word, one_argument, two_arguments, read_relation, read_alone, read_atomic, negation, disjunction, read_literal, read_literals, without_first, fact, read_rule, read_form, read_sentence};
+ghost use Rattle.ground_rules.specs.Internal.SentenceViews.{view, views, sentence_of};
+ghost use Rattle.ground_rules.specs.Reading.{goal_value, head_word, one_argument, two_arguments, read_relation, read_alone, read_atomic, negation, disjunction, read_literal, read_literals, fact, read_rule, read_form, read_sentence};
+ghost use Rattle.ground_rules.specs.Internal.Members.{without_first};
 ghost use Rattle.ground_rules.specs.Terms.{term_text};
 ghost use Rattle.ground_rules.specs.Words.{word_of};
 
 use crate::sentence::{Atomic, Derived, Literal, Sentence};
-use crate::terms::{MAX_DEPTH, nests_at_most, term_text};
+use crate::terms::{nests_at_most, term_text};
 use crate::words::Word;
-use game_core::Text;
+use game_core::numeral::plain_number;
+use game_core::{MAX_DEPTH, MAX_GOAL, Text};
 use kif_text::Expr;
 use std::alloc::{AllocError, Global};
 
-/// The number from 0 to 100 that the bytes write without leading zeros.
-fn goal_number(bytes: &[u8]) -> Option<u8>
-    ensures { result ≡ goal_number bytes.now }
-{
-    match bytes {
-        [only] if only.is_ascii_digit() => Some(*only - b'0'),
-        [ten, one] if ten.is_ascii_digit() && *ten != b'0' && one.is_ascii_digit() => {
-            Some((*ten - b'0') * 10 + (*one - b'0'))
-        }
-        [b'1', b'0', b'0'] => Some(100),
-        _ => None,
-    }
-}
-
+/// The goal that an expression is: a number from 0 to 100, in decimal digits without leading zeros.
+#[tactic(auto, unfolding(crate::specs::Reading::goal_value))]
 fn goal_value(expr: &Expr) -> Option<u8>
     ensures { result ≡ goal_value (expression expr.now) }
 {
     match expr {
-        Expr::Atom(text) => goal_number(text.as_slice()),
+        Expr::Atom(text) => Some(plain_number(text.as_slice(), usize::from(MAX_GOAL))? as u8),
         Expr::List(_) => None,
     }
 }

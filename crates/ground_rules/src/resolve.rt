@@ -1,22 +1,23 @@
 //! Numbers in the place of names.
 ghost use Rattle.std.specs.Prelude.{◌≡◌, IfOk};
-ghost use Rattle.ground_rules.specs.Sentences.{view, views, rules_of, literal_of};
+ghost use Rattle.ground_rules.specs.Sentences.{literal_of};
+ghost use Rattle.ground_rules.specs.Internal.SentenceViews.{view, views, rules_of};
 ghost use Rattle.ground_rules.specs.Numbered.{view as numbered, views as all_numbered, rules_of as numbered_rules};
-ghost use Rattle.ground_rules.specs.Resolved.{resolved, all_resolved, resolved_rules, table_of};
+ghost use Rattle.ground_rules.specs.Internal.Resolved.{resolved, all_resolved, resolved_rules, table_of};
 
-use crate::keys::DerivedKey;
 use crate::names::{place_of_head, place_of_text};
 use crate::numbered;
-use crate::sentence::{Atomic, Literal, Rule};
+use crate::sentence::{Atomic, Derived, Literal, Rule};
+use game_core::Text;
 use indexmap::IndexSet;
 use std::alloc::{AllocError, Global};
 
 /// The tables of names, each of which is numbered by its place.
 #[derive(Drop)]
 pub struct Names {
-    pub roles: IndexSet<Vec<u8>>,
-    pub heads: IndexSet<DerivedKey>,
-    pub terms: IndexSet<Vec<u8>>,
+    pub roles: IndexSet<Text>,
+    pub heads: IndexSet<Derived>,
+    pub terms: IndexSet<Text>,
 }
 
 #[cycle(resolve)]
@@ -24,38 +25,26 @@ fn resolve(alloc: Global, names: &Names, literal: &Literal) -> Result<numbered::
     ensures { IfOk result (λ l. numbered l ≡ resolved (table_of names.now) (view literal.now)) }
 {
     match literal {
-        Literal::Atomic(atomic) => resolve_atomic(alloc, names, atomic),
+        Literal::Atomic(atomic) => Ok(resolve_atomic(names, atomic)),
         Literal::Not(inner) => {
             let inner = resolve(alloc, names, inner)?;
             Ok(numbered::Literal::Not(Box::new(alloc, inner)?))
         }
         Literal::Or(literals) => Ok(numbered::Literal::Or(resolve_all(alloc, names, literals)?)),
-        Literal::Distinct(first, second) => {
-            Ok(numbered::Literal::Known(first.as_slice() != second.as_slice()))
-        }
+        Literal::Distinct(first, second) => Ok(numbered::Literal::Known(first != second)),
     }
 }
 
-fn resolve_atomic(
-    alloc: Global,
-    names: &Names,
-    atomic: &Atomic,
-) -> Result<numbered::Literal, AllocError>
-    ensures { IfOk result (λ l. numbered l ≡ resolved (table_of names.now) (literal_of atomic.now)) }
+fn resolve_atomic(names: &Names, atomic: &Atomic) -> numbered::Literal
+    ensures { numbered result ≡ resolved (table_of names.now) (literal_of atomic.now) }
 {
     match atomic {
-        Atomic::Derived(atom) => {
-            let number = place_of_head(alloc, &names.heads, atom)?;
-            Ok(numbered::Literal::Holds(number))
-        }
-        Atomic::InState(term) => {
-            let number = place_of_text(&names.terms, term.as_slice());
-            Ok(numbered::Literal::InState(number))
-        }
+        Atomic::Derived(atom) => numbered::Literal::Holds(place_of_head(&names.heads, atom)),
+        Atomic::InState(term) => numbered::Literal::InState(place_of_text(&names.terms, term)),
         Atomic::Does(role, taken) => {
-            let role = place_of_text(&names.roles, role.as_slice());
-            let taken = place_of_text(&names.terms, taken.as_slice());
-            Ok(numbered::Literal::Does(role, taken))
+            let role = place_of_text(&names.roles, role);
+            let taken = place_of_text(&names.terms, taken);
+            numbered::Literal::Does(role, taken)
         }
     }
 }
@@ -85,7 +74,7 @@ pub fn resolve_rules(
 {
     let mut resolved = Vec::with_capacity(alloc, rules.len())?;
     for rule in rules {
-        let head = place_of_head(alloc, &names.heads, &rule.head)?;
+        let head = place_of_head(&names.heads, &rule.head);
         let body = resolve_all(alloc, names, &rule.body)?;
         resolved.push(numbered::Rule { head, body })?;
     }

@@ -3,7 +3,7 @@ ghost use Rattle.std.specs.Prelude.{◌≡◌, ◌≢◌, None, Some, IfOk, IfEr
 ghost use Rattle.game_core.specs.Expression.{folded};
 ghost use Rattle.kif_text.specs.View.{view as expression};
 ghost use Rattle.ground_rules.specs.Terms.{has_variable};
-ghost use Rattle.ground_rules.specs.Sentences.{rules_of};
+ghost use Rattle.ground_rules.specs.Internal.SentenceViews.{rules_of};
 ghost use Rattle.ground_rules.specs.Loading.{first_place, is_malformed, is_misplaced, description_of, AreSentences, IsSentenceFault};
 
 use crate::fault::LoadFault;

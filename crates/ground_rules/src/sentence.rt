@@ -2,7 +2,7 @@
 use game_core::Text;
 
 /// A derived atom: an atomic sentence whose truth the rules say. Names and terms are canonical texts.
-#[derive(Drop)]
+#[derive(Clone, PartialEq, Eq, Hash, Drop)]
 pub enum Derived {
     Role(Text),
     Init(Text),
@@ -15,7 +15,7 @@ pub enum Derived {
 }
 
 /// An atomic sentence: a derived atom, `(true t)` or `(does r m)`.
-#[derive(Drop)]
+#[derive(Clone, PartialEq, Eq, Hash, Drop)]
 pub enum Atomic {
     Derived(Derived),
     InState(Text),

@@ -1,12 +1,10 @@
 //! How large a description may be.
-ghost use Rattle.std.specs.Prelude.{◌≡◌, IfOk, OnOk, map, length, nat_le};
-ghost use Rattle.ground_rules.specs.Sentences.{view, views, rules_of};
+ghost use Rattle.std.specs.Prelude.{◌≡◌, IfOk, OnOk, length};
+ghost use Rattle.ground_rules.specs.Internal.SentenceViews.{view, views, rules_of};
 ghost use Rattle.ground_rules.specs.Described.{with_new, with_all_new, each_once};
-ghost use Rattle.ground_rules.specs.Keys.{atomic_of};
 ghost use Rattle.ground_rules.specs.Sizes.{same_atomic, atomics_in, all_atomics_in, atomics};
 
-use crate::keys::{AtomicKey, DerivedKey};
-use crate::sentence::{Atomic, Literal, Rule};
+use crate::sentence::{Atomic, Derived, Literal, Rule};
 use indexmap::IndexSet;
 use std::alloc::{AllocError, Global};
 
@@ -19,44 +17,41 @@ pub const MAX_ATOMIC_SENTENCES: usize = 16384;
 /// How many distinct moves the `legal` heads of one role have at most.
 pub const MAX_MOVES: usize = 4096;
 
-/// How many roles a game has at most.
-pub const MAX_ROLES: usize = 16;
-
-fn add_key(set: &mut IndexSet<AtomicKey>, key: AtomicKey) -> Result<(), AllocError>
-    ensures { OnOk result (map atomic_of set.new.keys ≡ with_new same_atomic (map atomic_of set.old.keys) (atomic_of key)) }
+fn add_atomic(set: &mut IndexSet<Atomic>, atomic: &Atomic) -> Result<(), AllocError>
+    ensures { OnOk result (set.new.keys ≡ with_new same_atomic set.old.keys atomic.now) }
 {
-    set.insert(key)?;
+    if !set.contains(atomic) {
+        set.insert(atomic.clone()?)?;
+    }
     Ok(())
 }
 
 #[cycle(add_literal)]
-fn add_literal(
-    alloc: Global,
-    set: &mut IndexSet<AtomicKey>,
-    literal: &Literal,
-) -> Result<(), AllocError>
-    ensures { OnOk result (map atomic_of set.new.keys ≡ with_all_new same_atomic (map atomic_of set.old.keys) (atomics_in (view literal.now))) }
+fn add_literal(set: &mut IndexSet<Atomic>, literal: &Literal) -> Result<(), AllocError>
+    ensures { OnOk result (set.new.keys ≡ with_all_new same_atomic set.old.keys (atomics_in (view literal.now))) }
 {
     match literal {
-        Literal::Atomic(atomic) => add_key(set, AtomicKey::of(alloc, atomic)?),
-        Literal::Not(inner) => add_literal(alloc, set, inner),
-        Literal::Or(literals) => add_all_literals(alloc, set, literals),
+        Literal::Atomic(atomic) => add_atomic(set, atomic),
+        Literal::Not(inner) => add_literal(set, inner),
+        Literal::Or(literals) => add_all_literals(set, literals),
         Literal::Distinct(_, _) => Ok(()),
     }
 }
 
 #[cycle(add_literal)]
-fn add_all_literals(
-    alloc: Global,
-    set: &mut IndexSet<AtomicKey>,
-    literals: &Vec<Literal>,
-) -> Result<(), AllocError>
-    ensures { OnOk result (map atomic_of set.new.keys ≡ with_all_new same_atomic (map atomic_of set.old.keys) (all_atomics_in (views literals.now.items))) }
+fn add_all_literals(set: &mut IndexSet<Atomic>, literals: &Vec<Literal>) -> Result<(), AllocError>
+    ensures { OnOk result (set.new.keys ≡ with_all_new same_atomic set.old.keys (all_atomics_in (views literals.now.items))) }
 {
     for literal in literals {
-        add_literal(alloc, set, literal)?;
+        add_literal(set, literal)?;
     }
     Ok(())
+}
+
+fn atomic_head(head: &Derived) -> Result<Atomic, AllocError>
+    ensures { IfOk result (λ a. a ≡ Atomic.Derived head.now) }
+{
+    Ok(Atomic::Derived(head.clone()?))
 }
 
 /// How many distinct atomic sentences the rules have: their heads and those in their literals.
@@ -65,9 +60,9 @@ pub fn count_atomic_sentences(alloc: Global, rules: &[Rule]) -> Result<usize, Al
 {
     let mut set = IndexSet::new(alloc);
     for rule in rules {
-        let head = DerivedKey::of(alloc, &rule.head)?;
-        add_key(&mut set, AtomicKey::Derived(head))?;
-        add_all_literals(alloc, &mut set, &rule.body)?;
+        let head = atomic_head(&rule.head)?;
+        add_atomic(&mut set, &head)?;
+        add_all_literals(&mut set, &rule.body)?;
     }
     Ok(set.len())
 }

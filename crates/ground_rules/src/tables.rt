@@ -3,7 +3,7 @@ ghost use Rattle.std.specs.Prelude.{◌≡◌, length, IfOk};
 ghost use Rattle.ground_rules.specs.Tables.{marked, chosen, only_goal, picked};
 ghost use Rattle.ground_rules.specs.Numbered.{unset};
 
-use crate::row::{is_set, set};
+use crate::row::Row;
 use game_core::Text;
 use std::alloc::{AllocError, Global};
 use std::marker::Model;
@@ -64,7 +64,7 @@ impl Role {
 /// A state of a ground game, as a row with a truth value for each term. Contracts see the row.
 #[derive(Drop)]
 pub struct GroundState {
-    pub row: Vec<bool>,
+    pub(crate) row: Row,
 }
 
 impl Model for GroundState {
@@ -72,7 +72,7 @@ impl Model for GroundState {
 
     ghost Value = { List Bool };
 
-    ghost view = { λ s. s.row.items };
+    ghost view = { λ s. s.row };
 }
 
 /// A move of a ground game, by the number of its term.
@@ -82,30 +82,25 @@ pub struct GroundMove {
 }
 
 /// The row of so many terms in which those of the true mentions are set.
-pub fn mark(
-    alloc: Global,
-    mentions: &[Mention],
-    row: &[bool],
-    terms: usize,
-) -> Result<Vec<bool>, AllocError>
-    ensures { IfOk result (λ v. v.items ≡ marked (unset terms) row.now mentions.now) }
+pub fn mark(alloc: Global, mentions: &[Mention], row: &Row, terms: usize) -> Result<Row, AllocError>
+    ensures { IfOk result (λ marks. marks ≡ marked (unset terms) row.now mentions.now) }
 {
-    let mut marks = vec![in alloc; false; terms]?;
+    let mut marks = Row::unset(alloc, terms)?;
     for mention in mentions {
-        if is_set(row, mention.atom) {
-            set(&mut marks, mention.term);
+        if row.is_set(mention.atom) {
+            marks.set(mention.term);
         }
     }
     Ok(marks)
 }
 
 /// The moves whose heads are true.
-pub fn choose(alloc: Global, heads: &[Mention], row: &[bool]) -> Result<Vec<GroundMove>, AllocError>
+pub fn choose(alloc: Global, heads: &[Mention], row: &Row) -> Result<Vec<GroundMove>, AllocError>
     ensures { IfOk result (λ v. v.items ≡ chosen row.now heads.now) }
 {
     let mut moves = Vec::new(alloc);
     for head in heads {
-        if is_set(row, head.atom) {
+        if row.is_set(head.atom) {
             moves.push(GroundMove { term: head.term })?;
         }
     }
@@ -113,12 +108,12 @@ pub fn choose(alloc: Global, heads: &[Mention], row: &[bool]) -> Result<Vec<Grou
 }
 
 /// The value of the one true head, if only one is true.
-pub fn find_goal(heads: &[GoalHead], row: &[bool]) -> Option<u8>
+pub fn find_goal(heads: &[GoalHead], row: &Row) -> Option<u8>
     ensures { result ≡ only_goal row.now heads.now }
 {
     let mut found = None;
     for head in heads {
-        if is_set(row, head.atom) {
+        if row.is_set(head.atom) {
             if found.is_some() {
                 return None;
             }
@@ -129,14 +124,14 @@ pub fn find_goal(heads: &[GoalHead], row: &[bool]) -> Option<u8>
 }
 
 /// The texts of the terms that are set, in their order.
-pub fn pick(alloc: Global, row: &[bool], texts: &[Text]) -> Result<Vec<Text>, AllocError>
+pub fn pick(alloc: Global, row: &Row, texts: &[Text]) -> Result<Vec<Text>, AllocError>
     requires { length row.now ≡ length texts.now }
     ensures { IfOk result (λ v. v.items ≡ picked row.now texts.now) }
 {
     let mut found = Vec::new(alloc);
-    for i in 0..row.len() {
-        if row[i] {
-            found.push(texts[i].copy(alloc)?)?;
+    for (term, text) in texts.iter().enumerate() {
+        if row.is_set(term) {
+            found.push(text.clone()?)?;
         }
     }
     Ok(found)

@@ -5,12 +5,9 @@ ghost use Rattle.game_core.specs.Expression.{depth, depth_all};
 ghost use Rattle.kif_text.specs.View.{view, views};
 ghost use Rattle.ground_rules.specs.Terms.{is_word, are_small_atom_bytes, is_term, are_terms, begins_with_atom, term_text, has_variable, have_variable, is_variable};
 
-use game_core::Text;
+use game_core::{MAX_DEPTH, Text};
 use kif_text::{Expr, print};
 use std::alloc::{AllocError, Global};
-
-/// How many lists a proper expression nests at most.
-pub const MAX_DEPTH: usize = 64;
 
 fn is_variable(bytes: &[u8]) -> bool
     ensures { result ≡ is_variable bytes.now }

@@ -6,7 +6,8 @@ use Rattle.game_core.specs.Expression.{Expressions, max_depth}
 use Rattle.kif_text.specs.Spelling.{max_length, SpellsAll, SpellsOne}
 use Rattle.kif_text.specs.Faults.{one_expression, any_number, IsFault}
 use Rattle.kif_text.specs.View.{view, views}
-use Rattle.kif_text.specs.Machine.{read, read_single, Gives}
+use Rattle.kif_text.specs.Machine.{read, read_single}
+use Rattle.kif_text.specs.Internal.Following.{Gives}
 use Rattle.kif_text.specs.Reading.{reading}
 use Rattle.kif_text.specs.declared.expr.Expr.{Expr}
 use Rattle.kif_text.specs.declared.fault.KifFault.{KifFault}
@@ -24,7 +25,7 @@ all_spelled text (Err e) le h = tt
 
 pub all_fault : (text : List ℕ) (r : Result (Vec Expr Global) KifFault) → length text ≤ max_length → Gives (λ v. views v.items) r (read max_depth text) → IfErr r (IsFault any_number text)
 all_fault text (Ok v) le h = tt
-all_fault text (Err Memory) le h = tt
+all_fault text (Err Memory) le h = le
 all_fault text (Err e) le h = read_fails text e le h
 
 -- a text with such a fault spells nothing within the limits
@@ -38,7 +39,7 @@ one_spelled text (Err e) le h = tt
 
 pub one_fault : (text : List ℕ) (r : Result Expr KifFault) → length text ≤ max_length → Gives view r (read_single text) → IfErr r (IsFault one_expression text)
 one_fault text (Ok x) le h = tt
-one_fault text (Err Memory) le h = tt
+one_fault text (Err Memory) le h = le
 one_fault text (Err e) le h = single_fault text e le h
 
 pub one_found : (text : List ℕ) (r : Result Expr KifFault) → length text ≤ max_length → Gives view r (read_single text) → IfOk r (λ x. reading text ≡ Some (view x))

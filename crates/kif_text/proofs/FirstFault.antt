@@ -306,7 +306,7 @@ fault_of text (Unclosed i) le h = absurd h.1
 fault_of text Nothing le h = absurd h.1
 fault_of text (More i) le h = (le, h)
 fault_of text TooLong le h = absurd h.1
-fault_of text Memory le h = tt
+fault_of text Memory le h = le
 
 -- what is refused has that fault
 pub read_fails : (text : List ℕ) (e : KifFault) → length text ≤ max_length → read max_depth text ≡ Err e → IsFault false text e

@@ -5,7 +5,8 @@ use Rattle.game_core.specs.Bytes.{space, is_atom_byte}
 use Rattle.game_core.specs.Expression.{Expression, none, more, max_depth}
 use Rattle.kif_text.specs.Spelling.{max_length, SpellsOne}
 use Rattle.kif_text.specs.Faults.{one_expression, is_inside, bare_from, bare, level, starts, started, IsClear, IsFault}
-use Rattle.kif_text.specs.Machine.{State, start, with_word, step, total, begins_here, run, finish, read_single}
+use Rattle.kif_text.specs.Machine.{State, start, with_word, step, begins_here, run, finish, read_single}
+use Rattle.kif_text.specs.Internal.Following.{total}
 use Rattle.kif_text.specs.Laws.{HasFault, OneSpelledOrFaulty}
 use Rattle.kif_text.specs.declared.fault.KifFault.{KifFault}
 use Rattle.kif_text.specs.declared.fault.KifFault.TheVariants.{BadByte, Unopened, TooDeep, Unclosed, Nothing, More, TooLong, Memory}

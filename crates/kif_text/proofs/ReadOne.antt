@@ -3,7 +3,8 @@ use Rattle.std.proofs.Common.{◌≡◌, ℕ, suc, ◌+◌, ◌<◌, ◌≤◌, 
 use Rattle.game_core.specs.Expression.{Expression, Expressions, none, more, depth, max_depth}
 use Rattle.kif_text.specs.Spelling.{SpellsText, max_length}
 use Rattle.kif_text.specs.Faults.{is_inside, bare_from, bare, level, starts, started, StandsAt, IsClear, IsFirst, IsFault}
-use Rattle.kif_text.specs.Machine.{Open, State, start, ◌>>=◌, with_word, step, count_of, total_on, is_second, one_step, run, finish_on, finish, read, last_of, read_single}
+use Rattle.kif_text.specs.Machine.{Open, State, start, ◌>>=◌, with_word, step, count_of, is_second, one_step, run, finish_on, finish, read, last_of, read_single}
+use Rattle.kif_text.specs.Internal.Following.{total_on}
 use Rattle.kif_text.specs.declared.fault.KifFault.{KifFault}
 use Rattle.kif_text.specs.declared.fault.KifFault.TheVariants.{BadByte, Unopened, TooDeep, Unclosed, Nothing, More, TooLong, Memory}
 use Rattle.kif_text.proofs.Advances.{advance, bind_ok, chosen, good, ok_is}
@@ -113,7 +114,7 @@ first_fault text (Unclosed i) le h = absurd h.1
 first_fault text Nothing le h = absurd h.1
 first_fault text (More i) le h = (le, h)
 first_fault text TooLong le h = absurd h.1
-first_fault text Memory le h = tt
+first_fault text Memory le h = le
 
 not_none : {A : Type 0} {n : ℕ} → A × (suc n ≡ 0) → ⊥
 not_none h = omega (arith, h.1)

@@ -1,7 +1,8 @@
 -- Running the steps over the bytes of a text, as the loops of the reader do.
 use Rattle.std.proofs.Common.{◌≡◌, ℕ, suc, ◌+◌, ◌<◌, ◌≤◌, List, drop, get_or, length, Result, Ok, refl, sym, ap, subst, ◌∙◌, drop-cons, add-one}
 use Rattle.std.proofs.lemmas.List.{drop_all}
-use Rattle.kif_text.specs.Machine.{State, ◌>>=◌, total, run, finish, Fails}
+use Rattle.kif_text.specs.Machine.{State, ◌>>=◌, run, finish}
+use Rattle.kif_text.specs.Internal.Following.{total, Fails}
 use Rattle.kif_text.specs.declared.fault.KifFault.{KifFault}
 use Rattle.kif_text.specs.declared.fault.KifFault.TheVariants as faults
 

@@ -5,7 +5,8 @@ use Rattle.std.proofs.lemmas.List.{length-append}
 use Rattle.game_core.specs.Bytes.{line_feed, space, left_parenthesis, semicolon, is_white, is_atom_byte}
 use Rattle.game_core.specs.Expression.{Expression, atom, list, Expressions, none, more, max_depth}
 use Rattle.kif_text.specs.Faults.{level, begins, starts, started}
-use Rattle.kif_text.specs.Machine.{Open, State, and_last, with_word, count_of, outermost, total_on, total, begins_here, is_second}
+use Rattle.kif_text.specs.Machine.{Open, State, and_last, with_word, count_of, begins_here, is_second}
+use Rattle.kif_text.specs.Internal.Following.{outermost, total_on, total}
 use Rattle.kif_text.proofs.Advances.{Advance, in_comment, in_word, begins_comment, opens, closes, is_space}
 use Rattle.kif_text.proofs.FirstFault.{Knows, shown, differs, shown_at}
 

@@ -3,7 +3,8 @@ use Rattle.std.proofs.Common.{◌≡◌, ℕ, suc, Bool, Ok, List, [], ◌∷◌
 use Rattle.std.proofs.lemmas.List.{reverse-append, map-append}
 use Rattle.game_core.specs.Expression.{atom, list, Expressions, more}
 use Rattle.kif_text.specs.View.{view, views}
-use Rattle.kif_text.specs.Machine.{Open, and_last, open_of, with_word, flush, count_of, last_of}
+use Rattle.kif_text.specs.Machine.{Open, and_last, with_word, count_of, last_of}
+use Rattle.kif_text.specs.Internal.Following.{open_of, flush}
 use Rattle.kif_text.specs.declared.expr.Expr.{Expr, Atom, List as ListOf, the_lemmas}
 use Rattle.kif_text.specs.declared.reader.OpenList.{OpenList}
 

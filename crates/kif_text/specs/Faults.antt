@@ -99,4 +99,4 @@ IsFault one text (More at) = (length text ≤ max_length) × IsFirst one (bare t
 IsFault one text (Unclosed at) = (length text ≤ max_length) × IsClear one (bare text) (length text) × IsUnclosed (bare text) at
 IsFault one text Nothing = (length text ≤ max_length) × (one ≡ one_expression) × IsClear one (bare text) (length text) × IsNothing (bare text)
 IsFault one text TooLong = max_length < length text
-IsFault one text Memory = Unit {0}
+IsFault one text Memory = length text ≤ max_length

@@ -4,3 +4,4 @@ pub mod View
 pub mod Machine
 pub mod Reading
 pub mod Laws
+pub mod Internal

@@ -1,13 +1,10 @@
--- The reader's steps as functions on plain values. Private clauses cite them, and `Reading` computes by them; what
--- is read, and what is refused, is said by `Spelling` and `Faults`.
-use Rattle.std.specs.Prelude.{◌≡◌, ℕ, suc, List, [], ◌∷◌, ◌++◌, reverse, map, length, Bool, true, false, not, ◌==◌, ◌&&◌, ◌||◌, nat_le, if◌then◌else◌, Result, Ok, Err}
+-- The reader's steps as functions on plain values, by which `Reading` computes. What is read, and what is refused, is said by
+-- `Spelling` and `Faults`, and `laws::reading_is_spelling` ties the two.
+use Rattle.std.specs.Prelude.{ℕ, suc, List, [], ◌∷◌, ◌++◌, length, Bool, true, false, not, ◌==◌, ◌&&◌, ◌||◌, nat_le, if◌then◌else◌, Result, Ok, Err}
 use Rattle.game_core.specs.Bytes.{is_white, is_atom_byte, line_feed, semicolon, left_parenthesis, right_parenthesis}
 use Rattle.game_core.specs.Expression.{Expression, atom, list, Expressions, none, more, max_depth}
-use Rattle.kif_text.specs.View.{views}
 use Rattle.kif_text.specs.declared.fault.KifFault.{KifFault}
 use Rattle.kif_text.specs.declared.fault.KifFault.TheVariants as faults
-use Rattle.kif_text.specs.declared.reader.OpenList.{OpenList}
-use Rattle.kif_text.specs.declared.reader.Reader.{Reader}
 
 -- an open list: the expressions before it at its level, and its place
 pub record Open : Type 0 where
@@ -29,12 +26,6 @@ abbrev pub and_last : Expressions → Expression → Expressions
 and_last none y = more y none
 and_last (more x xs) y = more x (and_last xs y)
 
-abbrev pub open_of : OpenList → Open
-open_of l = record { before = views l.before.items; at = l.at }
-
-abbrev pub state_of : Reader → State
-state_of r = record { levels = reverse (map open_of r.levels.items); here = views r.here.items; word = r.word.items; comment = r.in_comment }
-
 infixl 10 ◌>>=◌
 abbrev pub ◌>>=◌ : {A B : Type 0} → Result A KifFault → (A → Result B KifFault) → Result B KifFault
 (Ok x) >>= f = f x
@@ -46,9 +37,6 @@ with_word xs (b ∷ bs) = and_last xs (atom (b ∷ bs))
 
 abbrev pub flushed : State → State
 flushed s = record { levels = s.levels; here = with_word s.here s.word; word = []; comment = s.comment }
-
-abbrev pub flush : State → Result State KifFault
-flush s = Ok (flushed s)
 
 abbrev pub open_list : ℕ → State → ℕ → Result State KifFault
 open_list limit s i = if nat_le limit (length s.levels) then Err (faults.TooDeep i) else Ok (record { levels = record { before = s.here; at = i } ∷ s.levels; here = none; word = s.word; comment = s.comment })
@@ -75,18 +63,6 @@ step limit s i b = if s.comment then Ok (record { levels = s.levels; here = s.he
 abbrev pub count_of : Expressions → ℕ
 count_of none = 0
 count_of (more x xs) = suc (count_of xs)
-
-abbrev pub outermost : Open → List Open → ℕ
-outermost l [] = count_of l.before
-outermost l (m ∷ ms) = outermost m ms
-
--- how many expressions have begun outside all lists
-abbrev pub total_on : List Open → Expressions → List ℕ → ℕ
-total_on [] here word = count_of (with_word here word)
-total_on (l ∷ ls) here word = suc (outermost l ls)
-
-abbrev pub total : State → ℕ
-total s = total_on s.levels s.here s.word
 
 -- the byte begins an expression outside all lists
 abbrev pub begins_here : State → ℕ → Bool
@@ -121,18 +97,3 @@ last_of (more x (more y ys)) = last_of (more y ys)
 
 abbrev pub read_single : List ℕ → Result Expression KifFault
 read_single text = run (one_step max_depth) start 0 text >>= finish >>= last_of
-
--- what came out is this fault, or want of memory
-abbrev pub Fails : {Y : Type 0} → KifFault → Result Y KifFault → Type 0
-Fails faults.Memory r = Unit {0}
-Fails e r = r ≡ Err e
-
--- a step of the reader leaves the state that comes out, or fails as it does
-abbrev pub Reaches : Result (Unit {0}) KifFault → State → Result State KifFault → Type 0
-Reaches (Ok u) new r = r ≡ Ok new
-Reaches (Err e) new r = Fails e r
-
--- a function of the reader gives the value that comes out, or fails as it does
-abbrev pub Gives : {X Y : Type 0} → (X → Y) → Result X KifFault → Result Y KifFault → Type 0
-Gives view (Ok x) r = r ≡ Ok (view x)
-Gives view (Err e) r = Fails e r

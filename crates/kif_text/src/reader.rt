@@ -3,16 +3,14 @@ ghost use Rattle.std.specs.Prelude.{◌≡◌, ◌&&◌, ◌==◌, length};
 ghost use Rattle.game_core.specs.Bytes.{is_white, is_atom_byte};
 ghost use Rattle.game_core.specs.Expression.{max_depth};
 ghost use Rattle.kif_text.specs.View.{views};
-ghost use Rattle.kif_text.specs.Machine.{state_of, start, flush, open_list, act, step, close_list, finish, count_of, is_second, one_step, Reaches, Gives};
+ghost use Rattle.kif_text.specs.Machine.{start, open_list, act, step, close_list, finish, count_of, is_second, one_step};
+ghost use Rattle.kif_text.specs.Internal.Following.{state_of, flush, Reaches, Gives};
 
 use crate::expr::Expr;
 use crate::fault::KifFault;
-use game_core::Text;
+use game_core::{MAX_DEPTH, Text};
 use std::alloc::Global;
 use std::mem;
-
-/// How many lists are open at most.
-const MAX_DEPTH: usize = 64;
 
 /// A list that is open: the expressions before it at its level, and the place of its parenthesis.
 #[derive(Drop)]

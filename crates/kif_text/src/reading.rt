@@ -5,7 +5,8 @@ ghost use Rattle.kif_text.specs.declared.fault.KifFault.TheVariants.{Memory};
 ghost use Rattle.kif_text.specs.View.{view, views};
 ghost use Rattle.kif_text.specs.Spelling.{SpellsAll, SpellsOne};
 ghost use Rattle.kif_text.specs.Faults.{IsFault, one_expression, any_number};
-ghost use Rattle.kif_text.specs.Machine.{read, read_single, Gives};
+ghost use Rattle.kif_text.specs.Machine.{read, read_single};
+ghost use Rattle.kif_text.specs.Internal.Following.{Gives};
 ghost use Rattle.kif_text.specs.Reading.{reading};
 
 use crate::expr::Expr;

@@ -7,7 +7,7 @@ ghost use Rattle.match_book.specs.Judgement.{judgement, IsJudged};
 ghost use Rattle.match_book.specs.MatchValue.{state_after, move_at, error_at};
 ghost use Rattle.match_book.specs.declared.answer.AnswerFault.TheVariants.{Memory};
 ghost use Rattle.match_book.specs.declared.phase.Stage.TheVariants.{Starting, Playing};
-ghost use Rattle.match_book.specs.Phase.{stage, has_answered, status, round, cause, goal_of, is_live};
+ghost use Rattle.match_book.specs.Phase.{stage, answered_in, has_answered, status, round, cause, goal_of, is_live};
 ghost use Rattle.match_book.specs.Due.{IsDueAnswer, CarriesMoves, owed_in, last_move_texts};
 ghost use Rattle.match_book.specs.Lawful.{IsLawfulMatch};
 ghost use Rattle.match_book.specs.Steps.{new_match, after_abort, after_answer, with_start_mark, with_open_answer, with_end_mark, refusal, IsTakenUnless, IsLastToStart, MayWantMemory};
@@ -431,7 +431,7 @@ impl<G: Game> Match<G> {
         requires role { role < (G.rules self.old.game).roles }
         requires stage { stage (G.rules self.old.game) self.old.value ≡ Playing }
         requires judged { IsJudged (G.rules self.old.game) ((G.rules self.old.game).legal (state_after (G.rules self.old.game) self.old.value.turns) role) judged.taken judged.error }
-        requires last { every_role (G.rules self.old.game).roles (is_there (slice_set self.old.value.open_answers role (Some judged))) ≡ true }
+        requires last { every_role (G.rules self.old.game).roles (answered_in Playing (record self.old.value { open_answers = slice_set self.old.value.open_answers role (Some judged) })) ≡ true }
         ensures game { self.new.game ≡ self.old.game }
         ensures ok { OnOk result (self.new.value ≡ with_open_answer (G.rules self.old.game) self.old.value role (Some judged)) }
         ensures err { OnErr result (self.new ≡ self.old) }

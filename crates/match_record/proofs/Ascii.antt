@@ -1,10 +1,11 @@
 -- The texts of a record are ASCII.
-use Rattle.std.proofs.Common.{◌≡◌, inl, inr, ℕ, zero, suc, ◌<◌, ◌&&◌, nat_lt, Bool, true, Option, Some, None, List, [], ◌∷◌, ◌++◌, length, take, codes, refl, sym, subst, arith, lit<}
+use Rattle.std.proofs.Common.{◌≡◌, inl, inr, ℕ, zero, suc, ◌<◌, nat_lt, true, Option, Some, None, List, [], ◌∷◌, ◌++◌, length, take, codes, refl, sym, subst, arith, lit<}
 use Rattle.std.specs.Prelude.{slice_index_or, slice_get, option_map, option_and_then, All, IfSome}
 use Rattle.std.specs.List.{list_all}
 use Rattle.std.specs.Str.{IsAscii}
 use Rattle.std.proofs.lemmas.Str.{IsAscii-append}
 use Rattle.std.proofs.lemmas.Option.{get_or_from_slice_get}
+use Rattle.std.proofs.lemmas.Bool.{and_parts}
 use Rattle.std.proofs.lemmas.Bool.Decides.{nat_tests}
 use Rattle.game_core.specs.Bytes.{is_atom_byte, left_parenthesis, right_parenthesis, space}
 use Rattle.game_core.specs.Expression.{Expression, atom, list, Expressions, none, more, AreAtomBytes, HasAtoms, AllHaveAtoms}
@@ -12,7 +13,7 @@ use Rattle.game_core.specs.Canonical.{canonical, members, later, IsCanonicalText
 use Rattle.game_core.specs.Play.{Rules}
 use Rattle.match_book.specs.Names.{is_name}
 use Rattle.match_book.specs.Marks.{mark_text}
-use Rattle.match_book.specs.Judgement.{IsSubstitution, IsJudged}
+use Rattle.match_book.specs.Judgement.{IsSubstitution, IsJudged, unreadable_text, illegal_prefix}
 use Rattle.match_book.specs.MatchValue.{error_at}
 use Rattle.match_book.specs.Lawful.{IsLawfulTurn, AreLawful}
 use Rattle.match_book.specs.declared.answer.Mark.{Mark}
@@ -22,14 +23,10 @@ use Rattle.match_book.specs.declared.phase.Phase.{Phase}
 use Rattle.match_book.specs.declared.phase.Phase.TheVariants.{Starting, Playing, Stopping, Finished, Aborting, Aborted}
 use Rattle.match_book.specs.declared.turn.Turn.{Turn}
 use Rattle.match_record.specs.RecordTree.{phase_text}
-use Rattle.match_record.proofs.Numerals.{name_is_atom}
+use Rattle.match_record.proofs.Names.{name_is_atom}
 
 small_byte : (b : ℕ) → nat_lt b 128 ≡ true → b < 128
 small_byte b is = grind (arith, nat_tests)
-
-and_parts : (a b : Bool) → (a && b) ≡ true → (a ≡ true) × (b ≡ true)
-and_parts true b is = (refl, is)
-and_parts Bool.false b is = absurd cc
 
 -- by a test that computes
 tested : (bs : List ℕ) → list_all (λ b. nat_lt b 128) bs ≡ true → IsAscii bs
@@ -99,8 +96,8 @@ phase_is_ascii Aborted = tested (codes "aborted") refl
 substitution_is_ascii : {S M : Type 0} (g : Rules S M) (moves : List M) (e : List ℕ) → IsSubstitution g moves e → IsAscii e
 substitution_is_ascii g moves e (OfTime, is, stands) = subst IsAscii (sym is) (tested (codes "TO") refl)
 substitution_is_ascii g moves e (OfConnection, is, stands) = subst IsAscii (sym is) (tested (codes "CE") refl)
-substitution_is_ascii g moves e (Unreadable, is, stands) = subst IsAscii (sym is) (tested (codes "IL ?") refl)
-substitution_is_ascii g moves e (Illegal x, is, stands) = subst IsAscii (sym is) (IsAscii-append (codes "IL ") x (tested (codes "IL ") refl) (folded_text_is_ascii x stands.0))
+substitution_is_ascii g moves e (Unreadable, is, stands) = subst IsAscii (sym is) (tested unreadable_text refl)
+substitution_is_ascii g moves e (Illegal x, is, stands) = subst IsAscii (sym is) (IsAscii-append illegal_prefix x (tested illegal_prefix refl) (folded_text_is_ascii x stands.0))
 
 judged_is_ascii : {S M : Type 0} (g : Rules S M) (moves : List M) (m : M) (e : List ℕ) → IsJudged g moves m e → IsAscii e
 judged_is_ascii g moves m e (has, inl is) = subst IsAscii (sym is) (tested [] refl)

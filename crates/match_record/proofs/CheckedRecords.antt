@@ -7,7 +7,8 @@ use Rattle.game_core.specs.Play.{Rules, IsLawful}
 use Rattle.match_book.specs.MatchValue.{MatchValue}
 use Rattle.match_book.specs.Names.{IsLawfulSetup}
 use Rattle.match_record.specs.LawfulRecord.{IsJson, IsLawfulRecord, HasNoShape}
-use Rattle.match_record.specs.RecordParts.{parts_of, Holds, HasShape}
+use Rattle.match_record.specs.RecordParts.{parts_of}
+use Rattle.match_record.specs.RecordTree.{Holds, HasShape}
 use Rattle.match_record.specs.Replaying.{AreLawfulParts, IsFirstFault}
 use Rattle.match_record.specs.Verified.{FailsFirst}
 use Rattle.match_record.specs.declared.record_parts.Key.TheVariants.{MatchId, PlayClock, Players, StartClock}

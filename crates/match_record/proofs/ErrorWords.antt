@@ -1,5 +1,5 @@
 -- Which texts are errors, and which are folded texts, as the tests find them.
-use Rattle.std.proofs.Common.{◌≡◌, ◌≢◌, ℕ, ◌≤◌, Bool, true, false, Option, Some, None, List, [], ◌++◌, length, IsTrue, ◌↔◌, inl, inr, sym, ap, ◌∙◌, subst, arith, codes, Decides}
+use Rattle.std.proofs.Common.{◌≡◌, ◌≢◌, ℕ, ◌≤◌, Bool, true, false, Option, Some, None, List, [], ◌++◌, length, IsTrue, ◌↔◌, inl, inr, sym, ap, ◌∙◌, subst, arith, Decides}
 use Rattle.std.specs.Prelude.{is_some}
 use Rattle.game_core.specs.Canonical.{canonical, IsFoldedText}
 use Rattle.game_core.specs.Expression.{Expression, folded}
@@ -10,11 +10,11 @@ use Rattle.match_book.specs.AnswerReading.{max_reading}
 use Rattle.match_book.specs.Marks.{mark_text}
 use Rattle.match_book.specs.declared.answer.Mark.{Mark}
 use Rattle.match_book.specs.declared.answer.Mark.TheVariants.{Clear, TimeOut, ConnectionError}
-use Rattle.match_book.specs.Judgement.{error_text}
+use Rattle.match_book.specs.Judgement.{error_text, unreadable_text, illegal_prefix}
 use Rattle.match_book.specs.declared.judgement.Substitution.{Substitution}
 use Rattle.match_book.specs.declared.judgement.Substitution.TheVariants.{TimeOut as ForTimeOut, ConnectionError as ForConnectionError, Unreadable, Illegal}
 use Rattle.match_record.specs.RecordParts.{IsErrorText, MayBeGiven}
-use Rattle.match_record.specs.Shown.{Shows, AnyShape}
+use Rattle.match_record.specs.Internal.Shown.{Shows, AnyShape}
 
 pub mark_is_error : (text : List ℕ) (o : Option Mark) → Shows mark_text AnyShape (Some text) o → is_some o ≡ true → IsErrorText text
 mark_is_error text None shown is = absurd cc
@@ -22,12 +22,12 @@ mark_is_error text (Some Clear) shown is = let same : text ≡ [] = cc in inl sa
 mark_is_error text (Some TimeOut) shown is = let same : text ≡ error_text ForTimeOut = cc in inr (ForTimeOut, same, tt)
 mark_is_error text (Some ConnectionError) shown is = let same : text ≡ error_text ForConnectionError = cc in inr (ForConnectionError, same, tt)
 
-pub question_is_error : (text : List ℕ) → text ≡ codes "IL ?" → IsErrorText text
+pub question_is_error : (text : List ℕ) → text ≡ unreadable_text → IsErrorText text
 question_is_error text is = inr (Unreadable, is, tt)
 
 -- the text that an error names as what was answered
 pub record Names (text x : List ℕ) : Type 0 where
-  pub named : text ≡ codes "IL " ++ x
+  pub named : text ≡ illegal_prefix ++ x
   pub is_folded : IsFoldedText x
   pub short : length x ≤ max_reading
 
@@ -38,14 +38,14 @@ no_mark : (text : List ℕ) (o : Option Mark) (m : Mark) → Shows mark_text Any
 no_mark text None m shown is same = shown m (ap Some same) tt
 no_mark text (Some x) m shown is same = cc
 
-named_why : (text : List ℕ) (o : Option Mark) → Shows mark_text AnyShape (Some text) o → is_some o ≡ false → text ≢ codes "IL ?" → (why : Substitution) → text ≡ error_text why → MayBeGiven why → (x : List ℕ) × Names text x
+named_why : (text : List ℕ) (o : Option Mark) → Shows mark_text AnyShape (Some text) o → is_some o ≡ false → text ≢ unreadable_text → (why : Substitution) → text ≡ error_text why → MayBeGiven why → (x : List ℕ) × Names text x
 named_why text o shown is other ForTimeOut same may = absurd (no_mark text o TimeOut shown is same)
 named_why text o shown is other ForConnectionError same may = absurd (no_mark text o ConnectionError shown is same)
 named_why text o shown is other Unreadable same may = absurd (other same)
 named_why text o shown is other (Illegal x) same may = (x, record { named = same; is_folded = may.0; short = may.1 })
 
 -- an error that is neither a mark nor that of an unreadable answer names what was answered
-pub names_something : (text : List ℕ) (o : Option Mark) → Shows mark_text AnyShape (Some text) o → is_some o ≡ false → text ≢ codes "IL ?" → IsErrorText text → (x : List ℕ) × Names text x
+pub names_something : (text : List ℕ) (o : Option Mark) → Shows mark_text AnyShape (Some text) o → is_some o ≡ false → text ≢ unreadable_text → IsErrorText text → (x : List ℕ) × Names text x
 names_something text o shown is other (inl empty) = absurd (no_mark text o Clear shown is empty)
 names_something text o shown is other (inr (why, same, may)) = named_why text o shown is other why same may
 

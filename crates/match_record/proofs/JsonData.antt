@@ -1,15 +1,14 @@
 -- What is found in JSON, and what is written there.
 use Rattle.std.proofs.Common.{◌≡◌, ℕ, zero, suc, ◌+◌, ◌<◌, ◌≤◌, Option, Some, None, List, [], ◌∷◌, ◌++◌, length, get_or, take, map, refl, sym, ap, ◌∙◌, subst, arith}
 use Rattle.std.specs.Prelude.{option_and_then, All}
-use Rattle.std.proofs.lemmas.List.{map-append, take_more, take_all}
+use Rattle.std.proofs.lemmas.List.{map-append, take_more, take_all, length-map}
 use Rattle.serde_json.specs.Data.{unsigned, negative, float, Data, null, boolean, number, string, array, object, Items}
 use Rattle.serde_json.specs.Find.{as_str, as_array}
 use Rattle.serde_json.specs.View.{view, items_of, items_view}
 use Rattle.serde_json.specs.declared.value.Value.{Value}
-use Rattle.match_record.specs.JsonValues.{as_whole}
-use Rattle.match_record.specs.RecordParts.{text_lists_tree}
-use Rattle.match_record.specs.RecordTree.{list_tree, texts_tree}
-use Rattle.match_record.specs.Shown.{Shows}
+use Rattle.match_record.specs.Internal.JsonValues.{as_whole}
+use Rattle.match_record.specs.RecordTree.{text_lists_tree, list_tree, texts_tree}
+use Rattle.match_record.specs.Internal.Shown.{Shows}
 
 -- ---- one value
 
@@ -118,16 +117,11 @@ member_more written vs i v xs zs x within at done shown pushed =
 pub members_all : {A : Type 0} (written : A → Data) (vs : List Value) (i : ℕ) (xs : List A) → length vs ≤ i → map view (take i vs) ≡ map written xs → map view vs ≡ map written xs
 members_all written vs i xs past done = ap (map view) (sym (take_all i vs past)) ∙ done
 
--- as many are written as are shown
-pub length_map : {A B : Type 0} (f : A → B) (xs : List A) → length (map f xs) ≡ length xs
-length_map f [] = refl
-length_map f (x ∷ xs) = ap suc (length_map f xs)
-
 -- as many values are written as members stand there
 pub shown_length : {A : Type 0} (written : A → Data) (found : Option Data) (vs : List Value) (ys : List A) → found ≡ Some (array (items_view vs)) → found ≡ Some (list_tree (map written ys)) → length vs ≡ length ys
 shown_length written found vs ys is shown =
     let trees : list_tree (map view vs) ≡ list_tree (map written ys) = cc in
-    sym (length_map view vs) ∙ ap length (list_tree_same (map view vs) (map written ys) trees) ∙ length_map written ys
+    sym (length-map vs view) ∙ ap length (list_tree_same (map view vs) (map written ys) trees) ∙ length-map ys written
 
 -- ---- shapes
 

@@ -1,14 +1,17 @@
 -- The parts of a lawful match have the shape of a record, and stand in its record tree.
 use Rattle.std.proofs.Common.{◌≡◌, ℕ, zero, suc, ◌<◌, ◌≤◌, Bool, true, false, Option, Some, None, List, [], ◌∷◌, ◌++◌, length, get_or, map, inl, inr, refl, sym, ap, ◌∙◌, subst, arith, length-append, if◌then◌else◌, nat_le, ◌==◌}
+use Rattle.std.proofs.lemmas.List.{length-map}
 use Rattle.std.specs.Prelude.{All, IfSome, slice_index_or, is_none, option_to_list}
 use Rattle.std.specs.Option.{option_or}
 use Rattle.std.proofs.lemmas.List.Elements.{All-from_get_or, All-map, All-append}
-use Rattle.serde_json.specs.Find.{get}
+use Rattle.serde_json.specs.Data.{Data}
+use Rattle.serde_json.specs.Find.{get_member}
 use Rattle.game_core.specs.Play.{Rules, IsLawful, max_goal}
 use Rattle.match_book.specs.Judgement.{IsJudged, MayStand}
-use Rattle.match_book.specs.Lawful.{IsLawfulTurn, AreLawful}
+use Rattle.match_book.specs.Lawful.{IsLawfulTurn, IsLawfulMatch, AreLawful}
+use Rattle.match_book.specs.Names.{IsLawfulSetup}
 use Rattle.match_book.specs.MatchValue.{MatchValue, state_after}
-use Rattle.match_book.specs.Phase.{stage, settled, after_the_end, before_the_end, has_no_goal, cause_in, cause, goal_in}
+use Rattle.match_book.specs.Phase.{stage, settled, after_the_end, before_the_end, has_no_goal, cause_in, cause, goal_in, max_turns}
 use Rattle.match_book.specs.Roles.{lowest_role, every_role, is_there}
 use Rattle.match_book.specs.declared.judgement.Substitution.{Substitution}
 use Rattle.match_book.specs.declared.judgement.Substitution.TheVariants.{TimeOut, ConnectionError, Unreadable, Illegal}
@@ -19,10 +22,14 @@ use Rattle.match_book.specs.declared.turn.Turn.{Turn}
 use Rattle.match_book.proofs.LawfulTurns.{state_after-is_state}
 use Rattle.match_book.proofs.RoleTests.{lowest_role-none}
 use Rattle.match_record.specs.LawfulRecord.{RecordTreeHoldsParts, RecordsAreLawful, LawfulPartsHaveShape}
-use Rattle.match_record.specs.RecordParts.{parts_of, key_text, key_tree, IsShapedAt, IsErrorText, MayBeGiven, NamesRole, AreErrors, AreGoals}
-use Rattle.match_record.specs.RecordTree.{prefixes, goals_from, record_tree, list_tree, texts_tree}
-use Rattle.match_record.proofs.JsonData.{length_map}
-use Rattle.match_record.proofs.KeyFormats.{at_each_key}
+use Rattle.match_record.specs.Internal.KeyReading.{HoldsForEach}
+use Rattle.match_record.specs.RecordParts.{parts_of, IsErrorText, MayBeGiven, NamesRole, AreErrors, AreGoals, prefixes, goals_from}
+use Rattle.match_record.specs.RecordTree.{key_text, key_tree, keys, members_at, IsShapedAt, record_tree}
+use Rattle.match_record.specs.declared.record_parts.Key.{Key}
+use Rattle.match_record.specs.declared.record_parts.Key.TheVariants.{Cause as AtCause, EndMarks, Errors, GoalValues, MatchId, Moves, Phase as AtPhase, PlayClock, Players, Roles, StartClock, StartMarks, States}
+use Rattle.match_record.specs.declared.record_parts.RecordParts.{RecordParts}
+use Rattle.match_record.proofs.KeyTable.{each_key, each_same}
+use Rattle.match_record.proofs.RecordParts.{length_prefixes}
 
 -- ---- causes
 
@@ -37,7 +44,7 @@ lowest_below (suc n) p r is = go (lowest_role n p) (p n) refl is (lowest_below n
 
 settled_names : {S M : Type 0} (g : Rules S M) (t : ℕ) (s : S) → IfSome (cause_in (settled g t s)) (NamesRole g.roles)
 unfolding settled
-settled_names g t s = go (g.terminal s) (nat_le 10000 t) (lowest_role g.roles (has_no_goal g s)) (lowest_role g.roles (λ r. length (g.legal s r) == 0)) (lowest_below g.roles (has_no_goal g s)) (lowest_below g.roles (λ r. length (g.legal s r) == 0))
+settled_names g t s = go (g.terminal s) (nat_le max_turns t) (lowest_role g.roles (has_no_goal g s)) (lowest_role g.roles (λ r. length (g.legal s r) == 0)) (lowest_below g.roles (has_no_goal g s)) (lowest_below g.roles (λ r. length (g.legal s r) == 0))
   where
     go : (ended long : Bool) (goal move : Option ℕ) → ((r : ℕ) → goal ≡ Some r → r < g.roles) → ((r : ℕ) → move ≡ Some r → r < g.roles)
         → IfSome (cause_in (if ended then after_the_end goal else (if long then Aborting TooLong else before_the_end move))) (NamesRole g.roles)
@@ -60,7 +67,7 @@ cause_names g m = go m.abort_asked (every_role g.roles (is_there m.start_marks))
 
 stopping : {S M : Type 0} (g : Rules S M) (t : ℕ) (s : S) → settled g t s ≡ Stopping → lowest_role g.roles (has_no_goal g s) ≡ None
 unfolding settled
-stopping g t s is = go (g.terminal s) (nat_le 10000 t) (lowest_role g.roles (has_no_goal g s)) (lowest_role g.roles (λ r. length (g.legal s r) == 0)) is
+stopping g t s is = go (g.terminal s) (nat_le max_turns t) (lowest_role g.roles (has_no_goal g s)) (lowest_role g.roles (λ r. length (g.legal s r) == 0)) is
   where
     go : (ended long : Bool) (goal move : Option ℕ) → (if ended then after_the_end goal else (if long then Aborting TooLong else before_the_end move)) ≡ Stopping → goal ≡ None
     go true long None move h = refl
@@ -146,62 +153,40 @@ turns_errors g turns lawful =
     (λ k d below. let turn = lawful k d below in (turn.one_error, turn_errors g _ (slice_index_or turns k d) turn))
 
 turns_moves : {S M : Type 0} (g : Rules S M) (turns : List (Turn M)) → AreLawful g turns → All (λ texts. length texts ≡ g.roles) (map (λ t. map g.move_text t.moves) turns)
-turns_moves g turns lawful = All-map (λ texts. length texts ≡ g.roles) (λ t. map g.move_text t.moves) turns (λ k d below. length_map g.move_text (slice_index_or turns k d).moves ∙ (lawful k d below).joint.width)
-
-length_prefixes : {A : Type 0} (xs : List A) → length (prefixes xs) ≡ suc (length xs)
-length_prefixes [] = refl
-length_prefixes (x ∷ xs) = ap suc (length_map (λ front. x ∷ front) (prefixes xs) ∙ length_prefixes xs)
+turns_moves g turns lawful = All-map (λ texts. length texts ≡ g.roles) (λ t. map g.move_text t.moves) turns (λ k d below. length-map (slice_index_or turns k d).moves g.move_text ∙ (lawful k d below).joint.width)
 
 -- ---- the whole
 
+shaped_at : {S M : Type 0} (g : Rules S M) → IsLawful g → (m : MatchValue M) → IsLawfulMatch g m → IsLawfulSetup m.setup → (key : Key) → IsShapedAt g key (parts_of g m)
+shaped_at g laws m lawful setup AtCause = cause_names g m
+shaped_at g laws m lawful setup EndMarks = lawful.one_end_mark
+shaped_at g laws m lawful setup Errors = turns_errors g m.turns lawful.turns
+shaped_at g laws m lawful setup GoalValues = goals_shape g laws (state_after g m.turns) (state_after-is_state g laws m.turns lawful.turns) (stage g m) (stage_stopping g m)
+shaped_at g laws m lawful setup MatchId = setup.id
+shaped_at g laws m lawful setup Moves = (turns_moves g m.turns lawful.turns, subst (λ (n : ℕ). n ≤ max_turns) (sym (length-map m.turns (λ t. map g.move_text t.moves))) lawful.few_turns)
+shaped_at g laws m lawful setup AtPhase = tt
+shaped_at g laws m lawful setup PlayClock = setup.play
+shaped_at g laws m lawful setup Players = (lawful.one_player, setup.players)
+shaped_at g laws m lawful setup Roles = refl
+shaped_at g laws m lawful setup StartClock = setup.start
+shaped_at g laws m lawful setup StartMarks = lawful.one_start_mark
+shaped_at g laws m lawful setup States = tt
+
 pub lawful_parts_have_shape : {S M : Type 0} (g : Rules S M) → IsLawful g → LawfulPartsHaveShape g
 lawful_parts_have_shape g laws m lawful setup = record {
-  keys =
-      at_each_key (λ key. IsShapedAt g key (parts_of g m))
-      (record {
-        cause = cause_names g m;
-        end_marks = lawful.one_end_mark;
-        errors = turns_errors g m.turns lawful.turns;
-        goals = goals_shape g laws (state_after g m.turns) (state_after-is_state g laws m.turns lawful.turns) (stage g m) (stage_stopping g m);
-        id = setup.id;
-        moves = (turns_moves g m.turns lawful.turns, subst (λ (n : ℕ). n ≤ 10000) (sym (length_map (λ t. map g.move_text t.moves) m.turns)) lawful.few_turns);
-        phase = tt;
-        play = setup.play;
-        players = (lawful.one_player, setup.players);
-        roles = refl;
-        start = setup.start;
-        start_marks = lawful.one_start_mark;
-        states = tt;
-      });
-  as_many_errors = length_map (λ t. t.errors) m.turns ∙ sym (length_map (λ t. map g.move_text t.moves) m.turns);
+  keys = shaped_at g laws m lawful setup;
+  as_many_errors = length-map m.turns (λ t. t.errors) ∙ sym (length-map m.turns (λ t. map g.move_text t.moves));
   one_state_more =
-      length_map (λ front. g.state_text (state_after g front)) (prefixes m.turns) ∙ length_prefixes m.turns
-      ∙ ap suc (sym (length_map (λ t. map g.move_text t.moves) m.turns));
+      length-map (prefixes m.turns) (λ front. g.state_text (state_after g front)) ∙ length_prefixes m.turns
+      ∙ ap suc (sym (length-map m.turns (λ t. map g.move_text t.moves)));
 }
 
-map_twice : {A B C : Type 0} (f : B → C) (h : A → B) (xs : List A) → map (λ x. f (h x)) xs ≡ map f (map h xs)
-map_twice f h [] = refl
-map_twice f h (x ∷ xs) = ap (λ ys. f (h x) ∷ ys) (map_twice f h xs)
+members_hold : (p : RecordParts) → HoldsForEach (λ key. get_member (key_text key) (members_at keys p) ≡ Some (key_tree key p)) keys
+members_hold p = each_same (λ _. Option Data) (λ key. Some (key_tree key p)) keys
 
 pub record_tree_holds_parts : {S M : Type 0} (g : Rules S M) → RecordTreeHoldsParts g
 unfolding record_tree
-record_tree_holds_parts g m =
-    at_each_key (λ key. get (key_text key) (record_tree g m) ≡ Some (key_tree key (parts_of g m)))
-    (record {
-      cause = refl;
-      end_marks = refl;
-      errors = ap (λ ds. Some (list_tree ds)) (map_twice texts_tree (λ t. t.errors) m.turns);
-      goals = refl;
-      id = refl;
-      moves = ap (λ ds. Some (list_tree ds)) (map_twice texts_tree (λ t. map g.move_text t.moves) m.turns);
-      phase = refl;
-      play = refl;
-      players = refl;
-      roles = refl;
-      start = refl;
-      start_marks = refl;
-      states = ap (λ ds. Some (list_tree ds)) (map_twice texts_tree (λ front. g.state_text (state_after g front)) (prefixes m.turns));
-    })
+record_tree_holds_parts g m = each_key (λ key. get_member (key_text key) (members_at keys (parts_of g m)) ≡ Some (key_tree key (parts_of g m))) (members_hold (parts_of g m))
 
 pub records_are_lawful : {S M : Type 0} (g : Rules S M) → RecordsAreLawful g
 records_are_lawful g text m lawful setup json = (record_tree g m, m, record { json = json; setup = setup; lawful = lawful; holds = record_tree_holds_parts g m })

@@ -1,14 +1,15 @@
 -- A record that is replayed without a fault is that of a lawful match, and one with a fault is not.
-use Rattle.std.proofs.Common.{◌≡◌, ◌≢◌, ℕ, zero, suc, ◌<◌, ◌≤◌, Bool, false, Some, None, List, [], ◌∷◌, length, take, map, refl, sym, ap, ◌∙◌, subst, arith, inl, inr, ◌⊎◌, Contains, add-one}
+use Rattle.std.proofs.Common.{◌≡◌, ◌≢◌, ℕ, zero, suc, ◌<◌, ◌≤◌, Bool, false, Some, None, List, [], ◌∷◌, length, take, map, refl, sym, ap, ◌∙◌, subst, arith, inl, inr, Contains, add-one}
+use Rattle.std.proofs.Math.Nat.{eq-or-lt_of_le}
 use Rattle.std.specs.Prelude.{slice_index_or, slice_get, option_map, ◌==◌}
 use Rattle.std.proofs.lemmas.List.{length-map, length-replicate, take_all, get_or-map}
 use Rattle.std.proofs.lemmas.Bool.Decides.{nat_tests}
 use Rattle.std.proofs.lemmas.Option.{slice_get-map}
 use Rattle.game_core.specs.Play.{Rules, IsJoint, IsLawful}
 use Rattle.match_book.specs.Roles.{every_role, lowest_role}
-use Rattle.match_book.specs.Judgement.{IsJudged}
+use Rattle.match_book.specs.Judgement.{IsJudged, NamesNone}
 use Rattle.match_book.specs.MatchValue.{MatchValue, state_after}
-use Rattle.match_book.specs.Phase.{stage, phase_in, answered_in, has_no_move}
+use Rattle.match_book.specs.Phase.{stage, phase_in, answered_in, has_no_move, max_turns}
 use Rattle.match_book.specs.Lawful.{IsLawfulTurn, IsLawfulMatch}
 use Rattle.match_book.specs.declared.judgement.Judgement.{Judgement}
 use Rattle.match_book.specs.declared.phase.Stage.{Stage}
@@ -18,32 +19,23 @@ use Rattle.match_book.proofs.RoleTests.{every_role-but, is_there-blank, lowest_r
 use Rattle.match_book.proofs.Stages.{playing-live}
 use Rattle.match_book.proofs.LawfulMatches.{none_blank}
 use Rattle.match_book.proofs.LawfulTurns.{state_after-is_state}
-use Rattle.match_record.specs.RecordTree.{prefixes}
-use Rattle.match_record.specs.RecordParts.{parts_of, HasShape}
-use Rattle.match_record.specs.Replaying.{AreLawfulParts, NamesNone, IsWrongError, ShowsState, LeadsTo, ComesTo, IsReplayed, AreGoalsIn, IsRightEnd, IsFirstFault, match_of, turn_at, text_at}
-use Rattle.match_record.specs.ReplaySteps.{IsRightJoint, has_ended}
+use Rattle.match_record.specs.RecordParts.{prefixes, parts_of}
+use Rattle.match_record.specs.RecordTree.{HasShape}
+use Rattle.match_record.specs.Replaying.{AreLawfulParts, IsWrongError, ShowsState, LeadsTo, ComesTo, IsReplayed, AreGoalsIn, IsRightEnd, IsFirstFault, match_of, turn_at, text_at}
+use Rattle.match_record.specs.Internal.ReplaySteps.{IsRightJoint, has_ended}
 use Rattle.match_record.specs.declared.record_parts.Key.TheVariants.{Players, Roles, StartMarks, EndMarks, Moves}
 use Rattle.match_record.specs.declared.record_parts.RecordParts.{RecordParts}
 use Rattle.match_record.specs.declared.verify_fault.VerifyFault.{VerifyFault}
 use Rattle.match_record.specs.declared.verify_fault.VerifyFault.TheVariants.{NotJson, BadShape, Illegal, NotFirst, WrongState, WrongGoals, WrongEnd, Memory}
+use Rattle.match_record.proofs.RecordParts.{length_prefixes, prefixes_get}
 use Rattle.match_record.proofs.RecordedMoves.{element-at, judged-not_wrong}
 use Rattle.match_record.proofs.RecordEnds.{goals-shown, lawful-right_end, lawful-goals}
 use Rattle.match_record.proofs.Replays.{leads-within, leads-front}
 
 -- ---- prefixes
 
-prefixes-get : {A : Type 0} (xs : List A) (k : ℕ) → k ≤ length xs → slice_get (prefixes xs) k ≡ Some (take k xs)
-prefixes-get [] zero le = refl
-prefixes-get [] (suc k) le = absurd (omega arith)
-prefixes-get (x ∷ xs) zero le = refl
-prefixes-get (x ∷ xs) (suc k) le = slice_get-map (λ front. x ∷ front) (prefixes xs) k ∙ ap (option_map (λ front. x ∷ front)) (prefixes-get xs k (omega arith))
-
-prefixes-length : {A : Type 0} (xs : List A) → length (prefixes xs) ≡ suc (length xs)
-prefixes-length [] = refl
-prefixes-length (x ∷ xs) = ap suc (length-map (prefixes xs) (λ front. x ∷ front) ∙ prefixes-length xs)
-
 pub front-get : {A B : Type 0} (f : List A → B) (xs : List A) (k : ℕ) → k ≤ length xs → slice_get (map f (prefixes xs)) k ≡ Some (f (take k xs))
-front-get f xs k le = slice_get-map f (prefixes xs) k ∙ ap (option_map f) (prefixes-get xs k le)
+front-get f xs k le = slice_get-map f (prefixes xs) k ∙ ap (option_map f) (prefixes_get xs k le)
 
 same-gets : {A : Type 0} (xs ys : List A) → length xs ≡ length ys → ((k : ℕ) → k < length xs → slice_get xs k ≡ slice_get ys k) → xs ≡ ys
 same-gets [] [] many at = refl
@@ -74,7 +66,7 @@ module _ {S M : Type 0} (g : Rules S M) (laws : IsLawful g) (p : RecordParts) (s
         one_open_answer = length-replicate g.roles None;
         one_end_mark = shape.keys EndMarks;
         turns = played.leads.lawful;
-        few_turns = subst (λ k. k ≤ 10000) (sym few) (shape.keys Moves).1;
+        few_turns = subst (λ k. k ≤ max_turns) (sym few) (shape.keys Moves).1;
         turns_after_start = right.turns_after_start;
         judged = λ r j lt e. absurd (none_blank g.roles r j e);
         answers_in_play = λ _. refl;
@@ -89,18 +81,15 @@ module _ {S M : Type 0} (g : Rules S M) (laws : IsLawful g) (p : RecordParts) (s
   states-same =
       let f : List (Turn M) → List (List ℕ) = λ front. g.state_text (state_after g front) in
       let turns = played.leads.turns in
-      let wide : length (map f (prefixes turns)) ≡ suc (length p.moves) = length-map (prefixes turns) f ∙ prefixes-length turns ∙ ap suc few in
+      let wide : length (map f (prefixes turns)) ≡ suc (length p.moves) = length-map (prefixes turns) f ∙ length_prefixes turns ∙ ap suc few in
       same-gets (map f (prefixes turns)) p.states (wide ∙ sym shape.one_state_more) (λ k lt.
       let le : k ≤ length turns = omega (arith, wide, few) in
-      front-get f turns k le ∙ elim (below_or_last k (length p.moves) (omega (arith, wide))) [
+      front-get f turns k le ∙ elim (eq-or-lt_of_le {n = k} {m = length p.moves} (omega (arith, wide))) [
         | inl last ↦
             subst (λ n. Some (f (take n turns)) ≡ slice_get p.states n) (sym last)
             (ap (λ ts. Some (f ts)) (take_all (length p.moves) turns (omega (arith, few))) ∙ ap (λ (x : S). Some (g.state_text x)) (sym played.leads.state) ∙ sym played.shown)
         | inr below ↦ sym (played.leads.states k below)
       ])
-    where
-      below_or_last : (k n : ℕ) → k < suc n → (k ≡ n) ⊎ (k < n)
-      below_or_last k n lt = grind arith
 
   goals-same : (parts_of g (match_of g p played.leads.turns)).goals ≡ p.goals
   goals-same =

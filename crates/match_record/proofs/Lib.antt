@@ -1,13 +1,12 @@
-pub mod Numerals
-pub mod Digits
+pub mod Names
 pub mod Ascii
 pub mod RecordParts
 pub mod ErrorWords
 pub mod JsonData
-pub mod KeyFormats
+pub mod KeyTable
 pub mod LawfulParts
 pub mod OneRecord
-pub mod PlainNumerals
+pub mod RoleNumbers
 pub mod RecordShapes
 pub mod RecordedMoves
 pub mod Replays

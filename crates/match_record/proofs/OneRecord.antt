@@ -1,10 +1,10 @@
 -- A tree holds what one record says at most; and a text that is refused for its shape is no lawful record.
 use Rattle.std.proofs.Common.{◌≡◌, ◌≢◌, ℕ, suc, ◌<◌, ◌≤◌, Option, Some, None, List, [], ◌∷◌, length, drop, inl, inr, refl, sym, ap, ◌∙◌, subst, arith, codes, if◌then◌else◌}
-use Rattle.std.specs.Prelude.{IfSome, option_map}
+use Rattle.std.specs.Prelude.{IfSome}
 use Rattle.std.specs.Fmt.{decimal}
 use Rattle.std.specs.Str.{bytes_eq}
 use Rattle.std.proofs.lemmas.Fmt.{decimal_injective}
-use Rattle.serde_json.specs.Data.{Data, number, unsigned}
+use Rattle.serde_json.specs.Data.{Data}
 use Rattle.game_core.specs.Play.{Rules, IsLawful, max_roles}
 use Rattle.match_book.specs.MatchValue.{MatchValue}
 use Rattle.match_book.specs.Marks.{mark_text}
@@ -14,15 +14,14 @@ use Rattle.match_book.specs.declared.phase.Cause.{Cause}
 use Rattle.match_book.specs.declared.phase.Cause.TheVariants.{Asked, NoLegal, NoGoal, TooLong}
 use Rattle.match_book.specs.declared.phase.Phase.{Phase}
 use Rattle.match_book.specs.declared.phase.Phase.TheVariants.{Starting, Playing, Stopping, Finished, Aborting, Aborted}
-use Rattle.match_record.specs.LawfulRecord.{IsJson, IsRecordOf, IsShaped, IsFirstWithout, HasWrongLength, IsMisshapen, keys, HoldsOnePartsAtMost, RefusedIsUnlawful}
-use Rattle.match_record.specs.RecordParts.{parts_of, key_tree, Holds, HasShape, NamesRole, cause_tree}
-use Rattle.match_record.specs.RecordTree.{cause_text, phase_text, marks_tree, text_or_null}
+use Rattle.match_record.specs.LawfulRecord.{IsJson, IsRecordOf, HasWrongLength, IsMisshapen, HoldsOnePartsAtMost, RefusedIsUnlawful}
+use Rattle.match_record.specs.RecordParts.{parts_of, NamesRole}
+use Rattle.match_record.specs.RecordTree.{row_of, key_tree, Holds, HasShape, cause_tree, cause_text, phase_text, phase_tree, mark_tree, marks_tree, whole_tree}
 use Rattle.match_record.specs.declared.record_parts.Key.{Key}
 use Rattle.match_record.specs.declared.record_parts.Key.TheVariants.{Cause as AtCause, EndMarks, Errors, GoalValues, MatchId, Moves, Phase as AtPhase, PlayClock, Players, Roles, StartClock, StartMarks, States}
 use Rattle.match_record.specs.declared.record_parts.RecordParts.{RecordParts}
 use Rattle.match_record.specs.declared.verify_fault.VerifyFault.TheVariants.{NotJson, BadShape, Illegal as IllegalMove, NotFirst, WrongState, WrongGoals, WrongEnd, Memory}
 use Rattle.match_record.proofs.JsonData.{list_injective, string_injective, texts_injective, text_lists_injective}
-use Rattle.match_record.proofs.KeyFormats.{phase_tree}
 use Rattle.match_record.proofs.LawfulParts.{lawful_parts_have_shape}
 
 -- ---- words
@@ -38,9 +37,6 @@ mark_again ConnectionError = refl
 
 mark_text_same : (m n : Mark) → mark_text m ≡ mark_text n → m ≡ n
 mark_text_same m n is = let same : Some m ≡ Some n = sym (mark_again m) ∙ ap mark_of_text is ∙ mark_again n in cc
-
-abbrev mark_tree : Option Mark → Data
-mark_tree mark = text_or_null (option_map mark_text mark)
 
 mark_tree_same : (m n : Option Mark) → mark_tree m ≡ mark_tree n → m ≡ n
 mark_tree_same None None is = refl
@@ -106,42 +102,41 @@ cause_same n few (Some a) (Some b) named other is = ap Some (cause_text_same n f
 
 -- ---- all keys
 
-abbrev goal_tree : ℕ → Data
-goal_tree goal = number (unsigned goal)
-
-number_same : (a b : ℕ) → goal_tree a ≡ goal_tree b → a ≡ b
+number_same : (a b : ℕ) → whole_tree a ≡ whole_tree b → a ≡ b
 number_same a b is = cc
 
-record SameFields (p q : RecordParts) : Type 0 where
-  cause : p.cause ≡ q.cause
-  end_marks : p.end_marks ≡ q.end_marks
-  errors : p.errors ≡ q.errors
-  goals : p.goals ≡ q.goals
-  id : p.id ≡ q.id
-  moves : p.moves ≡ q.moves
-  phase : p.phase ≡ q.phase
-  play : p.play ≡ q.play
-  players : p.players ≡ q.players
-  roles : p.roles ≡ q.roles
-  start : p.start ≡ q.start
-  start_marks : p.start_marks ≡ q.start_marks
-  states : p.states ≡ q.states
+-- a key's values of its shape differ where they are written
+value_same : {S M : Type 0} (g : Rules S M) → g.roles ≤ max_roles → (key : Key) (x y : (row_of key).Value) → (row_of key).IsOfShape g x → (row_of key).IsOfShape g y → (row_of key).written x ≡ (row_of key).written y → x ≡ y
+value_same g few AtCause x y fits also is = cause_same g.roles few x y fits also is
+value_same g few EndMarks x y fits also is = marks_same x y is
+value_same g few Errors x y fits also is = text_lists_injective x y is
+value_same g few GoalValues x y fits also is = list_injective whole_tree number_same x y is
+value_same g few MatchId x y fits also is = string_injective x y is
+value_same g few Moves x y fits also is = text_lists_injective x y is
+value_same g few AtPhase x y fits also is = phase_same x y is
+value_same g few PlayClock x y fits also is = number_same x y is
+value_same g few Players x y fits also is = texts_injective x y is
+value_same g few Roles x y fits also is = texts_injective x y is
+value_same g few StartClock x y fits also is = number_same x y is
+value_same g few StartMarks x y fits also is = marks_same x y is
+value_same g few States x y fits also is = text_lists_injective x y is
 
-same_parts : (p q : RecordParts) → SameFields p q → p ≡ q
-same_parts p q each =
-    ap (λ x. let parts : RecordParts = record { cause = x; end_marks = p.end_marks; errors = p.errors; goals = p.goals; id = p.id; moves = p.moves; phase = p.phase; play = p.play; players = p.players; roles = p.roles; start = p.start; start_marks = p.start_marks; states = p.states } in parts) each.cause
-    ∙ ap (λ x. let parts : RecordParts = record { cause = q.cause; end_marks = x; errors = p.errors; goals = p.goals; id = p.id; moves = p.moves; phase = p.phase; play = p.play; players = p.players; roles = p.roles; start = p.start; start_marks = p.start_marks; states = p.states } in parts) each.end_marks
-    ∙ ap (λ x. let parts : RecordParts = record { cause = q.cause; end_marks = q.end_marks; errors = x; goals = p.goals; id = p.id; moves = p.moves; phase = p.phase; play = p.play; players = p.players; roles = p.roles; start = p.start; start_marks = p.start_marks; states = p.states } in parts) each.errors
-    ∙ ap (λ x. let parts : RecordParts = record { cause = q.cause; end_marks = q.end_marks; errors = q.errors; goals = x; id = p.id; moves = p.moves; phase = p.phase; play = p.play; players = p.players; roles = p.roles; start = p.start; start_marks = p.start_marks; states = p.states } in parts) each.goals
-    ∙ ap (λ x. let parts : RecordParts = record { cause = q.cause; end_marks = q.end_marks; errors = q.errors; goals = q.goals; id = x; moves = p.moves; phase = p.phase; play = p.play; players = p.players; roles = p.roles; start = p.start; start_marks = p.start_marks; states = p.states } in parts) each.id
-    ∙ ap (λ x. let parts : RecordParts = record { cause = q.cause; end_marks = q.end_marks; errors = q.errors; goals = q.goals; id = q.id; moves = x; phase = p.phase; play = p.play; players = p.players; roles = p.roles; start = p.start; start_marks = p.start_marks; states = p.states } in parts) each.moves
-    ∙ ap (λ x. let parts : RecordParts = record { cause = q.cause; end_marks = q.end_marks; errors = q.errors; goals = q.goals; id = q.id; moves = q.moves; phase = x; play = p.play; players = p.players; roles = p.roles; start = p.start; start_marks = p.start_marks; states = p.states } in parts) each.phase
-    ∙ ap (λ x. let parts : RecordParts = record { cause = q.cause; end_marks = q.end_marks; errors = q.errors; goals = q.goals; id = q.id; moves = q.moves; phase = q.phase; play = x; players = p.players; roles = p.roles; start = p.start; start_marks = p.start_marks; states = p.states } in parts) each.play
-    ∙ ap (λ x. let parts : RecordParts = record { cause = q.cause; end_marks = q.end_marks; errors = q.errors; goals = q.goals; id = q.id; moves = q.moves; phase = q.phase; play = q.play; players = x; roles = p.roles; start = p.start; start_marks = p.start_marks; states = p.states } in parts) each.players
-    ∙ ap (λ x. let parts : RecordParts = record { cause = q.cause; end_marks = q.end_marks; errors = q.errors; goals = q.goals; id = q.id; moves = q.moves; phase = q.phase; play = q.play; players = q.players; roles = x; start = p.start; start_marks = p.start_marks; states = p.states } in parts) each.roles
-    ∙ ap (λ x. let parts : RecordParts = record { cause = q.cause; end_marks = q.end_marks; errors = q.errors; goals = q.goals; id = q.id; moves = q.moves; phase = q.phase; play = q.play; players = q.players; roles = q.roles; start = x; start_marks = p.start_marks; states = p.states } in parts) each.start
-    ∙ ap (λ x. let parts : RecordParts = record { cause = q.cause; end_marks = q.end_marks; errors = q.errors; goals = q.goals; id = q.id; moves = q.moves; phase = q.phase; play = q.play; players = q.players; roles = q.roles; start = q.start; start_marks = x; states = p.states } in parts) each.start_marks
-    ∙ ap (λ x. let parts : RecordParts = record { cause = q.cause; end_marks = q.end_marks; errors = q.errors; goals = q.goals; id = q.id; moves = q.moves; phase = q.phase; play = q.play; players = q.players; roles = q.roles; start = q.start; start_marks = q.start_marks; states = x } in parts) each.states
+same_parts : (p q : RecordParts) → ((key : Key) → (row_of key).said p ≡ (row_of key).said q) → p ≡ q
+same_parts p q same = λ i. record {
+  cause = same AtCause i;
+  end_marks = same EndMarks i;
+  errors = same Errors i;
+  goals = same GoalValues i;
+  id = same MatchId i;
+  moves = same Moves i;
+  phase = same AtPhase i;
+  play = same PlayClock i;
+  players = same Players i;
+  roles = same Roles i;
+  start = same StartClock i;
+  start_marks = same StartMarks i;
+  states = same States i;
+}
 
 -- both trees stand at the key
 same_tree : (tree : Data) (p q : RecordParts) → Holds tree p → Holds tree q → (key : Key) → key_tree key p ≡ key_tree key q
@@ -149,30 +144,9 @@ same_tree tree p q held also key = let same : Some (key_tree key p) ≡ Some (ke
 
 pub holds_one_parts_at_most : {S M : Type 0} (g : Rules S M) → IsLawful g → HoldsOnePartsAtMost g
 holds_one_parts_at_most g laws tree p q shaped also_shaped held also =
-    let at = same_tree tree p q held also in
-    same_parts p q
-    (record {
-      cause = cause_same g.roles laws.few_roles p.cause q.cause (shaped.keys AtCause) (also_shaped.keys AtCause) (at AtCause);
-      end_marks = marks_same p.end_marks q.end_marks (at EndMarks);
-      errors = text_lists_injective p.errors q.errors (at Errors);
-      goals = list_injective goal_tree number_same p.goals q.goals (at GoalValues);
-      id = string_injective p.id q.id (at MatchId);
-      moves = text_lists_injective p.moves q.moves (at Moves);
-      phase = phase_same p.phase q.phase (at AtPhase);
-      play = number_same p.play q.play (at PlayClock);
-      players = texts_injective p.players q.players (at Players);
-      roles = texts_injective p.roles q.roles (at Roles);
-      start = number_same p.start q.start (at StartClock);
-      start_marks = marks_same p.start_marks q.start_marks (at StartMarks);
-      states = text_lists_injective p.states q.states (at States);
-    })
+    same_parts p q (λ key. value_same g laws.few_roles key ((row_of key).said p) ((row_of key).said q) (shaped.keys key) (also_shaped.keys key) (same_tree tree p q held also key))
 
 -- ---- refusals
-
-none_fails : {A : Type 0} (Passes : A → Type 0) (ks : List A) (x : A) → IsFirstWithout Passes ks x → ((k : A) → Passes k) → ⊥
-none_fails Passes [] x first all = first
-none_fails Passes (k ∷ ks) x (inl fails) all = fails.1 (all k)
-none_fails Passes (k ∷ ks) x (inr later) all = none_fails Passes ks x later.1 all
 
 right_lengths : {S M : Type 0} (g : Rules S M) (tree : Data) (p q : RecordParts) (key : Key) → Holds tree p → Holds tree q → HasShape g q → HasWrongLength p key → ⊥
 right_lengths g tree p q key held also shape (inl errors) =
@@ -183,9 +157,9 @@ right_lengths g tree p q key held also shape (inr states) =
     states.2 (ap length (text_lists_injective p.states q.states (at States)) ∙ shape.one_state_more ∙ sym (ap (λ ts. suc (length ts)) (text_lists_injective p.moves q.moves (at Moves))))
 
 not_misshapen : {S M : Type 0} (g : Rules S M) → IsLawful g → (text : List ℕ) (tree : Data) (m : MatchValue M) (key : Key) → IsRecordOf g text tree m → IsMisshapen g tree key → ⊥
-not_misshapen g laws text tree m key record_of (inl first) =
+not_misshapen g laws text tree m key record_of (inl (before, after, split, shaped, unshaped)) =
     let shape = lawful_parts_have_shape g laws m record_of.lawful record_of.setup in
-    none_fails (IsShaped g tree) keys key first (λ at. (parts_of g m, shape.keys at, record_of.holds at))
+    unshaped ((row_of key).said (parts_of g m), record_of.holds key, shape.keys key)
 not_misshapen g laws text tree m key record_of (inr (p, held, shaped, wrong)) =
     right_lengths g tree p (parts_of g m) key held record_of.holds (lawful_parts_have_shape g laws m record_of.lawful record_of.setup) wrong
 

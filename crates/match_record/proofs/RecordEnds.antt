@@ -1,5 +1,6 @@
 -- The end of a record: goals, phase, cause and marks.
-use Rattle.std.proofs.Common.{◌≡◌, ℕ, zero, suc, ◌<◌, ◌≤◌, Bool, true, false, Option, Some, None, List, [], ◌∷◌, ◌++◌, length, take, refl, sym, ap, ap₂, ◌∙◌, subst, arith, inl, inr, ◌⊎◌, add-one}
+use Rattle.std.proofs.Common.{◌≡◌, ℕ, zero, suc, ◌<◌, ◌≤◌, Bool, true, false, Option, Some, None, List, [], ◌∷◌, ◌++◌, length, take, refl, sym, ap, ap₂, ◌∙◌, subst, arith, inl, inr, add-one}
+use Rattle.std.proofs.Math.Nat.{eq-or-lt_of_le}
 use Rattle.std.specs.Prelude.{slice_index_or, slice_get, option_to_list, is_none, if◌then◌else◌, nat_le, IsTrue, ◌↔◌}
 use Rattle.std.proofs.lemmas.List.{length_push, nil_from_length, take_all}
 use Rattle.std.proofs.lemmas.Option.{slice_get-get_or}
@@ -14,10 +15,9 @@ use Rattle.match_book.specs.declared.phase.Stage.TheVariants.{Starting, Playing,
 use Rattle.match_book.specs.declared.turn.Turn.{Turn}
 use Rattle.match_book.proofs.RoleTests.{lowest_role-none}
 use Rattle.match_book.proofs.Stages.{stage-by}
-use Rattle.match_record.specs.RecordParts.{parts_of}
-use Rattle.match_record.specs.RecordTree.{goals_from}
+use Rattle.match_record.specs.RecordParts.{parts_of, goals_from}
 use Rattle.match_record.specs.Replaying.{AreGoalsOf, AreGoalsIn, IsRightEnd, match_of, is_asked}
-use Rattle.match_record.specs.ReplaySteps.{stage_by, has_started, has_ended, AgreesWith, IsEndAnswer}
+use Rattle.match_record.specs.Internal.ReplaySteps.{stage_by, has_started, has_ended, AgreesWith, IsEndAnswer}
 use Rattle.match_record.specs.declared.record_parts.RecordParts.{RecordParts}
 use Rattle.match_record.proofs.RecordParts.{take-next}
 
@@ -31,9 +31,6 @@ get-before (x ∷ xs) y (suc k) lt = get-before xs y k (omega arith)
 get-last : {A : Type 0} (xs : List A) (y : A) → slice_get (xs ++ y ∷ []) (length xs) ≡ Some y
 get-last [] y = refl
 get-last (x ∷ xs) y = get-last xs y
-
-below_or_last : (k n : ℕ) → k < suc n → (k ≡ n) ⊎ (k < n)
-below_or_last k n lt = grind arith
 
 goals_from-none : (n : ℕ) (f : ℕ → Option ℕ) → ((r : ℕ) → f r ≡ None) → goals_from n f ≡ []
 goals_from-none zero f none = refl
@@ -56,7 +53,7 @@ goals_from-all (suc n) f some = step (f n) refl (some n (omega arith)) (goals_fr
         (record {
           many = length_push (goals_from n f) v ∙ omega (arith, far.many);
           each = λ r lt.
-              elim (below_or_last r n lt) [
+              elim (eq-or-lt_of_le {n = r} {m = n} (omega (arith, lt))) [
                 | inl last ↦
                     subst (λ k. f k ≡ slice_get (goals_from n f ++ v ∷ []) k) (sym last)
                     (is ∙ sym (ap (slice_get (goals_from n f ++ v ∷ [])) (sym far.many) ∙ get-last (goals_from n f) v))

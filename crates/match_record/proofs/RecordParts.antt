@@ -1,10 +1,10 @@
 -- The lists of a record, member by member, and its tree: no floats, and three levels.
-use Rattle.std.proofs.Common.{◌≡◌, ℕ, zero, suc, ◌+◌, ◌<◌, ◌≤◌, false, Option, Some, None, List, [], ◌∷◌, ◌++◌, length, take, map, refl, sym, ap, ◌∙◌, subst, arith, add-one, Vec, Global, codes}
+use Rattle.std.proofs.Common.{◌≡◌, ℕ, zero, suc, ◌+◌, ◌<◌, ◌≤◌, false, Option, Some, None, List, [], ◌∷◌, ◌++◌, length, take, map, refl, sym, ap, ◌∙◌, subst, arith, add-one, Vec, Global}
 use Rattle.std.specs.Prelude.{slice_get, option_map, option_and_then, option_to_list}
-use Rattle.std.proofs.lemmas.List.{map-append, take_more, take_all}
-use Rattle.std.proofs.lemmas.Option.{get_or_from_slice_get, slice_get_within}
-use Rattle.serde_json.specs.Data.{Data, put, member, no_members, string, array, number, unsigned, depth, items_depth}
-use Rattle.serde_json.specs.Written.{has_float, items_have_float}
+use Rattle.std.proofs.lemmas.List.{map-append, take_more, take_all, length-map}
+use Rattle.std.proofs.lemmas.Option.{slice_get-map, get_or_from_slice_get, slice_get_within}
+use Rattle.serde_json.specs.Data.{Data, string, array, depth, items_depth, members_depth}
+use Rattle.serde_json.specs.Written.{has_float, items_have_float, members_have_float}
 use Rattle.serde_json.specs.View.{view, items_of}
 use Rattle.serde_json.specs.declared.value.Value.{Value, Array}
 use Rattle.serde_json.proofs.Views.{view-Array}
@@ -12,12 +12,15 @@ use Rattle.serde_json.specs.Read.{max_depth}
 use Rattle.game_core.specs.Play.{Rules, IsJoint, IsLawful}
 use Rattle.match_book.proofs.LawfulTurns.{state_after-push}
 use Rattle.match_book.specs.Marks.{mark_text}
-use Rattle.match_book.specs.Phase.{cause, goal_of}
 use Rattle.match_book.specs.MatchValue.{MatchValue, state_after}
 use Rattle.match_book.specs.Lawful.{AreLawful}
 use Rattle.match_book.specs.declared.answer.Mark.{Mark}
 use Rattle.match_book.specs.declared.turn.Turn.{Turn}
-use Rattle.match_record.specs.RecordTree.{each_role, goals_from, prefixes, list_tree, texts_tree, text_or_null, cause_text, record_tree}
+use Rattle.match_record.specs.RecordParts.{each_role, goals_from, parts_of, prefixes}
+use Rattle.match_record.specs.RecordTree.{list_tree, texts_tree, text_lists_tree, text_or_null, cause_text, mark_tree, whole_tree, key_tree, keys, members_at, record_tree}
+use Rattle.match_record.specs.declared.record_parts.Key.{Key}
+use Rattle.match_record.specs.declared.record_parts.Key.TheVariants.{Cause as AtCause, EndMarks, Errors, GoalValues, MatchId, Moves, Phase as AtPhase, PlayClock, Players, Roles, StartClock, StartMarks, States}
+use Rattle.match_record.specs.declared.record_parts.RecordParts.{RecordParts}
 
 -- ---- one role more
 
@@ -28,11 +31,11 @@ pub goals_from-more : (n : ℕ) (goal : ℕ → Option ℕ) → goals_from (n + 
 goals_from-more n goal = rw add-one refl
 
 -- and its goal
-pub goals-next : (n : ℕ) (goal : ℕ → Option ℕ) (o : Option ℕ) (vs ws : List Value) → map view vs ≡ map (λ v. number (unsigned v)) (goals_from n goal) → o ≡ goal n
-    → map view ws ≡ map view vs ++ map (λ v. number (unsigned v)) (option_to_list o) → map view ws ≡ map (λ v. number (unsigned v)) (goals_from (n + 1) goal)
+pub goals-next : (n : ℕ) (goal : ℕ → Option ℕ) (o : Option ℕ) (vs ws : List Value) → map view vs ≡ map whole_tree (goals_from n goal) → o ≡ goal n
+    → map view ws ≡ map view vs ++ map whole_tree (option_to_list o) → map view ws ≡ map whole_tree (goals_from (n + 1) goal)
 goals-next n goal o vs ws done is pushed =
-    pushed ∙ ap (λ ds. ds ++ map (λ v. number (unsigned v)) (option_to_list o)) done ∙ ap (λ p. map (λ v. number (unsigned v)) (goals_from n goal) ++ map (λ v. number (unsigned v)) (option_to_list p)) is
-    ∙ sym (ap (map (λ v. number (unsigned v))) (goals_from-more n goal) ∙ map-append (λ v. number (unsigned v)) (goals_from n goal) (option_to_list (goal n)))
+    pushed ∙ ap (λ ds. ds ++ map whole_tree (option_to_list o)) done ∙ ap (λ p. map whole_tree (goals_from n goal) ++ map whole_tree (option_to_list p)) is
+    ∙ sym (ap (map whole_tree) (goals_from-more n goal) ∙ map-append whole_tree (goals_from n goal) (option_to_list (goal n)))
 
 -- ---- one member more
 
@@ -91,15 +94,19 @@ view_push vs ws v d pushed is = ap (map view) pushed ∙ map-append view vs (v �
 pub list_view : (v : Vec Value Global) (ds : List Data) → map view v.items ≡ ds → view (Array v) ≡ list_tree ds
 list_view v ds is = view-Array v ∙ ap (λ es. array (items_of es)) is
 
-strings_of : {A : Type 0} (f : A → List ℕ) (xs : List A) → map (λ x. string (f x)) xs ≡ map string (map f xs)
-strings_of f [] = refl
-strings_of f (x ∷ xs) = ap (λ ds. string (f x) ∷ ds) (strings_of f xs)
+map_twice : {A B C : Type 0} (f : B → C) (h : A → B) (xs : List A) → map (λ x. f (h x)) xs ≡ map f (map h xs)
+map_twice f h [] = refl
+map_twice f h (x ∷ xs) = ap (λ ys. f (h x) ∷ ys) (map_twice f h xs)
+
+-- one list of texts for each member
+pub text_lists_view : {A : Type 0} (f : A → List (List ℕ)) (xs : List A) (v : Vec Value Global) → map view v.items ≡ map (λ x. texts_tree (f x)) xs → view (Array v) ≡ text_lists_tree (map f xs)
+text_lists_view f xs v is = list_view v _ (is ∙ map_twice texts_tree f xs)
 
 -- the texts of a turn's part, as one tree
 pub texts_view : {T A : Type 0} (part : T → List A) (f : A → List ℕ) (o : Option T) (v : Vec Value Global) → option_map (λ t. map (λ x. string (f x)) (part t)) o ≡ Some (map view v.items)
     → Some (view (Array v)) ≡ option_map (λ t. texts_tree (map f (part t))) o
 texts_view part f None v is = absurd cc
-texts_view part f (Some t) v is = let same : map view v.items ≡ map (λ x. string (f x)) (part t) = cc in ap Some (list_view v _ (same ∙ strings_of f (part t)))
+texts_view part f (Some t) v is = let same : map view v.items ≡ map (λ x. string (f x)) (part t) = cc in ap Some (list_view v _ (same ∙ map_twice string f (part t)))
 
 pub errors_view : {T : Type 0} (part : T → List (List ℕ)) (o : Option T) (v : Vec Value Global) → option_map (λ t. map string (part t)) o ≡ Some (map view v.items) → Some (view (Array v)) ≡ option_map (λ t. texts_tree (part t)) o
 errors_view part None v is = absurd cc
@@ -117,6 +124,16 @@ joint_is part (Some t) xs is = let same : xs ≡ map (λ x. x) (part t) = cc in 
 
 prefixes-cons : {A : Type 0} (x y : A) (xs : List A) → map (λ front. x ∷ front) (prefixes xs ++ (xs ++ y ∷ []) ∷ []) ≡ map (λ front. x ∷ front) (prefixes xs) ++ (x ∷ (xs ++ y ∷ [])) ∷ []
 prefixes-cons x y xs = map-append (λ front. x ∷ front) (prefixes xs) ((xs ++ y ∷ []) ∷ [])
+
+pub length_prefixes : {A : Type 0} (xs : List A) → length (prefixes xs) ≡ suc (length xs)
+length_prefixes [] = refl
+length_prefixes (x ∷ xs) = ap suc (length-map (prefixes xs) (λ front. x ∷ front) ∙ length_prefixes xs)
+
+pub prefixes_get : {A : Type 0} (xs : List A) (k : ℕ) → k ≤ length xs → slice_get (prefixes xs) k ≡ Some (take k xs)
+prefixes_get [] zero le = refl
+prefixes_get [] (suc k) le = absurd (omega arith)
+prefixes_get (x ∷ xs) zero le = refl
+prefixes_get (x ∷ xs) (suc k) le = slice_get-map (λ front. x ∷ front) (prefixes xs) k ∙ ap (option_map (λ front. x ∷ front)) (prefixes_get xs k (omega arith))
 
 pub prefixes-push : {A : Type 0} (xs : List A) (y : A) → prefixes (xs ++ y ∷ []) ≡ prefixes xs ++ (xs ++ y ∷ []) ∷ []
 prefixes-push [] y = refl
@@ -147,15 +164,6 @@ next_state {S} {M} g laws turns k s joint lawful at is_state found = go (slice_g
           longer = ap prefixes more ∙ prefixes-push (take k turns) t ∙ ap (λ (ts : List (Turn M)). prefixes (take k turns) ++ ts ∷ []) (sym more);
         }
 
--- ---- the object: keys that are put in byte order stand in that order
-
-pub thirteen : (a b d e f h i j k l n o p : Data)
-    → put (codes "states") p (put (codes "startMarks") o (put (codes "startClock") n (put (codes "roles") l (put (codes "players") k (put (codes "playClock") j (put (codes "phase") i
-    (put (codes "moves") h (put (codes "matchId") f (put (codes "goalValues") e (put (codes "errors") d (put (codes "endMarks") b (put (codes "cause") a no_members))))))))))))
-    ≡ member (codes "cause") a (member (codes "endMarks") b (member (codes "errors") d (member (codes "goalValues") e (member (codes "matchId") f (member (codes "moves") h (member (codes "phase") i
-    (member (codes "playClock") j (member (codes "players") k (member (codes "roles") l (member (codes "startClock") n (member (codes "startMarks") o (member (codes "states") p no_members))))))))))))
-thirteen a b d e f h i j k l n o p = refl
-
 -- ---- no floats
 
 texts_have_none : (ts : List (List ℕ)) → items_have_float (items_of (map string ts)) ≡ false
@@ -166,32 +174,40 @@ text_or_null_has_none : (o : Option (List ℕ)) → has_float (text_or_null o) �
 text_or_null_has_none None = refl
 text_or_null_has_none (Some t) = refl
 
-marks_have_none : (marks : List (Option Mark)) → items_have_float (items_of (map (λ mark. text_or_null (option_map mark_text mark)) marks)) ≡ false
+marks_have_none : (marks : List (Option Mark)) → items_have_float (items_of (map mark_tree marks)) ≡ false
 marks_have_none [] = refl
 marks_have_none (m ∷ ms) = rw (text_or_null_has_none (option_map mark_text m)) (marks_have_none ms)
 
-goals_have_none : (goals : List ℕ) → items_have_float (items_of (map (λ goal. number (unsigned goal)) goals)) ≡ false
+goals_have_none : (goals : List ℕ) → items_have_float (items_of (map whole_tree goals)) ≡ false
 goals_have_none [] = refl
 goals_have_none (n ∷ ns) = goals_have_none ns
 
-lists_have_none : {T : Type 0} (f : T → List (List ℕ)) (ts : List T) → items_have_float (items_of (map (λ t. texts_tree (f t)) ts)) ≡ false
-lists_have_none f [] = refl
-lists_have_none f (t ∷ ts) = rw (texts_have_none (f t)) (lists_have_none f ts)
+lists_have_none : (lists : List (List (List ℕ))) → items_have_float (items_of (map texts_tree lists)) ≡ false
+lists_have_none [] = refl
+lists_have_none (texts ∷ more) = rw (texts_have_none texts) (lists_have_none more)
+
+key_has_none : (key : Key) (p : RecordParts) → has_float (key_tree key p) ≡ false
+key_has_none AtCause p = text_or_null_has_none (option_map cause_text p.cause)
+key_has_none EndMarks p = marks_have_none p.end_marks
+key_has_none Errors p = lists_have_none p.errors
+key_has_none GoalValues p = goals_have_none p.goals
+key_has_none MatchId p = refl
+key_has_none Moves p = lists_have_none p.moves
+key_has_none AtPhase p = refl
+key_has_none PlayClock p = refl
+key_has_none Players p = texts_have_none p.players
+key_has_none Roles p = texts_have_none p.roles
+key_has_none StartClock p = refl
+key_has_none StartMarks p = marks_have_none p.start_marks
+key_has_none States p = lists_have_none p.states
+
+members_have_none : (ks : List Key) (p : RecordParts) → members_have_float (members_at ks p) ≡ false
+members_have_none [] p = refl
+members_have_none (key ∷ more) p = rw (key_has_none key p) (members_have_none more p)
 
 pub record_has_no_float : {S M : Type 0} (g : Rules S M) (m : MatchValue M) → has_float (record_tree g m) ≡ false
 unfolding record_tree
-record_has_no_float g m =
-    rw (
-      text_or_null_has_none (option_map cause_text (cause g m)),
-      marks_have_none m.end_marks,
-      marks_have_none m.start_marks,
-      lists_have_none (λ t. t.errors) m.turns,
-      lists_have_none (λ t. map g.move_text t.moves) m.turns,
-      goals_have_none (goals_from g.roles (goal_of g m)),
-      texts_have_none m.setup.players,
-      texts_have_none (each_role g.roles g.role_name),
-      lists_have_none (λ front. g.state_text (state_after g front)) (prefixes m.turns),
-    ) refl
+record_has_no_float g m = members_have_none keys (parts_of g m)
 
 -- ---- depth
 
@@ -203,28 +219,37 @@ text_or_null_is_flat : (o : Option (List ℕ)) → depth (text_or_null o) ≤ 0
 text_or_null_is_flat None = omega arith
 text_or_null_is_flat (Some t) = omega arith
 
-marks_are_flat : (marks : List (Option Mark)) → items_depth (items_of (map (λ mark. text_or_null (option_map mark_text mark)) marks)) ≤ 0
+marks_are_flat : (marks : List (Option Mark)) → items_depth (items_of (map mark_tree marks)) ≤ 0
 marks_are_flat [] = omega arith
 marks_are_flat (m ∷ ms) = omega (arith, text_or_null_is_flat (option_map mark_text m), marks_are_flat ms)
 
-goals_are_flat : (goals : List ℕ) → items_depth (items_of (map (λ goal. number (unsigned goal)) goals)) ≤ 0
+goals_are_flat : (goals : List ℕ) → items_depth (items_of (map whole_tree goals)) ≤ 0
 goals_are_flat [] = omega arith
 goals_are_flat (n ∷ ns) = omega (arith, goals_are_flat ns)
 
-lists_are_shallow : {T : Type 0} (f : T → List (List ℕ)) (ts : List T) → items_depth (items_of (map (λ t. texts_tree (f t)) ts)) ≤ 1
-lists_are_shallow f [] = omega arith
-lists_are_shallow f (t ∷ ts) = omega (arith, texts_are_flat (f t), lists_are_shallow f ts)
+lists_are_shallow : (lists : List (List (List ℕ))) → items_depth (items_of (map texts_tree lists)) ≤ 1
+lists_are_shallow [] = omega arith
+lists_are_shallow (texts ∷ more) = omega (arith, texts_are_flat texts, lists_are_shallow more)
+
+key_is_shallow : (key : Key) (p : RecordParts) → depth (key_tree key p) ≤ 2
+key_is_shallow AtCause p = omega (arith, text_or_null_is_flat (option_map cause_text p.cause))
+key_is_shallow EndMarks p = omega (arith, marks_are_flat p.end_marks)
+key_is_shallow Errors p = omega (arith, lists_are_shallow p.errors)
+key_is_shallow GoalValues p = omega (arith, goals_are_flat p.goals)
+key_is_shallow MatchId p = omega arith
+key_is_shallow Moves p = omega (arith, lists_are_shallow p.moves)
+key_is_shallow AtPhase p = omega arith
+key_is_shallow PlayClock p = omega arith
+key_is_shallow Players p = omega (arith, texts_are_flat p.players)
+key_is_shallow Roles p = omega (arith, texts_are_flat p.roles)
+key_is_shallow StartClock p = omega arith
+key_is_shallow StartMarks p = omega (arith, marks_are_flat p.start_marks)
+key_is_shallow States p = omega (arith, lists_are_shallow p.states)
+
+members_are_shallow : (ks : List Key) (p : RecordParts) → members_depth (members_at ks p) ≤ 2
+members_are_shallow [] p = omega arith
+members_are_shallow (key ∷ more) p = omega (arith, key_is_shallow key p, members_are_shallow more p)
 
 pub record_is_shallow : {S M : Type 0} (g : Rules S M) (m : MatchValue M) → depth (record_tree g m) ≤ max_depth
 unfolding record_tree
-record_is_shallow g m =
-    let c = text_or_null_is_flat (option_map cause_text (cause g m)) in
-    let e = marks_are_flat m.end_marks in
-    let s = marks_are_flat m.start_marks in
-    let r = lists_are_shallow (λ t. t.errors) m.turns in
-    let v = lists_are_shallow (λ t. map g.move_text t.moves) m.turns in
-    let n = goals_are_flat (goals_from g.roles (goal_of g m)) in
-    let p = texts_are_flat m.setup.players in
-    let o = texts_are_flat (each_role g.roles g.role_name) in
-    let b = lists_are_shallow (λ front. g.state_text (state_after g front)) (prefixes m.turns) in
-    omega (arith, c, e, s, r, v, n, p, o, b)
+record_is_shallow g m = omega (arith, members_are_shallow keys (parts_of g m))

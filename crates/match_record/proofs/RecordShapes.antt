@@ -1,12 +1,13 @@
 -- The shapes of a record's lists.
 use Rattle.std.proofs.Common.{◌≡◌, ℕ, zero, suc, ◌<◌, ◌≤◌, ◌==◌, ◌||◌, Bool, true, false, not, List, [], ◌∷◌, ◌++◌, length, get_or, inl, inr, refl, sym, ap, ◌∙◌, arith, length-append}
+use Rattle.std.proofs.lemmas.List.{get_or_append_left, get_or_push}
+use Rattle.std.proofs.Math.Nat.{eq-or-lt_of_le}
 use Rattle.std.specs.Prelude.{All, ◌⊎◌}
 use Rattle.std.proofs.lemmas.Bool.Decides.{Decides-eqb, nat_tests}
 use Rattle.std.proofs.lemmas.Slice.Eq.{bytes_eq-Decides}
 use Rattle.std.specs.Str.{bytes_eq}
 use Rattle.game_core.specs.Play.{max_goal}
-use Rattle.match_record.specs.RecordParts.{AreGoals}
-use Rattle.match_record.specs.RecordTree.{each_role}
+use Rattle.match_record.specs.RecordParts.{AreGoals, each_role}
 
 -- ---- goals
 
@@ -35,29 +36,13 @@ pub length_each_role : {A : Type 0} (n : ℕ) (f : ℕ → A) → length (each_r
 length_each_role zero f = refl
 length_each_role (suc n) f = simp length-append (omega (arith, length_each_role n f))
 
-at_append : {A : Type 0} (xs : List A) (y d : A) → get_or (xs ++ y ∷ []) (length xs) d ≡ y
-at_append [] y d = refl
-at_append (x ∷ xs) y d = at_append xs y d
-
-at_front : {A : Type 0} (xs ys : List A) (i : ℕ) (d : A) → i < length xs → get_or (xs ++ ys) i d ≡ get_or xs i d
-at_front [] ys i d below = absurd (omega arith)
-at_front (x ∷ xs) ys zero d below = refl
-at_front (x ∷ xs) ys (suc i) d below = at_front xs ys i d (omega arith)
-
-lower_or_last : (r n : ℕ) → r < suc n → (r < n) ⊎ (r ≡ n)
-lower_or_last r n below = go (r == n) refl
-  where
-    go : (b : Bool) → (r == n) ≡ b → (r < n) ⊎ (r ≡ n)
-    go true is = inr ((Decides-eqb r n).0 is)
-    go false is = inl (grind (arith, nat_tests))
-
 pub at_each_role : {A : Type 0} (n : ℕ) (f : ℕ → A) (r : ℕ) (d : A) → r < n → get_or (each_role n f) r d ≡ f r
 at_each_role zero f r d below = absurd (omega arith)
-at_each_role {A} (suc n) f r d below = go (lower_or_last r n below) (at_each_role n f r d)
+at_each_role {A} (suc n) f r d below = go (eq-or-lt_of_le {n = r} {m = n} (omega (arith, below))) (at_each_role n f r d)
   where
-    go : (r < n) ⊎ (r ≡ n) → (r < n → get_or (each_role n f) r d ≡ f r) → get_or (each_role n f ++ f n ∷ []) r d ≡ f r
-    go (inl lower) earlier = at_front (each_role n f) (f n ∷ []) r d (omega (arith, length_each_role n f)) ∙ earlier lower
-    go (inr last) earlier = ap (λ i. get_or (each_role n f ++ f n ∷ []) i d) (last ∙ sym (length_each_role n f)) ∙ at_append (each_role n f) (f n) d ∙ ap f (sym last)
+    go : (r ≡ n) ⊎ (r < n) → (r < n → get_or (each_role n f) r d ≡ f r) → get_or (each_role n f ++ f n ∷ []) r d ≡ f r
+    go (inr lower) earlier = get_or_append_left (each_role n f) (f n ∷ []) d r (omega (arith, length_each_role n f)) ∙ earlier lower
+    go (inl last) earlier = get_or_push (each_role n f) (f n) d r (length_each_role n f ∙ sym last) ∙ ap f (sym last)
 
 -- ---- compared texts
 

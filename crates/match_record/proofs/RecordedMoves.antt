@@ -1,5 +1,6 @@
 -- A recorded move and its error, and the joint move of a turn.
 use Rattle.std.proofs.Common.{◌≡◌, ◌≢◌, ℕ, zero, suc, ◌+◌, ◌<◌, ◌≤◌, true, false, Option, Some, None, List, [], ◌∷◌, ◌++◌, length, take, map, refl, sym, ap, ◌∙◌, subst, arith, inl, inr, ◌⊎◌, Contains, codes, eqb}
+use Rattle.std.proofs.Math.Nat.{eq-or-lt_of_le}
 use Rattle.std.specs.Prelude.{AllPairs, IsTrue, is_some, slice_index_or, slice_get, ◌↔◌, ◌==◌}
 use Rattle.std.specs.List.{HoldsAt}
 use Rattle.std.proofs.lemmas.List.{append_cancel_left, length_push, map_push, take_more, take_all, get_or_push, get_or_append_left}
@@ -7,14 +8,14 @@ use Rattle.std.proofs.lemmas.Bool.Decides.{nat_tests}
 use Rattle.std.proofs.lemmas.List.Elements.{Contains-get_or}
 use Rattle.std.proofs.lemmas.Option.{get_or_from_slice_get, slice_get_read}
 use Rattle.game_core.specs.Play.{Rules, IsLawful}
-use Rattle.match_book.specs.Judgement.{error_text, MayStand, IsJudged}
+use Rattle.match_book.specs.LegalMoves.{AreLegalMoves}
+use Rattle.match_book.specs.Judgement.{error_text, MayStand, IsJudged, NamesNone, IsPlaceOf, illegal_prefix}
 use Rattle.match_book.specs.declared.judgement.Substitution.{Substitution}
 use Rattle.match_book.specs.declared.judgement.Substitution.TheVariants.{TimeOut, ConnectionError, Unreadable, Illegal}
 use Rattle.match_book.proofs.Judgements.{first-contains, Contains-move}
 use Rattle.match_record.specs.RecordParts.{IsErrorText, MayBeGiven}
-use Rattle.match_record.specs.Replaying.{GoesOn, IsRightMove, NamesNone, DeniesOne, IsWrongError, text_at}
-use Rattle.match_record.specs.ReplaySteps.{all_moves, IsPlaceOf, IsRightJoint}
-use Rattle.match_record.proofs.RecordShapes.{at_each_role}
+use Rattle.match_record.specs.Replaying.{GoesOn, IsRightMove, DeniesOne, IsWrongError, text_at}
+use Rattle.match_record.specs.Internal.ReplaySteps.{IsRightJoint}
 
 -- ---- members
 
@@ -29,13 +30,13 @@ named-none {S} {M} g moves x m none among = subst (λ (n : M). g.move_text n ≢
 -- ---- errors
 
 illegal_text : (x y : List ℕ) → error_text (Illegal x) ≡ error_text (Illegal y) → x ≡ y
-illegal_text x y same = append_cancel_left (codes "IL ") x y same
+illegal_text x y same = append_cancel_left illegal_prefix x y same
 
 -- an error without the first three bytes denies nothing
-pub denies-none : {S M : Type 0} (g : Rules S M) (moves : List M) (e : List ℕ) → ((rest : List ℕ) → e ≢ codes "IL " ++ rest) → IsTrue false ↔ DeniesOne g moves e
+pub denies-none : {S M : Type 0} (g : Rules S M) (moves : List M) (e : List ℕ) → ((rest : List ℕ) → e ≢ illegal_prefix ++ rest) → IsTrue false ↔ DeniesOne g moves e
 denies-none g moves e other = (λ w. absurd cc, λ d. absurd (other (g.move_text d.0) d.2))
 
-pub denies-place : {S M : Type 0} (g : Rules S M) (moves : List M) (e x : List ℕ) (o : Option ℕ) → e ≡ codes "IL " ++ x → IsPlaceOf g moves x o → IsTrue (is_some o) ↔ DeniesOne g moves e
+pub denies-place : {S M : Type 0} (g : Rules S M) (moves : List M) (e x : List ℕ) (o : Option ℕ) → e ≡ illegal_prefix ++ x → IsPlaceOf g moves x o → IsTrue (is_some o) ↔ DeniesOne g moves e
 denies-place g moves e x None is none = (λ w. absurd cc, λ d. absurd (named-none g moves x d.0 none d.1 (illegal_text (g.move_text d.0) x (sym d.2 ∙ is))))
 denies-place {S} {M} g moves e x (Some p) is place =
     let m = element-at moves p place.0 in
@@ -56,7 +57,7 @@ first-judged g moves m e (inr reason) first not = (first-contains moves m first,
 
 -- the place of a move that was found
 pub found-place : {S M : Type 0} (g : Rules S M) (moves : List M) (x : List ℕ) (o : Option ℕ) (p : ℕ) → o ≡ Some p → IsPlaceOf g moves x o → (p < length moves) × HoldsAt (λ m. g.move_text m ≡ x) moves p
-found-place g moves x o p at place = subst (λ q. IsPlaceOf g moves x q) at place
+found-place g moves x o p at place = let found = subst (λ q. IsPlaceOf g moves x q) at place in (found.0, found.1)
 
 pub not-empty : (e : List ℕ) → false ≡ (length e == 0) → e ≢ []
 not-empty e some empty = let w : false ≡ (length {A = ℕ} [] == 0) = some ∙ ap (λ l. length l == 0) empty in absurd cc
@@ -127,8 +128,8 @@ judged-not_wrong {S} {M} g laws s r m text e is_state role named judged wrong =
 -- ---- the joint move of a turn
 
 -- the moves that stand in a role's place
-pub moves-at : {S M : Type 0} (g : Rules S M) (s : S) (lists : List (List M)) (r : ℕ) (x : List M) → lists ≡ all_moves g s → r < g.roles → x ≡ slice_index_or lists r x → x ≡ g.legal s r
-moves-at g s lists r x same within at = at ∙ ap (λ ls. slice_index_or ls r x) same ∙ at_each_role g.roles (g.legal s) r x within
+pub moves-at : {S M : Type 0} (g : Rules S M) (s : S) (lists : List (List M)) (r : ℕ) (x : List M) → AreLegalMoves g s lists → r < g.roles → x ≡ slice_index_or lists r x → x ≡ g.legal s r
+moves-at g s lists r x are within at = at ∙ are.legal r x within
 
 pub none-below : {S M : Type 0} (g : Rules S M) (s : S) (moves errors : List (List ℕ)) (q : ℕ) → q < 0 → IsRightMove g (g.legal s q) (text_at moves q) (text_at errors q)
 none-below g s moves errors q lt = absurd (omega arith)
@@ -139,9 +140,6 @@ pub record SoFar {S M : Type 0} (g : Rules S M) (s : S) (moves errors : List (Li
   pub judged : (q : ℕ) (d : M) → q < r → IsJudged g (g.legal s q) (slice_index_or joint q d) (text_at errors q)
   pub right : (q : ℕ) → q < r → IsRightMove g (g.legal s q) (text_at moves q) (text_at errors q)
 
-below_or_last : (k n : ℕ) → k < n + 1 → (k ≡ n) ⊎ (k < n)
-below_or_last k n lt = grind arith
-
 -- one role more
 pub SoFar-more : {S M : Type 0} (g : Rules S M) (s : S) (moves errors : List (List ℕ)) (r : ℕ) (joint : List M) (m : M) (text error : List ℕ) → SoFar g s moves errors r joint → r < length moves → text ≡ text_at moves r → error ≡ text_at errors r
     → g.move_text m ≡ text → IsJudged g (g.legal s r) m error → SoFar g s moves errors (r + 1) (joint ++ m ∷ [])
@@ -151,7 +149,7 @@ SoFar-more {S} {M} g s moves errors r joint m text error far within text_is erro
       wide = length_push joint m ∙ ap (λ n. n + 1) far.wide;
       texts = map_push g.move_text joint m ∙ ap (λ ts. ts ++ g.move_text m ∷ []) far.texts ∙ ap (λ t. take r moves ++ t ∷ []) (named ∙ text_is) ∙ sym (take_more moves r [] within);
       judged = λ q d lt.
-          elim (below_or_last q r lt) [
+          elim (eq-or-lt_of_le {n = q} {m = r} (omega (arith, lt))) [
             | inl last ↦
                 subst (λ (k : ℕ). IsJudged g (g.legal s k) (slice_index_or (joint ++ m ∷ []) k d) (text_at errors k)) (sym last)
                 (subst (λ (n : M). IsJudged g (g.legal s r) n (text_at errors r)) (sym (get_or_push joint m d r far.wide)) here)
@@ -160,7 +158,7 @@ SoFar-more {S} {M} g s moves errors r joint m text error far within text_is erro
                 subst (λ (n : M). IsJudged g (g.legal s q) n (text_at errors q)) (sym (get_or_append_left joint (m ∷ []) d q inside)) (far.judged q d below)
           ];
       right = λ q lt.
-          elim (below_or_last q r lt) [
+          elim (eq-or-lt_of_le {n = q} {m = r} (omega (arith, lt))) [
             | inl last ↦ subst (λ (k : ℕ). IsRightMove g (g.legal s k) (text_at moves k) (text_at errors k)) (sym last) (m, named ∙ text_is, here)
             | inr below ↦ far.right q below
           ];

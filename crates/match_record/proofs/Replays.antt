@@ -1,17 +1,18 @@
 -- The turns that lead to a state of a record: how they begin, one turn more, and that no others do.
-use Rattle.std.proofs.Common.{◌≡◌, ℕ, zero, suc, ◌+◌, ◌<◌, ◌≤◌, min, false, Some, List, [], ◌∷◌, ◌++◌, length, take, map, refl, sym, ap, ◌∙◌, subst, arith, inl, inr, ◌⊎◌}
+use Rattle.std.proofs.Common.{◌≡◌, ℕ, zero, suc, ◌+◌, ◌<◌, ◌≤◌, min, false, Some, List, [], ◌∷◌, ◌++◌, length, take, map, refl, sym, ap, ◌∙◌, subst, arith, inl, inr}
+use Rattle.std.proofs.Math.Nat.{eq-or-lt_of_le}
 use Rattle.std.specs.Prelude.{All, slice_index_or, slice_get}
 use Rattle.std.proofs.lemmas.List.{length_push, length-map, length-take, map_push, take_more, take-take, take-map, take_at, take-append-le, get_or-take, get_or-map, same_lists}
 use Rattle.std.proofs.lemmas.List.Elements.{All-head, All-tail}
 use Rattle.std.proofs.lemmas.Option.{slice_get_within, get_or_from_slice_get}
 use Rattle.game_core.specs.Play.{Rules, IsJoint, IsLawful}
-use Rattle.match_book.specs.Judgement.{IsJudged}
+use Rattle.match_book.specs.Judgement.{IsJudged, NamesNone}
 use Rattle.match_book.specs.MatchValue.{state_after}
 use Rattle.match_book.specs.Lawful.{IsLawfulTurn, AreLawful}
 use Rattle.match_book.specs.declared.turn.Turn.{Turn}
 use Rattle.match_book.proofs.LawfulTurns.{state_after-push, AreLawful-push, turn-moves}
-use Rattle.match_record.specs.Replaying.{NamesNone, IsWrongError, AreRightBelow, ShowsState, LeadsTo, ComesTo, IsFirstFault, turn_at, text_at}
-use Rattle.match_record.specs.ReplaySteps.{IsRightJoint, IsTurnFault}
+use Rattle.match_record.specs.Replaying.{IsWrongError, AreRightBelow, ShowsState, LeadsTo, ComesTo, IsFirstFault, turn_at, text_at}
+use Rattle.match_record.specs.Internal.ReplaySteps.{IsRightJoint, IsTurnFault}
 use Rattle.match_record.specs.declared.record_parts.RecordParts.{RecordParts}
 use Rattle.match_record.specs.declared.verify_fault.VerifyFault.{VerifyFault}
 use Rattle.match_record.specs.declared.verify_fault.VerifyFault.TheVariants.{NotJson, BadShape, Illegal, NotFirst, WrongState, WrongGoals, WrongEnd, Memory}
@@ -27,9 +28,6 @@ LeadsTo-start g p = record {
   errors = refl;
   states = λ k lt. absurd (omega arith);
 }
-
-below_or_last : (k n : ℕ) → k < n + 1 → (k ≡ n) ⊎ (k < n)
-below_or_last k n lt = grind arith
 
 -- one turn more
 pub LeadsTo-more : {S M : Type 0} (g : Rules S M) (p : RecordParts) (t : ℕ) (s next : S) (joint : List M) → LeadsTo g p t s → ShowsState g p t s → t < length p.moves → t < length p.errors → length (turn_at p.errors t) ≡ g.roles
@@ -51,7 +49,7 @@ LeadsTo-more {S} {M} g p t s next joint leads shown within_moves within_errors w
       moves = map_push (λ (u : Turn M). map g.move_text u.moves) leads.turns turn ∙ ap (λ ts. ts ++ map g.move_text joint ∷ []) leads.moves ∙ ap (λ texts. take t p.moves ++ texts ∷ []) right.texts ∙ sym (take_more p.moves t [] within_moves);
       errors = map_push (λ (u : Turn M). u.errors) leads.turns turn ∙ ap (λ ts. ts ++ turn_at p.errors t ∷ []) leads.errors ∙ sym (take_more p.errors t [] within_errors);
       states = λ k lt.
-          elim (below_or_last k t lt) [
+          elim (eq-or-lt_of_le {n = k} {m = t} (omega (arith, lt))) [
             | inl last ↦
                 subst (λ (n : ℕ). ShowsState g p n (state_after g (take n (leads.turns ++ turn ∷ [])))) (sym last)
                 (subst (λ (ts : List (Turn M)). ShowsState g p t (state_after g ts)) (sym (take_at leads.turns (turn ∷ []) t leads.many))

@@ -1,5 +1,5 @@
 -- Which texts are lawful records of a game, and which have not even the shape of one.
-use Rattle.std.specs.Prelude.{◌≡◌, ◌≢◌, ℕ, suc, List, [], ◌∷◌, length, Some, IsUtf8, ◌⊎◌}
+use Rattle.std.specs.Prelude.{◌≡◌, ◌≢◌, ℕ, suc, List, ◌∷◌, ◌++◌, length, Some, IsUtf8, All, ◌⊎◌}
 use Rattle.serde_json.specs.Data.{Data}
 use Rattle.serde_json.specs.Find.{get}
 use Rattle.serde_json.specs.Read.{read}
@@ -7,10 +7,10 @@ use Rattle.game_core.specs.Play.{Rules}
 use Rattle.match_book.specs.Lawful.{IsLawfulMatch}
 use Rattle.match_book.specs.MatchValue.{MatchValue}
 use Rattle.match_book.specs.Names.{IsLawfulSetup}
-use Rattle.match_record.specs.RecordParts.{parts_of, key_text, key_tree, Holds, IsShapedAt, HasShape}
-use Rattle.match_record.specs.RecordTree.{record_tree}
+use Rattle.match_record.specs.RecordParts.{parts_of}
+use Rattle.match_record.specs.RecordTree.{record_tree, row_of, keys, Holds, IsShapedAt, HasShape}
 use Rattle.match_record.specs.declared.record_parts.Key.{Key}
-use Rattle.match_record.specs.declared.record_parts.Key.TheVariants.{Cause, EndMarks, Errors, GoalValues, MatchId, Moves, Phase, PlayClock, Players, Roles, StartClock, StartMarks, States}
+use Rattle.match_record.specs.declared.record_parts.Key.TheVariants.{Errors, States}
 use Rattle.match_record.specs.declared.record_parts.RecordParts.{RecordParts}
 use Rattle.match_record.specs.declared.verify_fault.VerifyFault.{VerifyFault}
 use Rattle.match_record.specs.declared.verify_fault.VerifyFault.TheVariants.{NotJson, BadShape, Illegal, NotFirst, WrongState, WrongGoals, WrongEnd, Memory}
@@ -30,18 +30,13 @@ pub record IsRecordOf {S M : Type 0} (g : Rules S M) (text : List ℕ) (tree : D
 abbrev pub IsLawfulRecord : {S M : Type 0} → Rules S M → List ℕ → Type 0
 IsLawfulRecord {S} {M} g text = (tree : Data) × (m : MatchValue M) × IsRecordOf g text tree m
 
--- what stands at the key is of the shape that it asks for
+-- what stands at the key is a value of the key's shape, as it is written
 abbrev pub IsShaped : {S M : Type 0} → Rules S M → Data → Key → Type 0
-IsShaped g tree key = (p : RecordParts) × IsShapedAt g key p × (get (key_text key) tree ≡ Some (key_tree key p))
-
--- the keys, in their order
-abbrev pub keys : List Key
-keys = Cause ∷ EndMarks ∷ Errors ∷ GoalValues ∷ MatchId ∷ Moves ∷ Phase ∷ PlayClock ∷ Players ∷ Roles ∷ StartClock ∷ StartMarks ∷ States ∷ []
+IsShaped g tree key = (x : (row_of key).Value) × (get (row_of key).text tree ≡ Some ((row_of key).written x)) × (row_of key).IsOfShape g x
 
 -- the first of these that fails
 abbrev pub IsFirstWithout : {A : Type 0} → (A → Type 0) → List A → A → Type 0
-IsFirstWithout Passes [] x = ⊥
-IsFirstWithout Passes (k ∷ ks) x = ((x ≡ k) × ¬ Passes k) ⊎ (Passes k × IsFirstWithout Passes ks x)
+IsFirstWithout {A} Passes xs x = (before after : List A) × (xs ≡ before ++ x ∷ after) × All Passes before × ¬ Passes x
 
 -- the key whose list has not as many members as the moves ask for: errors first, then states
 abbrev pub HasWrongLength : RecordParts → Key → Type 0

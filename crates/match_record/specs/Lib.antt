@@ -1,9 +1,6 @@
-pub mod Numerals
 pub mod RecordTree
-pub mod JsonValues
 pub mod LawfulRecord
 pub mod RecordParts
 pub mod Replaying
-pub mod ReplaySteps
-pub mod Shown
 pub mod Verified
+pub mod Internal

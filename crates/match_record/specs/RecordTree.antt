@@ -1,35 +1,40 @@
--- The record of a match, as a JSON tree.
-use Rattle.std.specs.Prelude.{ℕ, zero, suc, List, [], ◌∷◌, ◌++◌, map, Option, Some, None, option_map, option_to_list, codes}
+-- The record of a match as a JSON tree, by the table of its keys.
+use Rattle.std.specs.Prelude.{◌≡◌, ℕ, suc, List, [], ◌∷◌, ◌++◌, length, map, Option, Some, None, option_map, IfSome, true, codes, ⊤}
 use Rattle.std.specs.Fmt.{decimal}
-use Rattle.serde_json.specs.Data.{Data, null, number, unsigned, string, array, object, member, no_members}
+use Rattle.serde_json.specs.Data.{Data, Members, null, number, unsigned, string, array, object, member, no_members}
+use Rattle.serde_json.specs.Find.{get}
 use Rattle.serde_json.specs.View.{items_of}
 use Rattle.serde_json.specs.Written.{compact_text}
 use Rattle.game_core.specs.Play.{Rules}
 use Rattle.match_book.specs.Marks.{mark_text}
-use Rattle.match_book.specs.MatchValue.{MatchValue, state_after}
-use Rattle.match_book.specs.Phase.{phase, cause, goal_of}
+use Rattle.match_book.specs.MatchValue.{MatchValue}
+use Rattle.match_book.specs.Names.{is_name, is_clock}
 use Rattle.match_book.specs.declared.answer.Mark.{Mark}
-use Rattle.match_book.specs.declared.turn.Turn.{Turn}
 use Rattle.match_book.specs.declared.phase.Cause.{Cause}
 use Rattle.match_book.specs.declared.phase.Cause.TheVariants.{Asked, NoLegal, NoGoal, TooLong}
 use Rattle.match_book.specs.declared.phase.Phase.{Phase}
 use Rattle.match_book.specs.declared.phase.Phase.TheVariants.{Starting, Playing, Stopping, Finished, Aborting, Aborted}
+use Rattle.match_record.specs.RecordParts.{parts_of, each_role, NamesRole, AreErrors, AreGoals, AreMoves, ArePlayers}
+use Rattle.match_record.specs.declared.record_parts.Key.{Key}
+use Rattle.match_record.specs.declared.record_parts.Key.TheVariants.{Cause as AtCause, EndMarks, Errors, GoalValues, MatchId, Moves, Phase as AtPhase, PlayClock, Players, Roles, StartClock, StartMarks, States}
+use Rattle.match_record.specs.declared.record_parts.RecordParts.{RecordParts}
 
--- what f gives for each role of n, in the order of the roles
-abbrev pub each_role : {A : Type 0} → ℕ → (ℕ → A) → List A
-each_role zero f = []
-each_role (suc n) f = each_role n f ++ f n ∷ []
-
--- the first members of a list: none of them, one, and so on to all
-abbrev pub prefixes : {A : Type 0} → List A → List (List A)
-prefixes [] = [] ∷ []
-prefixes (x ∷ xs) = [] ∷ map (λ front. x ∷ front) (prefixes xs)
+-- ---- how values are written
 
 abbrev pub list_tree : List Data → Data
 list_tree values = array (items_of values)
 
 abbrev pub texts_tree : List (List ℕ) → Data
 texts_tree texts = list_tree (map string texts)
+
+abbrev pub text_lists_tree : List (List (List ℕ)) → Data
+text_lists_tree lists = list_tree (map texts_tree lists)
+
+abbrev pub whole_tree : ℕ → Data
+whole_tree n = number (unsigned n)
+
+abbrev pub goal_values_tree : List ℕ → Data
+goal_values_tree goals = list_tree (map whole_tree goals)
 
 abbrev pub text_or_null : Option (List ℕ) → Data
 text_or_null None = null
@@ -43,53 +48,85 @@ phase_text Finished = codes "finished"
 phase_text Aborting = codes "aborting"
 phase_text Aborted = codes "aborted"
 
+abbrev pub phase_tree : Phase → Data
+phase_tree at = string (phase_text at)
+
 abbrev pub cause_text : Cause → List ℕ
 cause_text Asked = codes "asked"
 cause_text (NoLegal role) = codes "nolegal " ++ decimal role
 cause_text (NoGoal role) = codes "nogoal " ++ decimal role
 cause_text TooLong = codes "toolong"
 
+abbrev pub cause_tree : Option Cause → Data
+cause_tree why = text_or_null (option_map cause_text why)
+
+abbrev pub mark_tree : Option Mark → Data
+mark_tree mark = text_or_null (option_map mark_text mark)
+
 -- the role's mark, or null where there is none
 abbrev pub marks_tree : List (Option Mark) → Data
-marks_tree marks = list_tree (map (λ mark. text_or_null (option_map mark_text mark)) marks)
+marks_tree marks = list_tree (map mark_tree marks)
 
--- for each recorded turn, the texts of the moves
-abbrev pub moves_tree : {S M : Type 0} → Rules S M → List (Turn M) → Data
-moves_tree g turns = list_tree (map (λ t. texts_tree (map g.move_text t.moves)) turns)
+-- ---- the table
 
--- for each recorded turn, the errors
-abbrev pub errors_tree : {M : Type 0} → List (Turn M) → Data
-errors_tree turns = list_tree (map (λ t. texts_tree t.errors) turns)
+-- A key's text, what a record says there, how that is written, and which values are of the key's shape in a record of the game.
+pub record Row : Type 1 where
+  pub Value : Type 0
+  pub text : List ℕ
+  pub said : RecordParts → Value
+  pub written : Value → Data
+  pub IsOfShape : {S M : Type 0} → Rules S M → Value → Type 0
 
--- the goal of each role that has one: these are all roles where the match stops, and else none
-abbrev pub goals_from : ℕ → (ℕ → Option ℕ) → List ℕ
-goals_from zero goal = []
-goals_from (suc n) goal = goals_from n goal ++ option_to_list (goal n)
+abbrev pub row_of : Key → Row
+row_of AtCause = record { Value = Option Cause; text = codes "cause"; said = λ p. p.cause; written = cause_tree; IsOfShape = λ g why. IfSome why (NamesRole g.roles) }
+row_of EndMarks = record { Value = List (Option Mark); text = codes "endMarks"; said = λ p. p.end_marks; written = marks_tree; IsOfShape = λ g marks. length marks ≡ g.roles }
+row_of Errors = record { Value = List (List (List ℕ)); text = codes "errors"; said = λ p. p.errors; written = text_lists_tree; IsOfShape = λ g errors. AreErrors g.roles errors }
+row_of GoalValues = record { Value = List ℕ; text = codes "goalValues"; said = λ p. p.goals; written = goal_values_tree; IsOfShape = λ g goals. AreGoals g.roles goals }
+row_of MatchId = record { Value = List ℕ; text = codes "matchId"; said = λ p. p.id; written = string; IsOfShape = λ g id. is_name id ≡ true }
+row_of Moves = record { Value = List (List (List ℕ)); text = codes "moves"; said = λ p. p.moves; written = text_lists_tree; IsOfShape = λ g moves. AreMoves g.roles moves }
+row_of AtPhase = record { Value = Phase; text = codes "phase"; said = λ p. p.phase; written = phase_tree; IsOfShape = λ g at. ⊤ }
+row_of PlayClock = record { Value = ℕ; text = codes "playClock"; said = λ p. p.play; written = whole_tree; IsOfShape = λ g seconds. is_clock seconds ≡ true }
+row_of Players = record { Value = List (List ℕ); text = codes "players"; said = λ p. p.players; written = texts_tree; IsOfShape = λ g players. ArePlayers g.roles players }
+row_of Roles = record { Value = List (List ℕ); text = codes "roles"; said = λ p. p.roles; written = texts_tree; IsOfShape = λ g names. names ≡ each_role g.roles g.role_name }
+row_of StartClock = record { Value = ℕ; text = codes "startClock"; said = λ p. p.start; written = whole_tree; IsOfShape = λ g seconds. is_clock seconds ≡ true }
+row_of StartMarks = record { Value = List (Option Mark); text = codes "startMarks"; said = λ p. p.start_marks; written = marks_tree; IsOfShape = λ g marks. length marks ≡ g.roles }
+row_of States = record { Value = List (List (List ℕ)); text = codes "states"; said = λ p. p.states; written = text_lists_tree; IsOfShape = λ g states. ⊤ }
 
-abbrev pub goals_tree : {S M : Type 0} → Rules S M → MatchValue M → Data
-goals_tree g m = list_tree (map (λ goal. number (unsigned goal)) (goals_from g.roles (goal_of g m)))
+-- the keys, in byte order of their texts
+abbrev pub keys : List Key
+keys = AtCause ∷ EndMarks ∷ Errors ∷ GoalValues ∷ MatchId ∷ Moves ∷ AtPhase ∷ PlayClock ∷ Players ∷ Roles ∷ StartClock ∷ StartMarks ∷ States ∷ []
 
--- the texts of the state before the first turn, and of the state after each turn: the plays of the prefixes of the turns
-abbrev pub states_tree : {S M : Type 0} → Rules S M → List (Turn M) → Data
-states_tree g turns = list_tree (map (λ front. texts_tree (g.state_text (state_after g front))) (prefixes turns))
+abbrev pub key_text : Key → List ℕ
+key_text key = (row_of key).text
 
--- thirteen keys, in byte order
+-- the value at a key of a record that says this
+abbrev pub key_tree : Key → RecordParts → Data
+key_tree key p = (row_of key).written ((row_of key).said p)
+
+-- what these parts say at the key is of its shape, in a record of the game
+abbrev pub IsShapedAt : {S M : Type 0} → Rules S M → Key → RecordParts → Type 0
+IsShapedAt g key p = (row_of key).IsOfShape g ((row_of key).said p)
+
+-- the tree holds, at each key of a record, what these parts say
+abbrev pub Holds : Data → RecordParts → Type 0
+Holds tree p = (key : Key) → get (key_text key) tree ≡ Some (key_tree key p)
+
+-- these parts are of the shape of a record of the game, with an error beside each move and one state more than turns
+pub record HasShape {S M : Type 0} (g : Rules S M) (p : RecordParts) : Type 0 where
+  pub keys : (key : Key) → IsShapedAt g key p
+  pub as_many_errors : length p.errors ≡ length p.moves
+  pub one_state_more : length p.states ≡ suc (length p.moves)
+
+-- ---- the record
+
+-- the members of a record that says this, at these keys and in their order
+abbrev pub members_at : List Key → RecordParts → Members
+members_at [] p = no_members
+members_at (key ∷ more) p = member (key_text key) (key_tree key p) (members_at more p)
+
+-- what the match says, at each key
 unfoldable pub record_tree : {S M : Type 0} → Rules S M → MatchValue M → Data
-record_tree g m = object (
-    member (codes "cause") (text_or_null (option_map cause_text (cause g m)))
-    (member (codes "endMarks") (marks_tree m.end_marks)
-    (member (codes "errors") (errors_tree m.turns)
-    (member (codes "goalValues") (goals_tree g m)
-    (member (codes "matchId") (string m.setup.id)
-    (member (codes "moves") (moves_tree g m.turns)
-    (member (codes "phase") (string (phase_text (phase g m)))
-    (member (codes "playClock") (number (unsigned m.setup.play))
-    (member (codes "players") (texts_tree m.setup.players)
-    (member (codes "roles") (texts_tree (each_role g.roles g.role_name))
-    (member (codes "startClock") (number (unsigned m.setup.start))
-    (member (codes "startMarks") (marks_tree m.start_marks)
-    (member (codes "states") (states_tree g m.turns)
-    no_members)))))))))))))
+record_tree g m = object (members_at keys (parts_of g m))
 
 -- the record of a match: the tree as compact JSON text
 abbrev pub record_text : {S M : Type 0} → Rules S M → MatchValue M → List ℕ

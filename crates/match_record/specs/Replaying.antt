@@ -1,8 +1,8 @@
 -- The replay of a record, turn by turn: the first place at which it is not the record of a lawful match.
-use Rattle.std.specs.Prelude.{◌≡◌, ◌≢◌, ◌⊎◌, ℕ, ◌<◌, Bool, true, false, List, [], length, take, map, Option, Some, None, Contains, All, slice_get, slice_index_or}
+use Rattle.std.specs.Prelude.{◌≡◌, ◌≢◌, ◌⊎◌, ℕ, ◌<◌, Bool, true, false, List, [], length, take, map, Option, Some, None, Contains, slice_get, slice_index_or}
 use Rattle.game_core.specs.Play.{Rules}
 use Rattle.match_book.specs.Roles.{every_role, lowest_role, is_there, blank}
-use Rattle.match_book.specs.Judgement.{error_text, IsJudged}
+use Rattle.match_book.specs.Judgement.{error_text, NamesNone, IsJudged}
 use Rattle.match_book.specs.MatchValue.{MatchValue, state_after}
 use Rattle.match_book.specs.Phase.{stage, phase, cause, is_live, has_no_move}
 use Rattle.match_book.specs.Lawful.{AreLawful, IsLawfulMatch}
@@ -28,10 +28,6 @@ GoesOn g s = (g.terminal s ≡ false) × (lowest_role g.roles (has_no_move g s) 
 -- the text is that of one of these moves, and the error may stand beside it
 abbrev pub IsRightMove : {S M : Type 0} → Rules S M → List M → List ℕ → List ℕ → Type 0
 IsRightMove {S} {M} g moves text error = (m : M) × (g.move_text m ≡ text) × IsJudged g moves m error
-
--- the text is that of none of these moves
-abbrev pub NamesNone : {S M : Type 0} → Rules S M → List M → List ℕ → Type 0
-NamesNone g moves text = All (λ m. g.move_text m ≢ text) moves
 
 -- the error says that the answer was the text of one of these moves
 abbrev pub DeniesOne : {S M : Type 0} → Rules S M → List M → List ℕ → Type 0

@@ -3,7 +3,7 @@ use Rattle.std.specs.Prelude.{ℕ, List, ◌⊎◌}
 use Rattle.serde_json.specs.Data.{Data}
 use Rattle.game_core.specs.Play.{Rules}
 use Rattle.match_record.specs.LawfulRecord.{HasNoShape, IsJson}
-use Rattle.match_record.specs.RecordParts.{Holds, HasShape}
+use Rattle.match_record.specs.RecordTree.{Holds, HasShape}
 use Rattle.match_record.specs.Replaying.{IsFirstFault}
 use Rattle.match_record.specs.declared.record_parts.RecordParts.{RecordParts}
 use Rattle.match_record.specs.declared.verify_fault.VerifyFault.{VerifyFault}

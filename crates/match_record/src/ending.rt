@@ -4,11 +4,11 @@ ghost use Rattle.game_core.specs.Play.{Rules};
 ghost use Rattle.match_book.specs.Roles.{every_role, is_there, blank};
 ghost use Rattle.match_record.specs.Replaying.{AreGoalsIn, AreGoalsOf};
 ghost use Rattle.match_book.specs.Phase.{is_live};
-ghost use Rattle.match_record.specs.ReplaySteps.{AgreesWith, IsEndAnswer, stage_by};
+ghost use Rattle.match_record.specs.Internal.ReplaySteps.{AgreesWith, IsEndAnswer, stage_by};
 
 use crate::record_parts::RecordParts;
 use game_core::Game;
-use match_book::{Cause, Mark, Phase, Stage, settle};
+use match_book::{Cause, Mark, Phase, Stage, are_all_there, settle};
 use std::alloc::{AllocError, Global};
 
 /// Whether these are the game's goals in the state, one for each role.
@@ -48,18 +48,6 @@ pub fn are_goals_in<G: Game>(
         Phase::Stopping | Phase::Finished => are_goals_of(alloc, game, state, goals),
         _ => Ok(goals.is_empty()),
     }
-}
-
-/// Whether there is a mark for each role.
-fn are_all_there(marks: &[Option<Mark>]) -> bool
-    ensures { result ≡ every_role (length marks.now) (is_there marks.now) }
-{
-    for mark in marks {
-        if mark.is_none() {
-            return false;
-        }
-    }
-    true
 }
 
 /// Whether there is no mark.

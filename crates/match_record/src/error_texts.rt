@@ -7,15 +7,11 @@ ghost use Rattle.match_record.specs.RecordParts.{IsErrorText};
 use crate::record_words::{after, mark_of};
 use game_core::{Text, Texts};
 use kif_text::{KifFault, fold, print, read_one};
+use match_book::{ILLEGAL_PREFIX, MAX_READING, UNREADABLE};
 use std::alloc::{AllocError, Global};
 
-/// The most bytes of what an answer is read as.
-const MAX_READING: usize = 8192;
-
-/// The prefix of an error that quotes an illegal answer.
-pub(crate) const ILLEGAL: &[u8] = b"IL ";
-
-/// Whether a text of at most 8,192 bytes is the canonical text of an expression without capitals.
+/// Whether a text may be what an answer is read as: the canonical text of an expression without capitals, and no
+/// longer than that of any answer.
 fn is_folded_text(alloc: Global, text: &[u8]) -> Result<bool, AllocError>
     ensures { IfOk result (λ b. IsTrue b ↔ (IsFoldedText text.now × (length text.now ≤ max_reading))) }
 {
@@ -41,10 +37,10 @@ fn is_error_text(alloc: Global, text: &[u8]) -> Result<bool, AllocError>
     if mark_of(text).is_some() {
         return Ok(true);
     }
-    if text == b"IL ?".as_slice() {
+    if text == UNREADABLE {
         return Ok(true);
     }
-    match after(text, ILLEGAL) {
+    match after(text, ILLEGAL_PREFIX) {
         Some(read) => is_folded_text(alloc, read),
         None => Ok(false),
     }

@@ -4,7 +4,6 @@
 //! turns alone. `verify` checks a text against a game: it passes exactly where the text is the record of some
 //! lawful match, and else the first test that fails is named. The turns are replayed by the rules, and no state
 //! of the record is trusted. `laws` says what holds of records, whatever the match.
-//! `numeral` reads numbers in decimal digits, as a record's cause has them and the head of a message too.
 //!
 //! Free functions take the allocator first.
 #![tactic(auto)]
@@ -13,7 +12,6 @@ mod ending;
 mod error_texts;
 mod json_values;
 pub mod laws;
-pub mod numeral;
 mod record;
 mod record_parts;
 mod record_reading;

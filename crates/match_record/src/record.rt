@@ -1,13 +1,14 @@
 //! The record of a match.
 ghost use Rattle.std.specs.Prelude.{◌≡◌, ◌<◌, ◌++◌, IfOk, OnOk, Some, length, map, option_map, option_to_list, slice_get};
-ghost use Rattle.serde_json.specs.Data.{number, unsigned};
 ghost use Rattle.serde_json.specs.Read.{read};
 ghost use Rattle.serde_json.specs.View.{view};
 ghost use Rattle.match_book.specs.Lawful.{IsLawfulMatch};
 ghost use Rattle.match_book.specs.Names.{IsLawfulSetup};
 ghost use Rattle.match_record.specs.LawfulRecord.{IsLawfulRecord};
-ghost use Rattle.match_record.specs.RecordTree.{record_text, record_tree, marks_tree, moves_tree, errors_tree, goals_tree, states_tree, texts_tree, each_role};
+ghost use Rattle.match_record.specs.RecordParts.{each_role, parts_of};
+ghost use Rattle.match_record.specs.RecordTree.{goal_values_tree, key_tree, marks_tree, record_text, record_tree, text_lists_tree, texts_tree, whole_tree};
 
+use crate::record_parts::Key;
 use crate::trees::{cause_tree, phase_text, text_or_null, text_tree, texts_tree};
 use game_core::{Game, Text};
 use match_book::Match;
@@ -53,7 +54,7 @@ fn role_names<G: Game>(alloc: Global, game: &G) -> Result<Value, AllocError>
 
 /// Adds a goal, if there is one.
 fn push_goal(goals: &mut Vec<Value>, goal: Option<u8>) -> Result<(), AllocError>
-    ensures { OnOk result (map view goals.new.items ≡ map view goals.old.items ++ map (λ n. number (unsigned n)) (option_to_list goal)) }
+    ensures { OnOk result (map view goals.new.items ≡ map view goals.old.items ++ map whole_tree (option_to_list goal)) }
 {
     if let Some(goal) = goal {
         goals.push(Value::from(goal))?;
@@ -65,7 +66,7 @@ fn push_goal(goals: &mut Vec<Value>, goal: Option<u8>) -> Result<(), AllocError>
 fn goals<G: Game>(alloc: Global, game: &G, held: &Match<G>) -> Result<Value, AllocError>
     requires game { held.now.game ≡ game.now }
     requires lawful { IsLawfulMatch (G.rules game.now) held.now.value }
-    ensures { IfOk result (λ v. view v ≡ goals_tree (G.rules game.now) held.now.value) }
+    ensures { IfOk result (λ v. view v ≡ goal_values_tree (parts_of (G.rules game.now) held.now.value).goals) }
 {
     let mut goals = Vec::new(alloc);
     for role in 0..game.roles() {
@@ -123,7 +124,7 @@ fn turns<G: Game>(held: &Match<G>) -> usize
 fn moves<G: Game>(alloc: Global, game: &G, held: &Match<G>) -> Result<Value, AllocError>
     requires game { held.now.game ≡ game.now }
     requires lawful { IsLawfulMatch (G.rules game.now) held.now.value }
-    ensures { IfOk result (λ v. view v ≡ moves_tree (G.rules game.now) held.now.value.turns) }
+    ensures { IfOk result (λ v. view v ≡ text_lists_tree (parts_of (G.rules game.now) held.now.value).moves) }
 {
     let mut moves = Vec::new(alloc);
     for turn in 0..turns(held) {
@@ -136,7 +137,7 @@ fn moves<G: Game>(alloc: Global, game: &G, held: &Match<G>) -> Result<Value, All
 fn errors<G: Game>(alloc: Global, game: &G, held: &Match<G>) -> Result<Value, AllocError>
     requires game { held.now.game ≡ game.now }
     requires lawful { IsLawfulMatch (G.rules game.now) held.now.value }
-    ensures { IfOk result (λ v. view v ≡ errors_tree held.now.value.turns) }
+    ensures { IfOk result (λ v. view v ≡ text_lists_tree (parts_of (G.rules game.now) held.now.value).errors) }
 {
     let mut errors = Vec::new(alloc);
     for turn in 0..turns(held) {
@@ -177,7 +178,7 @@ fn joint_at<G: Game>(
 fn states<G: Game>(alloc: Global, game: &G, held: &Match<G>) -> Result<Value, AllocError>
     requires game { held.now.game ≡ game.now }
     requires lawful { IsLawfulMatch (G.rules game.now) held.now.value }
-    ensures { IfOk result (λ v. view v ≡ states_tree (G.rules game.now) held.now.value.turns) }
+    ensures { IfOk result (λ v. view v ≡ text_lists_tree (parts_of (G.rules game.now) held.now.value).states) }
 {
     let mut state = game.initial(alloc)?;
     let mut states = Vec::new(alloc);
@@ -190,6 +191,36 @@ fn states<G: Game>(alloc: Global, game: &G, held: &Match<G>) -> Result<Value, Al
     Ok(Value::Array(states))
 }
 
+/// What stands at a key of the record.
+fn value_at<G: Game>(
+    alloc: Global,
+    game: &G,
+    held: &Match<G>,
+    key: Key,
+) -> Result<Value, AllocError>
+    requires game { held.now.game ≡ game.now }
+    requires lawful { IsLawfulMatch (G.rules game.now) held.now.value }
+    requires setup { IsLawfulSetup held.now.value.setup }
+    ensures { IfOk result (λ v. view v ≡ key_tree key (parts_of (G.rules game.now) held.now.value)) }
+{
+    let setup = held.setup();
+    match key {
+        Key::Cause => cause_tree(alloc, held.cause()),
+        Key::EndMarks => end_marks(alloc, game, held),
+        Key::Errors => errors(alloc, game, held),
+        Key::GoalValues => goals(alloc, game, held),
+        Key::MatchId => text_tree(alloc, setup.id.as_slice()),
+        Key::Moves => moves(alloc, game, held),
+        Key::Phase => text_tree(alloc, phase_text(held.status().phase)),
+        Key::PlayClock => Ok(Value::from(setup.play)),
+        Key::Players => texts_tree(alloc, setup.players.as_slice()),
+        Key::Roles => role_names(alloc, game),
+        Key::StartClock => Ok(Value::from(setup.start)),
+        Key::StartMarks => start_marks(alloc, game, held),
+        Key::States => states(alloc, game, held),
+    }
+}
+
 /// The record as a tree.
 fn record_tree<G: Game>(alloc: Global, game: &G, held: &Match<G>) -> Result<Value, AllocError>
     requires game { held.now.game ≡ game.now }
@@ -197,34 +228,11 @@ fn record_tree<G: Game>(alloc: Global, game: &G, held: &Match<G>) -> Result<Valu
     requires setup { IsLawfulSetup held.now.value.setup }
     ensures { IfOk result (λ v. view v ≡ record_tree (G.rules game.now) held.now.value) }
 {
-    let setup = held.setup();
-    let cause = cause_tree(alloc, held.cause())?;
-    let end_marks = end_marks(alloc, game, held)?;
-    let errors = errors(alloc, game, held)?;
-    let goals = goals(alloc, game, held)?;
-    let id = text_tree(alloc, setup.id.as_slice())?;
-    let moves = moves(alloc, game, held)?;
-    let phase = text_tree(alloc, phase_text(held.status().phase))?;
-    let play_clock = Value::from(setup.play);
-    let players = texts_tree(alloc, setup.players.as_slice())?;
-    let roles = role_names(alloc, game)?;
-    let start_clock = Value::from(setup.start);
-    let start_marks = start_marks(alloc, game, held)?;
-    let states = states(alloc, game, held)?;
     let mut members = Map::new(alloc);
-    put(&mut members, alloc, "cause", cause)?;
-    put(&mut members, alloc, "endMarks", end_marks)?;
-    put(&mut members, alloc, "errors", errors)?;
-    put(&mut members, alloc, "goalValues", goals)?;
-    put(&mut members, alloc, "matchId", id)?;
-    put(&mut members, alloc, "moves", moves)?;
-    put(&mut members, alloc, "phase", phase)?;
-    put(&mut members, alloc, "playClock", play_clock)?;
-    put(&mut members, alloc, "players", players)?;
-    put(&mut members, alloc, "roles", roles)?;
-    put(&mut members, alloc, "startClock", start_clock)?;
-    put(&mut members, alloc, "startMarks", start_marks)?;
-    put(&mut members, alloc, "states", states)?;
+    for key in Key::ALL {
+        let value = value_at(alloc, game, held, key)?;
+        put(&mut members, alloc, key.text(), value)?;
+    }
     Ok(Value::Object(members))
 }
 

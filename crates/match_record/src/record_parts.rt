@@ -1,8 +1,9 @@
-//! What a record says, value by value.
+//! The keys of a record, and what it says at each.
 ghost use Rattle.std.specs.Prelude.{◌≡◌, ◌<◌, Some, length, slice_get};
 
 use game_core::{Text, Texts};
 use match_book::{Cause, Mark, Phase};
+use std::alloc::Global;
 use std::marker::Model;
 
 /// The keys of a record, in their order.
@@ -24,7 +25,24 @@ pub enum Key {
 }
 
 impl Key {
-    ghost use Rattle.match_record.specs.RecordParts.{key_text};
+    ghost use Rattle.match_record.specs.RecordTree.{key_text};
+
+    /// All keys, in the order in which they are written and tested.
+    pub(crate) const ALL: [Key; 13] = [
+        Key::Cause,
+        Key::EndMarks,
+        Key::Errors,
+        Key::GoalValues,
+        Key::MatchId,
+        Key::Moves,
+        Key::Phase,
+        Key::PlayClock,
+        Key::Players,
+        Key::Roles,
+        Key::StartClock,
+        Key::StartMarks,
+        Key::States,
+    ];
 
     /// The key as it stands in the text.
     pub fn text(self) -> &'static str
@@ -63,6 +81,15 @@ impl Model for TextLists {
 }
 
 impl TextLists {
+    /// None yet.
+    fn new(alloc: Global) -> TextLists
+        ensures { length result ≡ 0 }
+    {
+        TextLists {
+            items: Vec::new(alloc),
+        }
+    }
+
     /// How many lists there are.
     pub fn count(&self) -> usize
         ensures { result ≡ length self.now }
@@ -95,6 +122,15 @@ impl Model for Marks {
 }
 
 impl Marks {
+    /// None yet.
+    fn new(alloc: Global) -> Marks
+        ensures { length result ≡ 0 }
+    {
+        Marks {
+            items: Vec::new(alloc),
+        }
+    }
+
     pub fn as_slice(&self) -> &[Option<Mark>]
         ensures { result.now ≡ self.now }
     {
@@ -117,6 +153,15 @@ impl Model for Goals {
 }
 
 impl Goals {
+    /// None yet.
+    fn new(alloc: Global) -> Goals
+        ensures { length result ≡ 0 }
+    {
+        Goals {
+            items: Vec::new(alloc),
+        }
+    }
+
     pub fn as_slice(&self) -> &[u8]
         ensures { result.now ≡ self.now }
     {
@@ -140,4 +185,31 @@ pub struct RecordParts {
     pub start: u32,
     pub start_marks: Marks,
     pub states: TextLists,
+}
+
+impl RecordParts {
+    /// Parts that say nothing yet, to read a record into.
+    pub fn new(alloc: Global) -> RecordParts {
+        RecordParts {
+            cause: None,
+            end_marks: Marks::new(alloc),
+            errors: TextLists::new(alloc),
+            goals: Goals::new(alloc),
+            id: Text {
+                bytes: Vec::new(alloc),
+            },
+            moves: TextLists::new(alloc),
+            phase: Phase::Starting,
+            play: 0,
+            players: Texts {
+                items: Vec::new(alloc),
+            },
+            roles: Texts {
+                items: Vec::new(alloc),
+            },
+            start: 0,
+            start_marks: Marks::new(alloc),
+            states: TextLists::new(alloc),
+        }
+    }
 }

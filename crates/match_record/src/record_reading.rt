@@ -1,19 +1,20 @@
 //! A record, read from its text.
-ghost use Rattle.std.specs.Prelude.{◌≡◌, ◌≤◌, ◌<◌, ◌^◌, ◌==◌, ◌||◌, ◌↔◌, ◌⊎◌, All, IfErr, IfOk, IsTrue, MatchResult, Ok, Some, None, length, option_map, true};
-ghost use Rattle.serde_json.specs.Data.{Data, number, string, unsigned};
-ghost use Rattle.serde_json.specs.Find.{get};
+ghost use Rattle.std.specs.Prelude.{◌≡◌, ◌≤◌, ◌<◌, ◌^◌, ◌==◌, ◌||◌, ◌↔◌, ◌⊎◌, All, IfErr, IfOk, IsTrue, OnOk, Some, None, if◌then◌else◌, length, true};
+ghost use Rattle.serde_json.specs.Data.{Data, string};
 ghost use Rattle.serde_json.specs.View.{view};
 ghost use Rattle.game_core.specs.Play.{max_goal};
 ghost use Rattle.match_book.specs.Names.{is_clock, is_name};
-ghost use Rattle.match_record.specs.LawfulRecord.{HasNoShape, IsFirstWithout, IsJson, IsShaped, keys};
-ghost use Rattle.match_record.specs.RecordParts.{AreErrors, AreGoals, AreMoves, ArePlayers, HasShape, Holds, IsShapedAt, goal_values_tree, key_text, text_lists_tree};
-ghost use Rattle.match_record.specs.RecordTree.{each_role, marks_tree, texts_tree};
-ghost use Rattle.match_record.specs.Shown.{Shows};
+ghost use Rattle.match_record.specs.Internal.JsonValues.{data_in};
+ghost use Rattle.match_record.specs.Internal.KeyReading.{IsReadInto, SayTheSame, keys_before};
+ghost use Rattle.match_record.specs.Internal.Shown.{Shows};
+ghost use Rattle.match_record.specs.LawfulRecord.{HasNoShape, IsFirstWithout, IsJson, IsShaped};
+ghost use Rattle.match_record.specs.RecordParts.{AreErrors, AreGoals, AreMoves, ArePlayers, each_role};
+ghost use Rattle.match_record.specs.RecordTree.{HasShape, Holds, IsShapedAt, goal_values_tree, keys, marks_tree, text_lists_tree, texts_tree, whole_tree};
 ghost use Rattle.match_record.specs.declared.record_parts.Key.{Key};
 ghost use Rattle.match_record.specs.declared.verify_fault.VerifyFault.TheVariants.{BadShape, Memory, NotJson};
 
 use crate::error_texts::are_errors;
-use crate::json_values::{bytes_in, members_in, text_lists_in, texts_in, whole_in};
+use crate::json_values::{FromJson, bytes_in, members_in, whole_in};
 use crate::record_parts::{Goals, Key, Marks, RecordParts, TextLists};
 use crate::record_words::{cause_in, mark_in, phase_in};
 use crate::verify_fault::VerifyFault;
@@ -27,7 +28,7 @@ const MAX_GOAL: u64 = 100;
 
 /// A mark, or null, for each role.
 fn marks_in(alloc: Global, found: Option<&Value>, roles: usize) -> Result<Option<Marks>, AllocError>
-    ensures { IfOk result (λ o. Shows marks_tree (λ marks. length marks ≡ roles) (option_map (λ v. view v.now) found.entry) o) }
+    ensures { IfOk result (λ o. Shows marks_tree (λ marks. length marks ≡ roles) (data_in found.entry) o) }
 {
     let Some(members) = members_in(found) else {
         return Ok(None);
@@ -46,7 +47,7 @@ fn marks_in(alloc: Global, found: Option<&Value>, roles: usize) -> Result<Option
 }
 
 fn goal_in(found: Option<&Value>) -> Option<u8>
-    ensures { Shows (λ goal. number (unsigned goal)) (λ goal. goal ≤ max_goal) (option_map (λ v. view v.now) found.entry) result }
+    ensures { Shows whole_tree (λ goal. goal ≤ max_goal) (data_in found.entry) result }
 {
     let goal = whole_in(found)?;
     if goal <= MAX_GOAL {
@@ -65,7 +66,7 @@ fn is_goal_count(goals: usize, roles: usize) -> bool
 
 /// No goal, or one for each role.
 fn goals_in(alloc: Global, found: Option<&Value>, roles: usize) -> Result<Option<Goals>, AllocError>
-    ensures { IfOk result (λ o. Shows goal_values_tree (AreGoals roles) (option_map (λ v. view v.now) found.entry) o) }
+    ensures { IfOk result (λ o. Shows goal_values_tree (AreGoals roles) (data_in found.entry) o) }
 {
     let Some(members) = members_in(found) else {
         return Ok(None);
@@ -85,7 +86,7 @@ fn goals_in(alloc: Global, found: Option<&Value>, roles: usize) -> Result<Option
 
 /// A lawful id.
 fn id_in(alloc: Global, found: Option<&Value>) -> Result<Option<Text>, AllocError>
-    ensures { IfOk result (λ o. Shows string (λ id. is_name id ≡ true) (option_map (λ v. view v.now) found.entry) o) }
+    ensures { IfOk result (λ o. Shows string (λ id. is_name id ≡ true) (data_in found.entry) o) }
 {
     match bytes_in(found) {
         Some(bytes) if is_name(bytes) => Ok(Some(Text::from_slice(alloc, bytes)?)),
@@ -95,7 +96,7 @@ fn id_in(alloc: Global, found: Option<&Value>) -> Result<Option<Text>, AllocErro
 
 /// A lawful clock.
 fn clock_in(found: Option<&Value>) -> Option<u32>
-    ensures { Shows (λ seconds. number (unsigned seconds)) (λ seconds. is_clock seconds ≡ true) (option_map (λ v. view v.now) found.entry) result }
+    ensures { Shows whole_tree (λ seconds. is_clock seconds ≡ true) (data_in found.entry) result }
 {
     let seconds = whole_in(found)?;
     if seconds > u64::from(MAX_CLOCK) {
@@ -115,9 +116,9 @@ fn errors_in(
     found: Option<&Value>,
     roles: usize,
 ) -> Result<Option<TextLists>, AllocError>
-    ensures { IfOk result (λ o. Shows text_lists_tree (AreErrors roles) (option_map (λ v. view v.now) found.entry) o) }
+    ensures { IfOk result (λ o. Shows text_lists_tree (AreErrors roles) (data_in found.entry) o) }
 {
-    let Some(errors) = text_lists_in(alloc, found)? else {
+    let Some(errors) = TextLists::value_in(alloc, found)? else {
         return Ok(None);
     };
     if are_errors(alloc, errors.items.as_slice(), roles)? {
@@ -146,9 +147,9 @@ fn moves_in(
     found: Option<&Value>,
     roles: usize,
 ) -> Result<Option<TextLists>, AllocError>
-    ensures { IfOk result (λ o. Shows text_lists_tree (AreMoves roles) (option_map (λ v. view v.now) found.entry) o) }
+    ensures { IfOk result (λ o. Shows text_lists_tree (AreMoves roles) (data_in found.entry) o) }
 {
-    let Some(moves) = text_lists_in(alloc, found)? else {
+    let Some(moves) = TextLists::value_in(alloc, found)? else {
         return Ok(None);
     };
     if are_moves(moves.items.as_slice(), roles) {
@@ -170,9 +171,9 @@ fn players_in(
     found: Option<&Value>,
     roles: usize,
 ) -> Result<Option<Texts>, AllocError>
-    ensures { IfOk result (λ o. Shows texts_tree (ArePlayers roles) (option_map (λ v. view v.now) found.entry) o) }
+    ensures { IfOk result (λ o. Shows texts_tree (ArePlayers roles) (data_in found.entry) o) }
 {
-    let Some(players) = texts_in(alloc, found)? else {
+    let Some(players) = Texts::value_in(alloc, found)? else {
         return Ok(None);
     };
     if are_players(players.as_slice(), roles) {
@@ -203,9 +204,9 @@ fn roles_in<G: Game>(
     game: &G,
     found: Option<&Value>,
 ) -> Result<Option<Texts>, AllocError>
-    ensures { IfOk result (λ o. Shows texts_tree (λ names. names ≡ each_role (G.rules game.now).roles (G.rules game.now).role_name) (option_map (λ v. view v.now) found.entry) o) }
+    ensures { IfOk result (λ o. Shows texts_tree (λ names. names ≡ each_role (G.rules game.now).roles (G.rules game.now).role_name) (data_in found.entry) o) }
 {
-    let Some(names) = texts_in(alloc, found)? else {
+    let Some(names) = Texts::value_in(alloc, found)? else {
         return Ok(None);
     };
     if are_role_names(game, names.as_slice()) {
@@ -215,22 +216,46 @@ fn roles_in<G: Game>(
     }
 }
 
-/// What stands at a key.
-fn at(tree: &Value, key: Key) -> Option<&Value>
-    ensures { option_map (λ v. view v.now) result ≡ get (key_text key) (view tree.now) }
-{
-    tree.get(key.text())
-}
-
-/// What was read at a key, if it was of the key's shape.
-fn shaped<T: Drop>(key: Key, read: Result<Option<T>, AllocError>) -> Result<T, VerifyFault>
-    ensures { MatchResult result (λ x. read ≡ Ok (Some x)) (λ fault. (fault ≡ Memory) ⊎ ((fault ≡ BadShape key) × (read ≡ Ok None))) }
+/// Keeps what was read, if anything was, and says whether.
+fn keep<T: Drop>(part: &mut T, read: Option<T>) -> bool
+    ensures { read ≡ (if result then Some part.new else None) }
 {
     match read {
-        Ok(Some(value)) => Ok(value),
-        Ok(None) => Err(VerifyFault::BadShape(key)),
-        Err(_) => Err(VerifyFault::Memory),
+        Some(value) => {
+            *part = value;
+            true
+        }
+        None => false,
     }
+}
+
+/// Reads what was found at a key, if it is of the key's shape, and says whether it is.
+fn read_into<G: Game>(
+    alloc: Global,
+    game: &G,
+    key: Key,
+    found: Option<&Value>,
+    parts: &mut RecordParts,
+) -> Result<bool, AllocError>
+    ensures read { IfOk result (IsReadInto (G.rules game.now) key (data_in found.entry) parts.new) }
+    ensures kept { OnOk result (SayTheSame (keys_before key keys) parts.old parts.new) }
+{
+    let roles = game.roles();
+    Ok(match key {
+        Key::Cause => keep(&mut parts.cause, cause_in(found, roles)),
+        Key::EndMarks => keep(&mut parts.end_marks, marks_in(alloc, found, roles)?),
+        Key::Errors => keep(&mut parts.errors, errors_in(alloc, found, roles)?),
+        Key::GoalValues => keep(&mut parts.goals, goals_in(alloc, found, roles)?),
+        Key::MatchId => keep(&mut parts.id, id_in(alloc, found)?),
+        Key::Moves => keep(&mut parts.moves, moves_in(alloc, found, roles)?),
+        Key::Phase => keep(&mut parts.phase, phase_in(found)),
+        Key::PlayClock => keep(&mut parts.play, clock_in(found)),
+        Key::Players => keep(&mut parts.players, players_in(alloc, found, roles)?),
+        Key::Roles => keep(&mut parts.roles, roles_in(alloc, game, found)?),
+        Key::StartClock => keep(&mut parts.start, clock_in(found)),
+        Key::StartMarks => keep(&mut parts.start_marks, marks_in(alloc, found, roles)?),
+        Key::States => keep(&mut parts.states, TextLists::value_in(alloc, found)?),
+    })
 }
 
 /// What the keys of a tree hold, each of its shape.
@@ -238,47 +263,14 @@ fn parts_in<G: Game>(alloc: Global, game: &G, tree: &Value) -> Result<RecordPart
     ensures ok { IfOk result (λ p. Holds (view tree.now) p × ((key : Key) → IsShapedAt (G.rules game.now) key p)) }
     ensures err { IfErr result (λ fault. (fault ≡ Memory) ⊎ ((key : Key) × (fault ≡ BadShape key) × IsFirstWithout (IsShaped (G.rules game.now) (view tree.now)) keys key)) }
 {
-    let roles = game.roles();
-    let cause = shaped(Key::Cause, Ok(cause_in(at(tree, Key::Cause), roles)))?;
-    let end_marks = shaped(
-        Key::EndMarks,
-        marks_in(alloc, at(tree, Key::EndMarks), roles),
-    )?;
-    let errors = shaped(Key::Errors, errors_in(alloc, at(tree, Key::Errors), roles))?;
-    let goals = shaped(
-        Key::GoalValues,
-        goals_in(alloc, at(tree, Key::GoalValues), roles),
-    )?;
-    let id = shaped(Key::MatchId, id_in(alloc, at(tree, Key::MatchId)))?;
-    let moves = shaped(Key::Moves, moves_in(alloc, at(tree, Key::Moves), roles))?;
-    let phase = shaped(Key::Phase, Ok(phase_in(at(tree, Key::Phase))))?;
-    let play = shaped(Key::PlayClock, Ok(clock_in(at(tree, Key::PlayClock))))?;
-    let players = shaped(
-        Key::Players,
-        players_in(alloc, at(tree, Key::Players), roles),
-    )?;
-    let role_names = shaped(Key::Roles, roles_in(alloc, game, at(tree, Key::Roles)))?;
-    let start = shaped(Key::StartClock, Ok(clock_in(at(tree, Key::StartClock))))?;
-    let start_marks = shaped(
-        Key::StartMarks,
-        marks_in(alloc, at(tree, Key::StartMarks), roles),
-    )?;
-    let states = shaped(Key::States, text_lists_in(alloc, at(tree, Key::States)))?;
-    Ok(RecordParts {
-        cause,
-        end_marks,
-        errors,
-        goals,
-        id,
-        moves,
-        phase,
-        play,
-        players,
-        roles: role_names,
-        start,
-        start_marks,
-        states,
-    })
+    let mut parts = RecordParts::new(alloc);
+    for key in Key::ALL {
+        let found = tree.get(key.text());
+        if !read_into(alloc, game, key, found, &mut parts)? {
+            return Err(VerifyFault::BadShape(key));
+        }
+    }
+    Ok(parts)
 }
 
 /// The tree of a JSON text.

@@ -1,17 +1,15 @@
 //! The words of a record: marks, phases and causes.
-ghost use Rattle.std.specs.Prelude.{◌≡◌, ◌≢◌, ◌^◌, ◌<◌, ◌++◌, IfSome, List, MatchOption, Some, ℕ, option_map};
+ghost use Rattle.std.specs.Prelude.{◌≡◌, ◌≢◌, ◌^◌, ◌<◌, ◌++◌, IfSome, List, MatchOption, Some, ℕ};
 ghost use Rattle.std.specs.Fmt.{decimal};
-ghost use Rattle.serde_json.specs.Data.{string};
-ghost use Rattle.serde_json.specs.View.{view};
+ghost use Rattle.match_record.specs.Internal.JsonValues.{data_in};
 ghost use Rattle.match_book.specs.Marks.{mark_text};
-ghost use Rattle.match_record.specs.Numerals.{is_plain_numeral};
-ghost use Rattle.match_record.specs.RecordParts.{NamesRole, cause_tree};
-ghost use Rattle.match_record.specs.RecordTree.{cause_text, phase_text, text_or_null};
-ghost use Rattle.match_record.specs.Shown.{AnyShape, Shows};
+ghost use Rattle.match_record.specs.RecordParts.{NamesRole};
+ghost use Rattle.match_record.specs.RecordTree.{cause_text, cause_tree, mark_tree, phase_text, phase_tree};
+ghost use Rattle.match_record.specs.Internal.Shown.{AnyShape, Shows};
 
 use crate::json_values::{bytes_in, is_null};
-use crate::numeral::{are_digits, number_up_to};
 use crate::trees::phase_text;
+use game_core::numeral::plain_number;
 use match_book::{Cause, Mark, Phase};
 use serde_json::Value;
 
@@ -39,7 +37,7 @@ pub fn mark_of(text: &[u8]) -> Option<Mark>
 
 /// A mark, or none where the value is null.
 pub fn mark_in(found: Option<&Value>) -> Option<Option<Mark>>
-    ensures { Shows (λ mark. text_or_null (option_map mark_text mark)) AnyShape (option_map (λ v. view v.now) found.entry) result }
+    ensures { Shows mark_tree AnyShape (data_in found.entry) result }
 {
     if is_null(found) {
         return Some(None);
@@ -70,15 +68,9 @@ fn phase_of(text: &[u8]) -> Option<Phase>
 
 /// The phase that a text names.
 pub fn phase_in(found: Option<&Value>) -> Option<Phase>
-    ensures { Shows (λ phase. string (phase_text phase)) AnyShape (option_map (λ v. view v.now) found.entry) result }
+    ensures { Shows phase_tree AnyShape (data_in found.entry) result }
 {
     phase_of(bytes_in(found)?)
-}
-
-fn is_plain_numeral(digits: &[u8]) -> bool
-    ensures { result ≡ is_plain_numeral digits.now }
-{
-    are_digits(digits) && (digits.len() == 1 || digits[0] != b'0')
 }
 
 /// The number of a role, in decimal digits without leading zeros.
@@ -86,10 +78,7 @@ fn role_of(digits: &[u8], roles: usize) -> Option<usize>
     requires { roles < 2 ^ 32 }
     ensures { Shows decimal (λ role. role < roles) (Some digits.now) result }
 {
-    if !is_plain_numeral(digits) {
-        return None;
-    }
-    let role = number_up_to(digits, roles)?;
+    let role = plain_number(digits, roles)?;
     if role < roles { Some(role) } else { None }
 }
 
@@ -117,7 +106,7 @@ fn cause_of(text: &[u8], roles: usize) -> Option<Cause>
 /// A cause that names a role of the game or none, or no cause where the value is null.
 pub fn cause_in(found: Option<&Value>, roles: usize) -> Option<Option<Cause>>
     requires { roles < 2 ^ 32 }
-    ensures { Shows cause_tree (λ why. IfSome why (NamesRole roles)) (option_map (λ v. view v.now) found.entry) result }
+    ensures { Shows cause_tree (λ why. IfSome why (NamesRole roles)) (data_in found.entry) result }
 {
     if is_null(found) {
         return Some(None);

@@ -1,40 +1,18 @@
 //! One turn of a record, in the state before it.
 ghost use Rattle.std.specs.Prelude.{◌≡◌, ◌≢◌, ◌↔◌, All, AllPairs, IfOk, IsTrue, List, MatchOption, ℕ, length};
 ghost use Rattle.game_core.specs.Play.{IsJoint};
+ghost use Rattle.match_book.specs.LegalMoves.{AreLegalMoves};
 ghost use Rattle.match_book.specs.Judgement.{error_text};
 ghost use Rattle.match_book.specs.declared.judgement.Substitution.TheVariants.{Illegal};
 ghost use Rattle.match_record.specs.RecordParts.{IsErrorText};
 ghost use Rattle.match_record.specs.Replaying.{GoesOn, DeniesOne};
-ghost use Rattle.match_record.specs.ReplaySteps.{all_moves, IsPlaceOf, IsRecorded, IsJointAnswer, IsTurnAnswer};
+ghost use Rattle.match_record.specs.Internal.ReplaySteps.{IsRecorded, IsJointAnswer, IsTurnAnswer};
 
-use crate::error_texts::ILLEGAL;
 use crate::record_words::after;
 use crate::verify_fault::VerifyFault;
 use game_core::{Game, Joint, Text};
+use match_book::{ILLEGAL_PREFIX, RoleMoves, legal_moves, place_of};
 use std::alloc::{AllocError, Global};
-use std::marker::Model;
-
-/// The legal moves of one role. Contracts see the list.
-#[derive(Drop)]
-struct RoleMoves<M> {
-    items: Vec<M>,
-}
-
-impl<M> Model for RoleMoves<M> {
-    ghost use Rattle.std.specs.Prelude.{List};
-
-    ghost Value = { List M };
-
-    ghost view = { λ r. r.items.items };
-}
-
-impl<M> RoleMoves<M> {
-    fn as_slice(&self) -> &[M]
-        ensures { result.now ≡ self.now }
-    {
-        self.items.as_slice()
-    }
-}
 
 /// What a recorded move is.
 #[derive(Drop)]
@@ -47,30 +25,11 @@ enum RecordedMove<M> {
     WrongError,
 }
 
-/// The place of a move with this text, if there is one.
-fn place_of<G: Game>(
-    alloc: Global,
-    game: &G,
-    moves: &[G::Move],
-    wanted: &[u8],
-) -> Result<Option<usize>, AllocError>
-    requires { All (λ m. (G.rules game.now).IsMove m) moves.now }
-    ensures { IfOk result (λ o. IsPlaceOf (G.rules game.now) moves.now wanted.now o) }
-{
-    for (place, taken) in moves.iter().enumerate() {
-        let text = game.move_text(alloc, taken)?;
-        if text.as_slice() == wanted {
-            return Ok(Some(place));
-        }
-    }
-    Ok(None)
-}
-
 /// The answer that was not legal, if the error says so of one.
 fn denied_answer(error: &[u8]) -> Option<&[u8]>
     ensures { MatchOption result ((x : List ℕ) → error.now ≢ error_text (Illegal x)) (λ x. error.now ≡ error_text (Illegal x.now)) }
 {
-    after(error, ILLEGAL)
+    after(error, ILLEGAL_PREFIX)
 }
 
 /// Whether the error says that the answer was the text of one of these moves.
@@ -117,27 +76,22 @@ fn recorded_move<G: Game>(
 }
 
 /// The legal moves of each role, where the state is not terminal and each role has one.
-fn legal_moves<G: Game>(
+fn next_moves<G: Game>(
     alloc: Global,
     game: &G,
     state: &G::State,
 ) -> Result<Option<Vec<RoleMoves<G::Move>>>, AllocError>
     requires { (G.rules game.now).IsState state.now }
     ensures { IfOk result (λ o. MatchOption o (¬ GoesOn (G.rules game.now) state.now)
-        (λ lists. GoesOn (G.rules game.now) state.now × (lists.items ≡ all_moves (G.rules game.now) state.now))) }
+        (λ lists. GoesOn (G.rules game.now) state.now × AreLegalMoves (G.rules game.now) state.now lists.items)) }
 {
     if game.terminal(alloc, state)? {
         return Ok(None);
     }
-    let mut lists = Vec::new(alloc);
-    for role in 0..game.roles() {
-        let items = game.legal(alloc, state, role)?;
-        if items.is_empty() {
-            return Ok(None);
-        }
-        lists.push(RoleMoves { items })?;
+    match legal_moves(alloc, game, state)? {
+        (None, lists) => Ok(Some(lists)),
+        (Some(_), _) => Ok(None),
     }
-    Ok(Some(lists))
 }
 
 /// The joint move of these texts, or the fault of the lowest role at fault. Each role's moves are asked for
@@ -156,7 +110,7 @@ fn recorded_joint<G: Game>(
     requires error_texts { All IsErrorText errors.now }
     ensures { IsJointAnswer (G.rules game.now) state.now moves.now errors.now turn result }
 {
-    let Some(lists) = legal_moves(alloc, game, state)? else {
+    let Some(lists) = next_moves(alloc, game, state)? else {
         return Err(VerifyFault::WrongEnd);
     };
     let mut joint = Vec::new(alloc);

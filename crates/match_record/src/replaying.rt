@@ -1,8 +1,8 @@
 //! The check of a record against the game: its turns are replayed, and no state of it is trusted.
 ghost use Rattle.std.specs.Prelude.{◌≡◌, ◌≢◌, ◌<◌, ◌↔◌, IfOk, IfErr, OnOk, IsTrue, length};
-ghost use Rattle.match_record.specs.RecordParts.{HasShape};
+ghost use Rattle.match_record.specs.RecordTree.{HasShape};
 ghost use Rattle.match_record.specs.Replaying.{AreLawfulParts, IsFirstFault, ShowsState};
-ghost use Rattle.match_record.specs.ReplaySteps.{IsReplayAnswer};
+ghost use Rattle.match_record.specs.Internal.ReplaySteps.{IsReplayAnswer};
 ghost use Rattle.match_record.specs.declared.verify_fault.VerifyFault.TheVariants.{Memory};
 
 use crate::ending::{are_goals_in, is_right_end};

@@ -1,9 +1,9 @@
 //! The parts of a record as JSON.
-ghost use Rattle.std.specs.Prelude.{◌≡◌, All, IfOk, IfSome, option_copied, option_map};
+ghost use Rattle.std.specs.Prelude.{◌≡◌, All, IfOk, IfSome, option_copied};
 ghost use Rattle.std.specs.Str.{IsAscii};
 ghost use Rattle.serde_json.specs.Data.{string};
 ghost use Rattle.serde_json.specs.View.{view};
-ghost use Rattle.match_record.specs.RecordTree.{phase_text, cause_text, texts_tree, text_or_null};
+ghost use Rattle.match_record.specs.RecordTree.{phase_text, cause_tree, texts_tree, text_or_null};
 
 use game_core::Text;
 use match_book::{Cause, Phase};
@@ -61,7 +61,7 @@ pub fn phase_text(phase: Phase) -> &'static [u8]
 
 /// Why the match is aborted: null where it is not.
 pub fn cause_tree(alloc: Global, cause: Option<Cause>) -> Result<Value, AllocError>
-    ensures { IfOk result (λ v. view v ≡ text_or_null (option_map cause_text cause)) }
+    ensures { IfOk result (λ v. view v ≡ cause_tree cause) }
 {
     let text = match cause {
         None => return Ok(Value::Null),

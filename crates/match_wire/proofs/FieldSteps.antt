@@ -5,9 +5,10 @@ use Rattle.std.specs.List.{list_all, list_any}
 use Rattle.std.specs.Str.Parse.{digits_value}
 use Rattle.std.proofs.lemmas.Bool.Decides.{nat_tests}
 use Rattle.std.proofs.lemmas.List.{at_drop_more}
-use Rattle.match_wire.specs.BodyLength.{Header, BodyLength, unsaid, said, wrong, has_name, transfer_encoding, content_length, writes_number, lengths, body_length, length_of, agrees}
-use Rattle.match_record.specs.Numerals.{are_digits}
-use Rattle.match_record.proofs.Numerals.{parts as both}
+use Rattle.match_wire.specs.BodyLength.{Header, BodyLength, unsaid, said, wrong, has_name, transfer_encoding, content_length, writes_number, lengths, body_length}
+use Rattle.match_wire.specs.Internal.Heads.{length_of, agrees}
+use Rattle.game_core.specs.Numerals.{are_digits}
+use Rattle.game_core.proofs.Numerals.{parts as both}
 
 -- one more length
 abbrev agree : BodyLength → List ℕ → BodyLength

@@ -1,11 +1,10 @@
 -- Expressions by their members, and those that have not the form of a message.
-use Rattle.std.proofs.Common.{◌≡◌, ◌≢◌, ◌⊎◌, inl, inr, ℕ, ◌<◌, ◌≤◌, Option, Some, None, Err, List, [], ◌∷◌, map, length, refl, ap, arith}
-use Rattle.game_core.specs.Expression.{Expression, atom, list, Expressions, more, folded, all_folded}
+use Rattle.std.proofs.Common.{◌≡◌, ◌≢◌, ◌<◌, ◌≤◌, Some, None, Err, List, [], ◌∷◌, map, length, refl, ap, arith}
+use Rattle.game_core.specs.Expression.{Expression, atom, list, more, folded, all_folded}
 use Rattle.kif_text.specs.View.{view, views, expressions}
 use Rattle.kif_text.specs.declared.expr.Expr.{Expr}
 use Rattle.match_wire.specs.InfoReading.{status_pair}
-use Rattle.match_wire.specs.MessageValue.{MessageValue}
-use Rattle.match_wire.specs.MessageReading.{members_in, moves_in, info_in, start_in, moves_of, last_moves_in, abort_in}
+use Rattle.match_wire.specs.MessageReading.{members_in, moves_in, info_in, start_in, id_and_moves, abort_in}
 use Rattle.match_wire.specs.declared.messages.MessageFault.TheVariants.{BadMessage}
 
 pub views_folded : (xs : List Expr) → all_folded (views xs) ≡ expressions (map (λ x. folded (view x)) xs)
@@ -40,11 +39,11 @@ abort_other [] other = refl
 abort_other (x ∷ []) other = absurd (other refl)
 abort_other (x ∷ (y ∷ xs)) other = refl
 
-pub moves_other : (f : List ℕ → Option Expressions → MessageValue) (xs : List Expr) → length xs ≢ 2 → last_moves_in f (views xs) ≡ Err BadMessage
-moves_other f [] other = refl
-moves_other f (x ∷ []) other = refl
-moves_other f (x ∷ (y ∷ [])) other = absurd (other refl)
-moves_other f (x ∷ (y ∷ (z ∷ xs))) other = refl
+pub id_and_moves-other : (xs : List Expr) → length xs ≢ 2 → id_and_moves (views xs) ≡ None
+id_and_moves-other [] other = refl
+id_and_moves-other (x ∷ []) other = refl
+id_and_moves-other (x ∷ (y ∷ [])) other = absurd (other refl)
+id_and_moves-other (x ∷ (y ∷ (z ∷ xs))) other = refl
 
 pub start_other : (xs : List Expr) → length xs ≢ 5 → start_in (views xs) ≡ Err BadMessage
 start_other [] other = refl
@@ -54,10 +53,3 @@ start_other (a ∷ (b ∷ (d ∷ []))) other = refl
 start_other (a ∷ (b ∷ (d ∷ (e ∷ [])))) other = refl
 start_other (a ∷ (b ∷ (d ∷ (e ∷ (f ∷ []))))) other = absurd (other refl)
 start_other (a ∷ (b ∷ (d ∷ (e ∷ (f ∷ (g ∷ xs)))))) other = refl
-
--- an id or moves that are not there
-pub moves_missing : (f : List ℕ → Option Expressions → MessageValue) (id : Option (List ℕ)) (moves : Option (Option Expressions)) → (id ≡ None) ⊎ (moves ≡ None) → moves_of f id moves ≡ Err BadMessage
-moves_missing f None moves is = refl
-moves_missing f (Some id) None is = refl
-moves_missing f (Some id) (Some moves) (inl is) = absurd cc
-moves_missing f (Some id) (Some moves) (inr is) = absurd cc

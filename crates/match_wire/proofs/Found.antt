@@ -4,7 +4,7 @@ use Rattle.std.specs.Prelude.{◌⊎◌, nat_lt, nat_le, slice_range}
 use Rattle.std.proofs.lemmas.List.{take-append-drop, take_all}
 use Rattle.std.proofs.lemmas.Bool.Decides.{nat_tests}
 use Rattle.match_wire.specs.BodyLength.{BodyLength, unsaid, said, wrong, body_length}
-use Rattle.match_wire.specs.HttpHead.{Parts, Reads, framed, framed_by, unless_refused, front, most_body}
+use Rattle.match_wire.specs.HttpHead.{Parts, Reads, framed, framed_by, unless_refused, front, max_head, max_body}
 use Rattle.match_wire.specs.Looks.{Looks, look_from, look_past}
 use Rattle.match_wire.specs.Carried.{Carried, Follows}
 use Rattle.match_wire.specs.WireFaults.{WantsMore}
@@ -16,29 +16,29 @@ use Rattle.match_wire.specs.declared.head.Head.{Head}
 use Rattle.match_wire.specs.declared.head.Head.TheVariants.{Unfinished, Whole, Refused}
 use Rattle.match_wire.specs.declared.look.Look.{Look}
 use Rattle.match_wire.specs.declared.look.Look.TheVariants as looks
-use Rattle.match_wire.specs.declared.wire_fault.Refusal.{Refusal}
-use Rattle.match_wire.specs.declared.wire_fault.Refusal.TheVariants.{BadHead, BadLength, TooLong, CutShort}
+use Rattle.match_wire.specs.declared.wire_fault.FrameFault.{FrameFault}
+use Rattle.match_wire.specs.declared.wire_fault.FrameFault.TheVariants.{BadHead, BadLength, TooLong, CutShort}
 use Rattle.match_wire.specs.declared.wire_fault.WireFault.TheVariants.{WriteFault, ReadFault, TooManyReads, Memory}
 use Rattle.match_wire.specs.declared.wire_fault.WireFault.TheVariants as faults
 use Rattle.match_wire.proofs.Heads.{placed, none_in_nothing, reads_on, reads_cut, framed_alone}
 
 -- ---- carried, so found
 
-found_said : (kind : HttpKind) (n size : ℕ) (given rest body : List ℕ) (ended : Bool) → (n ≤ most_body kind) × (n ≤ length rest) × (body ≡ take n rest)
+found_said : (kind : HttpKind) (n size : ℕ) (given rest body : List ℕ) (ended : Bool) → (n ≤ max_body kind) × (n ≤ length rest) × (body ≡ take n rest)
     → length given ≡ size + length rest → rest ≡ drop size given → IsFound (look_past (framed_by kind size (said n)) (length given) ended) given body
 found_said kind n size given rest body ended follows whole at =
     let within = follows.1 in
-    let small : nat_le n (most_body kind) ≡ true = grind (arith, nat_tests, follows.0) in
+    let small : nat_le n (max_body kind) ≡ true = grind (arith, nat_tests, follows.0) in
     let inside : nat_le (size + n) (length given) ≡ true = grind (arith, nat_tests) in
     let count : (size + n) - size ≡ n = omega arith in
     rw (small, inside) (follows.2 ∙ ap (take n) at ∙ ap (λ k. take k (drop size given)) (sym count))
 
-found_unsaid : (size : ℕ) (given rest body : List ℕ) (ended : Bool) → (ended ≡ true) × (length rest ≤ 65536) × (body ≡ rest)
+found_unsaid : (size : ℕ) (given rest body : List ℕ) (ended : Bool) → (ended ≡ true) × (length rest ≤ max_body Reply) × (body ≡ rest)
     → length given ≡ size + length rest → rest ≡ drop size given → IsFound (look_past (framed_by Reply size unsaid) (length given) ended) given body
 found_unsaid size given rest body ended follows whole at =
     let short = follows.1 in
     let at_end = follows.0 in
-    let fits : nat_lt (size + 65536) (length given) ≡ false = grind (arith, nat_tests) in
+    let fits : nat_lt (size + max_body Reply) (length given) ≡ false = grind (arith, nat_tests) in
     let all : length rest ≤ length given - size = omega arith in
     rw (fits, at_end) (follows.2 ∙ sym (take_all (length given - size) rest all) ∙ ap (take (length given - size)) at)
 
@@ -50,14 +50,14 @@ found_by Reply unsaid size given rest body ended follows whole at = found_unsaid
 found_by Request unsaid size given rest body ended follows whole at = follows
 
 carried_reads : (kind : HttpKind) (given : List ℕ) (ended : Bool) (body : List ℕ) (c : Carried kind given ended body)
-    → Reads kind (front given) c.head (take (16384 - c.head.size) c.rest)
-carried_reads kind given ended body c = reads_cut kind 16384 given c.head c.rest c.reads c.small
+    → Reads kind (front given) c.head (take (max_head - c.head.size) c.rest)
+carried_reads kind given ended body c = reads_cut kind max_head given c.head c.rest c.reads c.small
 
 pub carried_is_found : CarriedIsFound
 carried_is_found kind given ended body look c is =
     let parts = c.head in
     let head : is.0 ≡ framed_by kind parts.size (body_length parts.fields) =
-    framed_alone kind given parts (take (16384 - parts.size) c.rest) is.0 (carried_reads kind given ended body c) c.few is.1
+    framed_alone kind given parts (take (max_head - parts.size) c.rest) is.0 (carried_reads kind given ended body c) c.few is.1
     ∙ ap (λ r. unless_refused r (framed_by kind parts.size (body_length parts.fields))) c.taken in
     let at = placed kind given parts c.rest c.reads in
     subst (λ (l : Look). IsFound l given body) (sym (is.2 ∙ ap (λ (h : Head). look_past h (length given) ended) head))
@@ -69,7 +69,7 @@ chosen : (b : Bool) (x y z : Look) → z ≡ cond b x y → ((b ≡ true) × (z 
 chosen true x y z h = inl (refl, h)
 chosen false x y z h = inr (refl, h)
 
-not_refused : (r : Refusal) (s e : ℕ) → looks.Body s e ≡ looks.Refused r → ⊥
+not_refused : (r : FrameFault) (s e : ℕ) → looks.Body s e ≡ looks.Refused r → ⊥
 not_refused r s e h = cc
 
 not_more : (s e : ℕ) → looks.Body s e ≡ looks.More → ⊥
@@ -81,8 +81,8 @@ same_body a b s e h = (cc, cc)
 -- where a body that is found stands, by what the fields say
 StandsAt : HttpKind → BodyLength → ℕ → ℕ → Bool → ℕ → ℕ → Type 0
 StandsAt kind wrong size have ended s e = ⊥
-StandsAt kind (said n) size have ended s e = (n ≤ most_body kind) × (size + n ≤ have) × (s ≡ size) × (e ≡ size + n)
-StandsAt Reply unsaid size have ended s e = (ended ≡ true) × (have ≤ size + 65536) × (s ≡ size) × (e ≡ have)
+StandsAt kind (said n) size have ended s e = (n ≤ max_body kind) × (size + n ≤ have) × (s ≡ size) × (e ≡ size + n)
+StandsAt Reply unsaid size have ended s e = (ended ≡ true) × (have ≤ size + max_body Reply) × (s ≡ size) × (e ≡ have)
 StandsAt Request unsaid size have ended s e = ⊥
 
 stands_said : (n size have s e : ℕ) (ended : Bool) → looks.Body s e ≡ look_from size (Some n) have ended → (size + n ≤ have) × (s ≡ size) × (e ≡ size + n)
@@ -99,9 +99,9 @@ stands_said n size have s e ended h =
           ]
     ]
 
-stands_unsaid : (size have s e : ℕ) (ended : Bool) → looks.Body s e ≡ look_from size None have ended → (ended ≡ true) × (have ≤ size + 65536) × (s ≡ size) × (e ≡ have)
+stands_unsaid : (size have s e : ℕ) (ended : Bool) → looks.Body s e ≡ look_from size None have ended → (ended ≡ true) × (have ≤ size + max_body Reply) × (s ≡ size) × (e ≡ have)
 stands_unsaid size have s e ended h =
-    elim (chosen (nat_lt (size + 65536) have) (looks.Refused TooLong) (cond ended (looks.Body size have) looks.More) (looks.Body s e) h) [
+    elim (chosen (nat_lt (size + max_body Reply) have) (looks.Refused TooLong) (cond ended (looks.Body size have) looks.More) (looks.Body s e) h) [
       | inl long ↦ absurd (not_refused TooLong s e long.1)
       | inr short ↦
           elim (chosen ended (looks.Body size have) looks.More (looks.Body s e) short.1) [
@@ -123,7 +123,7 @@ stands_at : (kind : HttpKind) (l : BodyLength) (size have s e : ℕ) (ended : Bo
 unfolding StandsAt
 stands_at kind wrong size have s e ended h = absurd (not_refused BadLength s e h)
 stands_at kind (said n) size have s e ended h =
-    let taken = allowed (nat_le n (most_body kind)) (record { start = size; length = Some n }) have ended s e h in
+    let taken = allowed (nat_le n (max_body kind)) (record { start = size; length = Some n }) have ended s e h in
     let test = taken.0 in
     let stands = stands_said n size have s e ended taken.1 in
     (grind (arith, nat_tests), stands.0, stands.1, stands.2)
@@ -145,21 +145,21 @@ follows_from Reply unsaid size s e given rest ended stands at whole =
 follows_from Request unsaid size s e given rest ended stands at whole = stands
 
 -- the first line was taken
-first_line_taken : (r : Option Refusal) (head : Head) (have : ℕ) (ended : Bool) (s e : ℕ) → looks.Body s e ≡ look_past (unless_refused r head) have ended
+first_line_taken : (r : Option FrameFault) (head : Head) (have : ℕ) (ended : Bool) (s e : ℕ) → looks.Body s e ≡ look_past (unless_refused r head) have ended
     → (r ≡ None) × (looks.Body s e ≡ look_past head have ended)
 first_line_taken None head have ended s e h = (refl, h)
 first_line_taken (Some refusal) head have ended s e h = absurd (not_refused refusal s e h)
 
 -- a head at the front stands before the rest of all the bytes
 reads_all : (kind : HttpKind) (given : List ℕ) (parts : Parts) (rest : List ℕ) → Reads kind (front given) parts rest
-    → Reads kind given parts (rest ++ drop 16384 given)
+    → Reads kind given parts (rest ++ drop max_head given)
 reads_all kind given parts rest reads =
-    subst (λ (l : List ℕ). Reads kind l parts (rest ++ drop 16384 given)) (take-append-drop 16384 given) (reads_on kind (front given) parts rest (drop 16384 given) reads)
+    subst (λ (l : List ℕ). Reads kind l parts (rest ++ drop max_head given)) (take-append-drop max_head given) (reads_on kind (front given) parts rest (drop max_head given) reads)
 
 carried_from : (kind : HttpKind) (given : List ℕ) (ended : Bool) (s e : ℕ) (parts : Parts) (rest : List ℕ) → Reads kind (front given) parts rest
     → length parts.fields ≤ 64 → looks.Body s e ≡ look_past (framed kind parts) (length given) ended → Carried kind given ended (slice_range given s e)
 carried_from kind given ended s e parts rest reads few h =
-    let all = rest ++ drop 16384 given in
+    let all = rest ++ drop max_head given in
     let whole = reads_all kind given parts rest reads in
     let at = placed kind given parts all whole in
     let in_front = (placed kind (front given) parts rest reads).1 in
@@ -169,7 +169,7 @@ carried_from kind given ended s e parts rest reads few h =
       head = parts;
       rest = all;
       reads = whole;
-      small = omega (arith, length-take 16384 given, in_front);
+      small = omega (arith, length-take max_head given, in_front);
       few = few;
       taken = taken.0;
       follows = follows_from kind (body_length parts.fields) parts.size s e given all ended stands at.0 at.1;
@@ -177,7 +177,7 @@ carried_from kind given ended s e parts rest reads few h =
 
 not_unfinished : (have : ℕ) (ended : Bool) (s e : ℕ) → looks.Body s e ≡ look_past Unfinished have ended → ⊥
 not_unfinished have ended s e h =
-    elim (chosen (nat_le 16384 have) (looks.Refused TooLong) (cond ended (looks.Refused CutShort) looks.More) (looks.Body s e) h) [
+    elim (chosen (nat_le max_head have) (looks.Refused TooLong) (cond ended (looks.Refused CutShort) looks.More) (looks.Body s e) h) [
       | inl long ↦ not_refused TooLong s e long.1
       | inr short ↦
           elim (chosen ended (looks.Refused CutShort) looks.More (looks.Body s e) short.1) [
@@ -203,7 +203,7 @@ found_is_carried kind given ended s e is =
 carried_looks : (kind : HttpKind) (given : List ℕ) (ended : Bool) (body : List ℕ) (c : Carried kind given ended body)
     → Looks kind given ended (look_past (framed kind c.head) (length given) ended)
 carried_looks kind given ended body c =
-    (framed kind c.head, inl (c.head, take (16384 - c.head.size) c.rest, carried_reads kind given ended body c, c.few, refl), refl)
+    (framed kind c.head, inl (c.head, take (max_head - c.head.size) c.rest, carried_reads kind given ended body c, c.few, refl), refl)
 
 one_found : (look : Look) (given one other : List ℕ) → IsFound look given one → IsFound look given other → one ≡ other
 one_found looks.More given one other a b = absurd a
@@ -223,7 +223,7 @@ not_wanting kind given ended body c goes_on wants =
       | inr more ↦ carried_is_found kind given false body looks.More (subst (λ (b : Bool). Carried kind given b body) goes_on c) more
     ]
 
-not_refusing : (kind : HttpKind) (given : List ℕ) (ended : Bool) (body : List ℕ) (refusal : Refusal) → Carried kind given ended body
+not_refusing : (kind : HttpKind) (given : List ℕ) (ended : Bool) (body : List ℕ) (refusal : FrameFault) → Carried kind given ended body
     → Looks kind given ended (looks.Refused refusal) → ⊥
 not_refusing kind given ended body refusal c is = carried_is_found kind given ended body (looks.Refused refusal) c is
 

@@ -5,13 +5,14 @@ use Rattle.std.proofs.lemmas.List.{append-nil, drop_at, take_all}
 use Rattle.httparse.specs.Grammar.{ResponseHead, RequestHead, print_response, print_request}
 use Rattle.httparse.proofs.GrammarLemmas.{response_unique, request_unique}
 use Rattle.match_wire.specs.BodyLength.{BodyLength, unsaid, said, wrong, body_length}
-use Rattle.match_wire.specs.HttpHead.{Parts, Reads, IsHopeless, HeadIs, IsKnown, StartsWithin, framed, framed_by, unless_refused, reply_parts, request_parts, front, most_body, most_fields}
+use Rattle.match_wire.specs.HttpHead.{Parts, Reads, IsHopeless, HeadIs, framed, framed_by, unless_refused, reply_parts, request_parts, front, max_head, max_body, max_fields}
+use Rattle.match_wire.specs.Internal.Heads.{IsKnown, StartsWithin}
 use Rattle.match_wire.specs.declared.head.HttpKind.{HttpKind}
 use Rattle.match_wire.specs.declared.head.HttpKind.TheVariants.{Reply, Request}
 use Rattle.match_wire.specs.declared.head.Head.{Head}
 use Rattle.match_wire.specs.declared.head.Head.TheVariants.{Whole, Refused}
-use Rattle.match_wire.specs.declared.wire_fault.Refusal.{Refusal}
-use Rattle.match_wire.specs.declared.wire_fault.Refusal.TheVariants.{TooLong}
+use Rattle.match_wire.specs.declared.wire_fault.FrameFault.{FrameFault}
+use Rattle.match_wire.specs.declared.wire_fault.FrameFault.TheVariants.{TooLong}
 
 -- what a head's bytes and the rest are
 pub record Split (kind : HttpKind) (bytes : List ℕ) (parts : Parts) (rest : List ℕ) : Type 0 where
@@ -104,11 +105,11 @@ starts_by false size n m h = tt
 
 starts_framed_by : (kind : HttpKind) (size n : ℕ) (l : BodyLength) → size ≤ n → StartsWithin n (framed_by kind size l)
 starts_framed_by kind size n wrong h = tt
-starts_framed_by kind size n (said m) h = starts_by (nat_le m (most_body kind)) size n m h
+starts_framed_by kind size n (said m) h = starts_by (nat_le m (max_body kind)) size n m h
 starts_framed_by Reply size n unsaid h = h
 starts_framed_by Request size n unsaid h = tt
 
-starts_unless : (r : Option Refusal) (n : ℕ) (head : Head) → StartsWithin n head → StartsWithin n (unless_refused r head)
+starts_unless : (r : Option FrameFault) (n : ℕ) (head : Head) → StartsWithin n head → StartsWithin n (unless_refused r head)
 starts_unless None n head h = h
 starts_unless (Some refusal) n head h = tt
 
@@ -118,7 +119,7 @@ starts kind bytes head is =
       | inl whole ↦
           let parts = whole.0 in
           let size = (placed kind (front bytes) parts whole.1 whole.2).1 in
-          let inside : parts.size ≤ length bytes = omega (arith, size, length-take 16384 bytes) in
+          let inside : parts.size ≤ length bytes = omega (arith, size, length-take max_head bytes) in
           subst (StartsWithin (length bytes)) (sym whole.4) (starts_unless parts.refusal (length bytes) (framed_by kind parts.size (body_length parts.fields)) (starts_framed_by kind parts.size (length bytes) (body_length parts.fields) inside))
       | inr other ↦
           elim other [
@@ -129,8 +130,8 @@ starts kind bytes head is =
 
 -- ---- what is said of a head stays said
 
-front_on : (bytes more : List ℕ) → front (bytes ++ more) ≡ front bytes ++ take (16384 - length bytes) more
-front_on bytes more = front_split bytes 16384 more
+front_on : (bytes more : List ℕ) → front (bytes ++ more) ≡ front bytes ++ take (max_head - length bytes) more
+front_on bytes more = front_split bytes max_head more
 
 hopeless_on : (kind : HttpKind) (bytes more : List ℕ) → IsHopeless kind bytes → IsHopeless kind (bytes ++ more)
 hopeless_on kind bytes more h later parts rest reads =
@@ -141,11 +142,11 @@ head_stays kind bytes more head is =
     let on = front_on bytes more in
     elim is [
       | inl whole ↦
-          let reads = reads_on kind (front bytes) whole.0 whole.1 (take (16384 - length bytes) more) whole.2 in
-          inr (inl (whole.0, whole.1 ++ take (16384 - length bytes) more, subst (λ (l : List ℕ). Reads kind l whole.0 (whole.1 ++ take (16384 - length bytes) more)) (sym on) reads, whole.3, whole.4))
+          let reads = reads_on kind (front bytes) whole.0 whole.1 (take (max_head - length bytes) more) whole.2 in
+          inr (inl (whole.0, whole.1 ++ take (max_head - length bytes) more, subst (λ (l : List ℕ). Reads kind l whole.0 (whole.1 ++ take (max_head - length bytes) more)) (sym on) reads, whole.3, whole.4))
       | inr other ↦
           elim other [
-            | inl hopeless ↦ inr (inr (inl (subst (IsHopeless kind) (sym on) (hopeless_on kind (front bytes) (take (16384 - length bytes) more) hopeless.0), hopeless.1)))
+            | inl hopeless ↦ inr (inr (inl (subst (IsHopeless kind) (sym on) (hopeless_on kind (front bytes) (take (max_head - length bytes) more) hopeless.0), hopeless.1)))
             | inr unfinished ↦ inl unfinished.2
           ]
     ]
@@ -156,13 +157,13 @@ known_on kind bytes more head known = elim known [ inl nothing ↦ inl nothing |
 
 -- nothing more is said of a head that has few enough fields
 pub not_hopeless : (kind : HttpKind) (bytes : List ℕ) (parts : Parts) (rest : List ℕ) → IsHopeless kind bytes → Reads kind bytes parts rest
-    → length parts.fields ≤ most_fields → ⊥
+    → length parts.fields ≤ max_fields → ⊥
 not_hopeless kind bytes parts rest hopeless reads few =
-    let many : most_fields < length parts.fields = hopeless [] parts rest (subst (λ (l : List ℕ). Reads kind l parts rest) (sym (append-nil bytes)) reads) in
+    let many : max_fields < length parts.fields = hopeless [] parts rest (subst (λ (l : List ℕ). Reads kind l parts rest) (sym (append-nil bytes)) reads) in
     omega arith
 
 pub framed_alone : (kind : HttpKind) (bytes : List ℕ) (parts : Parts) (rest : List ℕ) (head : Head) → Reads kind (front bytes) parts rest
-    → length parts.fields ≤ most_fields → HeadIs kind bytes head → head ≡ framed kind parts
+    → length parts.fields ≤ max_fields → HeadIs kind bytes head → head ≡ framed kind parts
 framed_alone kind bytes parts rest head reads few is =
     elim is [
       | inl whole ↦ whole.4 ∙ ap (framed kind) (one_head kind (front bytes) whole.0 parts whole.1 rest whole.2 reads).0

@@ -1,5 +1,4 @@
 pub mod Forms
-pub mod Seconds
 pub mod Printed
 pub mod Clocks
 pub mod ReadBack
@@ -9,5 +8,5 @@ pub mod Heads
 pub mod Parsed
 pub mod Stays
 pub mod Found
-pub mod Turning
+pub mod MessageReads
 pub mod WrittenTexts

@@ -10,12 +10,12 @@ use Rattle.httparse.specs.declared.spans.RequestSpans.{RequestSpans}
 use Rattle.httparse.specs.Grammar.{Field, HasNoResponse, MayBecomeResponse, HasNoRequest, MayBecomeRequest}
 use Rattle.httparse.specs.Spans.{IsResponseOf, IsRequestOf, ResponseOverflows, RequestOverflows, AreFieldsAt, header_bytes, name_and_value, span_bytes}
 use Rattle.match_wire.specs.BodyLength.{body_length}
-use Rattle.match_wire.specs.HttpHead.{Parts, Reads, HeadIs, IsHopeless, MayBecomeHead, HasNoHead, reply_parts, request_parts, unless_refused, framed_by, front, good_status, post, most_fields}
+use Rattle.match_wire.specs.HttpHead.{Parts, Reads, HeadIs, IsHopeless, MayBecomeHead, HasNoHead, reply_parts, request_parts, unless_refused, framed_by, front, good_status, post, max_fields}
 use Rattle.match_wire.specs.declared.head.HttpKind.{HttpKind}
 use Rattle.match_wire.specs.declared.head.HttpKind.TheVariants.{Reply, Request}
 use Rattle.match_wire.specs.declared.head.Head.{Head}
 use Rattle.match_wire.specs.declared.head.Head.TheVariants.{Unfinished, Refused}
-use Rattle.match_wire.specs.declared.wire_fault.Refusal.TheVariants.{BadHead, BadStatus}
+use Rattle.match_wire.specs.declared.wire_fault.FrameFault.TheVariants.{BadHead, BadStatus}
 
 few_fields : (text : List ℕ) (headers : List HeaderSpan) (count : ℕ) (fields : List Field) → AreFieldsAt text headers count fields
     → length headers ≤ 64 → length (map name_and_value fields) ≤ 64
@@ -70,7 +70,7 @@ pub request_unfinished : (bytes text : List ℕ) → text ≡ front bytes → Ha
 request_unfinished bytes text is_front none may =
     head_unfinished Request bytes text is_front (λ parts rest reads. none reads.0 rest reads.1) may
 
-many : (parts : Parts) (fields : List Field) → parts.fields ≡ map name_and_value fields → most_fields < length fields → most_fields < length parts.fields
+many : (parts : Parts) (fields : List Field) → parts.fields ≡ map name_and_value fields → max_fields < length fields → max_fields < length parts.fields
 many parts fields is h =
     let same : length parts.fields ≡ length fields = ap length is ∙ simp length-map in
     omega arith

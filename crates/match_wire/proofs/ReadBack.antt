@@ -11,7 +11,7 @@ use Rattle.match_wire.specs.MessageValue.{MessageValue, info, start, play, stop,
 use Rattle.match_wire.specs.MessageText.{as_printed, message_text}
 use Rattle.match_wire.specs.MessageReading.{message_in, message_reading, in_expression}
 use Rattle.match_wire.specs.MessageLaws.{AreMoves, IsLawfulMessage, MessagesReadBack, HaveTexts, Says, OwedMessagesReadBack}
-use Rattle.match_record.proofs.Numerals.{name_is_atom}
+use Rattle.match_record.proofs.Names.{name_is_atom}
 use Rattle.match_wire.proofs.Clocks.{clock_is_atom, clock_of-decimal}
 
 -- ---- the form of a lawful message has atoms

@@ -3,13 +3,14 @@ use Rattle.std.proofs.Common.{◌≡◌, ◌≢◌, ℕ, ◌+◌, ◌≤◌, Boo
 use Rattle.std.specs.Prelude.{◌⊎◌, nat_lt, nat_le}
 use Rattle.std.proofs.lemmas.List.{take-append-le}
 use Rattle.std.proofs.lemmas.Bool.Decides.{nat_tests}
-use Rattle.match_wire.specs.HttpHead.{HeadIs, HasNoHead, MayBecomeHead, IsHopeless, front}
+use Rattle.match_wire.specs.HttpHead.{HeadIs, HasNoHead, MayBecomeHead, IsHopeless, front, max_head, max_body}
 use Rattle.match_wire.specs.Looks.{look_from, look_past}
 use Rattle.match_wire.specs.WireLaws.{LooksStay, IsUndecided}
 use Rattle.match_wire.specs.declared.head.HttpKind.{HttpKind}
+use Rattle.match_wire.specs.declared.head.HttpKind.TheVariants.{Reply}
 use Rattle.match_wire.specs.declared.head.Head.{Head}
 use Rattle.match_wire.specs.declared.head.Head.TheVariants.{Unfinished, Whole, Refused}
-use Rattle.match_wire.specs.declared.wire_fault.Refusal.TheVariants.{BadHead}
+use Rattle.match_wire.specs.declared.wire_fault.FrameFault.TheVariants.{BadHead}
 use Rattle.match_wire.specs.declared.look.Look.TheVariants.{More}
 use Rattle.match_wire.proofs.Heads.{head_stays, framed_alone, not_hopeless}
 
@@ -26,41 +27,41 @@ look_from_stays start (Some n) have more ended h =
         rw (e, later) refl
     stays false e = absurd (h (rw e refl))
 look_from_stays start None have more ended h =
-    stays (nat_lt (start + 65536) have) refl
+    stays (nat_lt (start + max_body Reply) have) refl
   where
-    stays : (b : Bool) → nat_lt (start + 65536) have ≡ b → look_from start None (have + more) ended ≡ look_from start None have false
+    stays : (b : Bool) → nat_lt (start + max_body Reply) have ≡ b → look_from start None (have + more) ended ≡ look_from start None have false
     stays true e =
-        let later : nat_lt (start + 65536) (have + more) ≡ true = grind (arith, nat_tests) in
+        let later : nat_lt (start + max_body Reply) (have + more) ≡ true = grind (arith, nat_tests) in
         rw (e, later) refl
     stays false e = absurd (h (rw e refl))
 
 look_past_stays : (head : Head) (have more : ℕ) (ended : Bool) → look_past head have false ≢ More
     → look_past head (have + more) ended ≡ look_past head have false
 look_past_stays Unfinished have more ended h =
-    stays (nat_le 16384 have) refl
+    stays (nat_le max_head have) refl
   where
-    stays : (b : Bool) → nat_le 16384 have ≡ b → look_past Unfinished (have + more) ended ≡ look_past Unfinished have false
+    stays : (b : Bool) → nat_le max_head have ≡ b → look_past Unfinished (have + more) ended ≡ look_past Unfinished have false
     stays true e =
-        let later : nat_le 16384 (have + more) ≡ true = grind (arith, nat_tests) in
+        let later : nat_le max_head (have + more) ≡ true = grind (arith, nat_tests) in
         rw (e, later) refl
     stays false e = absurd (h (rw e refl))
 look_past_stays (Refused refusal) have more ended h = refl
 look_past_stays (Whole frame) have more ended h = look_from_stays frame.start frame.length have more ended h
 
 -- an unfinished head of which something is said fills the front
-full : (have : ℕ) → look_past Unfinished have false ≢ More → 16384 ≤ have
+full : (have : ℕ) → look_past Unfinished have false ≢ More → max_head ≤ have
 full have h =
-    filled (nat_le 16384 have) refl
+    filled (nat_le max_head have) refl
   where
-    filled : (b : Bool) → nat_le 16384 have ≡ b → 16384 ≤ have
+    filled : (b : Bool) → nat_le max_head have ≡ b → max_head ≤ have
     filled true e = grind (arith, nat_tests)
     filled false e = absurd (h (rw e refl))
 
 -- ---- heads
 
-same_front : (kind : HttpKind) (bytes more : List ℕ) (head : Head) → 16384 ≤ length bytes → HeadIs kind bytes head → HeadIs kind (bytes ++ more) head
+same_front : (kind : HttpKind) (bytes more : List ℕ) (head : Head) → max_head ≤ length bytes → HeadIs kind bytes head → HeadIs kind (bytes ++ more) head
 same_front kind bytes more head long is =
-    let same : front (bytes ++ more) ≡ front bytes = take-append-le 16384 bytes more long in
+    let same : front (bytes ++ more) ≡ front bytes = take-append-le max_head bytes more long in
     rw same is
 
 -- one thing is said of a head, unless it is undecided

@@ -14,15 +14,15 @@ use Rattle.std.proofs.lemmas.Str.Parse.{digit_from_value}
 use Rattle.httparse.specs.Grammar.{is_token_byte, is_uri_byte, is_value_byte, is_ows, skip_ows, trim_ows, Field, IsField, print_field, crlf, ResponseHead, print_response, RequestHead, print_request}
 use Rattle.httparse.proofs.TrimLemmas.{trim_ows_space}
 use Rattle.match_wire.specs.BodyLength.{BodyLength, said, agreed}
-use Rattle.match_wire.specs.HttpHead.{reply_parts, request_parts, most_body}
+use Rattle.match_wire.specs.HttpHead.{reply_parts, request_parts, max_body}
 use Rattle.match_wire.specs.HttpText.{line_end, line, field, described_body, reply_text, request_text}
 use Rattle.match_wire.specs.Carried.{Follows}
 use Rattle.match_wire.specs.WireLaws.{ReplyIsCarried, RequestIsCarried}
 use Rattle.match_wire.specs.declared.head.HttpKind.{HttpKind}
 use Rattle.match_wire.specs.declared.head.HttpKind.TheVariants.{Reply, Request}
 use Rattle.match_wire.proofs.Lengths.{all_reverse}
-use Rattle.match_record.specs.Numerals.{are_digits}
-use Rattle.match_record.proofs.Numerals.{parts as both}
+use Rattle.game_core.specs.Numerals.{are_digits}
+use Rattle.game_core.proofs.Numerals.{parts as both}
 
 -- ---- the length
 
@@ -139,7 +139,7 @@ reply_size digits = ap length (reply_printed digits) ∙ simp (length-append, fi
 
 -- ---- what follows the head
 
-follows_exactly : (kind : HttpKind) (body more : List ℕ) (ended : Bool) → length body ≤ most_body kind → Follows kind (said (length body)) (body ++ more) ended body
+follows_exactly : (kind : HttpKind) (body more : List ℕ) (ended : Bool) → length body ≤ max_body kind → Follows kind (said (length body)) (body ++ more) ended body
 follows_exactly kind body more ended small =
     let n = length body in
     (small, omega (arith, length-append body more), sym (take-append-le n body more (omega arith) ∙ take_all n body (omega arith)))

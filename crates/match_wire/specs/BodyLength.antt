@@ -4,7 +4,7 @@ use Rattle.std.specs.List.{list_all, list_any}
 use Rattle.std.specs.Char.{to_ascii_lowercase}
 use Rattle.std.specs.Str.{bytes_eq}
 use Rattle.std.specs.Str.Parse.{digits_value}
-use Rattle.match_record.specs.Numerals.{are_digits}
+use Rattle.game_core.specs.Numerals.{are_digits}
 
 -- a name, and a value without the white space around it
 abbrev pub Header : Type 0
@@ -43,13 +43,3 @@ agreed (value ∷ values) =
 abbrev pub body_length : List Header → BodyLength
 body_length fields =
     if list_any (λ (field : Header). has_name transfer_encoding field.0) fields then wrong else agreed (lengths fields)
-
--- the length that digits give, if there are any
-abbrev pub length_of : Option (List ℕ) → BodyLength
-length_of None = unsaid
-length_of (Some digits) = said (digits_value 10 digits)
-
--- the value is digits, and of the same number as the one before it
-abbrev pub agrees : Option (List ℕ) → List ℕ → Bool
-agrees None value = are_digits value
-agrees (Some before) value = writes_number (digits_value 10 before) value

@@ -1,5 +1,5 @@
 -- The heads of messages, by the grammar of `httparse`, and what they say of the body.
-use Rattle.std.specs.Prelude.{◌≡◌, ℕ, ◌<◌, ◌≤◌, ◌⊎◌, ◌==◌, nat_le, if◌then◌else◌, List, ◌++◌, length, take, map, codes, Option, Some, None, ⊤}
+use Rattle.std.specs.Prelude.{◌≡◌, ℕ, ◌<◌, ◌≤◌, ◌⊎◌, ◌==◌, nat_le, if◌then◌else◌, List, ◌++◌, length, take, map, codes, Option, Some, None}
 use Rattle.std.specs.Str.{bytes_eq}
 use Rattle.httparse.specs.Grammar.{ResponseHead, ReadsResponse, MayBecomeResponse, print_response, status_code, RequestHead, ReadsRequest, MayBecomeRequest, print_request}
 use Rattle.httparse.specs.Spans.{name_and_value}
@@ -8,21 +8,21 @@ use Rattle.match_wire.specs.declared.head.HttpKind.{HttpKind}
 use Rattle.match_wire.specs.declared.head.HttpKind.TheVariants.{Reply, Request}
 use Rattle.match_wire.specs.declared.head.Head.{Head}
 use Rattle.match_wire.specs.declared.head.Head.TheVariants.{Unfinished, Whole, Refused}
-use Rattle.match_wire.specs.declared.wire_fault.Refusal.{Refusal}
-use Rattle.match_wire.specs.declared.wire_fault.Refusal.TheVariants.{BadHead, BadStatus, BadLength, TooLong}
+use Rattle.match_wire.specs.declared.wire_fault.FrameFault.{FrameFault}
+use Rattle.match_wire.specs.declared.wire_fault.FrameFault.TheVariants.{BadHead, BadStatus, BadLength, TooLong}
 
 -- how many bytes a head takes at most
-abbrev pub most_head : ℕ
-most_head = 16384
+abbrev pub max_head : ℕ
+max_head = 16384
 
 -- how many fields a head has at most
-abbrev pub most_fields : ℕ
-most_fields = 64
+abbrev pub max_fields : ℕ
+max_fields = 64
 
 -- how many bytes a body has at most
-abbrev pub most_body : HttpKind → ℕ
-most_body Reply = 65536
-most_body Request = 2097152
+abbrev pub max_body : HttpKind → ℕ
+max_body Reply = 65536
+max_body Request = 2097152
 
 -- the status of a reply that is taken
 abbrev pub good_status : ℕ
@@ -36,7 +36,7 @@ post = codes "POST"
 -- fields.
 pub record Parts : Type 0 where
   pub size : ℕ
-  pub refusal : Option Refusal
+  pub refusal : Option FrameFault
   pub fields : List Header
 
 abbrev pub reply_parts : ResponseHead → Parts
@@ -72,18 +72,18 @@ MayBecomeHead Request bytes = MayBecomeRequest bytes
 abbrev pub IsHopeless : HttpKind → List ℕ → Type 0
 IsHopeless kind bytes =
     (more : List ℕ) (parts : Parts) (rest : List ℕ) → Reads kind (bytes ++ more) parts rest
-    → most_fields < length parts.fields
+    → max_fields < length parts.fields
 
 -- the body behind a head of this size, by what the fields say of its length: without one a reply's
 -- body runs to the end of the stream
 abbrev pub framed_by : HttpKind → ℕ → BodyLength → Head
 framed_by kind size wrong = Refused BadLength
 framed_by kind size (said n) =
-    if nat_le n (most_body kind) then Whole (record { start = size; length = Some n }) else Refused TooLong
+    if nat_le n (max_body kind) then Whole (record { start = size; length = Some n }) else Refused TooLong
 framed_by Reply size unsaid = Whole (record { start = size; length = None })
 framed_by Request size unsaid = Refused BadLength
 
-abbrev pub unless_refused : Option Refusal → Head → Head
+abbrev pub unless_refused : Option FrameFault → Head → Head
 unless_refused None head = head
 unless_refused (Some refusal) head = Refused refusal
 
@@ -93,23 +93,13 @@ framed kind parts = unless_refused parts.refusal (framed_by kind parts.size (bod
 
 -- the part of the bytes in which a head may stand
 abbrev pub front : List ℕ → List ℕ
-front bytes = take most_head bytes
+front bytes = take max_head bytes
 
 -- What the bytes so far say of the head. The three cases exclude one another, but for bytes that begin
 -- a head and are hopeless, of which only the refusal is said.
 abbrev pub HeadIs : HttpKind → List ℕ → Head → Type 0
 HeadIs kind bytes head =
-    ((parts : Parts) × (rest : List ℕ) × Reads kind (front bytes) parts rest × (length parts.fields ≤ most_fields)
+    ((parts : Parts) × (rest : List ℕ) × Reads kind (front bytes) parts rest × (length parts.fields ≤ max_fields)
     × (head ≡ framed kind parts))
     ⊎ ((IsHopeless kind (front bytes) × (head ≡ Refused BadHead))
     ⊎ (HasNoHead kind (front bytes) × MayBecomeHead kind (front bytes) × (head ≡ Unfinished)))
-
--- nothing is known of the head, or this is what the bytes say of it
-abbrev pub IsKnown : HttpKind → List ℕ → Head → Type 0
-IsKnown kind bytes head = (head ≡ Unfinished) ⊎ HeadIs kind bytes head
-
--- a body behind the head begins within so many bytes
-abbrev pub StartsWithin : ℕ → Head → Type 0
-StartsWithin have Unfinished = ⊤
-StartsWithin have (Refused refusal) = ⊤
-StartsWithin have (Whole frame) = frame.start ≤ have

@@ -15,5 +15,5 @@ pub mod Looks
 pub mod Carried
 pub mod WireFaults
 pub mod Exchange
-pub mod Turns
 pub mod WireLaws
+pub mod Internal

@@ -1,13 +1,13 @@
--- What is said of the bytes of a message so far, after each turn of reading.
+-- What is said of the bytes of a message so far, after each read.
 use Rattle.std.specs.Prelude.{◌≡◌, ℕ, ◌+◌, ◌≤◌, Bool, List, length, Option, Some, None, nat_le, nat_lt, if◌then◌else◌, ⊤}
-use Rattle.match_wire.specs.HttpHead.{HeadIs, most_head, most_body}
+use Rattle.match_wire.specs.HttpHead.{HeadIs, max_head, max_body}
 use Rattle.match_wire.specs.declared.head.HttpKind.{HttpKind}
 use Rattle.match_wire.specs.declared.head.HttpKind.TheVariants.{Reply}
 use Rattle.match_wire.specs.declared.head.Head.{Head}
 use Rattle.match_wire.specs.declared.head.Head.TheVariants.{Unfinished, Whole, Refused}
 use Rattle.match_wire.specs.declared.look.Look.{Look}
 use Rattle.match_wire.specs.declared.look.Look.TheVariants as looks
-use Rattle.match_wire.specs.declared.wire_fault.Refusal.TheVariants.{TooLong, CutShort}
+use Rattle.match_wire.specs.declared.wire_fault.FrameFault.TheVariants.{TooLong, CutShort}
 
 -- a body of so many bytes from start on, or one that runs to the end of the stream
 abbrev pub look_from : ℕ → Option ℕ → ℕ → Bool → Look
@@ -15,21 +15,15 @@ look_from start (Some n) have ended =
     if nat_le (start + n) have then looks.Body start (start + n)
     else (if ended then looks.Refused CutShort else looks.More)
 look_from start None have ended =
-    if nat_lt (start + most_body Reply) have then looks.Refused TooLong
+    if nat_lt (start + max_body Reply) have then looks.Refused TooLong
     else (if ended then looks.Body start have else looks.More)
 
 -- what is said of so many bytes with that head, the stream having ended or not
 abbrev pub look_past : Head → ℕ → Bool → Look
 look_past Unfinished have ended =
-    if nat_le most_head have then looks.Refused TooLong else (if ended then looks.Refused CutShort else looks.More)
+    if nat_le max_head have then looks.Refused TooLong else (if ended then looks.Refused CutShort else looks.More)
 look_past (Refused refusal) have ended = looks.Refused refusal
 look_past (Whole frame) have ended = look_from frame.start frame.length have ended
 
 abbrev pub Looks : HttpKind → List ℕ → Bool → Look → Type 0
 Looks kind bytes ended look = (head : Head) × HeadIs kind bytes head × (look ≡ look_past head (length bytes) ended)
-
--- a body that is found lies within so many bytes
-abbrev pub BodyWithin : ℕ → Look → Type 0
-BodyWithin have looks.More = ⊤
-BodyWithin have (looks.Body start end) = (start ≤ end) × (end ≤ have)
-BodyWithin have (looks.Refused refusal) = ⊤

@@ -1,11 +1,9 @@
 -- How a message is read.
-use Rattle.std.specs.Prelude.{◌≡◌, ◌⊎◌, ℕ, Bool, false, if◌then◌else◌, List, map, Option, Some, None, option_map, bytes_eq, codes, Result, Ok, Err, Vec}
-use Rattle.std.specs.Global.{Global}
+use Rattle.std.specs.Prelude.{◌≡◌, ℕ, Bool, false, if◌then◌else◌, List, map, Option, Some, None, bytes_eq, codes, Result, Ok, Err}
+use Rattle.std.specs.Option.{option_zip}
 use Rattle.game_core.specs.Bytes.{lower}
 use Rattle.game_core.specs.Expression.{Expression, atom, list, Expressions, none, more, folded, all_folded}
 use Rattle.kif_text.specs.Reading.{reading}
-use Rattle.kif_text.specs.View.{views}
-use Rattle.kif_text.specs.declared.expr.Expr.{Expr}
 use Rattle.match_book.specs.Names.{is_name}
 use Rattle.match_wire.specs.Clock.{clock_in}
 use Rattle.match_wire.specs.MessageValue.{MessageValue, info, start, play, stop, abort, message_value}
@@ -54,15 +52,15 @@ abbrev pub start_in : Expressions → Read
 start_in (more id (more role (more rules (more s (more p none))))) = start_of (id_in id) role (members_in rules) (clock_in s) (clock_in p)
 start_in _ = Err BadMessage
 
--- PLAY or STOP, which f makes of an id and the moves
-abbrev pub moves_of : (List ℕ → Option Expressions → MessageValue) → Option (List ℕ) → Option (Option Expressions) → Read
-moves_of f (Some id) (Some moves) = Ok (f id moves)
-moves_of f id moves = Err BadMessage
+-- an id, and the moves behind it
+abbrev pub id_and_moves : Expressions → Option (List ℕ × Option Expressions)
+id_and_moves (more id (more moves none)) = option_zip (id_in id) (moves_in moves)
+id_and_moves _ = None
 
--- `(PLAY id (move ..))`, and so for STOP
-abbrev pub last_moves_in : (List ℕ → Option Expressions → MessageValue) → Expressions → Read
-last_moves_in f (more id (more moves none)) = moves_of f (id_in id) (moves_in moves)
-last_moves_in f _ = Err BadMessage
+-- the message that f makes of an id and moves
+abbrev pub moves_of : (List ℕ → Option Expressions → MessageValue) → Option (List ℕ × Option Expressions) → Read
+moves_of f (Some (id, moves)) = Ok (f id moves)
+moves_of f None = Err BadMessage
 
 -- `(ABORT id)`
 abbrev pub abort_of : Option (List ℕ) → Read
@@ -78,8 +76,8 @@ abbrev pub message_of : Expression → Expressions → Read
 message_of keyword rest =
     if is_word (codes "info") keyword then info_in rest
     else (if is_word (codes "start") keyword then start_in rest
-    else (if is_word (codes "play") keyword then last_moves_in play rest
-    else (if is_word (codes "stop") keyword then last_moves_in stop rest
+    else (if is_word (codes "play") keyword then moves_of play (id_and_moves rest)
+    else (if is_word (codes "stop") keyword then moves_of stop (id_and_moves rest)
     else (if is_word (codes "abort") keyword then abort_in rest
     else Err BadMessage))))
 
@@ -104,21 +102,3 @@ Gives (Err Unreadable) read = read ≡ Err Unreadable
 Gives (Err BadMessage) read = read ≡ Err BadMessage
 Gives (Err BadClock) read = read ≡ Err BadClock
 Gives (Err Memory) read = Unit {0}
-
--- Below, for private clauses.
-
--- what came out are the moves that an expression is, or it is none
-abbrev pub GivesMoves : Result (Option (Vec Expr Global)) MessageFault → Option (Option Expressions) → Type 0
-GivesMoves (Ok moves) found = found ≡ Some (option_map (λ v. views v.items) moves)
-GivesMoves (Err Unreadable) found = ⊥
-GivesMoves (Err BadMessage) found = found ≡ None
-GivesMoves (Err BadClock) found = ⊥
-GivesMoves (Err Memory) found = Unit {0}
-
--- what came out are an id and the moves, or one of them is not there
-abbrev pub GivesParts : Result (List ℕ × Option (Vec Expr Global)) MessageFault → Option (List ℕ) → Option (Option Expressions) → Type 0
-GivesParts (Ok p) id moves = (id ≡ Some p.0) × (moves ≡ Some (option_map (λ v. views v.items) p.1))
-GivesParts (Err Unreadable) id moves = ⊥
-GivesParts (Err BadMessage) id moves = (id ≡ None) ⊎ (moves ≡ None)
-GivesParts (Err BadClock) id moves = ⊥
-GivesParts (Err Memory) id moves = Unit {0}

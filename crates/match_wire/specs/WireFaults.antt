@@ -1,26 +1,22 @@
 -- What each fault of reading or writing a message says.
 use Rattle.std.specs.Prelude.{◌≡◌, ◌≢◌, ◌⊎◌, ℕ, ◌<◌, Bool, false, List, [], ⊤}
 use Rattle.std.specs.declared.io.ErrorKind.TheVariants.{Interrupted}
-use Rattle.game_core.specs.Counting.{Counting, CallsMade, last_count}
+use Rattle.game_core.specs.Counting.{Counting, CallsMade, last_count, max_stream_calls}
 use Rattle.match_wire.specs.Looks.{Looks}
 use Rattle.match_wire.specs.declared.head.HttpKind.{HttpKind}
 use Rattle.match_wire.specs.declared.look.Look.TheVariants.{More, Refused}
-use Rattle.match_wire.specs.declared.wire_fault.Refusal.{Refusal}
-use Rattle.match_wire.specs.declared.wire_fault.Refusal.TheVariants as refusals
+use Rattle.match_wire.specs.declared.wire_fault.FrameFault.{FrameFault}
+use Rattle.match_wire.specs.declared.wire_fault.FrameFault.TheVariants as refusals
 use Rattle.match_wire.specs.declared.wire_fault.WireFault.{WireFault}
 use Rattle.match_wire.specs.declared.wire_fault.WireFault.TheVariants.{WriteFault, ReadFault, BadHead, BadStatus, BadLength, TooLong, CutShort, TooManyReads, Memory}
 
 -- the fault of a message that is refused
-abbrev pub fault_of : Refusal → WireFault
+abbrev pub fault_of : FrameFault → WireFault
 fault_of refusals.BadHead = BadHead
 fault_of refusals.BadStatus = BadStatus
 fault_of refusals.BadLength = BadLength
 fault_of refusals.TooLong = TooLong
 fault_of refusals.CutShort = CutShort
-
--- how many reads, and how many writes, are made at most
-abbrev pub most_turns : ℕ
-most_turns = 200000
 
 -- a failure was counted, but at the last count
 abbrev pub HasFailed : ℕ → ℕ → Type 0
@@ -36,13 +32,13 @@ abbrev pub ReadStops : {S : Type 0} → HttpKind → WireFault → List ℕ → 
 ReadStops kind (ReadFault cause) given ended old new =
     (cause ≢ Interrupted) × (ended ≡ false) × WantsMore kind given × HasFailed old.faults new.faults
 ReadStops kind TooManyReads given ended old new =
-    (ended ≡ false) × WantsMore kind given × CallsMade most_turns old.calls new.calls
+    (ended ≡ false) × WantsMore kind given × CallsMade max_stream_calls old.calls new.calls
 ReadStops kind Memory given ended old new = ⊤
 ReadStops kind fault given ended old new =
-    (refusal : Refusal) × (fault ≡ fault_of refusal) × Looks kind given ended (Refused refusal)
+    (refusal : FrameFault) × (fault ≡ fault_of refusal) × Looks kind given ended (Refused refusal)
 
 -- what a fault of writing says of the stream's counts before and after
 abbrev pub WriteStops : {S : Type 0} → WireFault → Counting S → Counting S → Type 0
 WriteStops WriteFault old new = HasFailed old.faults new.faults
-WriteStops TooManyReads old new = CallsMade most_turns old.calls new.calls
+WriteStops TooManyReads old new = CallsMade max_stream_calls old.calls new.calls
 WriteStops fault old new = ⊥

@@ -4,7 +4,7 @@ use Rattle.std.specs.List.{AllPass}
 use Rattle.httparse.specs.Grammar.{is_value_byte}
 use Rattle.game_core.specs.Counting.{Counting}
 use Rattle.match_wire.specs.Carried.{Carried}
-use Rattle.match_wire.specs.HttpHead.{MayBecomeHead, IsHopeless, front, most_body}
+use Rattle.match_wire.specs.HttpHead.{MayBecomeHead, IsHopeless, front, max_body}
 use Rattle.match_wire.specs.HttpText.{reply_text, request_text}
 use Rattle.match_wire.specs.Looks.{Looks}
 use Rattle.match_wire.specs.WireFaults.{ReadStops}
@@ -62,7 +62,7 @@ CarriedHasNoFault S =
 -- The reply that is written carries its body, whatever follows it.
 abbrev pub ReplyIsCarried : Type 0
 ReplyIsCarried =
-    (body more : List ℕ) (ended : Bool) → length body ≤ most_body Reply → Carried Reply (reply_text body ++ more) ended body
+    (body more : List ℕ) (ended : Bool) → length body ≤ max_body Reply → Carried Reply (reply_text body ++ more) ended body
 
 -- a player's name of at most so many bytes leaves room for the rest of a head
 abbrev pub long_name : ℕ
@@ -72,5 +72,5 @@ long_name = 16000
 -- and has no control byte but the tab.
 abbrev pub RequestIsCarried : Type 0
 RequestIsCarried =
-    (player body more : List ℕ) (ended : Bool) → AllPass is_value_byte player → length player ≤ long_name → length body ≤ most_body Request
+    (player body more : List ℕ) (ended : Bool) → AllPass is_value_byte player → length player ≤ long_name → length body ≤ max_body Request
     → Carried Request (request_text player body ++ more) ended body

@@ -3,13 +3,14 @@ ghost use Rattle.std.specs.Prelude.{◌≡◌, All, IsTrue, IfOk, IfSome, MatchR
 ghost use Rattle.std.specs.Char.{to_ascii_lowercase};
 ghost use Rattle.std.specs.Option.{option_copied};
 ghost use Rattle.httparse.specs.Spans.{IsHeaderWithin, header_bytes};
-ghost use Rattle.match_record.specs.Numerals.{are_digits};
-ghost use Rattle.match_wire.specs.BodyLength.{agrees, body_length, has_name, length_of, wrong};
+ghost use Rattle.game_core.specs.Numerals.{are_digits};
+ghost use Rattle.match_wire.specs.BodyLength.{body_length, has_name, wrong};
+ghost use Rattle.match_wire.specs.Internal.Heads.{agrees, length_of};
 
 use crate::numeral::is_same_number;
-use crate::wire_fault::Refusal;
+use crate::wire_fault::FrameFault;
+use game_core::numeral::are_digits;
 use httparse::spans::HeaderSpan;
-use match_record::numeral::are_digits;
 
 const CONTENT_LENGTH: &[u8] = b"content-length";
 
@@ -38,25 +39,25 @@ fn agrees(before: Option<&[u8]>, value: &[u8]) -> bool
 pub(crate) fn said_length<'b>(
     buf: &'b [u8],
     headers: &[HeaderSpan],
-) -> Result<Option<&'b [u8]>, Refusal>
+) -> Result<Option<&'b [u8]>, FrameFault>
     requires { All (IsHeaderWithin (length buf.now)) headers.now }
     ensures value { MatchResult result
         (λ said. body_length (map (header_bytes buf.now) headers.now) ≡ length_of (option_copied said))
-        (λ refusal. (refusal ≡ Refusal.BadLength) × (body_length (map (header_bytes buf.now) headers.now) ≡ wrong)) }
+        (λ refusal. (refusal ≡ FrameFault.BadLength) × (body_length (map (header_bytes buf.now) headers.now) ≡ wrong)) }
     ensures numeral { IfOk result (λ said. IfSome (option_copied said) (λ digits. IsTrue (are_digits digits))) }
 {
     let mut said = None;
     for header in headers {
         let name = header.name.of(buf);
         if has_name(name, TRANSFER_ENCODING) {
-            return Err(Refusal::BadLength);
+            return Err(FrameFault::BadLength);
         }
         if !has_name(name, CONTENT_LENGTH) {
             continue;
         }
         let value = header.value.of(buf);
         if !agrees(said, value) {
-            return Err(Refusal::BadLength);
+            return Err(FrameFault::BadLength);
         }
         said = Some(value);
     }

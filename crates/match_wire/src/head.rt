@@ -2,13 +2,14 @@
 ghost use Rattle.std.specs.Prelude.{◌≡◌, ◌<◌, ◌^◌, All, map, length};
 ghost use Rattle.httparse.specs.Spans.{IsHeaderWithin, header_bytes};
 ghost use Rattle.match_wire.specs.BodyLength.{body_length};
-ghost use Rattle.match_wire.specs.HttpHead.{HeadIs, IsKnown, StartsWithin, framed_by, front, most_body};
+ghost use Rattle.match_wire.specs.HttpHead.{HeadIs, framed_by, front, max_body};
+ghost use Rattle.match_wire.specs.Internal.Heads.{IsKnown, StartsWithin};
 
 use crate::body_length::said_length;
-use crate::wire_fault::Refusal;
+use crate::wire_fault::FrameFault;
+use game_core::numeral::number_up_to;
 use httparse::Status;
 use httparse::spans::{EMPTY_HEADER_SPAN, HeaderSpan, parse_request, parse_response};
-use match_record::numeral::number_up_to;
 
 /// Which message is read.
 #[derive(Clone, Copy, Debug, PartialEq, Eq)]
@@ -31,14 +32,14 @@ pub enum Head {
     /// More bytes can make them a head.
     Unfinished,
     Whole(Frame),
-    Refused(Refusal),
+    Refused(FrameFault),
 }
 
 /// How many bytes a head takes at most.
-pub(crate) const MOST_HEAD: usize = 16_384;
+pub(crate) const MAX_HEAD: usize = 16_384;
 
 /// How many fields a head has at most.
-const MOST_FIELDS: usize = 64;
+const MAX_FIELDS: usize = 64;
 
 /// The status of a reply that is taken.
 const GOOD_STATUS: u16 = 200;
@@ -47,18 +48,18 @@ const GOOD_STATUS: u16 = 200;
 const POST: &[u8] = b"POST";
 
 /// How many bytes the body of a reply has at most.
-pub(crate) const MOST_REPLY_BODY: usize = 65_536;
+pub(crate) const MAX_REPLY_BODY: usize = 65_536;
 
 /// How many bytes the body of a request has at most.
-const MOST_REQUEST_BODY: usize = 2_097_152;
+const MAX_REQUEST_BODY: usize = 2_097_152;
 
-fn most_body(kind: HttpKind) -> usize
-    ensures value { result ≡ most_body kind }
+fn max_body(kind: HttpKind) -> usize
+    ensures value { result ≡ max_body kind }
     ensures small { result < 2 ^ 32 }
 {
     match kind {
-        HttpKind::Reply => MOST_REPLY_BODY,
-        HttpKind::Request => MOST_REQUEST_BODY,
+        HttpKind::Reply => MAX_REPLY_BODY,
+        HttpKind::Request => MAX_REQUEST_BODY,
     }
 }
 
@@ -74,14 +75,14 @@ fn framed(kind: HttpKind, size: usize, buf: &[u8], headers: &[HeaderSpan]) -> He
                 start: size,
                 length: None,
             }),
-            HttpKind::Request => Head::Refused(Refusal::BadLength),
+            HttpKind::Request => Head::Refused(FrameFault::BadLength),
         },
-        Ok(Some(digits)) => match number_up_to(digits, most_body(kind)) {
+        Ok(Some(digits)) => match number_up_to(digits, max_body(kind)) {
             Some(length) => Head::Whole(Frame {
                 start: size,
                 length: Some(length),
             }),
-            None => Head::Refused(Refusal::TooLong),
+            None => Head::Refused(FrameFault::TooLong),
         },
     }
 }
@@ -90,23 +91,23 @@ fn framed(kind: HttpKind, size: usize, buf: &[u8], headers: &[HeaderSpan]) -> He
 fn front_of(bytes: &[u8]) -> &[u8]
     ensures { result.now ≡ front bytes.now }
 {
-    &bytes[..bytes.len().min(MOST_HEAD)]
+    &bytes[..bytes.len().min(MAX_HEAD)]
 }
 
 fn reply_head(bytes: &[u8]) -> Head
     ensures { HeadIs HttpKind.Reply bytes.now result }
 {
     let text = front_of(bytes);
-    let mut headers = [EMPTY_HEADER_SPAN; MOST_FIELDS];
+    let mut headers = [EMPTY_HEADER_SPAN; MAX_FIELDS];
     match parse_response(text, &mut headers) {
         Ok(Status::Complete(head)) => {
             if head.code != GOOD_STATUS {
-                return Head::Refused(Refusal::BadStatus);
+                return Head::Refused(FrameFault::BadStatus);
             }
             framed(HttpKind::Reply, head.len, text, &headers[..head.headers])
         }
         Ok(Status::Partial) => Head::Unfinished,
-        Err(_) => Head::Refused(Refusal::BadHead),
+        Err(_) => Head::Refused(FrameFault::BadHead),
     }
 }
 
@@ -114,16 +115,16 @@ fn request_head(bytes: &[u8]) -> Head
     ensures { HeadIs HttpKind.Request bytes.now result }
 {
     let text = front_of(bytes);
-    let mut headers = [EMPTY_HEADER_SPAN; MOST_FIELDS];
+    let mut headers = [EMPTY_HEADER_SPAN; MAX_FIELDS];
     match parse_request(text, &mut headers) {
         Ok(Status::Complete(head)) => {
             if head.method.of(text) != POST {
-                return Head::Refused(Refusal::BadHead);
+                return Head::Refused(FrameFault::BadHead);
             }
             framed(HttpKind::Request, head.len, text, &headers[..head.headers])
         }
         Ok(Status::Partial) => Head::Unfinished,
-        Err(_) => Head::Refused(Refusal::BadHead),
+        Err(_) => Head::Refused(FrameFault::BadHead),
     }
 }
 

@@ -25,7 +25,6 @@ mod numeral;
 mod reading;
 mod receiving;
 mod sending;
-mod turns;
 mod wire_fault;
 mod writing;
 

@@ -1,10 +1,11 @@
 //! What is said of the bytes of a message so far.
 ghost use Rattle.std.specs.Prelude.{◌≡◌, ◌≤◌};
-ghost use Rattle.match_wire.specs.HttpHead.{StartsWithin};
-ghost use Rattle.match_wire.specs.Looks.{BodyWithin, look_from, look_past};
+ghost use Rattle.match_wire.specs.Internal.Heads.{StartsWithin};
+ghost use Rattle.match_wire.specs.Looks.{look_from, look_past};
+ghost use Rattle.match_wire.specs.Internal.Heads.{BodyWithin};
 
-use crate::head::{Frame, Head, MOST_HEAD, MOST_REPLY_BODY};
-use crate::wire_fault::Refusal;
+use crate::head::{Frame, Head, MAX_HEAD, MAX_REPLY_BODY};
+use crate::wire_fault::FrameFault;
 
 /// What is said of the bytes so far.
 #[derive(Clone, Copy, Debug, PartialEq, Eq)]
@@ -12,7 +13,7 @@ pub enum Look {
     More,
     /// The body is whole: where it begins and where it ends.
     Body(usize, usize),
-    Refused(Refusal),
+    Refused(FrameFault),
 }
 
 fn look_from(frame: Frame, have: usize, ended: bool) -> Look
@@ -26,14 +27,14 @@ fn look_from(frame: Frame, have: usize, ended: bool) -> Look
             if length <= come {
                 Look::Body(frame.start, frame.start + length)
             } else if ended {
-                Look::Refused(Refusal::CutShort)
+                Look::Refused(FrameFault::CutShort)
             } else {
                 Look::More
             }
         }
         None => {
-            if MOST_REPLY_BODY < come {
-                Look::Refused(Refusal::TooLong)
+            if MAX_REPLY_BODY < come {
+                Look::Refused(FrameFault::TooLong)
             } else if ended {
                 Look::Body(frame.start, have)
             } else {
@@ -51,10 +52,10 @@ pub(crate) fn look_past(head: Head, have: usize, ended: bool) -> Look
 {
     match head {
         Head::Unfinished => {
-            if MOST_HEAD <= have {
-                Look::Refused(Refusal::TooLong)
+            if MAX_HEAD <= have {
+                Look::Refused(FrameFault::TooLong)
             } else if ended {
-                Look::Refused(Refusal::CutShort)
+                Look::Refused(FrameFault::CutShort)
             } else {
                 Look::More
             }

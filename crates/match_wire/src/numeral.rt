@@ -3,7 +3,7 @@ ghost use Rattle.std.specs.Prelude.{◌≡◌, ◌≢◌, ◌==◌, IsTrue, slic
 ghost use Rattle.std.specs.List.{list_all};
 ghost use Rattle.std.specs.Char.{is_ascii_digit};
 ghost use Rattle.std.specs.Str.Parse.{digits_value};
-ghost use Rattle.match_record.specs.Numerals.{are_digits, digit_zero};
+ghost use Rattle.game_core.specs.Numerals.{are_digits, digit_zero};
 
 fn without_leading_zeros(digits: &[u8]) -> &[u8]
     requires { IsTrue (list_all is_ascii_digit digits.now) }

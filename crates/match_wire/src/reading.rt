@@ -3,8 +3,8 @@ ghost use Rattle.std.specs.Prelude.{◌≡◌, map, option_copied, option_map, I
 ghost use Rattle.game_core.specs.Bytes.{lower};
 ghost use Rattle.game_core.specs.Expression.{folded, all_folded};
 ghost use Rattle.kif_text.specs.View.{view, views};
-ghost use Rattle.match_wire.specs.MessageValue.{play, stop};
-ghost use Rattle.match_wire.specs.MessageReading.{is_word, id_in, members_in, moves_in, info_in, start_of, start_in, last_moves_in, abort_of, abort_in, message_of, message_in, message_reading, Gives, GivesMoves, GivesParts};
+ghost use Rattle.match_wire.specs.MessageReading.{is_word, id_in, members_in, moves_in, info_in, start_of, start_in, id_and_moves, abort_of, abort_in, message_of, message_in, message_reading, Gives};
+ghost use Rattle.match_wire.specs.Internal.MessageParts.{GivesMoves, GivesIdAndMoves};
 
 use crate::clock::clock_in;
 use crate::messages::{Message, MessageFault};
@@ -130,44 +130,17 @@ fn start_in(alloc: Global, members: &[Expr]) -> Result<Message, MessageFault>
 }
 
 /// The id and the moves of PLAY or STOP.
-fn id_and_moves(
-    alloc: Global,
-    id: Option<&Text>,
-    moves: &Expr,
-) -> Result<(Text, Option<Vec<Expr>>), MessageFault>
-    ensures { GivesParts result (option_copied id.entry) (moves_in (view moves.now)) }
+fn id_and_moves(alloc: Global, members: &[Expr]) -> Result<(Text, Option<Vec<Expr>>), MessageFault>
+    ensures { GivesIdAndMoves result (id_and_moves (views members.now)) }
 {
-    let Some(id) = id else {
+    let [id, moves] = members else {
+        return Err(MessageFault::BadMessage);
+    };
+    let Some(id) = id_in(id) else {
         return Err(MessageFault::BadMessage);
     };
     let moves = moves_in(alloc, moves)?;
     Ok((id.copy(alloc)?, moves))
-}
-
-/// `(PLAY id (move ..))`
-fn play_in(alloc: Global, members: &[Expr]) -> Result<Message, MessageFault>
-    ensures { Gives result (last_moves_in play (views members.now)) }
-{
-    match members {
-        [id, moves] => {
-            let (id, moves) = id_and_moves(alloc, id_in(id), moves)?;
-            Ok(Message::Play { id, moves })
-        }
-        _ => Err(MessageFault::BadMessage),
-    }
-}
-
-/// `(STOP id (move ..))`
-fn stop_in(alloc: Global, members: &[Expr]) -> Result<Message, MessageFault>
-    ensures { Gives result (last_moves_in stop (views members.now)) }
-{
-    match members {
-        [id, moves] => {
-            let (id, moves) = id_and_moves(alloc, id_in(id), moves)?;
-            Ok(Message::Stop { id, moves })
-        }
-        _ => Err(MessageFault::BadMessage),
-    }
 }
 
 /// ABORT of an id.
@@ -211,9 +184,11 @@ fn message_of(alloc: Global, keyword: &Expr, rest: &[Expr]) -> Result<Message, M
     } else if is_word(keyword, b"start") {
         start_in(alloc, rest)
     } else if is_word(keyword, b"play") {
-        play_in(alloc, rest)
+        let (id, moves) = id_and_moves(alloc, rest)?;
+        Ok(Message::Play { id, moves })
     } else if is_word(keyword, b"stop") {
-        stop_in(alloc, rest)
+        let (id, moves) = id_and_moves(alloc, rest)?;
+        Ok(Message::Stop { id, moves })
     } else if is_word(keyword, b"abort") {
         abort_in(alloc, rest)
     } else {

@@ -1,28 +1,27 @@
-//! The reading of a message, in turns of one read each.
+//! The reading of a message, one read after another.
 ghost use Rattle.std.specs.Prelude.{◌≡◌, ◌<◌, ◌≤◌, List, ℕ, length, slice_range, IfOk, IfErr};
 ghost use Rattle.match_wire.specs.Exchange.{TakesBody, TakesNone};
-ghost use Rattle.match_wire.specs.Turns.{Turn, TurnFails};
+ghost use Rattle.match_wire.specs.Internal.Reads.{ReadsOnce, ReadOnceFails};
 
 use crate::head::{Head, HttpKind, head_after};
 use crate::look::{Look, look_past};
-use crate::turns::MOST_TURNS;
 use crate::wire_fault::WireFault;
-use game_core::{Counted, Text};
+use game_core::{Counted, MAX_STREAM_CALLS, Text};
 use std::alloc::{AllocError, Global};
 use std::io::{ErrorKind, Read};
 
 /// How many bytes a read is given room for.
 const READ_SIZE: usize = 4_096;
 
-/// One turn of reading: one call of `read`. Whether the stream has ended is answered.
-fn read_turn<S: Read>(
+/// One call of `read`. Whether the stream has ended is answered.
+fn read_once<S: Read>(
     stream: &mut Counted<S>,
     bytes: &mut Vec<u8>,
     chunk: &mut [u8],
 ) -> Result<bool, WireFault>
     requires { 0 < length chunk.old }
-    ensures turn { IfOk result (λ ended. Turn S.remaining stream.old stream.new bytes.old.items bytes.new.items ended) }
-    ensures fails { IfErr result (λ fault. TurnFails S.remaining stream.old stream.new fault) }
+    ensures read { IfOk result (λ ended. ReadsOnce S.remaining stream.old stream.new bytes.old.items bytes.new.items ended) }
+    ensures fails { IfErr result (λ fault. ReadOnceFails S.remaining stream.old stream.new fault) }
 {
     match stream.read(chunk) {
         Ok(0) => Ok(true),
@@ -61,8 +60,8 @@ pub(crate) fn receive<S: Read>(
     let mut bytes = Vec::new(alloc);
     let mut chunk = [0; READ_SIZE];
     let mut head = Head::Unfinished;
-    for turn in 0..MOST_TURNS {
-        let ended = read_turn(stream, &mut bytes, &mut chunk)?;
+    for call in 0..MAX_STREAM_CALLS {
+        let ended = read_once(stream, &mut bytes, &mut chunk)?;
         head = head_after(kind, head, &bytes);
         match look_past(head, bytes.len(), ended) {
             Look::More => {}

@@ -1,18 +1,17 @@
-//! The writing of a message, in turns of one write each.
+//! The writing of a message, one write after another.
 ghost use Rattle.std.specs.Prelude.{◌≡◌, ◌<◌, ◌≤◌, length, take, IfOk, OnOk, OnErr, IfErr, []};
 ghost use Rattle.std.specs.Io.KnownBytes.{Appends};
 ghost use Rattle.game_core.specs.Counting.{one_more};
 ghost use Rattle.match_wire.specs.Exchange.{BreaksOff, WritesText};
 ghost use Rattle.match_wire.specs.WireFaults.{HasFailed};
 
-use crate::turns::MOST_TURNS;
 use crate::wire_fault::WireFault;
-use game_core::Counted;
+use game_core::{Counted, MAX_STREAM_CALLS};
 use std::io::{ErrorKind, Write};
 
-/// One turn of writing: one call of `write`. How many bytes it took is answered, none where it was
+/// One call of `write`. How many bytes it took is answered, none where it was
 /// interrupted.
-fn write_turn<S: Write>(stream: &mut Counted<S>, rest: &[u8]) -> Result<usize, WireFault>
+fn write_once<S: Write>(stream: &mut Counted<S>, rest: &[u8]) -> Result<usize, WireFault>
     requires { 0 < length rest.now }
     ensures bound { IfOk result (λ taken. taken ≤ length rest.now) }
     ensures bytes { IfOk result (λ taken. Appends (S.contents stream.old.stream) (S.contents stream.new.stream) (take taken rest.now)) }
@@ -40,11 +39,11 @@ pub(crate) fn send<S: Write>(stream: &mut Counted<S>, text: &[u8]) -> Result<(),
     ensures breaks { IfErr result (λ fault. BreaksOff S.contents stream.old stream.new text.now fault) }
 {
     let mut taken = 0;
-    for turn in 0..MOST_TURNS {
+    for call in 0..MAX_STREAM_CALLS {
         if taken == text.len() {
             return Ok(());
         }
-        taken += write_turn(stream, &text[taken..])?;
+        taken += write_once(stream, &text[taken..])?;
     }
     if taken == text.len() {
         return Ok(());

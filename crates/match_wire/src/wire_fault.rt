@@ -53,7 +53,7 @@ impl From<AllocError> for WireFault {
 
 /// Why the bytes of a message are refused.
 #[derive(Clone, Copy, Debug, PartialEq, Eq)]
-pub enum Refusal {
+pub enum FrameFault {
     BadHead,
     BadStatus,
     BadLength,
@@ -61,16 +61,16 @@ pub enum Refusal {
     CutShort,
 }
 
-impl From<Refusal> for WireFault {
+impl From<FrameFault> for WireFault {
     ghost from_gives = { λ refusal fault. fault ≡ fault_of refusal };
 
-    fn from(refusal: Refusal) -> WireFault {
+    fn from(refusal: FrameFault) -> WireFault {
         match refusal {
-            Refusal::BadHead => WireFault::BadHead,
-            Refusal::BadStatus => WireFault::BadStatus,
-            Refusal::BadLength => WireFault::BadLength,
-            Refusal::TooLong => WireFault::TooLong,
-            Refusal::CutShort => WireFault::CutShort,
+            FrameFault::BadHead => WireFault::BadHead,
+            FrameFault::BadStatus => WireFault::BadStatus,
+            FrameFault::BadLength => WireFault::BadLength,
+            FrameFault::TooLong => WireFault::TooLong,
+            FrameFault::CutShort => WireFault::CutShort,
         }
     }
 }

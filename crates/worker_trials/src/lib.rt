@@ -4,4 +4,6 @@
 #[cfg(test)]
 mod attending;
 #[cfg(test)]
+mod long_histories;
+#[cfg(test)]
 mod refereeing;

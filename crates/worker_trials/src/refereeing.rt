@@ -108,7 +108,7 @@ fn texts(alloc: Global, words: &[&[u8]]) -> Result<Texts, AllocError> {
     Ok(Texts { items })
 }
 
-fn setup(
+pub fn setup(
     alloc: Global,
     id: &[u8],
     clocks: (u32, u32),
@@ -167,7 +167,7 @@ fn check_refereed<R: Abort>(rt: &R, refereed: &Refereed<Countdown>) -> Result<()
     check_calls(rt, &refereed.closed)
 }
 
-fn check_end<R: Abort>(rt: &R, manager: &Manager<Countdown>) -> Result<(), Fail> {
+pub fn check_end<R: Abort>(rt: &R, manager: &Manager<Countdown>) -> Result<(), Fail> {
     let held = manager.match_at(0).ok_or("no match")?;
     assert_eq!(rt; held.status().phase, Phase::Finished);
     for (role, goal) in [(0, 100), (1, 0)] {

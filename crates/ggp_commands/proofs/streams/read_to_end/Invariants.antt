@@ -3,11 +3,11 @@ use Rattle.std.specs.Io.KnownBytes.{Consumes}
 use Rattle.game_core.specs.Counting.{CallsMade}
 use Rattle.ggp_commands.proofs.streams.read_to_end.Given as goal
 
-abbrev pub invariant-loop-turn : goal.invariant-loop-turn
-invariant-loop-turn g l = record {
+abbrev pub invariant-loop-call : goal.invariant-loop-call
+invariant-loop-call g l = record {
   given : Consumes (g.R.Read.remaining l.initial.reader.stream) (g.R.Read.remaining l.reader.stream) l.input.items;
   within : length l.input.items ≤ l.most;
-  turns : l.turn ≤ length l.input.items;
-  calls : CallsMade l.turn l.initial.reader.calls l.reader.calls;
+  each : l.call ≤ length l.input.items;
+  calls : CallsMade l.call l.initial.reader.calls l.reader.calls;
   faults : l.reader.faults ≡ l.initial.reader.faults;
 }

@@ -5,4 +5,4 @@ use Rattle.game_core.specs.Bytes.{space}
 use Rattle.ggp_commands.proofs.words.words.Goals as goal
 
 pub returns : goal.returns
-returns c = map_from_collect _ c.collect.ensures.ran (YieldsList-from_slice_split _ (λ b. b == space) c.args.line.now c.split.ensures.rest c.split.ensures.done c.split.ensures.closure (search rules))
+returns c = map_from_collect _ c.collect.ensures.ran (YieldsList-from_slice_split _ (λ b. b == space) c.args.text.now c.split.ensures.rest c.split.ensures.done c.split.ensures.closure (search rules))

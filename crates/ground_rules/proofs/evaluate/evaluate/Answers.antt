@@ -7,6 +7,6 @@ use Rattle.ground_rules.proofs.evaluate.evaluate.Goals as goal
 pub returns-clause-fits : goal.returns-clause-fits
 returns-clause-fits c rank ranked =
     let w = numbered c.args.state.now c.args.joint.now in
-    let e : c.loop-rule.row.items ≡ row_after w (unset c.args.atoms) (rules_of c.args.rules.now) =
-    sym (at_drop_all (λ rs. row_after w c.loop-rule.row.items (rules_of rs)) c.args.rules.now c.loop-rule.rule-index (omega arith)) ∙ c.loop-rule.invariant in
+    let e : c.loop-rule.row ≡ row_after w (unset c.args.atoms) (rules_of c.args.rules.now) =
+    sym (at_drop_all (λ rs. row_after w c.loop-rule.row (rules_of rs)) c.args.rules.now c.loop-rule.rule-index (omega arith)) ∙ c.loop-rule.invariant in
     rw e (pass-fits w rank c.args.atoms (rules_of c.args.rules.now) (λ x y. refl) ranked)

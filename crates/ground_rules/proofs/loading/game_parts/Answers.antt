@@ -1,10 +1,10 @@
 use Rattle.std.proofs.Common.{◌≡◌, ◌∙◌, ap, sym, inl, inr}
 use Rattle.std.proofs.lemmas.Result.{err_from_is_err_and}
-use Rattle.ground_rules.specs.Sentences.{rules_of}
+use Rattle.ground_rules.specs.Internal.SentenceViews.{rules_of}
 use Rattle.ground_rules.specs.Numbered.{rules_of as numbered_rules}
-use Rattle.ground_rules.specs.Resolved.{table_of}
+use Rattle.ground_rules.specs.Internal.Resolved.{table_of}
 use Rattle.ground_rules.specs.Sizes.{is_small}
-use Rattle.ground_rules.specs.GameParts.{have_few_moves_by, AreRankedOf}
+use Rattle.ground_rules.specs.Internal.GameParts.{have_few_moves_by, AreRankedOf}
 use Rattle.ground_rules.proofs.Limits.{small-by-moves}
 use Rattle.ground_rules.proofs.loading.game_parts.Goals as goal
 

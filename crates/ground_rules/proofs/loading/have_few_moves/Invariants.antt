@@ -1,5 +1,5 @@
 use Rattle.std.proofs.Common.{◌≡◌, drop}
-use Rattle.ground_rules.specs.GameParts.{have_few_moves_by}
+use Rattle.ground_rules.specs.Internal.GameParts.{have_few_moves_by}
 use Rattle.ground_rules.proofs.loading.have_few_moves.Given as goal
 
 abbrev pub invariant-loop-role : goal.invariant-loop-role

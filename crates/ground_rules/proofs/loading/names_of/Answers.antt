@@ -1,7 +1,6 @@
-use Rattle.std.proofs.Common.{◌≡◌, ◌∙◌, sym, ap, length, arith}
-use Rattle.std.proofs.lemmas.List.{length-map}
+use Rattle.std.proofs.Common.{◌≡◌, ◌∙◌, ap, length, arith}
 use Rattle.std.proofs.lemmas.Result.{err_from_is_err_and}
-use Rattle.ground_rules.specs.Sentences.{rules_of}
+use Rattle.ground_rules.specs.Internal.SentenceViews.{rules_of}
 use Rattle.ground_rules.specs.Described.{role_names}
 use Rattle.ground_rules.proofs.Limits.{too-many-sentences, too-many-atomics, too-many-roles, few-so-far}
 use Rattle.ground_rules.proofs.loading.names_of.Goals as goal
@@ -18,7 +17,7 @@ returns-then-sentences-gt-MAX_SENTENCES-clause-fault c =
         | then-sentences-gt-MAX_SENTENCES-via-then-sentences-gt-MAX_SENTENCES w ↦ too-many-sentences c.args.sentences d w.if-sentences-gt-MAX_SENTENCES.true
         | then-sentences-gt-MAX_SENTENCES-via-else-sentences-gt-MAX_SENTENCES+then-atomic_sentences-gt-MAX_ATOMIC_SENTENCES w ↦ too-many-atomics c.args.sentences c.in_ok-atomic_sentences.atomic_sentences d c.in_ok-atomic_sentences.ensures w.if-atomic_sentences-gt-MAX_ATOMIC_SENTENCES.true
         | then-sentences-gt-MAX_SENTENCES-via-else-sentences-gt-MAX_SENTENCES+else-atomic_sentences-gt-MAX_ATOMIC_SENTENCES+then-len-gt-MAX_ROLES w ↦
-            let size : w.len.result ≡ length (role_names d) = w.len.ensures.len ∙ sym (length-map c.in_ok-roles.roles.keys (λ v. v.items)) ∙ ap length c.in_ok-roles.ensures.names in
+            let size : w.len.result ≡ length (role_names d) = w.len.ensures.len ∙ ap length c.in_ok-roles.ensures.names in
             too-many-roles c.args.sentences w.len.result d size w.if-len-gt-MAX_ROLES.true
       ],
     )
@@ -32,5 +31,5 @@ returns-clause-roles c = record { some' = c.in_ok-roles.ensures.some; differ = c
 pub returns-clause-small : goal.returns-clause-small
 returns-clause-small c =
     let d = rules_of c.args.rules.now in
-    let size : c.len.result ≡ length (role_names d) = c.len.ensures.len ∙ sym (length-map c.in_ok-roles.roles.keys (λ v. v.items)) ∙ ap length c.in_ok-roles.ensures.names in
+    let size : c.len.result ≡ length (role_names d) = c.len.ensures.len ∙ ap length c.in_ok-roles.ensures.names in
     few-so-far c.args.sentences c.in_ok-atomic_sentences.atomic_sentences c.len.result d (omega (arith, c.if-sentences-gt-MAX_SENTENCES.false)) c.in_ok-atomic_sentences.ensures (omega (arith, c.if-atomic_sentences-gt-MAX_ATOMIC_SENTENCES.false)) size (omega (arith, c.if-len-gt-MAX_ROLES.false))

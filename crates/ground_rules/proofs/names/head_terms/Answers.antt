@@ -1,9 +1,8 @@
 use Rattle.std.proofs.Common.{◌≡◌, ◌∙◌, ap, sym, bytes_eq, arith}
 use Rattle.std.proofs.lemmas.List.{drop_all}
-use Rattle.ground_rules.specs.Sentences.{rules_of}
+use Rattle.ground_rules.specs.Internal.SentenceViews.{rules_of}
 use Rattle.ground_rules.specs.Described.{with_all_new, each_once}
-use Rattle.ground_rules.specs.Keys.{texts}
-use Rattle.ground_rules.specs.Resolved.{head_terms}
+use Rattle.ground_rules.specs.Internal.Resolved.{head_terms}
 use Rattle.ground_rules.proofs.ByteOrder.{sorted-in-order, sorted-same}
 use Rattle.ground_rules.proofs.names.head_terms.Goals as goal
 
@@ -13,5 +12,5 @@ returns-clause-ordered c = sorted-in-order c.sort.new.self.keys c.in_ok-sort.ens
 pub returns-clause-same : goal.returns-clause-same
 returns-clause-same c = λ t.
     let rules = c.args.rules.now in
-    let all : texts c.loop-rule.terms.keys ≡ each_once bytes_eq (head_terms (rules_of rules)) = sym (ap (λ rs. with_all_new bytes_eq (texts c.loop-rule.terms.keys) (head_terms (rules_of rs))) (drop_all c.loop-rule.rule-index rules (omega arith))) ∙ c.loop-rule.invariant in
+    let all : c.loop-rule.terms.keys ≡ each_once bytes_eq (head_terms (rules_of rules)) = sym (ap (λ rs. with_all_new bytes_eq c.loop-rule.terms.keys (head_terms (rules_of rs))) (drop_all c.loop-rule.rule-index rules (omega arith))) ∙ c.loop-rule.invariant in
     sorted-same c.loop-rule.terms.keys c.sort.new.self.keys (head_terms (rules_of rules)) t c.in_ok-sort.ensures.reordered.0 all

@@ -1,9 +1,8 @@
 use Rattle.std.proofs.Common.{◌≡◌, drop, bytes_eq}
-use Rattle.ground_rules.specs.Sentences.{rules_of}
+use Rattle.ground_rules.specs.Internal.SentenceViews.{rules_of}
 use Rattle.ground_rules.specs.Described.{with_all_new, each_once}
-use Rattle.ground_rules.specs.Keys.{texts}
-use Rattle.ground_rules.specs.Resolved.{head_terms}
+use Rattle.ground_rules.specs.Internal.Resolved.{head_terms}
 use Rattle.ground_rules.proofs.names.head_terms.Given as goal
 
 abbrev pub invariant-loop-rule : goal.invariant-loop-rule
-invariant-loop-rule l = with_all_new bytes_eq (texts l.terms.keys) (head_terms (rules_of (drop l.rule-index l.rules))) ≡ each_once bytes_eq (head_terms (rules_of l.rules))
+invariant-loop-rule l = with_all_new bytes_eq l.terms.keys (head_terms (rules_of (drop l.rule-index l.rules))) ≡ each_once bytes_eq (head_terms (rules_of l.rules))

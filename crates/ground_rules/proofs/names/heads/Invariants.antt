@@ -1,8 +1,7 @@
 use Rattle.std.proofs.Common.{◌≡◌, map, drop}
-use Rattle.ground_rules.specs.Sentences.{rules_of}
+use Rattle.ground_rules.specs.Internal.SentenceViews.{rules_of}
 use Rattle.ground_rules.specs.Described.{with_all_new, same_derived, heads}
-use Rattle.ground_rules.specs.Keys.{derived_of}
 use Rattle.ground_rules.proofs.names.heads.Given as goal
 
 abbrev pub invariant-loop-rule : goal.invariant-loop-rule
-invariant-loop-rule l = with_all_new same_derived (map derived_of l.heads.keys) (map (λ r. r.head) (rules_of (drop l.rule-index l.rules))) ≡ heads (rules_of l.rules)
+invariant-loop-rule l = with_all_new same_derived l.heads.keys (map (λ r. r.head) (rules_of (drop l.rule-index l.rules))) ≡ heads (rules_of l.rules)

@@ -1,9 +1,8 @@
 use Rattle.std.proofs.Common.{◌≡◌, ◌∙◌, [], ◌∷◌, sym, ap, get_or, bytes_eq, drop, append_assoc, ◌+◌}
 use Rattle.std.specs.List.{list_any}
 use Rattle.std.specs.Option.{option_copied, option_to_list}
-use Rattle.ground_rules.specs.Sentences.{rules_of}
+use Rattle.ground_rules.specs.Internal.SentenceViews.{rules_of}
 use Rattle.ground_rules.specs.Described.{role_names, name_in, are_different}
-use Rattle.ground_rules.specs.Keys.{texts}
 use Rattle.ground_rules.proofs.NameLists.{some-name, repeated, not-repeated, names-at, name-between, no-name-between, new-name, found-by, new-by}
 use Rattle.ground_rules.proofs.names.role_names.Goals as goal
 use Rattle.ground_rules.proofs.names.role_names.Goals.{in-Some+in_ok-add_text+else-not-branch, in_default}
@@ -13,7 +12,7 @@ returns-then-not-branch-clause-fault c =
     let rules = c.args.rules.now in
     let item = c.rule-item.result in
     let i = c.loop-rule.rule-index in
-    let seen = texts c.loop-rule.names.keys in
+    let seen = c.loop-rule.names.keys in
     let n = c.in-Some.name.now in
     let here : name_in (get_or rules i item).head ≡ n ∷ [] = ap (λ r. name_in r.head) (sym c.rule-item.is) ∙ sym c.role_name.ensures ∙ ap (λ o. option_to_list (option_copied o)) c.in-Some.is in
     let all = name-between seen (role_names (rules_of rules)) (role_names (rules_of (drop (i + 1) rules))) _ n here (names-at seen (role_names (rules_of rules)) rules i item c.loop-rule-test.true c.loop-rule.invariant.names) in
@@ -25,7 +24,7 @@ loop-rule-preserved c =
     let rules = c.args.rules.now in
     let item = c.rule-item.result in
     let i = c.loop-rule.rule-index in
-    let seen = texts c.loop-rule.names.keys in
+    let seen = c.loop-rule.names.keys in
     let whole = role_names (rules_of rules) in
     let rest = role_names (rules_of (drop (i + 1) rules)) in
     let step = names-at seen whole rules i item c.loop-rule-test.true c.loop-rule.invariant.names in

@@ -1,11 +1,10 @@
 use Rattle.std.proofs.Common.{◌≡◌, ◌++◌, drop, true}
-use Rattle.ground_rules.specs.Sentences.{rules_of}
+use Rattle.ground_rules.specs.Internal.SentenceViews.{rules_of}
 use Rattle.ground_rules.specs.Described.{role_names, are_different}
-use Rattle.ground_rules.specs.Keys.{texts}
 use Rattle.ground_rules.proofs.names.role_names.Given as goal
 
 abbrev pub invariant-loop-rule : goal.invariant-loop-rule
 invariant-loop-rule l = record {
-  names : texts l.names.keys ++ role_names (rules_of (drop l.rule-index l.rules)) ≡ role_names (rules_of l.rules);
-  differ : are_different (texts l.names.keys) ≡ true;
+  names : l.names.keys ++ role_names (rules_of (drop l.rule-index l.rules)) ≡ role_names (rules_of l.rules);
+  differ : are_different l.names.keys ≡ true;
 }

@@ -1,6 +1,6 @@
 use Rattle.std.proofs.Common.{◌≡◌, ◌++◌, drop}
 use Rattle.ground_rules.specs.Numbered.{views}
-use Rattle.ground_rules.specs.Resolved.{all_atoms_in}
+use Rattle.ground_rules.specs.Internal.Resolved.{all_atoms_in}
 use Rattle.ground_rules.proofs.needs.+add_atoms.Given as goal
 
 abbrev pub invariant-add_all_atoms-loop-literal : goal.invariant-add_all_atoms-loop-literal

@@ -1,7 +1,7 @@
 use Rattle.std.proofs.Common.{◌≡◌, ◌<◌, ◌++◌, ℕ, length, drop}
 use Rattle.ground_rules.specs.Numbered.{rules_of}
-use Rattle.ground_rules.specs.Order.{needs_at}
-use Rattle.ground_rules.specs.Resolved.{needs_of}
+use Rattle.ground_rules.specs.Internal.Order.{needs_at}
+use Rattle.ground_rules.specs.Internal.Resolved.{needs_of}
 use Rattle.ground_rules.proofs.needs.needs_of.Given as goal
 
 abbrev pub invariant-loop-rule : goal.invariant-loop-rule

@@ -1,5 +1,5 @@
 use Rattle.std.proofs.Common.{◌≡◌, drop}
-use Rattle.ground_rules.specs.Sentences.{views}
+use Rattle.ground_rules.specs.Internal.SentenceViews.{views}
 use Rattle.ground_rules.specs.Places.{are_placed}
 use Rattle.ground_rules.proofs.placing.+is_placed.Given as goal
 

@@ -1,6 +1,6 @@
 use Rattle.std.proofs.Common.{◌≡◌, ◌∙◌, sym, ap, map, get_or, None, Some, option_map, arith}
 use Rattle.kif_text.specs.View.{view as expression}
-use Rattle.ground_rules.specs.Sentences.{view}
+use Rattle.ground_rules.specs.Internal.SentenceViews.{view}
 use Rattle.ground_rules.specs.Reading.{read_literal}
 use Rattle.ground_rules.proofs.LiteralLists.{stops, goes-on, ends, left-passed}
 use Rattle.ground_rules.proofs.reading.+read_literal.Goals as goal

@@ -1,7 +1,8 @@
 use Rattle.std.proofs.Common.{◌≡◌, map}
 use Rattle.kif_text.specs.View.{views as expressions}
-use Rattle.ground_rules.specs.Sentences.{view}
-use Rattle.ground_rules.specs.Reading.{read_literals, without_first}
+use Rattle.ground_rules.specs.Internal.SentenceViews.{view}
+use Rattle.ground_rules.specs.Reading.{read_literals}
+use Rattle.ground_rules.specs.Internal.Members.{without_first}
 use Rattle.ground_rules.proofs.LiteralLists.{prefixed, left}
 use Rattle.ground_rules.proofs.reading.+read_literal.Given as goal
 

@@ -1,7 +1,8 @@
 use Rattle.std.proofs.Common.{◌≡◌, ◌∙◌, sym, ap, arith, Some, option_map, get_or}
 use Rattle.kif_text.specs.View.{view as expression, views as expressions}
-use Rattle.ground_rules.specs.Sentences.{views}
-use Rattle.ground_rules.specs.Reading.{read_atomic, read_literals, without_first}
+use Rattle.ground_rules.specs.Internal.SentenceViews.{views}
+use Rattle.ground_rules.specs.Reading.{read_atomic, read_literals}
+use Rattle.ground_rules.specs.Internal.Members.{without_first}
 use Rattle.ground_rules.proofs.Arguments.{rule-none, rule-is}
 use Rattle.ground_rules.proofs.reading.read_rule.Goals as goal
 

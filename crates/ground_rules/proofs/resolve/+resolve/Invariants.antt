@@ -1,7 +1,7 @@
 use Rattle.std.proofs.Common.{◌≡◌, map, take}
-use Rattle.ground_rules.specs.Sentences.{view}
+use Rattle.ground_rules.specs.Internal.SentenceViews.{view}
 use Rattle.ground_rules.specs.Numbered.{view as numbered}
-use Rattle.ground_rules.specs.Resolved.{resolved, table_of}
+use Rattle.ground_rules.specs.Internal.Resolved.{resolved, table_of}
 use Rattle.ground_rules.proofs.resolve.+resolve.Given as goal
 
 abbrev pub invariant-resolve_all-loop-literal : goal.invariant-resolve_all-loop-literal

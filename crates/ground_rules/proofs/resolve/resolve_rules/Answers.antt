@@ -1,5 +1,5 @@
 use Rattle.std.proofs.Common.{arith}
-use Rattle.ground_rules.specs.Resolved.{table_of}
+use Rattle.ground_rules.specs.Internal.Resolved.{table_of}
 use Rattle.ground_rules.proofs.ResolvedLists.{all-rules}
 use Rattle.ground_rules.proofs.resolve.resolve_rules.Goals as goal
 

@@ -1,7 +1,7 @@
 use Rattle.std.proofs.Common.{◌≡◌, ◌++◌, map}
 use Rattle.std.specs.List.{position_from, filter_map}
 use Rattle.kif_text.specs.View.{view as expression}
-use Rattle.ground_rules.specs.Sentences.{rules_of}
+use Rattle.ground_rules.specs.Internal.SentenceViews.{rules_of}
 use Rattle.ground_rules.specs.Loading.{first_place, is_malformed, is_misplaced, rule_in, description_of}
 use Rattle.ground_rules.proofs.RuleLists.{rest, first_or}
 use Rattle.ground_rules.proofs.rules.read_each.Given as goal

@@ -4,4 +4,4 @@ use Rattle.ground_rules.specs.Tables.{marked}
 use Rattle.ground_rules.proofs.tables.mark.Given as goal
 
 abbrev pub invariant-loop-mention : goal.invariant-loop-mention
-invariant-loop-mention l = marked l.marks.items l.row (drop l.mention-index l.mentions) ≡ marked (unset l.terms) l.row l.mentions
+invariant-loop-mention l = marked l.marks l.row (drop l.mention-index l.mentions) ≡ marked (unset l.terms) l.row l.mentions

@@ -1,18 +1,18 @@
-use Rattle.std.proofs.Common.{◌<◌, length, arith}
+use Rattle.std.proofs.Common.{◌<◌, ◌∙◌, sym, length, arith}
 use Rattle.ground_rules.specs.Tables.{picked}
 use Rattle.ground_rules.proofs.Picked.{picked-true, picked-false}
 use Rattle.ground_rules.proofs.Searching.{needs-read}
 use Rattle.ground_rules.proofs.tables.pick.Goals as goal
-use Rattle.ground_rules.proofs.tables.pick.Goals.{then-row-i+in_ok-copy+in_ok-push, else-row-i}
+use Rattle.ground_rules.proofs.tables.pick.Goals.{then-is_set+in_ok-clone+in_ok-push, else-is_set}
 
-pub loop-i-preserved : goal.loop-i-preserved
-loop-i-preserved c =
-    let lt : c.loop-i.i < length c.args.row.now = c.loop-i-test.true in
-    let lt' : c.loop-i.i < length c.args.texts.now = omega (arith, c.requires, lt) in
-    elim c.if-row-i.branch [
-      | then-row-i+in_ok-copy+in_ok-push w ↦
-          let x = needs-read c.args.texts.now c.loop-i.i w.index-texts-i.result w.in_ok-copy.field-0 lt' w.index-texts-i.is w.in_ok-copy.ensures in
-          rw (w.found-is, w.in_ok-push.ensures.items) (picked-true c.args.row.now c.args.texts.now c.loop-i.i c.loop-i.found.items (picked c.args.row.now c.args.texts.now) w.in_ok-copy.field-0 lt lt' w.if-row-i.true x c.loop-i.invariant)
-      | else-row-i w ↦
-          rw w.found-is (picked-false c.args.row.now c.args.texts.now c.loop-i.i c.loop-i.found.items (picked c.args.row.now c.args.texts.now) lt lt' w.if-row-i.false c.loop-i.invariant)
+pub loop-term-preserved : goal.loop-term-preserved
+loop-term-preserved c =
+    let lt' : c.loop-term.term < length c.args.texts.now = c.loop-term-test.true in
+    let lt : c.loop-term.term < length c.args.row.now = omega (arith, c.requires, lt') in
+    elim c.if-is_set.branch [
+      | then-is_set+in_ok-clone+in_ok-push w ↦
+          let x = needs-read c.args.texts.now c.loop-term.term c.index-texts-term.result w.in_ok-clone.field-0 lt' c.index-texts-term.is w.in_ok-clone.ensures.cases in
+          rw (w.found-is, w.in_ok-push.ensures.items) (picked-true c.args.row.now c.args.texts.now c.loop-term.term c.loop-term.found.items (picked c.args.row.now c.args.texts.now) w.in_ok-clone.field-0 lt lt' (sym c.is_set.ensures ∙ w.if-is_set.true) x c.loop-term.invariant)
+      | else-is_set w ↦
+          rw w.found-is (picked-false c.args.row.now c.args.texts.now c.loop-term.term c.loop-term.found.items (picked c.args.row.now c.args.texts.now) lt lt' (sym c.is_set.ensures ∙ w.if-is_set.false) c.loop-term.invariant)
     ]

@@ -1,6 +1,7 @@
 use Rattle.std.proofs.lemmas.Result.{err_from_is_err_and}
 use Rattle.game_core.specs.Expression.{max_depth}
-use Rattle.kif_text.specs.Machine.{state_of, step}
+use Rattle.kif_text.specs.Machine.{step}
+use Rattle.kif_text.specs.Internal.Following.{state_of}
 use Rattle.kif_text.proofs.Running.{goes_on, stops, is_done}
 use Rattle.kif_text.proofs.reading.read.Goals as goal
 

@@ -3,7 +3,8 @@ use Rattle.std.proofs.lemmas.Result.{err_from_is_err_and}
 use Rattle.std.proofs.lemmas.Grind.{common_steps}
 use Rattle.game_core.specs.Expression.{max_depth}
 use Rattle.kif_text.specs.View.{view, views}
-use Rattle.kif_text.specs.Machine.{start, state_of, ◌>>=◌, one_step, run, finish, last_of}
+use Rattle.kif_text.specs.Machine.{start, ◌>>=◌, one_step, run, finish, last_of}
+use Rattle.kif_text.specs.Internal.Following.{state_of}
 use Rattle.kif_text.proofs.Running.{goes_on, stops, is_done, fails_on}
 use Rattle.kif_text.proofs.Views.{last_views}
 use Rattle.kif_text.proofs.reading.read_single.Goals as goal

@@ -2,7 +2,7 @@ use Rattle.std.proofs.Common.{◌≤◌, ◌++◌, ◌∷◌, [], ap, sym, ◌�
 use Rattle.std.proofs.lemmas.List.{take_all}
 use Rattle.serde_json.specs.View.{view}
 use Rattle.match_record.specs.RecordTree.{texts_tree}
-use Rattle.match_record.proofs.RecordParts.{map-next, view_push, list_view}
+use Rattle.match_record.proofs.RecordParts.{map-next, view_push, text_lists_view}
 use Rattle.match_record.proofs.record.errors.Goals as goal
 
 pub loop-turn-preserved : goal.loop-turn-preserved
@@ -16,4 +16,4 @@ pub returns : goal.returns
 returns g c =
     let turns = c.args.held.now.value.turns in
     let past : length turns ≤ c.loop-turn.turn = omega (arith, c.loop-turn-test.false, c.turns-turn-end.ensures) in
-    list_view c.loop-turn.errors _ (c.loop-turn.invariant ∙ ap (map (λ t. texts_tree t.errors)) (take_all c.loop-turn.turn turns past))
+    text_lists_view (λ t. t.errors) turns c.loop-turn.errors (c.loop-turn.invariant ∙ ap (map (λ t. texts_tree t.errors)) (take_all c.loop-turn.turn turns past))

@@ -2,7 +2,7 @@ use Rattle.std.proofs.Common.{◌≤◌, ◌++◌, ◌∷◌, [], ap, sym, ◌�
 use Rattle.std.proofs.lemmas.List.{take_all}
 use Rattle.serde_json.specs.View.{view}
 use Rattle.match_record.specs.RecordTree.{texts_tree}
-use Rattle.match_record.proofs.RecordParts.{map-next, view_push, list_view}
+use Rattle.match_record.proofs.RecordParts.{map-next, view_push, text_lists_view}
 use Rattle.match_record.proofs.record.moves.Goals as goal
 
 pub loop-turn-preserved : goal.loop-turn-preserved
@@ -16,4 +16,4 @@ pub returns : goal.returns
 returns g c =
     let turns = c.args.held.now.value.turns in
     let past : length turns ≤ c.loop-turn.turn = omega (arith, c.loop-turn-test.false, c.turns-turn-end.ensures) in
-    list_view c.loop-turn.moves _ (c.loop-turn.invariant ∙ ap (map (λ t. texts_tree (map (g.G.Game.rules c.args.game.now).move_text t.moves))) (take_all c.loop-turn.turn turns past))
+    text_lists_view (λ t. map (g.G.Game.rules c.args.game.now).move_text t.moves) turns c.loop-turn.moves (c.loop-turn.invariant ∙ ap (map (λ t. texts_tree (map (g.G.Game.rules c.args.game.now).move_text t.moves))) (take_all c.loop-turn.turn turns past))

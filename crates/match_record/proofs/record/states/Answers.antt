@@ -1,8 +1,9 @@
 use Rattle.std.proofs.Common.{◌≡◌, ◌≤◌, ◌++◌, ◌∷◌, [], Some, ap, sym, subst, ◌∙◌, arith, map, take, length, ◌+◌}
 use Rattle.std.proofs.lemmas.List.{take_all, map-append}
 use Rattle.match_book.specs.MatchValue.{state_after}
-use Rattle.match_record.specs.RecordTree.{texts_tree, prefixes}
-use Rattle.match_record.proofs.RecordParts.{next_state, view_push, list_view}
+use Rattle.match_record.specs.RecordParts.{prefixes}
+use Rattle.match_record.specs.RecordTree.{texts_tree}
+use Rattle.match_record.proofs.RecordParts.{next_state, view_push, text_lists_view}
 use Rattle.match_record.proofs.record.states.Goals as goal
 
 pub next-requires-clause-joint : goal.next-requires-clause-joint
@@ -34,4 +35,4 @@ returns g c =
     let rules = g.G.Game.rules c.args.game.now in
     let turns = c.args.held.now.value.turns in
     let past : length turns ≤ c.loop-turn.turn = omega (arith, c.loop-turn-test.false, c.turns-turn-end.ensures) in
-    list_view c.loop-turn.states _ (c.loop-turn.invariant.states ∙ ap (λ ts. map (λ front. texts_tree (rules.state_text (state_after rules front))) (prefixes ts)) (take_all c.loop-turn.turn turns past))
+    text_lists_view (λ front. rules.state_text (state_after rules front)) (prefixes turns) c.loop-turn.states (c.loop-turn.invariant.states ∙ ap (λ ts. map (λ front. texts_tree (rules.state_text (state_after rules front))) (prefixes ts)) (take_all c.loop-turn.turn turns past))

@@ -1,7 +1,8 @@
 use Rattle.std.proofs.Common.{◌≡◌, map, take}
 use Rattle.serde_json.specs.View.{view}
 use Rattle.match_book.specs.MatchValue.{state_after}
-use Rattle.match_record.specs.RecordTree.{texts_tree, prefixes}
+use Rattle.match_record.specs.RecordParts.{prefixes}
+use Rattle.match_record.specs.RecordTree.{texts_tree}
 use Rattle.match_record.proofs.record.states.Given as goal
 
 abbrev pub invariant-loop-turn : goal.invariant-loop-turn

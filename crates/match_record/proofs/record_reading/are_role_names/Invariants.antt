@@ -1,5 +1,5 @@
 use Rattle.std.proofs.Common.{◌≡◌, take}
-use Rattle.match_record.specs.RecordTree.{each_role}
+use Rattle.match_record.specs.RecordParts.{each_role}
 use Rattle.match_record.proofs.record_reading.are_role_names.Given as goal
 
 abbrev pub invariant-loop-role : goal.invariant-loop-role

@@ -1,20 +1,10 @@
-use Rattle.std.proofs.Common.{Some, Option, Bor, subst, sym, ◌∙◌}
-use Rattle.std.specs.Prelude.{option_map}
-use Rattle.serde_json.specs.Data.{Data}
+use Rattle.std.proofs.Common.{Some, subst, sym, ◌∙◌}
 use Rattle.serde_json.specs.View.{view, items_view}
-use Rattle.serde_json.specs.declared.value.Value.{Value}
-use Rattle.match_book.specs.Marks.{mark_text}
-use Rattle.match_book.specs.declared.answer.Mark.{Mark}
-use Rattle.match_record.specs.RecordTree.{text_or_null}
-use Rattle.match_record.specs.Shown.{Shows, AnyShape}
+use Rattle.match_record.specs.RecordTree.{mark_tree}
+use Rattle.match_record.specs.Internal.JsonValues.{data_in}
+use Rattle.match_record.specs.Internal.Shown.{Shows, AnyShape}
 use Rattle.match_record.proofs.JsonData.{found_array, shown_length, members_shown, member_not_shown, member_more, members_all}
 use Rattle.match_record.proofs.record_reading.marks_in.Goals as goal
-
-abbrev mark_tree : Option Mark → Data
-mark_tree mark = text_or_null (option_map mark_text mark)
-
-abbrev data_in : Option (Bor Value) → Option Data
-data_in found = option_map (λ v. view v.now) found
 
 pub returns-in-None : goal.returns-in-None
 returns-in-None c =

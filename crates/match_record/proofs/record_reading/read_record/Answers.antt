@@ -1,5 +1,5 @@
 use Rattle.serde_json.specs.View.{view}
-use Rattle.match_record.proofs.KeyFormats.{ends_read}
+use Rattle.match_record.proofs.KeyTable.{ends_read}
 use Rattle.match_record.proofs.record_reading.read_record.Goals as goal
 
 pub returns-in_err-parts-clause-err : goal.returns-in_err-parts-clause-err

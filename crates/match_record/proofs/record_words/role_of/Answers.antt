@@ -1,15 +1,11 @@
-use Rattle.std.proofs.Common.{sym}
-use Rattle.match_record.proofs.PlainNumerals.{no_role, role_found, role_past, role_none}
+use Rattle.match_record.proofs.RoleNumbers.{role_found, role_past, role_none}
 use Rattle.match_record.proofs.record_words.role_of.Goals as goal
-
-pub returns-then-not-is_plain_numeral : goal.returns-then-not-is_plain_numeral
-returns-then-not-is_plain_numeral c = no_role c.args.digits.now c.args.roles c.requires (sym c.if-not-is_plain_numeral.ensures)
 
 pub returns-in_err-role : goal.returns-in_err-role
 returns-in_err-role c = rw c.from_residual.ensures (role_none c.args.digits.now c.args.roles c.requires c.in_err-role.ensures)
 
 pub returns-then-role-roles : goal.returns-then-role-roles
-returns-then-role-roles c = (role_found c.args.digits.now c.args.roles c.in_ok-role.role c.requires (sym c.if-not-is_plain_numeral.ensures) c.in_ok-role.ensures c.if-role-roles.true, c.if-role-roles.true)
+returns-then-role-roles c = (role_found c.args.digits.now c.args.roles c.in_ok-role.role c.requires c.in_ok-role.ensures c.if-role-roles.true, c.if-role-roles.true)
 
 pub returns-else-role-roles : goal.returns-else-role-roles
 returns-else-role-roles c = role_past c.args.digits.now c.args.roles c.in_ok-role.role c.requires c.in_ok-role.ensures c.if-role-roles.false

@@ -1,12 +1,13 @@
-use Rattle.std.proofs.Common.{◌≡◌, ◌≢◌, ◌<◌, ◌+◌, [], List, refl, sym, ap, subst, ◌∙◌, arith, length}
+use Rattle.std.proofs.Common.{◌≡◌, ◌≢◌, ◌<◌, ◌+◌, [], List, refl, sym, subst, ◌∙◌, arith, length}
 use Rattle.std.specs.Prelude.{All, AllPairs, vec_len}
 use Rattle.std.proofs.lemmas.List.{get_or_read}
 use Rattle.std.proofs.lemmas.Option.{MatchOption-at_some}
 use Rattle.match_record.specs.RecordParts.{IsErrorText}
-use Rattle.match_record.specs.Replaying.{GoesOn, NamesNone, IsWrongError, text_at}
-use Rattle.match_record.specs.ReplaySteps.{IsRecorded, all_moves}
+use Rattle.match_book.specs.LegalMoves.{AreLegalMoves}
+use Rattle.match_book.specs.Judgement.{NamesNone}
+use Rattle.match_record.specs.Replaying.{GoesOn, IsWrongError, text_at}
+use Rattle.match_record.specs.Internal.ReplaySteps.{IsRecorded}
 use Rattle.match_record.specs.declared.recorded_turn.RecordedMove.TheVariants.{Right, WrongError}
-use Rattle.match_record.proofs.RecordShapes.{length_each_role}
 use Rattle.match_record.proofs.RecordedMoves.{SoFar, SoFar-more, SoFar-all, moves-at}
 use Rattle.match_record.proofs.recorded_turn.recorded_joint.Goals as goal
 
@@ -15,17 +16,17 @@ index-requires g c =
     let game = g.G.Game.rules c.args.game.now in
     let s = c.args.state.now in
     let role = c.loop-role.role in
-    let lists = MatchOption-at_some (¬ (GoesOn game s)) (λ lists. GoesOn game s × (lists.items ≡ all_moves game s)) c.in-Some.lists c.in-Some.is c.in_ok-lists.ensures in
+    let lists = MatchOption-at_some (¬ (GoesOn game s)) (λ lists. GoesOn game s × AreLegalMoves game s lists.items) c.in-Some.lists c.in-Some.is c.in_ok-lists.ensures in
     let within : role < game.roles = omega (arith, c.roles-role-end.ensures, c.loop-role-test.true) in
     let many : vec_len c.in-Some.lists ≡ length c.in-Some.lists.items = c.in-Some.lists.ok.0 in
-    omega (arith, many, ap length lists.1, length_each_role game.roles (game.legal s))
+    omega (arith, many, lists.1.one_list)
 
 pub recorded_move-requires-clause-moves : goal.recorded_move-requires-clause-moves
 recorded_move-requires-clause-moves g c =
     let game = g.G.Game.rules c.args.game.now in
     let s = c.args.state.now in
     let role = c.loop-role.role in
-    let lists = MatchOption-at_some (¬ (GoesOn game s)) (λ lists. GoesOn game s × (lists.items ≡ all_moves game s)) c.in-Some.lists c.in-Some.is c.in_ok-lists.ensures in
+    let lists = MatchOption-at_some (¬ (GoesOn game s)) (λ lists. GoesOn game s × AreLegalMoves game s lists.items) c.in-Some.lists c.in-Some.is c.in_ok-lists.ensures in
     let within : role < game.roles = omega (arith, c.roles-role-end.ensures, c.loop-role-test.true) in
     let legal : c.as_slice-legal.result.now ≡ game.legal s role = c.as_slice-legal.ensures ∙ moves-at game s c.in-Some.lists.items role c.index.result.now lists.1 within c.index.ensures in
     subst (λ (ms : List g.row.G-Move.Denot). All (λ m. game.IsMove m) ms) (sym legal) ((g.met.G.Game.laws c.args.game.now).legal_are_moves s role c.requires.state within)
@@ -35,7 +36,7 @@ recorded_move-requires-clause-differ g c =
     let game = g.G.Game.rules c.args.game.now in
     let s = c.args.state.now in
     let role = c.loop-role.role in
-    let lists = MatchOption-at_some (¬ (GoesOn game s)) (λ lists. GoesOn game s × (lists.items ≡ all_moves game s)) c.in-Some.lists c.in-Some.is c.in_ok-lists.ensures in
+    let lists = MatchOption-at_some (¬ (GoesOn game s)) (λ lists. GoesOn game s × AreLegalMoves game s lists.items) c.in-Some.lists c.in-Some.is c.in_ok-lists.ensures in
     let within : role < game.roles = omega (arith, c.roles-role-end.ensures, c.loop-role-test.true) in
     let legal : c.as_slice-legal.result.now ≡ game.legal s role = c.as_slice-legal.ensures ∙ moves-at game s c.in-Some.lists.items role c.index.result.now lists.1 within c.index.ensures in
     subst (λ (ms : List g.row.G-Move.Denot). AllPairs (λ m n. m ≢ n) ms) (sym legal) ((g.met.G.Game.laws c.args.game.now).legal_differ s role c.requires.state within)
@@ -51,7 +52,7 @@ returns-in-NoMove g c =
     let game = g.G.Game.rules c.args.game.now in
     let s = c.args.state.now in
     let role = c.loop-role.role in
-    let lists = MatchOption-at_some (¬ (GoesOn game s)) (λ lists. GoesOn game s × (lists.items ≡ all_moves game s)) c.in-Some.lists c.in-Some.is c.in_ok-lists.ensures in
+    let lists = MatchOption-at_some (¬ (GoesOn game s)) (λ lists. GoesOn game s × AreLegalMoves game s lists.items) c.in-Some.lists c.in-Some.is c.in_ok-lists.ensures in
     let within : role < game.roles = omega (arith, c.roles-role-end.ensures, c.loop-role-test.true) in
     let in_moves : role < length c.args.moves.now = omega (arith, c.requires.moves) in
     let legal : c.as_slice-legal.result.now ≡ game.legal s role = c.as_slice-legal.ensures ∙ moves-at game s c.in-Some.lists.items role c.index.result.now lists.1 within c.index.ensures in
@@ -67,7 +68,7 @@ returns-in-WrongError g c =
     let game = g.G.Game.rules c.args.game.now in
     let s = c.args.state.now in
     let role = c.loop-role.role in
-    let lists = MatchOption-at_some (¬ (GoesOn game s)) (λ lists. GoesOn game s × (lists.items ≡ all_moves game s)) c.in-Some.lists c.in-Some.is c.in_ok-lists.ensures in
+    let lists = MatchOption-at_some (¬ (GoesOn game s)) (λ lists. GoesOn game s × AreLegalMoves game s lists.items) c.in-Some.lists c.in-Some.is c.in_ok-lists.ensures in
     let within : role < game.roles = omega (arith, c.roles-role-end.ensures, c.loop-role-test.true) in
     let in_moves : role < length c.args.moves.now = omega (arith, c.requires.moves) in
     let in_errors : role < length c.args.errors.now = omega (arith, c.requires.errors) in
@@ -86,7 +87,7 @@ loop-role-preserved g c =
     let game = g.G.Game.rules c.args.game.now in
     let s = c.args.state.now in
     let role = c.loop-role.role in
-    let lists = MatchOption-at_some (¬ (GoesOn game s)) (λ lists. GoesOn game s × (lists.items ≡ all_moves game s)) c.in-Some.lists c.in-Some.is c.in_ok-lists.ensures in
+    let lists = MatchOption-at_some (¬ (GoesOn game s)) (λ lists. GoesOn game s × AreLegalMoves game s lists.items) c.in-Some.lists c.in-Some.is c.in_ok-lists.ensures in
     let within : role < game.roles = omega (arith, c.roles-role-end.ensures, c.loop-role-test.true) in
     let in_moves : role < length c.args.moves.now = omega (arith, c.requires.moves) in
     let in_errors : role < length c.args.errors.now = omega (arith, c.requires.errors) in
@@ -101,6 +102,6 @@ pub returns : goal.returns
 returns g c =
     let game = g.G.Game.rules c.args.game.now in
     let s = c.args.state.now in
-    let lists = MatchOption-at_some (¬ (GoesOn game s)) (λ lists. GoesOn game s × (lists.items ≡ all_moves game s)) c.in-Some.lists c.in-Some.is c.in_ok-lists.ensures in
+    let lists = MatchOption-at_some (¬ (GoesOn game s)) (λ lists. GoesOn game s × AreLegalMoves game s lists.items) c.in-Some.lists c.in-Some.is c.in_ok-lists.ensures in
     let all : c.loop-role.role ≡ game.roles = omega (arith, c.loop-role-test.false, c.loop-role.auto.role-end, c.roles-role-end.ensures) in
     SoFar-all game s c.args.moves.now c.args.errors.now c.loop-role.role c.loop-role.joint.items c.loop-role.invariant lists.0 all c.requires.moves

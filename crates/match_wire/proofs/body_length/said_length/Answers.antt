@@ -1,7 +1,8 @@
 use Rattle.std.proofs.Common.{refl, sym, ap, ◌∙◌, map}
 use Rattle.std.specs.Option.{option_copied}
 use Rattle.httparse.specs.Spans.{header_bytes}
-use Rattle.match_wire.specs.BodyLength.{has_name, transfer_encoding, content_length, agrees}
+use Rattle.match_wire.specs.BodyLength.{has_name, transfer_encoding, content_length}
+use Rattle.match_wire.specs.Internal.Heads.{agrees}
 use Rattle.match_wire.proofs.FieldSteps.{after_all, skips, meets_coding, meets_difference}
 use Rattle.match_wire.proofs.body_length.said_length.Goals as goal
 

@@ -1,8 +1,9 @@
 use Rattle.std.proofs.Common.{◌≡◌, IsTrue, IfSome, map, drop}
 use Rattle.std.specs.Option.{option_copied}
 use Rattle.httparse.specs.Spans.{header_bytes}
-use Rattle.match_record.specs.Numerals.{are_digits}
-use Rattle.match_wire.specs.BodyLength.{body_length, length_of}
+use Rattle.game_core.specs.Numerals.{are_digits}
+use Rattle.match_wire.specs.BodyLength.{body_length}
+use Rattle.match_wire.specs.Internal.Heads.{length_of}
 use Rattle.match_wire.proofs.FieldSteps.{after}
 use Rattle.match_wire.proofs.body_length.said_length.Given as goal
 

@@ -1,4 +1,5 @@
 use Rattle.std.proofs.Common.{◌≡◌, ℕ, List, min, length, take, arith, ap, ◌∙◌}
+use Rattle.match_wire.specs.HttpHead.{max_head}
 use Rattle.std.proofs.lemmas.List.{take_min}
 use Rattle.match_wire.proofs.head.front_of.Goals as goal
 
@@ -8,4 +9,4 @@ take_least bytes n m h =
     ap (λ k. take k bytes) same ∙ take_min n bytes
 
 pub returns : goal.returns
-returns c = take_least c.args.bytes.now 16384 c.min.result c.min.ensures
+returns c = take_least c.args.bytes.now max_head c.min.result c.min.ensures

@@ -1,15 +1,15 @@
 use Rattle.std.proofs.Common.{◌≤◌}
 use Rattle.std.specs.Io.KnownBytes.{Consumes}
-use Rattle.match_wire.specs.HttpHead.{IsKnown}
+use Rattle.match_wire.specs.Internal.Heads.{IsKnown}
 use Rattle.game_core.specs.Counting.{CallsMade}
 use Rattle.match_wire.specs.WireFaults.{WantsMore}
 use Rattle.match_wire.proofs.receiving.receive.Given as goal
 
-abbrev pub invariant-loop-turn : goal.invariant-loop-turn
-invariant-loop-turn g l = record {
+abbrev pub invariant-loop-call : goal.invariant-loop-call
+invariant-loop-call g l = record {
   given : Consumes (g.S.Read.remaining l.initial.stream.stream) (g.S.Read.remaining l.stream.stream) l.bytes.items;
   wants : WantsMore l.kind l.bytes.items;
   kept : l.initial.stream.faults ≤ l.stream.faults;
-  called : CallsMade l.turn l.initial.stream.calls l.stream.calls;
+  called : CallsMade l.call l.initial.stream.calls l.stream.calls;
   known : IsKnown l.kind l.bytes.items l.head;
 }

@@ -3,7 +3,7 @@ use Rattle.std.proofs.lemmas.List.{take_rest}
 use Rattle.std.specs.Io.KnownBytes.{Appends}
 use Rattle.std.proofs.KnownBytes.{Appends-trans}
 use lib.Seq.{take-add}
-use Rattle.match_wire.proofs.Turning.{one_more_call}
+use Rattle.match_wire.proofs.MessageReads.{one_more_call}
 use Rattle.match_wire.proofs.sending.send.Goals as goal
 
 -- one more write takes n bytes from place t on
@@ -13,10 +13,10 @@ Appends_more : (a b c : Option (List ℕ)) (output : List ℕ) (t n : ℕ)
 Appends_more a b c output t n before now =
     subst (Appends a c) (ap (λ l. take t output ++ take n l) (take_rest output t) ∙ sym (take-add t n output)) (Appends-trans a b c _ _ before now)
 
-pub loop-turn-preserved : goal.loop-turn-preserved
-loop-turn-preserved g c = record {
+pub loop-call-preserved : goal.loop-call-preserved
+loop-call-preserved g c = record {
   within = search rules;
-  stands = Appends_more _ _ _ c.args.text.now c.loop-turn.taken c.in_ok-taken.field-0 c.loop-turn.invariant.stands c.in_ok-taken.ensures.bytes;
+  stands = Appends_more _ _ _ c.args.text.now c.loop-call.taken c.in_ok-taken.field-0 c.loop-call.invariant.stands c.in_ok-taken.ensures.bytes;
   kept = search rules;
-  called = one_more_call c.loop-turn.turn _ c.loop-turn.stream.calls _ c.loop-turn.invariant.called c.write_turn.ensures.called;
+  called = one_more_call c.loop-call.call _ c.loop-call.stream.calls _ c.loop-call.invariant.called c.write_once.ensures.called;
 }

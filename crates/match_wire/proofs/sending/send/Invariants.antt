@@ -3,10 +3,10 @@ use Rattle.std.specs.Io.KnownBytes.{Appends}
 use Rattle.game_core.specs.Counting.{CallsMade}
 use Rattle.match_wire.proofs.sending.send.Given as goal
 
-abbrev pub invariant-loop-turn : goal.invariant-loop-turn
-invariant-loop-turn g l = record {
+abbrev pub invariant-loop-call : goal.invariant-loop-call
+invariant-loop-call g l = record {
   within : l.taken ≤ length l.text;
   stands : Appends (g.S.Write.contents l.initial.stream.stream) (g.S.Write.contents l.stream.stream) (take l.taken l.text);
   kept : l.initial.stream.faults ≤ l.stream.faults;
-  called : CallsMade l.turn l.initial.stream.calls l.stream.calls;
+  called : CallsMade l.call l.initial.stream.calls l.stream.calls;
 }

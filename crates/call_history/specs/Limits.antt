@@ -1,0 +1,10 @@
+-- How much a desk holds at most.
+use Rattle.std.specs.Prelude.{ℕ}
+
+-- the entries of a history
+abbrev pub max_entries : ℕ
+max_entries = 1000000
+
+-- the lines of a desk
+abbrev pub max_lines : ℕ
+max_lines = 4096

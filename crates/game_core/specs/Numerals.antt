@@ -1,0 +1,24 @@
+-- Numbers in decimal digits.
+use Rattle.std.specs.Prelude.{ℕ, ◌&&◌, ◌||◌, ◌==◌, nat_le, nat_lt, not, Bool, List, length, slice_index, Option, Some, None, if◌then◌else◌}
+use Rattle.std.specs.List.{list_all}
+use Rattle.std.specs.Char.{is_ascii_digit}
+use Rattle.std.specs.Str.Parse.{digits_value}
+
+abbrev pub digit_zero : ℕ
+digit_zero = 48
+
+-- one or more decimal digits
+abbrev pub are_digits : List ℕ → Bool
+are_digits word = nat_lt 0 (length word) && list_all is_ascii_digit word
+
+-- decimal digits without leading zeros
+abbrev pub is_plain_numeral : List ℕ → Bool
+is_plain_numeral word = are_digits word && (length word == 1 || not (slice_index word 0 == digit_zero))
+
+-- the number that digits write, where it is at most so much
+abbrev pub number_up_to : List ℕ → ℕ → Option ℕ
+number_up_to digits most = if nat_le (digits_value 10 digits) most then Some (digits_value 10 digits) else None
+
+-- the number that a word writes without leading zeros, where it is at most so much
+abbrev pub plain_number : List ℕ → ℕ → Option ℕ
+plain_number word most = if is_plain_numeral word then number_up_to word most else None

@@ -1,0 +1,44 @@
+//! Numbers in decimal digits, read up to a limit.
+ghost use Rattle.std.specs.Prelude.{◌≡◌, ◌^◌, ◌<◌, IsTrue};
+ghost use Rattle.game_core.specs.Numerals.{are_digits, is_plain_numeral, number_up_to, plain_number};
+
+/// Whether a word is one or more decimal digits.
+pub fn are_digits(word: &[u8]) -> bool
+    ensures { result ≡ are_digits word.now }
+{
+    !word.is_empty() && word.iter().all(|byte| byte.is_ascii_digit())
+}
+
+/// Whether a word is decimal digits without leading zeros.
+fn is_plain_numeral(word: &[u8]) -> bool
+    ensures { result ≡ is_plain_numeral word.now }
+{
+    are_digits(word) && (word.len() == 1 || word[0] != b'0')
+}
+
+/// The number that the digits write, of however many they are, if it is at most `most`.
+pub fn number_up_to(digits: &[u8], most: usize) -> Option<usize>
+    requires digits { IsTrue (are_digits digits.now) }
+    requires small { most < 2 ^ 32 }
+    ensures { result ≡ number_up_to digits.now most }
+{
+    let mut number = 0;
+    for digit in digits {
+        number = number * 10 + usize::from(*digit - b'0');
+        if number > most {
+            return None;
+        }
+    }
+    Some(number)
+}
+
+/// The number that a word writes in decimal digits without leading zeros, if it is at most `most`.
+pub fn plain_number(word: &[u8], most: usize) -> Option<usize>
+    requires { most < 2 ^ 32 }
+    ensures { result ≡ plain_number word.now most }
+{
+    if !is_plain_numeral(word) {
+        return None;
+    }
+    number_up_to(word, most)
+}

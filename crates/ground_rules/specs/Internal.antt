@@ -1,0 +1,14 @@
+-- What private functions and proofs alone cite.
+pub mod Bools
+pub mod Names
+pub mod SentenceViews
+pub mod Members
+pub mod Ranked
+pub mod Order
+pub mod Resolved
+pub mod Exposed
+pub mod Barred
+pub mod GameParts
+pub mod TermTexts
+pub mod TableTests
+pub mod LoadedGameLaws

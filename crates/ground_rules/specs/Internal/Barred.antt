@@ -1,0 +1,20 @@
+-- Which heads the rows of dependence bar.
+use Rattle.std.specs.Prelude.{ℕ, ◌+◌, Bool, false, ◌||◌, List, [], ◌∷◌}
+use Rattle.ground_rules.specs.declared.sentence.Derived.{Derived}
+use Rattle.ground_rules.specs.declared.sentence.Derived.TheVariants.{Role, Init, Next, Legal, Goal, Terminal, Other}
+use Rattle.ground_rules.specs.Numbered.{bit}
+
+-- a head that depends on does sentences, or on given ones, as the two values say
+abbrev pub barred_by : Derived → Bool → Bool → Bool
+barred_by (Role r) on_moves on_given = false
+barred_by (Init t) on_moves on_given = on_given
+barred_by (Next t) on_moves on_given = false
+barred_by (Legal r m) on_moves on_given = on_moves
+barred_by (Goal r n) on_moves on_given = on_moves
+barred_by Terminal on_moves on_given = on_moves
+barred_by (Other t) on_moves on_given = false
+
+-- whether one of the heads, numbered from n on, is barred
+abbrev pub has_barred : List Bool → List Bool → ℕ → List Derived → Bool
+has_barred on_moves on_given n [] = false
+has_barred on_moves on_given n (a ∷ as') = barred_by a (bit on_moves n) (bit on_given n) || has_barred on_moves on_given (n + 1) as'

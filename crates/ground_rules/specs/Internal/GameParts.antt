@@ -1,0 +1,44 @@
+-- The parts that the game of a description is made from.
+use Rattle.std.specs.Prelude.{ℕ, ◌≡◌, Bool, true, false, ◌&&◌, nat_le, List, map, length}
+use Rattle.std.specs.List.{list_all}
+use Rattle.std.specs.List.Sorted.{IsPermutation}
+use Rattle.game_core.specs.Play.{max_roles}
+use Rattle.ground_rules.specs.Literals.{Rule}
+use Rattle.ground_rules.specs.Described.{Description, is_among, role_names, heads, each_once}
+use Rattle.ground_rules.specs.Internal.TableTests.{are_in_order}
+use Rattle.ground_rules.specs.Sizes.{max_sentences, max_atomic_sentences, max_moves, same_atomic, atomics}
+use Rattle.ground_rules.specs.Roles.{RoleTable}
+use Rattle.ground_rules.specs.Internal.Ranked.{AreRankedFrom}
+use Rattle.ground_rules.specs.Internal.Resolved.{NameTable, head_terms, resolved_rules, role_table}
+use Rattle.ground_rules.specs.Loading.{IsSound}
+
+-- the tables are those of the description
+pub record IsTableOf (d : Description) (t : NameTable) : Type 0 where
+  pub heads' : t.heads ≡ heads d
+  pub roles : t.roles ≡ role_names d
+  pub ordered : are_in_order t.terms ≡ true
+  pub terms : (u : List ℕ) → is_among t.terms u ≡ is_among (head_terms d) u
+
+-- the size without the moves
+abbrev pub is_small_so_far : ℕ → Description → Bool
+is_small_so_far n d = nat_le n max_sentences && nat_le (length (each_once same_atomic (atomics d))) max_atomic_sentences && nat_le (length (role_names d)) max_roles
+
+abbrev pub have_few_moves_by : List RoleTable → Bool
+have_few_moves_by rs = list_all (λ r. nat_le (length r.legal) max_moves) rs
+
+-- the rules are those of the description with numbers, in the order of a ranking
+pub record AreRankedOf (d : Description) (t : NameTable) (rules : List (Rule ℕ ℕ)) : Type 0 where
+  pub moved : IsPermutation (resolved_rules t d) rules
+  pub rank : ℕ → ℕ
+  pub ranked : AreRankedFrom rank 0 (length t.heads) rules
+
+-- b says whether the fact holds
+pub record IsTestOf (b : Bool) (P : Type 0) : Type 0 where
+  pub yes : b ≡ true → P
+  pub no : b ≡ false → ¬ P
+
+pub record AreGameParts (n : ℕ) (d : Description) (t : NameTable) (roles : List RoleTable) (rules : List (Rule ℕ ℕ)) : Type 0 where
+  pub sound : IsSound n d
+  pub table : IsTableOf d t
+  pub tables : roles ≡ map (role_table t) t.roles
+  pub ranked : AreRankedOf d t rules

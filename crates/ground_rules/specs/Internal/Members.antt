@@ -1,0 +1,9 @@
+-- Members of a list of expressions.
+use Rattle.std.specs.Prelude.{ℕ, zero, suc}
+use Rattle.game_core.specs.Expression.{Expressions, none, more}
+
+-- the members but the first ones
+abbrev pub without_first : ℕ → Expressions → Expressions
+without_first zero xs = xs
+without_first (suc n) none = none
+without_first (suc n) (more x xs) = without_first n xs

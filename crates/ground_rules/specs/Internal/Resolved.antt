@@ -1,0 +1,120 @@
+-- Numbers in the place of names.
+use Rattle.std.specs.Prelude.{ℕ, ◌+◌, suc, Bool, not, bytes_eq, nat_lt, nat_eq, if◌then◌else◌, List, [], ◌∷◌, ◌++◌, map, Option, Some, None}
+use Rattle.ground_rules.specs.declared.sentence.Derived.{Derived}
+use Rattle.ground_rules.specs.declared.sentence.Derived.TheVariants.{Init, Next, Legal, Goal}
+use Rattle.ground_rules.specs.declared.lookups.StateHead.{StateHead}
+use Rattle.ground_rules.specs.declared.lookups.StateHead.TheVariants.{Init as InitHead, Next as NextHead}
+use Rattle.ground_rules.specs.declared.tables.Mention.{Mention}
+use Rattle.ground_rules.specs.declared.tables.GoalHead.{GoalHead}
+use Rattle.ground_rules.specs.Literals.{Literal, Literals, Holds, InState, Does, Distinct, Not, Or, End, More, Rule}
+use Rattle.ground_rules.specs.Sentences.{TextLiteral, TextLiterals, TextRule}
+use Rattle.ground_rules.specs.Described.{Description, same_derived}
+use Rattle.ground_rules.specs.Numbered.{known}
+use Rattle.ground_rules.specs.declared.resolve.Names.{Names}
+use Rattle.ground_rules.specs.Roles.{RoleTable}
+
+-- the tables of names, each of which is numbered by its place
+pub record NameTable : Type 0 where
+  pub roles : List (List ℕ)
+  pub heads : List Derived
+  pub terms : List (List ℕ)
+
+abbrev pub table_of : Names → NameTable
+table_of names = record { roles = names.roles.keys; heads = names.heads.keys; terms = names.terms.keys }
+
+-- the first place of x, or the length
+abbrev pub place : {A : Type 0} → (A → A → Bool) → List A → A → ℕ
+place same [] x = 0
+place same (y ∷ ys) x = if same x y then 0 else suc (place same ys x)
+
+abbrev pub atom_number : NameTable → Derived → ℕ
+atom_number names a = place same_derived names.heads a
+
+abbrev pub term_number : NameTable → List ℕ → ℕ
+term_number names t = place bytes_eq names.terms t
+
+abbrev pub role_number : NameTable → List ℕ → ℕ
+role_number names r = place bytes_eq names.roles r
+
+-- a literal with numbers for its names
+abbrev mutual
+  pub resolved : NameTable → TextLiteral → Literal ℕ ℕ
+  resolved names (Holds a) = Holds (atom_number names a)
+  resolved names (InState t) = InState (term_number names t)
+  resolved names (Does r m) = Does (role_number names r) (term_number names m)
+  resolved names (Distinct t u) = known (not (bytes_eq t u))
+  resolved names (Not l) = Not (resolved names l)
+  resolved names (Or ls) = Or (all_resolved names ls)
+
+  pub all_resolved : NameTable → TextLiterals → Literals ℕ ℕ
+  all_resolved names End = End
+  all_resolved names (More l ls) = More (resolved names l) (all_resolved names ls)
+
+abbrev pub resolved_rule : NameTable → TextRule → Rule ℕ ℕ
+resolved_rule names r = record { head = atom_number names r.head; body = all_resolved names r.body }
+
+abbrev pub resolved_rules : NameTable → Description → List (Rule ℕ ℕ)
+resolved_rules names d = map (resolved_rule names) d
+
+-- the terms of states and moves in a head
+abbrev pub terms_in : Derived → List (List ℕ)
+terms_in (Init t) = t ∷ []
+terms_in (Next t) = t ∷ []
+terms_in (Legal r m) = m ∷ []
+terms_in _ = []
+
+abbrev pub head_terms : Description → List (List ℕ)
+head_terms [] = []
+head_terms (r ∷ rs) = terms_in r.head ++ head_terms rs
+
+-- the mentions behind one of the term in the head numbered n, where it has one
+abbrev pub with_mention : List (List ℕ) → ℕ → Option (List ℕ) → List Mention → List Mention
+with_mention terms n (Some t) ms = record { term = place bytes_eq terms t; atom = n } ∷ ms
+with_mention terms n None ms = ms
+
+-- the mentions in the heads, numbered from n on, of which pick gives the terms
+abbrev pub mentions_by : (Derived → Option (List ℕ)) → List (List ℕ) → ℕ → List Derived → List Mention
+mentions_by pick terms n [] = []
+mentions_by pick terms n (a ∷ as') = with_mention terms n (pick a) (mentions_by pick terms (n + 1) as')
+
+-- the term in a head of this kind
+abbrev pub state_term : StateHead → Derived → Option (List ℕ)
+state_term InitHead (Init t) = Some t
+state_term NextHead (Next t) = Some t
+state_term kind a = None
+
+abbrev pub state_mentions : StateHead → List (List ℕ) → ℕ → List Derived → List Mention
+state_mentions kind terms n hs = mentions_by (state_term kind) terms n hs
+
+-- what the heads, numbered from n on, say of a role
+abbrev pub legal_mentions : List (List ℕ) → List ℕ → ℕ → List Derived → List Mention
+legal_mentions terms role n [] = []
+legal_mentions terms role n (Legal r m ∷ as') = if bytes_eq r role then record { term = place bytes_eq terms m; atom = n } ∷ legal_mentions terms role (n + 1) as' else legal_mentions terms role (n + 1) as'
+legal_mentions terms role n (a ∷ as') = legal_mentions terms role (n + 1) as'
+
+abbrev pub goal_heads : List ℕ → ℕ → List Derived → List GoalHead
+goal_heads role n [] = []
+goal_heads role n (Goal r v ∷ as') = if bytes_eq r role then record { value = v; atom = n } ∷ goal_heads role (n + 1) as' else goal_heads role (n + 1) as'
+goal_heads role n (a ∷ as') = goal_heads role (n + 1) as'
+
+abbrev pub role_table : NameTable → List ℕ → RoleTable
+role_table names role = record { name = role; legal = legal_mentions names.terms role 0 names.heads; goals = goal_heads role 0 names.heads }
+
+-- the atoms below this number in a literal
+abbrev mutual
+  pub atoms_in : ℕ → Literal ℕ ℕ → List ℕ
+  atoms_in size (Holds a) = if nat_lt a size then a ∷ [] else []
+  atoms_in size (InState t) = []
+  atoms_in size (Does r m) = []
+  atoms_in size (Distinct t u) = []
+  atoms_in size (Not l) = atoms_in size l
+  atoms_in size (Or ls) = all_atoms_in size ls
+
+  pub all_atoms_in : ℕ → Literals ℕ ℕ → List ℕ
+  all_atoms_in size End = []
+  all_atoms_in size (More l ls) = atoms_in size l ++ all_atoms_in size ls
+
+-- the atoms below this number in the bodies of the rules with this head
+abbrev pub needs_of : ℕ → ℕ → List (Rule ℕ ℕ) → List ℕ
+needs_of size n [] = []
+needs_of size n (r ∷ rs) = (if nat_eq r.head n then all_atoms_in size r.body else []) ++ needs_of size n rs

@@ -1,0 +1,4 @@
+pub mod JsonValues
+pub mod KeyReading
+pub mod ReplaySteps
+pub mod Shown

@@ -1,0 +1,3 @@
+pub mod Heads
+pub mod MessageParts
+pub mod Reads
