@@ -58,7 +58,10 @@ impl<C: Clock> Player for PatientPlayer<'_, C> {
     }
 
     fn rest(&mut self) {
-        self.rests.fetch_add(1, Ordering::SeqCst);
+        // Once the other need wait no longer, few further calls are made.
+        if self.rests.fetch_add(1, Ordering::SeqCst) >= RESTS {
+            thread::sleep(self.clock, Duration::from_millis(1));
+        }
     }
 }
 
@@ -68,8 +71,10 @@ fn quick_and_slow<'a, C>(
     rests: &'a AtomicU64,
 ) -> Result<Vec<PatientPlayer<'a, C>>, AllocError> {
     let mut players = Vec::new(alloc);
-    let answers: [&'static [&'static [u8]]; 2] =
-        [&[b"READY", b"(take 1)", b"DONE"], &[b"READY", b"noop", b"DONE"]];
+    let answers: [&'static [&'static [u8]]; 2] = [
+        &[b"READY", b"(take 1)", b"DONE"],
+        &[b"READY", b"noop", b"DONE"],
+    ];
     for (answers, is_slow) in answers.into_iter().zip([false, true]) {
         players.push(PatientPlayer {
             clock,
