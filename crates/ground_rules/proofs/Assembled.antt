@@ -19,7 +19,7 @@ use Rattle.ground_rules.specs.Sizes.{have_few_moves}
 use Rattle.ground_rules.specs.Internal.Resolved.{NameTable, atom_number, role_table, state_mentions, head_terms}
 use Rattle.ground_rules.specs.LoadedGame.{GameTables, loaded_game}
 use Rattle.ground_rules.specs.Loading.{description_of}
-use Rattle.ground_rules.specs.Internal.GameParts.{AreGameParts, IsTableOf}
+use Rattle.ground_rules.specs.Internal.GameParts.{AreGameParts, AreNamesOf, IsTableOf}
 use Rattle.ground_rules.proofs.GameOf.{EachIs, each-new, heads-stand, picked-in, game-of}
 use Rattle.ground_rules.proofs.Mentions.{AreIn, texts_by, legal_pick, legal-picks}
 use Rattle.ground_rules.proofs.LawfulTables.{HeadFrom, role-tables, head-terms, terms-spelled, names-spelled}
@@ -29,16 +29,16 @@ some-length : {A : Type 0} (xs : List A) → xs ≢ [] → 1 ≤ length xs
 some-length [] ne = absurd (ne refl)
 some-length (x ∷ xs) ne = omega arith
 
-pub some-role : (n : ℕ) (d : Description) (t : NameTable) (roles : List RoleTable) (rules : List (Rule ℕ ℕ)) → AreGameParts n d t roles rules → 1 ≤ length roles
-some-role n d t roles rules p =
+pub some-role : (n : ℕ) (d : Description) (t : NameTable) (roles : List RoleTable) → AreNamesOf n d t roles → 1 ≤ length roles
+some-role n d t roles p =
     let some = some-length (role_names d) p.sound.roles.some' in
     omega (arith, some, ap length p.table.roles, ap length p.tables, length-map t.roles (role_table t))
 
 at_most : (m n : ℕ) → nat_le m n ≡ true → m ≤ n
 at_most m n h = grind (arith, nat_tests)
 
-pub few-roles : (n : ℕ) (d : Description) (t : NameTable) (roles : List RoleTable) (rules : List (Rule ℕ ℕ)) → AreGameParts n d t roles rules → length roles ≤ max_roles
-few-roles n d t roles rules p =
+pub few-roles : (n : ℕ) (d : Description) (t : NameTable) (roles : List RoleTable) → AreNamesOf n d t roles → length roles ≤ max_roles
+few-roles n d t roles p =
     let few = at_most (length (role_names d)) max_roles (and-right _ (nat_le (length (role_names d)) max_roles) (and-left _ (have_few_moves (role_names d) d) p.sound.small)) in
     omega (arith, few, ap length p.table.roles, ap length p.tables, length-map t.roles (role_table t))
 
@@ -46,8 +46,8 @@ table-names : (t : NameTable) (rs : List (List ℕ)) → names (map (role_table 
 table-names t [] = refl
 table-names t (x ∷ rs) = ap (λ xs. x ∷ xs) (table-names t rs)
 
-pub names-are : (n : ℕ) (d : Description) (t : NameTable) (roles : List RoleTable) (rules : List (Rule ℕ ℕ)) → AreGameParts n d t roles rules → names roles ≡ role_names d
-names-are n d t roles rules p = ap names p.tables ∙ table-names t t.roles ∙ p.table.roles
+pub names-are : (n : ℕ) (d : Description) (t : NameTable) (roles : List RoleTable) → AreNamesOf n d t roles → names roles ≡ role_names d
+names-are n d t roles p = ap names p.tables ∙ table-names t t.roles ∙ p.table.roles
 
 heads-from : (xs : List Expression) (t : NameTable) → IsTableOf (description_of xs) t → EachIs (HeadFrom (expressions xs)) t.heads
 heads-from xs t table = subst (λ (hs : List Derived). EachIs (HeadFrom (expressions xs)) hs) (sym table.heads') (each-new (HeadFrom (expressions xs)) [] (map (λ r. r.head) (description_of xs)) tt (heads-read xs))
@@ -58,42 +58,44 @@ has-terms d t table u h = table.terms u ∙ h
 one-about : (role u : List ℕ) → is_among (u ∷ []) u ≡ true
 one-about role u = or-left _ _ (text-same u u refl)
 
-pub tables-pass : (n : ℕ) (xs : List Expression) (t : NameTable) (roles : List RoleTable) (rules : List (Rule ℕ ℕ)) (terms : List (List ℕ)) → AreGameParts n (description_of xs) t roles rules → terms ≡ t.terms → are_roles (length terms) roles ≡ true
-tables-pass n xs t roles rules terms p e =
+pub tables-pass : (n : ℕ) (xs : List Expression) (t : NameTable) (roles : List RoleTable) (terms : List (List ℕ)) → AreNamesOf n (description_of xs) t roles → terms ≡ t.terms → are_roles (length terms) roles ≡ true
+tables-pass n xs t roles terms p e =
     let d = description_of xs in
     let inside : (role : List ℕ) → AreIn t.terms (texts_by (legal_pick role) t.heads) = λ role.
     subst (λ (hs : List Derived). AreIn t.terms (texts_by (legal_pick role) hs)) (sym p.table.heads') (picked-in d t.terms (legal_pick role) (Legal role) (legal-picks role) (one-about role) (has-terms d t p.table)) in
     ap (λ ts. are_roles (length ts) roles) e ∙ ap (are_roles (length t.terms)) p.tables ∙ role-tables (expressions xs) t t.roles (heads-from xs t p.table) (heads-stand t d p.table.heads') inside
 
-pub names-pass : (n : ℕ) (d : Description) (t : NameTable) (roles : List RoleTable) (rules : List (Rule ℕ ℕ)) → AreGameParts n d t roles rules → are_different (names roles) ≡ true
-names-pass n d t roles rules p = ap are_different (names-are n d t roles rules p) ∙ p.sound.roles.differ
+pub names-pass : (n : ℕ) (d : Description) (t : NameTable) (roles : List RoleTable) → AreNamesOf n d t roles → are_different (names roles) ≡ true
+names-pass n d t roles p = ap are_different (names-are n d t roles p) ∙ p.sound.roles.differ
 
-pub names-read : (n : ℕ) (xs : List Expression) (t : NameTable) (roles : List RoleTable) (rules : List (Rule ℕ ℕ)) → AreGameParts n (description_of xs) t roles rules → are_terms_in_any (expressions xs) (names roles) ≡ true
-names-read n xs t roles rules p = ap (are_terms_in_any (expressions xs)) (names-are n (description_of xs) t roles rules p) ∙ names-spelled (expressions xs) (description_of xs) (heads-read xs)
+pub names-read : (n : ℕ) (xs : List Expression) (t : NameTable) (roles : List RoleTable) → AreNamesOf n (description_of xs) t roles → are_terms_in_any (expressions xs) (names roles) ≡ true
+names-read n xs t roles p = ap (are_terms_in_any (expressions xs)) (names-are n (description_of xs) t roles p) ∙ names-spelled (expressions xs) (description_of xs) (heads-read xs)
 
-pub terms-read : (n : ℕ) (xs : List Expression) (t : NameTable) (roles : List RoleTable) (rules : List (Rule ℕ ℕ)) (terms : List (List ℕ)) → AreGameParts n (description_of xs) t roles rules → terms ≡ t.terms → are_terms_in_any (expressions xs) terms ≡ true
-terms-read n xs t roles rules terms p e =
+pub terms-read : (n : ℕ) (xs : List Expression) (t : NameTable) (roles : List RoleTable) (terms : List (List ℕ)) → AreNamesOf n (description_of xs) t roles → terms ≡ t.terms → are_terms_in_any (expressions xs) terms ≡ true
+terms-read n xs t roles terms p e =
     ap (are_terms_in_any (expressions xs)) e
     ∙ terms-spelled (expressions xs) t.terms (λ u h. head-terms (expressions xs) (description_of xs) u (heads-read xs) (sym (p.table.terms u) ∙ h))
 
 -- the game of tables that are those of the description
-pub game-of-tables : (xs : List Expression) (t : NameTable) (g : GameTables) → IsLawful (loaded_game g) → AreGameParts (length xs) (description_of xs) t g.roles g.rules
+pub game-of-tables : (xs : List Expression) (t : NameTable) (g : GameTables) → IsLawful (loaded_game g) → AreGameParts (length xs) (description_of xs) t g.roles g.rest g.turn
     → g.terms ≡ t.terms → g.init ≡ state_mentions InitHead t.terms 0 t.heads → g.next ≡ state_mentions NextHead t.terms 0 t.heads → g.terminal ≡ atom_number t Terminal → g.atoms ≡ length t.heads → IsGameOf (description_of xs) (loaded_game g)
 game-of-tables xs t g lawful p terms init next terminal atoms =
     let d = description_of xs in
-    game-of d t p.ranked.rank g record {
-      heads' = p.table.heads';
-      roles = p.table.roles;
+    game-of d t p.split.rank g record {
+      heads' = p.names.table.heads';
+      roles = p.names.table.roles;
       terms = terms;
-      role_tables = p.tables;
+      role_tables = p.names.tables;
       init = init;
       next = next;
       terminal = terminal;
       atoms = atoms;
-      moved = p.ranked.moved;
-      ranked = p.ranked.ranked;
-      differ = ap are_different p.table.roles ∙ p.sound.roles.differ;
-      ordered = p.table.ordered;
-      has_terms = has-terms d t p.table;
-      acyclic = p.sound.acyclic;
+      moved = p.split.moved;
+      ranked = p.split.ranked;
+      no_moves = p.split.no_moves;
+      answers = p.split.answers;
+      differ = ap are_different p.names.table.roles ∙ p.names.sound.roles.differ;
+      ordered = p.names.table.ordered;
+      has_terms = has-terms d t p.names.table;
+      acyclic = p.names.sound.acyclic;
     } lawful

@@ -41,7 +41,7 @@ mutual
   all-exposed-atoms P of_state End h = tt
   all-exposed-atoms P of_state (More l ls) h = (exposed-atoms P of_state l h.0, all-exposed-atoms P of_state ls h.1)
 
-exposed-ranked : (rank : ℕ → ℕ) (low atoms : ℕ) (of_state : Bool) (rs : List (Rule ℕ ℕ)) → AreRankedFrom rank low atoms rs → AreRankedFrom rank low atoms (exposed_rules of_state rs)
+pub exposed-ranked : (rank : ℕ → ℕ) (low atoms : ℕ) (of_state : Bool) (rs : List (Rule ℕ ℕ)) → AreRankedFrom rank low atoms rs → AreRankedFrom rank low atoms (exposed_rules of_state rs)
 exposed-ranked rank low atoms of_state [] h = tt
 exposed-ranked rank low atoms of_state (r ∷ rs) h = (h.0, h.1, (all-exposed-atoms (λ a. rank a < rank r.head) of_state r.body h.2, tt), exposed-ranked rank (rank r.head) atoms of_state rs h.3)
 

@@ -6,8 +6,10 @@ use Rattle.std.specs.List.Sorted.{IsPermutation}
 use Rattle.std.proofs.lemmas.List.{length-replicate, length-map, take_all}
 use Rattle.game_core.specs.Play.{IsJoint, IsLawful}
 use Rattle.ground_rules.specs.declared.sentence.Derived.{Derived}
-use Rattle.ground_rules.specs.declared.sentence.Derived.TheVariants.{Init, Next, Legal, Terminal}
+use Rattle.ground_rules.specs.declared.sentence.Derived.TheVariants.{Role, Init, Next, Legal, Goal, Terminal, Other}
 use Rattle.ground_rules.specs.declared.tables.GroundMove.{GroundMove}
+use Rattle.ground_rules.specs.declared.tables.Mention.{Mention}
+use Rattle.ground_rules.specs.declared.tables.GoalHead.{GoalHead}
 use Rattle.ground_rules.specs.declared.lookups.StateHead.TheVariants.{Init as InitHead, Next as NextHead}
 use Rattle.ground_rules.specs.Internal.Bools.{or-left, or-right, bool-same}
 use Rattle.ground_rules.specs.Internal.Names.{text-sound, text-same, derived-sound}
@@ -18,11 +20,12 @@ use Rattle.ground_rules.specs.Described.{Description, same_derived, situation, i
 use Rattle.ground_rules.specs.Roles.{RoleTable, no_role}
 use Rattle.ground_rules.specs.Numbered.{bit, numbered, row_after, unset, is_number}
 use Rattle.ground_rules.specs.Internal.Ranked.{AreRankedFrom}
-use Rattle.ground_rules.specs.Tables.{marked, chosen, only_goal, picked}
+use Rattle.ground_rules.specs.Tables.{marked, chosen, only, only_goal, picked}
 use Rattle.ground_rules.specs.Internal.TableTests.{are_in_order, names}
-use Rattle.ground_rules.specs.LoadedGame.{GameTables, loaded_game, row_of, role_at, terms_of}
+use Rattle.ground_rules.specs.States.{StateRows}
+use Rattle.ground_rules.specs.LoadedGame.{GameTables, loaded_game, kept_row, turn_row, settled, role_at, terms_of, IsSettled}
 use Rattle.ground_rules.specs.Internal.LoadedGameLaws.{ordered-different, marked-size}
-use Rattle.ground_rules.specs.Internal.Resolved.{NameTable, atom_number, term_number, role_number, resolved_rules, terms_in, head_terms, role_table, mentions_by, state_term, state_mentions, place}
+use Rattle.ground_rules.specs.Internal.Resolved.{NameTable, atom_number, term_number, role_number, resolved_rules, terms_in, head_terms, role_table, mentions_by, state_term, state_mentions, legal_mentions, goal_heads, place}
 use Rattle.ground_rules.proofs.NameLists.{among-any, among-left, among-right}
 use Rattle.ground_rules.proofs.TablePlaces.{place-within}
 use Rattle.ground_rules.proofs.Transfer.{Agrees, fit-is-row}
@@ -30,6 +33,16 @@ use Rattle.ground_rules.proofs.HeadTables.{heads-there, heads-once}
 use Rattle.ground_rules.proofs.Situations.{picked-bit, makes-bit, text_of}
 use Rattle.ground_rules.proofs.Mentions.{IsByRow, StandFrom, IsPick, AreIn, texts_by, with_text, hits-by, marked-bit, chosen-texts, legal_pick, init-picks, next-picks, legal-picks, legal-mentions, moves-texts}
 use Rattle.ground_rules.proofs.Goals.{goal-answer}
+use Rattle.ground_rules.specs.Internal.SplitRules.{SpeakOfNoMoves, IsNoHead, IsAnswer}
+use Rattle.ground_rules.proofs.TwoPasses.{pass-append, still-pass, kept-bit}
+
+-- both parts of the rules
+abbrev pub all_rules : GameTables → List (Rule ℕ ℕ)
+all_rules g = g.rest ++ g.turn
+
+-- the truth of the derived atoms by one pass over all rules
+abbrev pub row_of : GameTables → List Bool → List ℕ → List Bool
+row_of g state joint = row_after (numbered state joint) (unset g.atoms) (all_rules g)
 
 -- the tables are those that the description gives
 pub record IsBuilt (d : Description) (table : NameTable) (rank : ℕ → ℕ) (g : GameTables) : Type 0 where
@@ -41,8 +54,10 @@ pub record IsBuilt (d : Description) (table : NameTable) (rank : ℕ → ℕ) (g
   pub next : g.next ≡ state_mentions NextHead table.terms 0 table.heads
   pub terminal : g.terminal ≡ atom_number table Terminal
   pub atoms : g.atoms ≡ length table.heads
-  pub moved : IsPermutation (resolved_rules table d) g.rules
-  pub ranked : AreRankedFrom rank 0 (length table.heads) g.rules
+  pub moved : IsPermutation (resolved_rules table d) (all_rules g)
+  pub ranked : AreRankedFrom rank 0 (length table.heads) (all_rules g)
+  pub no_moves : SpeakOfNoMoves g.rest
+  pub answers : (a : Derived) → IsAnswer a → IsNoHead (atom_number table a) g.turn
   pub differ : are_different table.roles ≡ true
   pub ordered : are_in_order table.terms ≡ true
   pub has_terms : (t : List ℕ) → is_among (head_terms d) t ≡ true → is_among table.terms t ≡ true
@@ -133,8 +148,8 @@ read-row : (d : Description) (table : NameTable) (rank : ℕ → ℕ) (g : GameT
 read-row d table rank g w state joint v built agree fits =
     let u = numbered state joint in
     record {
-      by = λ a. fit-is-row table d w u rank (length table.heads) g.rules v agree (heads-there table d built.heads') built.acyclic built.moved built.ranked fits a ∙ ap (λ n. bit (row_after u (unset n) g.rules) (atom_number table a)) (sym built.atoms);
-      size = row-length u (unset g.atoms) g.rules ∙ length-replicate g.atoms false ∙ built.atoms;
+      by = λ a. fit-is-row table d w u rank (length table.heads) (all_rules g) v agree (heads-there table d built.heads') built.acyclic built.moved built.ranked fits a ∙ ap (λ n. bit (row_after u (unset n) (all_rules g)) (atom_number table a)) (sym built.atoms);
+      size = row-length u (unset g.atoms) (all_rules g) ∙ length-replicate g.atoms false ∙ built.atoms;
     }
 
 bit-none : (k : ℕ) → bit [] k ≡ false
@@ -239,38 +254,38 @@ state-agrees : (table : NameTable) (terms : List (List ℕ)) (s : List Bool) (t 
 state-agrees table terms s t same ordered size =
     ap (λ ts. is_among (picked s ts) t) same ∙ picked-bit s table.terms t (size ∙ ap length same) (ordered-different table.terms ordered)
 
-agrees-rest : (d : Description) (table : NameTable) (rank : ℕ → ℕ) (g : GameTables) (s : List Bool) → IsBuilt d table rank g → length s ≡ length g.terms → Agrees table (at_rest (loaded_game g) s) (numbered s [])
-agrees-rest d table rank g s built size = record {
+agrees-rest : (d : Description) (table : NameTable) (rank : ℕ → ℕ) (g : GameTables) (s : StateRows) → IsBuilt d table rank g → IsSettled g s → Agrees table (at_rest (loaded_game g) s) (numbered s.row [])
+agrees-rest d table rank g s built is = record {
   same = λ a b. refl;
   numbers = λ m n. refl;
   same_term = λ t u. refl;
-  in_state = λ t. state-agrees table g.terms s t built.terms built.ordered size;
+  in_state = λ t. state-agrees table g.terms s.row t built.terms built.ordered is.size;
   does = λ r m. sym (no-joint (role_number table r) (term_number table m));
 }
 
-joint-terms : (g : GameTables) (s : List Bool) (joint : List GroundMove) → IsLawful (loaded_game g) → length s ≡ length g.terms → IsJoint (loaded_game g) s joint → (k : ℕ) (x : GroundMove) → k < length joint → (get_or joint k x).term < length g.terms
-joint-terms g s joint lawful size is k x lt =
+joint-terms : (g : GameTables) (s : StateRows) (joint : List GroundMove) → IsLawful (loaded_game g) → IsSettled g s → IsJoint (loaded_game g) s joint → (k : ℕ) (x : GroundMove) → k < length joint → (get_or joint k x).term < length g.terms
+joint-terms g s joint lawful settled is k x lt =
     let within : k < length g.roles = omega (arith, is.width, lt) in
     let c = is.legal k x within in
     let m = get_or joint k x in
-    let h = lawful.legal_are_moves s k size within c.0 m c.1 in
+    let h = lawful.legal_are_moves s k settled within c.0 m c.1 in
     let e = ap (λ (y : GroundMove). y.term) c.2 in
     omega (arith, h, e)
 
-agrees-turn : (d : Description) (table : NameTable) (rank : ℕ → ℕ) (g : GameTables) (s : List Bool) (joint : List GroundMove) → IsBuilt d table rank g → IsLawful (loaded_game g) → length s ≡ length g.terms → IsJoint (loaded_game g) s joint → Agrees table (at_turn (loaded_game g) s joint) (numbered s (terms_of joint))
-agrees-turn d table rank g s joint built lawful size is =
+agrees-turn : (d : Description) (table : NameTable) (rank : ℕ → ℕ) (g : GameTables) (s : StateRows) (joint : List GroundMove) → IsBuilt d table rank g → IsLawful (loaded_game g) → IsSettled g s → IsJoint (loaded_game g) s joint → Agrees table (at_turn (loaded_game g) s joint) (numbered s.row (terms_of joint))
+agrees-turn d table rank g s joint built lawful settled is =
     let same = game-names d table rank g built in
     let all = all-names g ∙ same in
     record {
       same = λ a b. refl;
       numbers = λ m n. refl;
       same_term = λ t u. refl;
-      in_state = λ t. state-agrees table g.terms s t built.terms built.ordered size;
+      in_state = λ t. state-agrees table g.terms s.row t built.terms built.ordered settled.size;
       does = λ r m.
           ap (λ ns. makes ns (map (text_of g.terms) joint) r m) all
           ∙ ap (λ ts. makes table.roles (map (text_of ts) joint) r m) built.terms
           ∙ makes-bit table.roles table.terms joint r m (is.width ∙ sym (length-map g.roles (λ (x : RoleTable). x.name)) ∙ ap length same) built.differ (ordered-different table.terms built.ordered)
-          (λ k x lt. let h = joint-terms g s joint lawful size is k x lt in omega (arith, h, ap length built.terms));
+          (λ k x lt. let h = joint-terms g s joint lawful settled is k x lt in omega (arith, h, ap length built.terms));
     }
 
 role-is : (d : Description) (table : NameTable) (rank : ℕ → ℕ) (g : GameTables) (r : ℕ) → IsBuilt d table rank g → r < length g.roles → role_at g r ≡ role_table table (role_at g r).name
@@ -279,34 +294,94 @@ role-is d table rank g r built lt =
     let e : role_at g r ≡ role_table table (get_or table.roles r []) = ap (λ rs. get_or rs r no_role) built.role_tables ∙ table-at table table.roles r lt' in
     e ∙ ap (role_table table) (sym (ap (λ (x : RoleTable). x.name) e))
 
+-- the two passes are the one
+turn-is : (d : Description) (table : NameTable) (rank : ℕ → ℕ) (g : GameTables) (s : StateRows) (joint : List ℕ) → IsBuilt d table rank g → s.kept ≡ kept_row g s.row → turn_row g s joint ≡ row_of g s.row joint
+turn-is d table rank g s joint built kept =
+    let w = numbered s.row joint in
+    ap (λ row. row_after w row g.turn) (kept ∙ sym (still-pass s.row joint (unset g.atoms) g.rest built.no_moves))
+    ∙ sym (pass-append w (unset g.atoms) g.rest g.turn)
+
+-- two rows say the same of the answers
+abbrev pub SayTheSame : NameTable → List Bool → List Bool → Type 0
+SayTheSame table u v = (a : Derived) → IsAnswer a → bit u (atom_number table a) ≡ bit v (atom_number table a)
+
+-- what is kept says what the one pass says of the answers
+kept-says : (d : Description) (table : NameTable) (rank : ℕ → ℕ) (g : GameTables) (s : StateRows) → IsBuilt d table rank g → IsSettled g s → SayTheSame table s.kept (row_of g s.row [])
+kept-says d table rank g s built is a answer =
+    ap (λ row. bit row (atom_number table a)) is.kept
+    ∙ sym (kept-bit (numbered s.row []) (kept_row g s.row) g.turn (atom_number table a) (built.answers a answer))
+    ∙ ap (λ row. bit row (atom_number table a)) (sym (pass-append (numbered s.row []) (unset g.atoms) g.rest g.turn))
+
+same-legal : (table : NameTable) (terms : List (List ℕ)) (role : List ℕ) (u v : List Bool) (n : ℕ) (hs : List Derived) → StandFrom table n hs → SayTheSame table u v → filter (λ h. bit u h.atom) (legal_mentions terms role n hs) ≡ filter (λ h. bit v h.atom) (legal_mentions terms role n hs)
+same-legal table terms role u v n [] stand same = refl
+same-legal table terms role u v n (Legal r m ∷ as') stand same = by (bytes_eq r role) (same-legal table terms role u v (n + 1) as' stand.1 same) (ap (bit u) (sym stand.0) ∙ same (Legal r m) tt ∙ ap (bit v) stand.0)
+  where
+    by : (b : Bool) → filter (λ h. bit u h.atom) (legal_mentions terms role (n + 1) as') ≡ filter (λ h. bit v h.atom) (legal_mentions terms role (n + 1) as') → bit u n ≡ bit v n
+        → filter (λ h. bit u h.atom) (if b then record { term = place bytes_eq terms m; atom = n } ∷ legal_mentions terms role (n + 1) as' else legal_mentions terms role (n + 1) as')
+        ≡ filter (λ h. bit v h.atom) (if b then record { term = place bytes_eq terms m; atom = n } ∷ legal_mentions terms role (n + 1) as' else legal_mentions terms role (n + 1) as')
+    by true rest e = cc
+    by false rest e = rest
+same-legal table terms role u v n (Role r ∷ as') stand same = same-legal table terms role u v (n + 1) as' stand.1 same
+same-legal table terms role u v n (Init t ∷ as') stand same = same-legal table terms role u v (n + 1) as' stand.1 same
+same-legal table terms role u v n (Next t ∷ as') stand same = same-legal table terms role u v (n + 1) as' stand.1 same
+same-legal table terms role u v n (Goal r m ∷ as') stand same = same-legal table terms role u v (n + 1) as' stand.1 same
+same-legal table terms role u v n (Terminal ∷ as') stand same = same-legal table terms role u v (n + 1) as' stand.1 same
+same-legal table terms role u v n (Other t ∷ as') stand same = same-legal table terms role u v (n + 1) as' stand.1 same
+
+same-goals : (table : NameTable) (role : List ℕ) (u v : List Bool) (n : ℕ) (hs : List Derived) → StandFrom table n hs → SayTheSame table u v → filter (λ h. bit u h.atom) (goal_heads role n hs) ≡ filter (λ h. bit v h.atom) (goal_heads role n hs)
+same-goals table role u v n [] stand same = refl
+same-goals table role u v n (Goal r m ∷ as') stand same = by (bytes_eq r role) (same-goals table role u v (n + 1) as' stand.1 same) (ap (bit u) (sym stand.0) ∙ same (Goal r m) tt ∙ ap (bit v) stand.0)
+  where
+    by : (b : Bool) → filter (λ h. bit u h.atom) (goal_heads role (n + 1) as') ≡ filter (λ h. bit v h.atom) (goal_heads role (n + 1) as') → bit u n ≡ bit v n
+        → filter (λ h. bit u h.atom) (if b then record { value = m; atom = n } ∷ goal_heads role (n + 1) as' else goal_heads role (n + 1) as')
+        ≡ filter (λ h. bit v h.atom) (if b then record { value = m; atom = n } ∷ goal_heads role (n + 1) as' else goal_heads role (n + 1) as')
+    by true rest e = cc
+    by false rest e = rest
+same-goals table role u v n (Role r ∷ as') stand same = same-goals table role u v (n + 1) as' stand.1 same
+same-goals table role u v n (Init t ∷ as') stand same = same-goals table role u v (n + 1) as' stand.1 same
+same-goals table role u v n (Next t ∷ as') stand same = same-goals table role u v (n + 1) as' stand.1 same
+same-goals table role u v n (Legal r m ∷ as') stand same = same-goals table role u v (n + 1) as' stand.1 same
+same-goals table role u v n (Terminal ∷ as') stand same = same-goals table role u v (n + 1) as' stand.1 same
+same-goals table role u v n (Other t ∷ as') stand same = same-goals table role u v (n + 1) as' stand.1 same
+
 -- the game answers what any fit of the description says
 pub game-of : (d : Description) (table : NameTable) (rank : ℕ → ℕ) (g : GameTables) → IsBuilt d table rank g → IsLawful (loaded_game g) → IsGameOf d (loaded_game g)
 game-of d table rank g built lawful = record {
   roles = all-names g ∙ game-names d table rank g built ∙ built.roles;
   initial = λ v fits t.
       let read = read-row d table rank g (situation [] [] []) [] [] v built (agrees-empty table) fits in
-      ap (λ ms. is_among (picked (marked (unset (length g.terms)) (row_of g [] []) ms) g.terms) t) built.init
+      ap (λ row. is_among (picked (marked (unset (length g.terms)) row g.init) g.terms) t) (turn-is d table rank g (settled g []) [] built refl)
+      ∙ ap (λ ms. is_among (picked (marked (unset (length g.terms)) (row_of g [] []) ms) g.terms) t) built.init
       ∙ ap (λ ts. is_among (picked (marked (unset (length ts)) (row_of g [] []) (mentions_by (state_term InitHead) table.terms 0 table.heads)) ts) t) built.terms
       ∙ set-is d table v (row_of g [] []) (state_term InitHead) Init t read built.heads' init-picks one-about built.has_terms built.ordered;
   legal = λ s r v is within fits.
-      let read = read-row d table rank g (at_rest (loaded_game g) s) s [] v built (agrees-rest d table rank g s built is) fits in
+      let read = read-row d table rank g (at_rest (loaded_game g) s) s.row [] v built (agrees-rest d table rank g s built is) fits in
       let name = (role_at g r).name in
       let inside : AreIn table.terms (texts_by (legal_pick name) table.heads) = subst (λ (hs : List Derived). AreIn table.terms (texts_by (legal_pick name) hs)) (sym built.heads') (picked-in d table.terms (legal_pick name) (Legal name) (legal-picks name) one-about built.has_terms) in
-      ap (λ ts. map (text_of ts) (chosen (row_of g s []) (role_at g r).legal)) built.terms
-      ∙ ap (λ ms. map (text_of table.terms) (chosen (row_of g s []) ms)) (ap (λ (x : RoleTable). x.legal) (role-is d table rank g r built within) ∙ legal-mentions table.terms name 0 table.heads)
-      ∙ chosen-texts table v (row_of g s []) (legal_pick name) (Legal name) table.terms 0 table.heads read.by (legal-picks name) (heads-stand table d built.heads') inside
+      let says : filter (λ h. bit s.kept h.atom) (role_at g r).legal ≡ filter (λ h. bit (row_of g s.row []) h.atom) (role_at g r).legal =
+      subst (λ (ms : List Mention). filter (λ h. bit s.kept h.atom) ms ≡ filter (λ h. bit (row_of g s.row []) h.atom) ms) (sym (ap (λ (x : RoleTable). x.legal) (role-is d table rank g r built within)))
+      (same-legal table table.terms name s.kept (row_of g s.row []) 0 table.heads (heads-stand table d built.heads') (kept-says d table rank g s built is)) in
+      ap (λ (hs : List Mention). map (text_of g.terms) (map (λ h. record { term = h.term }) hs)) says
+      ∙ ap (λ ts. map (text_of ts) (chosen (row_of g s.row []) (role_at g r).legal)) built.terms
+      ∙ ap (λ ms. map (text_of table.terms) (chosen (row_of g s.row []) ms)) (ap (λ (x : RoleTable). x.legal) (role-is d table rank g r built within) ∙ legal-mentions table.terms name 0 table.heads)
+      ∙ chosen-texts table v (row_of g s.row []) (legal_pick name) (Legal name) table.terms 0 table.heads read.by (legal-picks name) (heads-stand table d built.heads') inside
       ∙ ap (filter (λ m. v (Legal name m))) (sym (moves-texts name table.heads) ∙ ap (moves_in name) built.heads');
   next = λ s joint v is lawful' fits t.
-      let read = read-row d table rank g (at_turn (loaded_game g) s joint) s (terms_of joint) v built (agrees-turn d table rank g s joint built lawful is lawful') fits in
-      ap (λ ms. is_among (picked (marked (unset (length g.terms)) (row_of g s (terms_of joint)) ms) g.terms) t) built.next
-      ∙ ap (λ ts. is_among (picked (marked (unset (length ts)) (row_of g s (terms_of joint)) (mentions_by (state_term NextHead) table.terms 0 table.heads)) ts) t) built.terms
-      ∙ set-is d table v (row_of g s (terms_of joint)) (state_term NextHead) Next t read built.heads' next-picks one-about built.has_terms built.ordered;
+      let read = read-row d table rank g (at_turn (loaded_game g) s joint) s.row (terms_of joint) v built (agrees-turn d table rank g s joint built lawful is lawful') fits in
+      ap (λ row. is_among (picked (marked (unset (length g.terms)) row g.next) g.terms) t) (turn-is d table rank g s (terms_of joint) built is.kept)
+      ∙ ap (λ ms. is_among (picked (marked (unset (length g.terms)) (row_of g s.row (terms_of joint)) ms) g.terms) t) built.next
+      ∙ ap (λ ts. is_among (picked (marked (unset (length ts)) (row_of g s.row (terms_of joint)) (mentions_by (state_term NextHead) table.terms 0 table.heads)) ts) t) built.terms
+      ∙ set-is d table v (row_of g s.row (terms_of joint)) (state_term NextHead) Next t read built.heads' next-picks one-about built.has_terms built.ordered;
   terminal = λ s v is fits.
-      let read = read-row d table rank g (at_rest (loaded_game g) s) s [] v built (agrees-rest d table rank g s built is) fits in
-      ap (bit (row_of g s [])) built.terminal ∙ sym (read.by Terminal);
+      let read = read-row d table rank g (at_rest (loaded_game g) s) s.row [] v built (agrees-rest d table rank g s built is) fits in
+      ap (bit s.kept) built.terminal ∙ kept-says d table rank g s built is Terminal tt ∙ sym (read.by Terminal);
   goal = λ s r v is within fits.
-      let read = read-row d table rank g (at_rest (loaded_game g) s) s [] v built (agrees-rest d table rank g s built is) fits in
+      let read = read-row d table rank g (at_rest (loaded_game g) s) s.row [] v built (agrees-rest d table rank g s built is) fits in
       let name = (role_at g r).name in
-      let answer = goal-answer table v (row_of g s []) name read.by (heads-stand table d built.heads') (true-is-head table v (row_of g s []) read.by read.size) in
-      subst (λ (x : RoleTable). IsGoalAnswer v name (only_goal (row_of g s []) x.goals)) (sym (role-is d table rank g r built within)) answer;
+      let answer = goal-answer table v (row_of g s.row []) name read.by (heads-stand table d built.heads') (true-is-head table v (row_of g s.row []) read.by read.size) in
+      let says : filter (λ h. bit s.kept h.atom) (role_at g r).goals ≡ filter (λ h. bit (row_of g s.row []) h.atom) (role_at g r).goals =
+      subst (λ (gs : List GoalHead). filter (λ h. bit s.kept h.atom) gs ≡ filter (λ h. bit (row_of g s.row []) h.atom) gs) (sym (ap (λ (x : RoleTable). x.goals) (role-is d table rank g r built within)))
+      (same-goals table name s.kept (row_of g s.row []) 0 table.heads (heads-stand table d built.heads') (kept-says d table rank g s built is)) in
+      subst (λ (gs : List GoalHead). IsGoalAnswer v name (only gs)) (sym says)
+      (subst (λ (x : RoleTable). IsGoalAnswer v name (only_goal (row_of g s.row []) x.goals)) (sym (role-is d table rank g r built within)) answer);
 }

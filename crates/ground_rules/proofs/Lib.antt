@@ -23,3 +23,5 @@ pub mod Searching
 pub mod Situations
 pub mod TablePlaces
 pub mod Transfer
+pub mod TwoPasses
+pub mod TwoParts

@@ -40,7 +40,7 @@ ranked-by t d needs order places rs ss table are ranking e moved sorted =
       ranked = ranked-from (length t.heads) places ss 0 lower sorted (λ x some. omega arith);
     }
 
-dependence-of : (d : Description) (t : NameTable) (of_state : Bool) (rules : List (Rule ℕ ℕ)) (atoms : ℕ) (row : List Bool) → AreRankedOf d t rules → atoms ≡ length t.heads → row ≡ row_after (numbered [] []) (unset atoms) (exposed_rules of_state rules) → IsDependence t d of_state (bit row)
+pub dependence-of : (d : Description) (t : NameTable) (of_state : Bool) (rules : List (Rule ℕ ℕ)) (atoms : ℕ) (row : List Bool) → AreRankedOf d t rules → atoms ≡ length t.heads → row ≡ row_after (numbered [] []) (unset atoms) (exposed_rules of_state rules) → IsDependence t d of_state (bit row)
 dependence-of d t of_state rules atoms row ranked size is =
     subst (λ (xs : List Bool). IsDependence t d of_state (bit xs)) (sym (is ∙ ap (λ n. row_after (numbered [] []) (unset n) (exposed_rules of_state rules)) size)) (dependence-row t d of_state ranked.rank (length t.heads) rules ranked.moved ranked.ranked)
 

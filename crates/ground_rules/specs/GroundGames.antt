@@ -1,14 +1,20 @@
 -- What a ground game keeps: the sentences of its description, and its tables.
-use Rattle.std.specs.Prelude.{List, map}
+use Rattle.std.specs.Prelude.{ℕ, List, map}
 use Rattle.game_core.specs.Expression.{Expression}
 use Rattle.kif_text.specs.View.{view}
+use Rattle.ground_rules.specs.declared.vocabulary.Vocabulary.{Vocabulary}
 use Rattle.ground_rules.specs.declared.ground_game.GroundGame.{GroundGame}
+use Rattle.ground_rules.specs.Literals.{Rule}
 use Rattle.ground_rules.specs.Numbered.{rules_of}
 use Rattle.ground_rules.specs.LoadedGame.{GameTables}
 
 -- the sentences of the description
 abbrev pub sentences_of : GroundGame → List Expression
-sentences_of g = map view g.description.items
+sentences_of g = map view g.vocabulary.description.items
+
+-- the tables of a vocabulary and both parts of the rules
+abbrev pub tables_with : Vocabulary → List (Rule ℕ ℕ) → List (Rule ℕ ℕ) → GameTables
+tables_with v rest turn = record { roles = v.roles.items; terms = v.terms.items; rest = rest; turn = turn; atoms = v.atoms; init = v.init.items; next = v.next.items; terminal = v.terminal }
 
 abbrev pub tables_of : GroundGame → GameTables
-tables_of g = record { roles = g.roles.items; terms = g.terms.items; rules = rules_of g.rules.items; atoms = g.atoms; init = g.init.items; next = g.next.items; terminal = g.terminal }
+tables_of g = tables_with g.vocabulary (rules_of g.rules.rest.items) (rules_of g.rules.turn.items)

@@ -8,7 +8,9 @@ pub mod Order
 pub mod Resolved
 pub mod Exposed
 pub mod Barred
+pub mod SplitRules
 pub mod GameParts
 pub mod TermTexts
 pub mod TableTests
+pub mod Vocabularies
 pub mod LoadedGameLaws

@@ -15,6 +15,7 @@ pub mod Loaded
 pub mod Roles
 pub mod Numbered
 pub mod Tables
+pub mod States
 pub mod LoadedGame
 pub mod GroundGames
 pub mod Internal

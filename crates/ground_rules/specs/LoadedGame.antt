@@ -4,6 +4,7 @@ use Rattle.game_core.specs.Play.{Rules}
 use Rattle.ground_rules.specs.declared.tables.Mention.{Mention}
 use Rattle.ground_rules.specs.declared.tables.GroundMove.{GroundMove}
 use Rattle.ground_rules.specs.Literals.{Rule}
+use Rattle.ground_rules.specs.States.{StateRows}
 use Rattle.ground_rules.specs.Roles.{RoleTable, no_role}
 use Rattle.ground_rules.specs.Tables.{marked, chosen, only_goal, picked}
 use Rattle.ground_rules.specs.Numbered.{bit, numbered, row_after, unset}
@@ -13,8 +14,10 @@ pub record GameTables : Type 0 where
   pub roles : List RoleTable
   -- the texts of the terms by their numbers
   pub terms : List (List ℕ)
-  -- in the order of a ranking of their heads
-  pub rules : List (Rule ℕ ℕ)
+  -- the rules on whose heads no move bears, in the order of a ranking of their heads
+  pub rest : List (Rule ℕ ℕ)
+  -- the other rules, in the order of a ranking
+  pub turn : List (Rule ℕ ℕ)
   -- how many derived atoms are heads
   pub atoms : ℕ
   pub init : List Mention
@@ -22,28 +25,40 @@ pub record GameTables : Type 0 where
   -- the derived atom `terminal`, or one that is never true
   pub terminal : ℕ
 
--- the truth of the derived atoms
-abbrev pub row_of : GameTables → List Bool → List ℕ → List Bool
-row_of g state joint = row_after (numbered state joint) (unset g.atoms) g.rules
-
 abbrev pub role_at : GameTables → ℕ → RoleTable
 role_at g r = slice_index_or g.roles r no_role
 
 abbrev pub terms_of : List GroundMove → List ℕ
 terms_of joint = map (λ m. m.term) joint
 
--- a state is a row of truth values, one for each term
-abbrev pub loaded_game : GameTables → Rules (List Bool) GroundMove
+-- the truth of the derived atoms on which no move bears
+abbrev pub kept_row : GameTables → List Bool → List Bool
+kept_row g row = row_after (numbered row []) (unset g.atoms) g.rest
+
+-- the state of this row
+abbrev pub settled : GameTables → List Bool → StateRows
+settled g row = record { row = row; kept = kept_row g row }
+
+-- the truth of all derived atoms
+abbrev pub turn_row : GameTables → StateRows → List ℕ → List Bool
+turn_row g s joint = row_after (numbered s.row joint) s.kept g.turn
+
+-- the row has a value for each term, and beside it stands the truth of the derived atoms on which no move bears
+pub record IsSettled (g : GameTables) (s : StateRows) : Type 0 where
+  pub size : length s.row ≡ length g.terms
+  pub kept : s.kept ≡ kept_row g s.row
+
+abbrev pub loaded_game : GameTables → Rules StateRows GroundMove
 loaded_game g = record {
   roles = length g.roles;
   role_name = λ r. (role_at g r).name;
-  initial = marked (unset (length g.terms)) (row_of g [] []) g.init;
-  legal = λ s r. chosen (row_of g s []) (role_at g r).legal;
-  next = λ s joint. marked (unset (length g.terms)) (row_of g s (terms_of joint)) g.next;
-  terminal = λ s. bit (row_of g s []) g.terminal;
-  goal = λ s r. only_goal (row_of g s []) (role_at g r).goals;
+  initial = settled g (marked (unset (length g.terms)) (turn_row g (settled g []) []) g.init);
+  legal = λ s r. chosen s.kept (role_at g r).legal;
+  next = λ s joint. settled g (marked (unset (length g.terms)) (turn_row g s (terms_of joint)) g.next);
+  terminal = λ s. bit s.kept g.terminal;
+  goal = λ s r. only_goal s.kept (role_at g r).goals;
   move_text = λ m. slice_index_or g.terms m.term [];
-  state_text = λ s. picked s g.terms;
-  IsState = λ s. length s ≡ length g.terms;
+  state_text = λ s. picked s.row g.terms;
+  IsState = IsSettled g;
   IsMove = λ m. m.term < length g.terms;
 }

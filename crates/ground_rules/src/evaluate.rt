@@ -57,6 +57,19 @@ fn all_hold(literals: &[Literal], row: &Row, state: &Row, joint: &[usize]) -> bo
     true
 }
 
+/// The row with the head of each rule set whose literals are true, one rule after the other.
+pub fn pass(rules: &[Rule], row: Row, state: &Row, joint: &[usize]) -> Row
+    ensures { result ≡ row_after (numbered state.now joint.now) row (rules_of rules.now) }
+{
+    let mut row = row;
+    for rule in rules {
+        if all_hold(&rule.body, &row, state, joint) {
+            row.set(rule.head);
+        }
+    }
+    row
+}
+
 /// The truth of each of so many derived atoms, by one pass over the rules. Where the rules stand in
 /// the order of a ranking of their heads, this is the fit.
 pub fn evaluate(
@@ -69,11 +82,6 @@ pub fn evaluate(
     ensures fits { IfOk result (λ row. (rank : ℕ → ℕ) → AreRankedFrom rank 0 atoms (rules_of rules.now) → Fits (numbered state.now joint.now) (rules_of rules.now) (bit row)) }
     ensures pass { IfOk result (λ row. row ≡ row_after (numbered state.now joint.now) (unset atoms) (rules_of rules.now)) }
 {
-    let mut row = Row::unset(alloc, atoms)?;
-    for rule in rules {
-        if all_hold(&rule.body, &row, state, joint) {
-            row.set(rule.head);
-        }
-    }
-    Ok(row)
+    let row = Row::unset(alloc, atoms)?;
+    Ok(pass(rules, row, state, joint))
 }

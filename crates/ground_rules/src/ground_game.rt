@@ -1,19 +1,13 @@
 //! The game of a ground description.
-ghost use Rattle.std.specs.Prelude.{◌≡◌, ◌≤◌, length, IsTrue};
-ghost use Rattle.game_core.specs.Play.{max_roles};
+ghost use Rattle.std.specs.Prelude.{◌≡◌, length};
 ghost use Rattle.kif_text.specs.View.{views};
-ghost use Rattle.ground_rules.specs.Internal.TableTests.{are_roles, are_in_order, names};
-ghost use Rattle.ground_rules.specs.Described.{are_different};
-ghost use Rattle.ground_rules.specs.Internal.TermTexts.{are_terms_in_any};
 
-use crate::evaluate::evaluate;
+use crate::evaluate::{evaluate, pass};
 use crate::loading::GameParts;
-use crate::lookups::{StateHead, state_mentions};
-use crate::names::{into_texts, place_of_head};
-use crate::numbered::Rule;
 use crate::row::Row;
-use crate::sentence::Derived;
-use crate::tables::{GroundMove, GroundState, Mention, Role, choose, find_goal, mark, pick};
+use crate::split::SplitRules;
+use crate::tables::{GroundMove, GroundState, choose, find_goal, mark, pick};
+use crate::vocabulary::Vocabulary;
 use game_core::{Game, Text};
 use kif_text::Expr;
 use std::alloc::{AllocError, Global};
@@ -21,24 +15,8 @@ use std::alloc::{AllocError, Global};
 /// The game of a ground description, with its rules in the order of a ranking.
 #[derive(Drop)]
 pub struct GroundGame {
-    description: Vec<Expr>,
-    roles: Vec<Role>,
-    /// The texts of the terms by their numbers.
-    terms: Vec<Text>,
-    rules: Vec<Rule>,
-    /// How many derived atoms are heads.
-    atoms: usize,
-    init: Vec<Mention>,
-    next: Vec<Mention>,
-    /// The derived atom `terminal`, or one that is never true.
-    terminal: usize,
-    ghost some_role: { 1 ≤ length roles.items },
-    ghost few_roles: { length roles.items ≤ max_roles },
-    ghost tables: { IsTrue (are_roles (length terms.items) roles.items) },
-    ghost names_differ: { IsTrue (are_different (names roles.items)) },
-    ghost names_spelled: { IsTrue (are_terms_in_any (views description.items) (names roles.items)) },
-    ghost terms_ordered: { IsTrue (are_in_order terms.items) },
-    ghost terms_spelled: { IsTrue (are_terms_in_any (views description.items) terms.items) },
+    pub vocabulary: Vocabulary,
+    pub rules: SplitRules,
 }
 
 impl Game for GroundGame {
@@ -52,21 +30,23 @@ impl Game for GroundGame {
 
     ghost rules = { λ g. loaded_game (tables_of g) };
 
-    ghost laws = { λ g. loaded_game_laws (views g.description.items) (tables_of g) g.some_role g.few_roles g.tables g.names_differ g.names_spelled g.terms_ordered g.terms_spelled };
+    ghost laws = { λ g. let v = g.vocabulary in loaded_game_laws (views v.description.items) (tables_of g) v.some_role v.few_roles v.tables v.names_differ v.names_spelled v.terms_ordered v.terms_spelled };
 
     fn roles(&self) -> usize {
-        self.roles.len()
+        self.vocabulary.roles.len()
     }
 
     fn role_name(&self, role: usize) -> &[u8] {
-        self.roles[role].name()
+        self.vocabulary.roles[role].name()
     }
 
     fn initial(&self, alloc: Global) -> Result<GroundState, AllocError> {
+        let vocabulary = &self.vocabulary;
         let none = Row::unset(alloc, 0)?;
-        let truth = evaluate(alloc, &self.rules, self.atoms, &none, &[])?;
-        let row = mark(alloc, &self.init, &truth, self.terms.len())?;
-        Ok(GroundState { row })
+        let kept = evaluate(alloc, &self.rules.rest, vocabulary.atoms, &none, &[])?;
+        let truth = pass(&self.rules.turn, kept, &none, &[]);
+        let row = mark(alloc, &vocabulary.init, &truth, vocabulary.terms.len())?;
+        self.settle(alloc, row)
     }
 
     fn legal(
@@ -75,8 +55,7 @@ impl Game for GroundGame {
         state: &GroundState,
         role: usize,
     ) -> Result<Vec<GroundMove>, AllocError> {
-        let truth = evaluate(alloc, &self.rules, self.atoms, &state.row, &[])?;
-        let moves = choose(alloc, self.roles[role].legal(), &truth)?;
+        let moves = choose(alloc, self.vocabulary.roles[role].legal(), &state.kept)?;
         Ok(moves)
     }
 
@@ -86,15 +65,16 @@ impl Game for GroundGame {
         state: &GroundState,
         joint: &[GroundMove],
     ) -> Result<GroundState, AllocError> {
+        let vocabulary = &self.vocabulary;
         let moves: Vec<usize> = joint.iter().map(|taken| taken.term).collect(alloc)?;
-        let truth = evaluate(alloc, &self.rules, self.atoms, &state.row, &moves)?;
-        let row = mark(alloc, &self.next, &truth, self.terms.len())?;
-        Ok(GroundState { row })
+        let kept = state.kept.clone()?;
+        let truth = pass(&self.rules.turn, kept, &state.row, &moves);
+        let row = mark(alloc, &vocabulary.next, &truth, vocabulary.terms.len())?;
+        self.settle(alloc, row)
     }
 
     fn terminal(&self, alloc: Global, state: &GroundState) -> Result<bool, AllocError> {
-        let truth = evaluate(alloc, &self.rules, self.atoms, &state.row, &[])?;
-        Ok(truth.is_set(self.terminal))
+        Ok(state.kept.is_set(self.vocabulary.terminal))
     }
 
     fn goal(
@@ -103,22 +83,22 @@ impl Game for GroundGame {
         state: &GroundState,
         role: usize,
     ) -> Result<Option<u8>, AllocError> {
-        let truth = evaluate(alloc, &self.rules, self.atoms, &state.row, &[])?;
-        Ok(find_goal(self.roles[role].goals(), &truth))
+        Ok(find_goal(self.vocabulary.roles[role].goals(), &state.kept))
     }
 
     fn move_text(&self, alloc: Global, taken: &GroundMove) -> Result<Text, AllocError> {
-        let text = self.terms[taken.term].clone()?;
+        let text = self.vocabulary.terms[taken.term].clone()?;
         Ok(text)
     }
 
     fn state_text(&self, alloc: Global, state: &GroundState) -> Result<Vec<Text>, AllocError> {
-        pick(alloc, &state.row, &self.terms)
+        pick(alloc, &state.row, &self.vocabulary.terms)
     }
 
     fn copy_state(&self, alloc: Global, state: &GroundState) -> Result<GroundState, AllocError> {
         let row = state.row.clone()?;
-        Ok(GroundState { row })
+        let kept = state.kept.clone()?;
+        Ok(GroundState { row, kept })
     }
 
     fn copy_move(&self, alloc: Global, taken: &GroundMove) -> Result<GroundMove, AllocError> {
@@ -134,7 +114,16 @@ impl GroundGame {
     ghost use Rattle.ground_rules.specs.Loading.{AreSentences, description_of};
     ghost use Rattle.ground_rules.specs.Internal.GameParts.{AreGameParts};
     ghost use Rattle.ground_rules.specs.Loaded.{IsLoaded};
-    ghost use Rattle.ground_rules.specs.GroundGames.{sentences_of};
+    ghost use Rattle.ground_rules.specs.LoadedGame.{settled};
+    ghost use Rattle.ground_rules.specs.GroundGames.{sentences_of, tables_of};
+
+    /// The state of this row.
+    fn settle(&self, alloc: Global, row: Row) -> Result<GroundState, AllocError>
+        ensures { IfOk result (λ s. s ≡ settled (tables_of self.now) row) }
+    {
+        let kept = evaluate(alloc, &self.rules.rest, self.vocabulary.atoms, &row, &[])?;
+        Ok(GroundState { row, kept })
+    }
 
     /// The game of a description, from its parts.
     pub(crate) fn new(
@@ -143,7 +132,7 @@ impl GroundGame {
         parts: GameParts,
     ) -> Result<GroundGame, AllocError>
         requires sentences { AreSentences (map expression description.items) }
-        requires parts { AreGameParts (length (map expression description.items)) (description_of (map expression description.items)) (table_of parts.names) parts.roles.items (rules_of parts.rules.items) }
+        requires parts { AreGameParts (length (map expression description.items)) (description_of (map expression description.items)) (table_of parts.names) parts.roles.items (rules_of parts.rules.rest.items) (rules_of parts.rules.turn.items) }
         ensures { IfOk result (IsLoaded (map expression description.items)) }
     {
         let GameParts {
@@ -151,28 +140,14 @@ impl GroundGame {
             roles,
             rules,
         } = parts;
-        let heads = names.heads.as_slice();
-        let atoms = heads.len();
-        let init = state_mentions(alloc, heads, &names.terms, StateHead::Init)?;
-        let next = state_mentions(alloc, heads, &names.terms, StateHead::Next)?;
-        let terminal = place_of_head(&names.heads, &Derived::Terminal);
-        let terms = into_texts(alloc, names.terms)?;
-        Ok(GroundGame {
-            description,
-            roles,
-            terms,
-            rules,
-            atoms,
-            init,
-            next,
-            terminal,
-        })
+        let vocabulary = Vocabulary::new(alloc, description, names, roles)?;
+        Ok(GroundGame { vocabulary, rules })
     }
 
     /// The sentences of the description, without capitals.
     pub fn description(&self) -> &[Expr]
         ensures { map expression result.now ≡ sentences_of self.now }
     {
-        self.description.as_slice()
+        self.vocabulary.description.as_slice()
     }
 }

@@ -3,9 +3,10 @@
 //! `load` makes the game of a description, which is a list of KIF expressions, or names its first
 //! fault. What it makes is a `Game` of `game_core`, for all that plays games.
 //!
-//! A call of the game that answers by the rules (`initial`, `legal`, `next`, `terminal`, `goal`)
-//! evaluates all rules once, each after those that it depends on, so its cost is linear in the
-//! description. `load` goes down an expression by recursion: the limit that the doc of
+//! A state keeps the truth of the derived atoms on which no move bears, so `legal`, `terminal` and
+//! `goal` only look it up. `next` evaluates the other rules from there and then, in the state that it
+//! makes, those on which no move bears: each rule once, after those that it depends on. So a turn's
+//! cost is linear in the description. `load` goes down an expression by recursion: the limit that the doc of
 //! `kif_text::Expr` sets for the nesting of lists holds for what it is given.
 #![tactic(auto)]
 
@@ -28,8 +29,10 @@ mod row;
 mod rules;
 mod sentence;
 mod sizes;
+mod split;
 mod tables;
 mod terms;
+mod vocabulary;
 mod words;
 
 pub use fault::LoadFault;

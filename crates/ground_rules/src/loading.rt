@@ -1,17 +1,19 @@
 //! From a description to the parts of its game.
-ghost use Rattle.std.specs.Prelude.{◌≡◌, ◌⊎◌, ℕ, true, false, IfOk, IfErr, map, length, slice_index};
+ghost use Rattle.std.specs.Prelude.{◌≡◌, ◌⊎◌, ℕ, true, false, IfOk, IfErr, map, length, slice_index, []};
 ghost use Rattle.std.specs.List.Sorted.{IsPermutation, IsNonDecreasingBy};
 ghost use Rattle.game_core.specs.Expression.{folded};
 ghost use Rattle.kif_text.specs.View.{view as expression};
 ghost use Rattle.ground_rules.specs.Internal.SentenceViews.{rules_of};
 ghost use Rattle.ground_rules.specs.Acyclic.{IsAcyclic};
-ghost use Rattle.ground_rules.specs.Numbered.{rules_of as numbered_rules};
+ghost use Rattle.ground_rules.specs.Numbered.{rules_of as numbered_rules, numbered, row_after, unset};
 ghost use Rattle.ground_rules.specs.Internal.Resolved.{table_of, role_table};
 ghost use Rattle.ground_rules.specs.Internal.Barred.{barred_by, has_barred};
 ghost use Rattle.ground_rules.specs.Loading.{HasRoles, IsDescriptionFault};
 ghost use Rattle.ground_rules.specs.Described.{Description};
 ghost use Rattle.ground_rules.specs.Dependence.{HasBarredHead};
 ghost use Rattle.ground_rules.specs.Internal.GameParts.{IsTestOf, IsTableOf, is_small_so_far, have_few_moves_by, AreRankedOf, AreGameParts};
+ghost use Rattle.ground_rules.specs.Internal.SplitRules.{AreSplitOf};
+ghost use Rattle.ground_rules.specs.Internal.Exposed.{exposed_rules};
 
 use crate::dependence::dependence;
 use crate::fault::LoadFault;
@@ -24,6 +26,7 @@ use crate::resolve::{Names, resolve_rules};
 use crate::row::Row;
 use crate::sentence::{Derived, Rule};
 use crate::sizes::{MAX_ATOMIC_SENTENCES, MAX_MOVES, MAX_SENTENCES, count_atomic_sentences};
+use crate::split::{SplitRules, split};
 use crate::tables::Role;
 use game_core::{MAX_ROLES, Text};
 use std::alloc::{AllocError, Global};
@@ -144,18 +147,34 @@ fn ranked_rules(
     }
 }
 
-/// Whether some head depends on what it may not depend on.
+/// Whether some head depends on what it may not depend on, by the row of what depends on moves.
 fn has_barred_head(
     alloc: Global,
     names: &Names,
     rules: &[numbered::Rule],
+    on_moves: &Row,
 ) -> Result<bool, AllocError>
+    requires { on_moves.now ≡ row_after (numbered [] []) (unset (length names.now.heads.keys)) (exposed_rules false (numbered_rules rules.now)) }
     ensures { IfOk result (λ b. (d : Description) → IsTableOf d (table_of names.now) → IsAcyclic d → AreRankedOf d (table_of names.now) (numbered_rules rules.now) → IsTestOf b (HasBarredHead d)) }
 {
-    let atoms = names.heads.len();
-    let on_moves = dependence(alloc, rules, atoms, false)?;
-    let on_given = dependence(alloc, rules, atoms, true)?;
-    Ok(has_barred(names.heads.as_slice(), &on_moves, &on_given))
+    let on_given = dependence(alloc, rules, names.heads.len(), true)?;
+    Ok(has_barred(names.heads.as_slice(), on_moves, &on_given))
+}
+
+/// The rules on whose heads no move bears, and the others, each in the order of a ranking.
+fn split_rules(
+    alloc: Global,
+    names: &Names,
+    rules: Vec<numbered::Rule>,
+) -> Result<SplitRules, LoadFault>
+    ensures split { IfOk result (λ s. (d : Description) → IsTableOf d (table_of names.now) → IsAcyclic d → AreRankedOf d (table_of names.now) (numbered_rules rules.items) → (¬ (HasBarredHead d)) × AreSplitOf d (table_of names.now) (numbered_rules s.rest.items) (numbered_rules s.turn.items)) }
+    ensures fault { IfErr result (λ e. (e ≡ LoadFault.Memory) ⊎ ((e ≡ LoadFault.Depends) × ((d : Description) → IsTableOf d (table_of names.now) → IsAcyclic d → AreRankedOf d (table_of names.now) (numbered_rules rules.items) → HasBarredHead d))) }
+{
+    let on_moves = dependence(alloc, &rules, names.heads.len(), false)?;
+    if has_barred_head(alloc, names, &rules, &on_moves)? {
+        return Err(LoadFault::Depends);
+    }
+    Ok(split(alloc, rules, &on_moves)?)
 }
 
 /// What a game is made from: the tables of names, and roles and rules with numbers for their names.
@@ -163,13 +182,12 @@ fn has_barred_head(
 pub struct GameParts {
     pub names: Names,
     pub roles: Vec<Role>,
-    /// In the order of a ranking of their heads.
-    pub rules: Vec<numbered::Rule>,
+    pub rules: SplitRules,
 }
 
 /// The parts of the game of a description of so many sentences, or the first of its faults.
 pub fn game_parts(alloc: Global, sentences: usize, rules: &[Rule]) -> Result<GameParts, LoadFault>
-    ensures parts { IfOk result (λ p. AreGameParts sentences (rules_of rules.now) (table_of p.names) p.roles.items (numbered_rules p.rules.items)) }
+    ensures parts { IfOk result (λ p. AreGameParts sentences (rules_of rules.now) (table_of p.names) p.roles.items (numbered_rules p.rules.rest.items) (numbered_rules p.rules.turn.items)) }
     ensures fault { IfErr result (IsDescriptionFault sentences (rules_of rules.now)) }
 {
     let names = names_of(alloc, sentences, rules)?;
@@ -178,12 +196,10 @@ pub fn game_parts(alloc: Global, sentences: usize, rules: &[Rule]) -> Result<Gam
         return Err(LoadFault::TooLarge);
     }
     let ranked = ranked_rules(alloc, &names, rules)?;
-    if has_barred_head(alloc, &names, &ranked)? {
-        return Err(LoadFault::Depends);
-    }
+    let rules = split_rules(alloc, &names, ranked)?;
     Ok(GameParts {
         names,
         roles,
-        rules: ranked,
+        rules,
     })
 }

@@ -61,18 +61,20 @@ impl Role {
     }
 }
 
-/// A state of a ground game, as a row with a truth value for each term. Contracts see the row.
+/// A state of a ground game, as a row with a truth value for each term, and beside it the truth of
+/// the derived atoms on which no move bears. Contracts see the rows.
 #[derive(Drop)]
 pub struct GroundState {
     pub(crate) row: Row,
+    pub(crate) kept: Row,
 }
 
 impl Model for GroundState {
-    ghost use Rattle.std.specs.Prelude.{List, Bool};
+    ghost use Rattle.ground_rules.specs.States.{StateRows};
 
-    ghost Value = { List Bool };
+    ghost Value = { StateRows };
 
-    ghost view = { λ s. s.row };
+    ghost view = { λ s. record { row = s.row; kept = s.kept } };
 }
 
 /// A move of a ground game, by the number of its term.

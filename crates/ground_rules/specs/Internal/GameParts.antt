@@ -9,6 +9,7 @@ use Rattle.ground_rules.specs.Internal.TableTests.{are_in_order}
 use Rattle.ground_rules.specs.Sizes.{max_sentences, max_atomic_sentences, max_moves, same_atomic, atomics}
 use Rattle.ground_rules.specs.Roles.{RoleTable}
 use Rattle.ground_rules.specs.Internal.Ranked.{AreRankedFrom}
+use Rattle.ground_rules.specs.Internal.SplitRules.{AreSplitOf}
 use Rattle.ground_rules.specs.Internal.Resolved.{NameTable, head_terms, resolved_rules, role_table}
 use Rattle.ground_rules.specs.Loading.{IsSound}
 
@@ -37,8 +38,12 @@ pub record IsTestOf (b : Bool) (P : Type 0) : Type 0 where
   pub yes : b ≡ true → P
   pub no : b ≡ false → ¬ P
 
-pub record AreGameParts (n : ℕ) (d : Description) (t : NameTable) (roles : List RoleTable) (rules : List (Rule ℕ ℕ)) : Type 0 where
+-- a description of so many sentences without fault, with its names and what its roles look up
+pub record AreNamesOf (n : ℕ) (d : Description) (t : NameTable) (roles : List RoleTable) : Type 0 where
   pub sound : IsSound n d
   pub table : IsTableOf d t
   pub tables : roles ≡ map (role_table t) t.roles
-  pub ranked : AreRankedOf d t rules
+
+pub record AreGameParts (n : ℕ) (d : Description) (t : NameTable) (roles : List RoleTable) (rest turn : List (Rule ℕ ℕ)) : Type 0 where
+  pub names : AreNamesOf n d t roles
+  pub split : AreSplitOf d t rest turn

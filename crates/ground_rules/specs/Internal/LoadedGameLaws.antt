@@ -19,7 +19,7 @@ use Rattle.ground_rules.specs.Tables.{marked, chosen, only, picked}
 use Rattle.ground_rules.specs.Internal.TableTests.{are_roles, names, has_term, have_distinct_terms, are_goals, comes_before, comes_before_all, are_in_order}
 use Rattle.ground_rules.specs.Internal.TermTexts.{are_terms_in_any}
 use Rattle.ground_rules.specs.Internal.TermTexts.{IsTermText, term-text-folded, term-text-no-question, term-text-at}
-use Rattle.ground_rules.specs.LoadedGame.{GameTables, loaded_game, role_at, row_of, terms_of}
+use Rattle.ground_rules.specs.LoadedGame.{GameTables, loaded_game, role_at, settled, turn_row, terms_of}
 
 set-length : (row : List Bool) (i : ℕ) (test : Bool) → length (if test then slice_set row i true else row) ≡ length row
 set-length row i true = length-set row i true
@@ -199,14 +199,14 @@ loaded_game_laws xs g some few tables names_differ names_spelled terms_ordered t
   few_roles = few;
   role_names_folded = λ r within. rw (name-at g.roles r within) (term-text-folded (slice_index_or (names g.roles) r []) (term-text-at xs (names g.roles) r [] names_spelled (omega (arith, names-length g.roles, within))));
   role_names_differ = λ q r low high e. one-place (names g.roles) q r names_differ (omega (arith, names-length g.roles, low)) (omega (arith, names-length g.roles, high)) (sym (name-at g.roles q low) ∙ (e ∙ name-at g.roles r high));
-  initial_is_state = marked-size (length g.terms) (row_of g [] []) g.init;
-  next_is_state = λ s joint is lawful. marked-size (length g.terms) (row_of g s (terms_of joint)) g.next;
+  initial_is_state = record { size = marked-size (length g.terms) (turn_row g (settled g []) []) g.init; kept = refl };
+  next_is_state = λ s joint is lawful. record { size = marked-size (length g.terms) (turn_row g s (terms_of joint)) g.next; kept = refl };
   legal_are_moves = λ s r is within. chosen-are (length g.terms) _ (role_at g r).legal (role-legal _ g.roles r tables);
   legal_differ = λ s r is within. chosen-differ (length g.terms) _ (role_at g r).legal (role-legal _ g.roles r tables);
   move_texts_folded = λ m is. term-text-folded (slice_index_or g.terms m.term []) (term-text-at xs g.terms m.term [] terms_spelled is);
   one_move_for_each_text = λ m n im in' e. same-move m n (one-place g.terms m.term n.term (ordered-different g.terms terms_ordered) im in' e);
   no_question = λ m is. term-text-no-question (slice_index_or g.terms m.term []) (term-text-at xs g.terms m.term [] terms_spelled is);
-  state_texts_canonical = λ s is k d lt. folded-is-canonical (slice_index_or (picked s g.terms) k d) (term-text-folded (slice_index_or (picked s g.terms) k d) (picked-texts s g.terms (λ j e within. term-text-at xs g.terms j e terms_spelled within) k d lt));
-  state_texts_ordered = λ s is. ordered (picked s g.terms) (picked-ordered s g.terms terms_ordered);
+  state_texts_canonical = λ s is k d lt. folded-is-canonical (slice_index_or (picked s.row g.terms) k d) (term-text-folded (slice_index_or (picked s.row g.terms) k d) (picked-texts s.row g.terms (λ j e within. term-text-at xs g.terms j e terms_spelled within) k d lt));
+  state_texts_ordered = λ s is. ordered (picked s.row g.terms) (picked-ordered s.row g.terms terms_ordered);
   goal_in_range = λ s r v is within e. goals-only (role_at g r).goals _ v (role-goals _ g.roles r tables) e;
 }

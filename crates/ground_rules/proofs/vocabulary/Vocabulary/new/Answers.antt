@@ -1,0 +1,40 @@
+use Rattle.std.proofs.Common.{◌∙◌, ap, refl, map, length}
+use Rattle.kif_text.specs.View.{view as expression}
+use Rattle.ground_rules.specs.Internal.TableTests.{are_in_order}
+use Rattle.ground_rules.specs.declared.lookups.StateHead.TheVariants.{Init as InitHead, Next as NextHead}
+use Rattle.ground_rules.specs.Internal.Resolved.{table_of, state_mentions}
+use Rattle.ground_rules.specs.Loading.{description_of}
+use Rattle.ground_rules.proofs.Assembled.{some-role, few-roles, tables-pass, names-pass, names-read, terms-read}
+use Rattle.ground_rules.proofs.vocabulary.Vocabulary.new.Goals as goal
+
+pub invariant_of-result : goal.invariant_of-result
+invariant_of-result c =
+    let xs = map expression c.args.description.items in
+    let n = length xs in
+    let d = description_of xs in
+    let t = table_of c.args.names in
+    let roles = c.args.roles.items in
+    let p = c.requires in
+    record {
+      some_role = some-role n d t roles p;
+      few_roles = few-roles n d t roles p;
+      tables = tables-pass n xs t roles c.in_ok-terms.terms.items p c.in_ok-terms.ensures;
+      names_differ = names-pass n d t roles p;
+      names_spelled = names-read n xs t roles p;
+      terms_ordered = ap are_in_order c.in_ok-terms.ensures ∙ p.table.ordered;
+      terms_spelled = terms-read n xs t roles c.in_ok-terms.terms.items p c.in_ok-terms.ensures;
+    }
+
+pub returns : goal.returns
+returns c =
+    let t = table_of c.args.names in
+    let keys = c.as_slice-heads.ensures.keys in
+    record {
+      description' = refl;
+      roles' = refl;
+      terms = c.in_ok-terms.ensures;
+      atoms = ap length keys;
+      init = c.in_ok-init.ensures ∙ ap (state_mentions InitHead t.terms 0) keys;
+      next = c.in_ok-next.ensures ∙ ap (state_mentions NextHead t.terms 0) keys;
+      terminal = c.place_of_head-terminal.ensures;
+    }

@@ -1,0 +1,38 @@
+-- Numbered rules in two parts: those on whose heads no move bears, and the others.
+use Rattle.std.specs.Prelude.{ℕ, ◌≡◌, ◌≢◌, false, List, [], ◌∷◌, ◌++◌, length}
+use Rattle.std.specs.List.Sorted.{IsPermutation}
+use Rattle.ground_rules.specs.declared.sentence.Derived.{Derived}
+use Rattle.ground_rules.specs.declared.sentence.Derived.TheVariants.{Role, Init, Next, Legal, Goal, Terminal, Other}
+use Rattle.ground_rules.specs.Literals.{Rule}
+use Rattle.ground_rules.specs.Dependence.{any_speaks_of_given}
+use Rattle.ground_rules.specs.Described.{Description}
+use Rattle.ground_rules.specs.Internal.Ranked.{AreRankedFrom}
+use Rattle.ground_rules.specs.Internal.Resolved.{NameTable, atom_number, resolved_rules}
+
+-- the rules speak of no does sentence
+abbrev pub SpeakOfNoMoves : List (Rule ℕ ℕ) → Type 0
+SpeakOfNoMoves [] = Unit {0}
+SpeakOfNoMoves (r ∷ rs) = (any_speaks_of_given false r.body ≡ false) × SpeakOfNoMoves rs
+
+-- no rule has this head
+abbrev pub IsNoHead : ℕ → List (Rule ℕ ℕ) → Type 0
+IsNoHead n [] = Unit {0}
+IsNoHead n (r ∷ rs) = (n ≢ r.head) × IsNoHead n rs
+
+-- a derived atom on which no move may bear
+abbrev pub IsAnswer : Derived → Type 0
+IsAnswer (Legal r m) = Unit {0}
+IsAnswer (Goal r n) = Unit {0}
+IsAnswer Terminal = Unit {0}
+IsAnswer (Role r) = ⊥
+IsAnswer (Init t) = ⊥
+IsAnswer (Next t) = ⊥
+IsAnswer (Other t) = ⊥
+
+-- the rules are those of the description with numbers, in the order of a ranking: the first part speaks of no move, and no answer is a head of the second
+pub record AreSplitOf (d : Description) (t : NameTable) (rest turn : List (Rule ℕ ℕ)) : Type 0 where
+  pub moved : IsPermutation (resolved_rules t d) (rest ++ turn)
+  pub rank : ℕ → ℕ
+  pub ranked : AreRankedFrom rank 0 (length t.heads) (rest ++ turn)
+  pub no_moves : SpeakOfNoMoves rest
+  pub answers : (a : Derived) → IsAnswer a → IsNoHead (atom_number t a) turn

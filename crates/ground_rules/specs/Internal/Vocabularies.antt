@@ -1,0 +1,19 @@
+-- What a vocabulary is made from.
+use Rattle.std.specs.Prelude.{◌≡◌, List, length}
+use Rattle.kif_text.specs.View.{view}
+use Rattle.kif_text.specs.declared.expr.Expr.{Expr}
+use Rattle.ground_rules.specs.declared.vocabulary.Vocabulary.{Vocabulary}
+use Rattle.ground_rules.specs.declared.sentence.Derived.TheVariants.{Terminal}
+use Rattle.ground_rules.specs.declared.lookups.StateHead.TheVariants.{Init as InitHead, Next as NextHead}
+use Rattle.ground_rules.specs.Roles.{RoleTable}
+use Rattle.ground_rules.specs.Internal.Resolved.{NameTable, atom_number, state_mentions}
+
+-- the vocabulary of these sentences and roles, by the tables of names
+pub record IsVocabularyOf (description : List Expr) (roles : List RoleTable) (t : NameTable) (v : Vocabulary) : Type 0 where
+  pub description' : v.description.items ≡ description
+  pub roles' : v.roles.items ≡ roles
+  pub terms : v.terms.items ≡ t.terms
+  pub atoms : v.atoms ≡ length t.heads
+  pub init : v.init.items ≡ state_mentions InitHead t.terms 0 t.heads
+  pub next : v.next.items ≡ state_mentions NextHead t.terms 0 t.heads
+  pub terminal : v.terminal ≡ atom_number t Terminal

@@ -1,0 +1,72 @@
+//! What the game of a description looks up: all but its rules.
+ghost use Rattle.std.specs.Prelude.{◌≡◌, ◌≤◌, length, IsTrue, IfOk, map};
+ghost use Rattle.game_core.specs.Play.{max_roles};
+ghost use Rattle.kif_text.specs.View.{view as expression, views};
+ghost use Rattle.ground_rules.specs.Described.{are_different};
+ghost use Rattle.ground_rules.specs.Loading.{description_of};
+ghost use Rattle.ground_rules.specs.Internal.TableTests.{are_roles, are_in_order, names};
+ghost use Rattle.ground_rules.specs.Internal.TermTexts.{are_terms_in_any};
+ghost use Rattle.ground_rules.specs.Internal.Resolved.{table_of};
+ghost use Rattle.ground_rules.specs.Internal.GameParts.{AreNamesOf};
+
+use crate::lookups::{StateHead, state_mentions};
+use crate::names::{into_texts, place_of_head};
+use crate::resolve::Names;
+use crate::sentence::Derived;
+use crate::tables::{Mention, Role};
+use game_core::Text;
+use kif_text::Expr;
+use std::alloc::{AllocError, Global};
+
+/// The sentences of a description, and the tables of names that they give.
+#[derive(Drop)]
+pub struct Vocabulary {
+    pub description: Vec<Expr>,
+    pub roles: Vec<Role>,
+    /// The texts of the terms by their numbers.
+    pub terms: Vec<Text>,
+    /// How many derived atoms are heads.
+    pub atoms: usize,
+    pub init: Vec<Mention>,
+    pub next: Vec<Mention>,
+    /// The derived atom `terminal`, or one that is never true.
+    pub terminal: usize,
+    ghost some_role: { 1 ≤ length roles.items },
+    ghost few_roles: { length roles.items ≤ max_roles },
+    ghost tables: { IsTrue (are_roles (length terms.items) roles.items) },
+    ghost names_differ: { IsTrue (are_different (names roles.items)) },
+    ghost names_spelled: { IsTrue (are_terms_in_any (views description.items) (names roles.items)) },
+    ghost terms_ordered: { IsTrue (are_in_order terms.items) },
+    ghost terms_spelled: { IsTrue (are_terms_in_any (views description.items) terms.items) },
+}
+
+impl Vocabulary {
+    ghost use Rattle.ground_rules.specs.Internal.Vocabularies.{IsVocabularyOf};
+
+    /// The vocabulary of a description, from its names and roles.
+    pub(crate) fn new(
+        alloc: Global,
+        description: Vec<Expr>,
+        names: Names,
+        roles: Vec<Role>,
+    ) -> Result<Vocabulary, AllocError>
+        requires { AreNamesOf (length (map expression description.items)) (description_of (map expression description.items)) (table_of names) roles.items }
+        ensures { IfOk result (IsVocabularyOf description.items roles.items (table_of names)) }
+    {
+        let heads = names.heads.as_slice();
+        let atoms = heads.len();
+        let init = state_mentions(alloc, heads, &names.terms, StateHead::Init)?;
+        let next = state_mentions(alloc, heads, &names.terms, StateHead::Next)?;
+        let terminal = place_of_head(&names.heads, &Derived::Terminal);
+        let terms = into_texts(alloc, names.terms)?;
+        Ok(Vocabulary {
+            description,
+            roles,
+            terms,
+            atoms,
+            init,
+            next,
+            terminal,
+        })
+    }
+}
