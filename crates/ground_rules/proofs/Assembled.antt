@@ -7,6 +7,7 @@ use Rattle.game_core.specs.Play.{max_roles, IsLawful}
 use Rattle.kif_text.specs.View.{expressions}
 use Rattle.ground_rules.specs.declared.sentence.Derived.{Derived}
 use Rattle.ground_rules.specs.declared.sentence.Derived.TheVariants.{Legal, Terminal}
+use Rattle.ground_rules.specs.declared.names.TermKind.TheVariants.{State, Move}
 use Rattle.ground_rules.specs.declared.lookups.StateHead.TheVariants.{Init as InitHead, Next as NextHead}
 use Rattle.ground_rules.specs.Internal.Bools.{and-left, and-right, or-left}
 use Rattle.ground_rules.specs.Internal.Names.{text-same}
@@ -52,18 +53,21 @@ names-are n d t roles p = ap names p.tables ∙ table-names t t.roles ∙ p.tabl
 heads-from : (xs : List Expression) (t : NameTable) → IsTableOf (description_of xs) t → EachIs (HeadFrom (expressions xs)) t.heads
 heads-from xs t table = subst (λ (hs : List Derived). EachIs (HeadFrom (expressions xs)) hs) (sym table.heads') (each-new (HeadFrom (expressions xs)) [] (map (λ r. r.head) (description_of xs)) tt (heads-read xs))
 
-has-terms : (d : Description) (t : NameTable) → IsTableOf d t → (u : List ℕ) → is_among (head_terms d) u ≡ true → is_among t.terms u ≡ true
-has-terms d t table u h = table.terms u ∙ h
+has-states : (d : Description) (t : NameTable) → IsTableOf d t → (u : List ℕ) → is_among (head_terms State d) u ≡ true → is_among t.states u ≡ true
+has-states d t table u h = table.states u ∙ h
+
+has-moves : (d : Description) (t : NameTable) → IsTableOf d t → (u : List ℕ) → is_among (head_terms Move d) u ≡ true → is_among t.moves u ≡ true
+has-moves d t table u h = table.moves u ∙ h
 
 one-about : (role u : List ℕ) → is_among (u ∷ []) u ≡ true
 one-about role u = or-left _ _ (text-same u u refl)
 
-pub tables-pass : (n : ℕ) (xs : List Expression) (t : NameTable) (roles : List RoleTable) (terms : List (List ℕ)) → AreNamesOf n (description_of xs) t roles → terms ≡ t.terms → are_roles (length terms) roles ≡ true
+pub tables-pass : (n : ℕ) (xs : List Expression) (t : NameTable) (roles : List RoleTable) (terms : List (List ℕ)) → AreNamesOf n (description_of xs) t roles → terms ≡ t.moves → are_roles (length terms) roles ≡ true
 tables-pass n xs t roles terms p e =
     let d = description_of xs in
-    let inside : (role : List ℕ) → AreIn t.terms (texts_by (legal_pick role) t.heads) = λ role.
-    subst (λ (hs : List Derived). AreIn t.terms (texts_by (legal_pick role) hs)) (sym p.table.heads') (picked-in d t.terms (legal_pick role) (Legal role) (legal-picks role) (one-about role) (has-terms d t p.table)) in
-    ap (λ ts. are_roles (length ts) roles) e ∙ ap (are_roles (length t.terms)) p.tables ∙ role-tables (expressions xs) t t.roles (heads-from xs t p.table) (heads-stand t d p.table.heads') inside
+    let inside : (role : List ℕ) → AreIn t.moves (texts_by (legal_pick role) t.heads) = λ role.
+    subst (λ (hs : List Derived). AreIn t.moves (texts_by (legal_pick role) hs)) (sym p.table.heads') (picked-in Move d t.moves (legal_pick role) (Legal role) (legal-picks role) (one-about role) (has-moves d t p.table)) in
+    ap (λ ts. are_roles (length ts) roles) e ∙ ap (are_roles (length t.moves)) p.tables ∙ role-tables (expressions xs) t t.roles (heads-from xs t p.table) (heads-stand t d p.table.heads') inside
 
 pub names-pass : (n : ℕ) (d : Description) (t : NameTable) (roles : List RoleTable) → AreNamesOf n d t roles → are_different (names roles) ≡ true
 names-pass n d t roles p = ap are_different (names-are n d t roles p) ∙ p.sound.roles.differ
@@ -71,20 +75,26 @@ names-pass n d t roles p = ap are_different (names-are n d t roles p) ∙ p.soun
 pub names-read : (n : ℕ) (xs : List Expression) (t : NameTable) (roles : List RoleTable) → AreNamesOf n (description_of xs) t roles → are_terms_in_any (expressions xs) (names roles) ≡ true
 names-read n xs t roles p = ap (are_terms_in_any (expressions xs)) (names-are n (description_of xs) t roles p) ∙ names-spelled (expressions xs) (description_of xs) (heads-read xs)
 
-pub terms-read : (n : ℕ) (xs : List Expression) (t : NameTable) (roles : List RoleTable) (terms : List (List ℕ)) → AreNamesOf n (description_of xs) t roles → terms ≡ t.terms → are_terms_in_any (expressions xs) terms ≡ true
-terms-read n xs t roles terms p e =
+pub states-read : (n : ℕ) (xs : List Expression) (t : NameTable) (roles : List RoleTable) (terms : List (List ℕ)) → AreNamesOf n (description_of xs) t roles → terms ≡ t.states → are_terms_in_any (expressions xs) terms ≡ true
+states-read n xs t roles terms p e =
     ap (are_terms_in_any (expressions xs)) e
-    ∙ terms-spelled (expressions xs) t.terms (λ u h. head-terms (expressions xs) (description_of xs) u (heads-read xs) (sym (p.table.terms u) ∙ h))
+    ∙ terms-spelled (expressions xs) t.states (λ u h. head-terms (expressions xs) State (description_of xs) u (heads-read xs) (sym (p.table.states u) ∙ h))
+
+pub moves-read : (n : ℕ) (xs : List Expression) (t : NameTable) (roles : List RoleTable) (terms : List (List ℕ)) → AreNamesOf n (description_of xs) t roles → terms ≡ t.moves → are_terms_in_any (expressions xs) terms ≡ true
+moves-read n xs t roles terms p e =
+    ap (are_terms_in_any (expressions xs)) e
+    ∙ terms-spelled (expressions xs) t.moves (λ u h. head-terms (expressions xs) Move (description_of xs) u (heads-read xs) (sym (p.table.moves u) ∙ h))
 
 -- the game of tables that are those of the description
 pub game-of-tables : (xs : List Expression) (t : NameTable) (g : GameTables) → IsLawful (loaded_game g) → AreGameParts (length xs) (description_of xs) t g.roles g.rest g.turn
-    → g.terms ≡ t.terms → g.init ≡ state_mentions InitHead t.terms 0 t.heads → g.next ≡ state_mentions NextHead t.terms 0 t.heads → g.terminal ≡ atom_number t Terminal → g.atoms ≡ length t.heads → IsGameOf (description_of xs) (loaded_game g)
-game-of-tables xs t g lawful p terms init next terminal atoms =
+    → g.states ≡ t.states → g.moves ≡ t.moves → g.init ≡ state_mentions InitHead t.states 0 t.heads → g.next ≡ state_mentions NextHead t.states 0 t.heads → g.terminal ≡ atom_number t Terminal → g.atoms ≡ length t.heads → IsGameOf (description_of xs) (loaded_game g)
+game-of-tables xs t g lawful p states moves init next terminal atoms =
     let d = description_of xs in
     game-of d t p.split.rank g record {
       heads' = p.names.table.heads';
       roles = p.names.table.roles;
-      terms = terms;
+      states = states;
+      moves = moves;
       role_tables = p.names.tables;
       init = init;
       next = next;
@@ -95,7 +105,9 @@ game-of-tables xs t g lawful p terms init next terminal atoms =
       no_moves = p.split.no_moves;
       answers = p.split.answers;
       differ = ap are_different p.names.table.roles ∙ p.names.sound.roles.differ;
-      ordered = p.names.table.ordered;
-      has_terms = has-terms d t p.names.table;
+      states_ordered = p.names.table.states_ordered;
+      moves_ordered = p.names.table.moves_ordered;
+      has_states = has-states d t p.names.table;
+      has_moves = has-moves d t p.names.table;
       acyclic = p.names.sound.acyclic;
     } lawful

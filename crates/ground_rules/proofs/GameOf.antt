@@ -7,6 +7,8 @@ use Rattle.std.proofs.lemmas.List.{length-replicate, length-map, take_all}
 use Rattle.game_core.specs.Play.{IsJoint, IsLawful}
 use Rattle.ground_rules.specs.declared.sentence.Derived.{Derived}
 use Rattle.ground_rules.specs.declared.sentence.Derived.TheVariants.{Role, Init, Next, Legal, Goal, Terminal, Other}
+use Rattle.ground_rules.specs.declared.names.TermKind.{TermKind}
+use Rattle.ground_rules.specs.declared.names.TermKind.TheVariants.{State, Move}
 use Rattle.ground_rules.specs.declared.tables.GroundMove.{GroundMove}
 use Rattle.ground_rules.specs.declared.tables.Mention.{Mention}
 use Rattle.ground_rules.specs.declared.tables.GoalHead.{GoalHead}
@@ -25,8 +27,9 @@ use Rattle.ground_rules.specs.Internal.TableTests.{are_in_order, names}
 use Rattle.ground_rules.specs.States.{StateRows}
 use Rattle.ground_rules.specs.LoadedGame.{GameTables, loaded_game, kept_row, turn_row, settled, role_at, terms_of, IsSettled}
 use Rattle.ground_rules.specs.Internal.LoadedGameLaws.{ordered-different, marked-size}
-use Rattle.ground_rules.specs.Internal.Resolved.{NameTable, atom_number, term_number, role_number, resolved_rules, terms_in, head_terms, role_table, mentions_by, state_term, state_mentions, legal_mentions, goal_heads, place}
+use Rattle.ground_rules.specs.Internal.Resolved.{NameTable, atom_number, state_number, move_number, role_number, resolved_rules, terms_in, head_terms, role_table, mentions_by, state_term, state_mentions, legal_mentions, goal_heads, place}
 use Rattle.ground_rules.proofs.NameLists.{among-any, among-left, among-right}
+use Rattle.ground_rules.proofs.Pass.{bit-unset}
 use Rattle.ground_rules.proofs.TablePlaces.{place-within}
 use Rattle.ground_rules.proofs.Transfer.{Agrees, fit-is-row}
 use Rattle.ground_rules.proofs.HeadTables.{heads-there, heads-once}
@@ -48,10 +51,11 @@ row_of g state joint = row_after (numbered state joint) (unset g.atoms) (all_rul
 pub record IsBuilt (d : Description) (table : NameTable) (rank : ℕ → ℕ) (g : GameTables) : Type 0 where
   pub heads' : table.heads ≡ heads d
   pub roles : table.roles ≡ role_names d
-  pub terms : g.terms ≡ table.terms
+  pub states : g.states ≡ table.states
+  pub moves : g.moves ≡ table.moves
   pub role_tables : g.roles ≡ map (role_table table) table.roles
-  pub init : g.init ≡ state_mentions InitHead table.terms 0 table.heads
-  pub next : g.next ≡ state_mentions NextHead table.terms 0 table.heads
+  pub init : g.init ≡ state_mentions InitHead table.states 0 table.heads
+  pub next : g.next ≡ state_mentions NextHead table.states 0 table.heads
   pub terminal : g.terminal ≡ atom_number table Terminal
   pub atoms : g.atoms ≡ length table.heads
   pub moved : IsPermutation (resolved_rules table d) (all_rules g)
@@ -59,8 +63,10 @@ pub record IsBuilt (d : Description) (table : NameTable) (rank : ℕ → ℕ) (g
   pub no_moves : SpeakOfNoMoves g.rest
   pub answers : (a : Derived) → IsAnswer a → IsNoHead (atom_number table a) g.turn
   pub differ : are_different table.roles ≡ true
-  pub ordered : are_in_order table.terms ≡ true
-  pub has_terms : (t : List ℕ) → is_among (head_terms d) t ≡ true → is_among table.terms t ≡ true
+  pub states_ordered : are_in_order table.states ≡ true
+  pub moves_ordered : are_in_order table.moves ≡ true
+  pub has_states : (t : List ℕ) → is_among (head_terms State d) t ≡ true → is_among table.states t ≡ true
+  pub has_moves : (t : List ℕ) → is_among (head_terms Move d) t ≡ true → is_among table.moves t ≡ true
   pub acyclic : IsAcyclic d
 
 -- heads stand at their places
@@ -88,12 +94,12 @@ pub each-new : (P : Derived → Type 0) (seen xs : List Derived) → EachIs P se
 each-new P seen [] h k = h
 each-new P seen (a ∷ as') h k = each-new P (with_new same_derived seen a) as' (each-push P seen a (list_any (same_derived a) seen) h k.0) k.1
 
-rules-heads : (P : Derived → Type 0) (d : Description) → ((a : Derived) → ((t : List ℕ) → is_among (terms_in a) t ≡ true → is_among (head_terms d) t ≡ true) → P a) → EachIs P (map (λ r. r.head) d)
-rules-heads P [] f = tt
-rules-heads P (r ∷ rs) f = (f r.head (λ t h. among-left (terms_in r.head) (head_terms rs) t h), rules-heads P rs (λ a g. f a (λ t h. among-right (terms_in r.head) (head_terms rs) t (g t h))))
+rules-heads : (kind : TermKind) (P : Derived → Type 0) (d : Description) → ((a : Derived) → ((t : List ℕ) → is_among (terms_in kind a) t ≡ true → is_among (head_terms kind d) t ≡ true) → P a) → EachIs P (map (λ r. r.head) d)
+rules-heads kind P [] f = tt
+rules-heads kind P (r ∷ rs) f = (f r.head (λ t h. among-left (terms_in kind r.head) (head_terms kind rs) t h), rules-heads kind P rs (λ a g. f a (λ t h. among-right (terms_in kind r.head) (head_terms kind rs) t (g t h))))
 
-pub each-head : (P : Derived → Type 0) (d : Description) → ((a : Derived) → ((t : List ℕ) → is_among (terms_in a) t ≡ true → is_among (head_terms d) t ≡ true) → P a) → EachIs P (heads d)
-each-head P d f = each-new P [] (map (λ r. r.head) d) tt (rules-heads P d f)
+pub each-head : (kind : TermKind) (P : Derived → Type 0) (d : Description) → ((a : Derived) → ((t : List ℕ) → is_among (terms_in kind a) t ≡ true → is_among (head_terms kind d) t ≡ true) → P a) → EachIs P (heads d)
+each-head kind P d f = each-new P [] (map (λ r. r.head) d) tt (rules-heads kind P d f)
 
 are-in-by : (pick : Derived → Option (List ℕ)) (terms : List (List ℕ)) (a : Derived) (o : Option (List ℕ)) (ts : List (List ℕ)) → pick a ≡ o → ((t : List ℕ) → pick a ≡ Some t → place bytes_eq terms t < length terms) → AreIn terms ts → AreIn terms (with_text o ts)
 are-in-by pick terms a None ts e f h = h
@@ -104,10 +110,10 @@ are-in pick terms [] h = tt
 are-in pick terms (a ∷ as') h = are-in-by pick terms a (pick a) (texts_by pick as') refl h.0 (are-in pick terms as' h.1)
 
 -- the terms of the picked heads are in the table
-pub picked-in : (d : Description) (terms : List (List ℕ)) (pick : Derived → Option (List ℕ)) (make : List ℕ → Derived) → IsPick pick make → ((t : List ℕ) → is_among (terms_in (make t)) t ≡ true) → ((t : List ℕ) → is_among (head_terms d) t ≡ true → is_among terms t ≡ true) → AreIn terms (texts_by pick (heads d))
-picked-in d terms pick make is about has =
-    are-in pick terms (heads d) (each-head (λ a. (t : List ℕ) → pick a ≡ Some t → place bytes_eq terms t < length terms) d (λ a inside t e.
-    let here : is_among (terms_in a) t ≡ true = ap (λ x. is_among (terms_in x) t) (is.made a t e) ∙ about t in
+pub picked-in : (kind : TermKind) (d : Description) (terms : List (List ℕ)) (pick : Derived → Option (List ℕ)) (make : List ℕ → Derived) → IsPick pick make → ((t : List ℕ) → is_among (terms_in kind (make t)) t ≡ true) → ((t : List ℕ) → is_among (head_terms kind d) t ≡ true → is_among terms t ≡ true) → AreIn terms (texts_by pick (heads d))
+picked-in kind d terms pick make is about has =
+    are-in pick terms (heads d) (each-head kind (λ a. (t : List ℕ) → pick a ≡ Some t → place bytes_eq terms t < length terms) d (λ a inside t e.
+    let here : is_among (terms_in kind a) t ≡ true = ap (λ x. is_among (terms_in kind x) t) (is.made a t e) ∙ about t in
     place-within bytes_eq terms t (sym (among-any terms t) ∙ has t (inside t here))))
 
 one-about : (t : List ℕ) → is_among (t ∷ []) t ≡ true
@@ -152,10 +158,6 @@ read-row d table rank g w state joint v built agree fits =
       size = row-length u (unset g.atoms) (all_rules g) ∙ length-replicate g.atoms false ∙ built.atoms;
     }
 
-bit-none : (k : ℕ) → bit [] k ≡ false
-bit-none zero = refl
-bit-none (suc k) = refl
-
 no-joint : (k m : ℕ) → is_number (slice_get {X = ℕ} [] k) m ≡ false
 no-joint zero m = refl
 no-joint (suc k) m = refl
@@ -189,13 +191,13 @@ both true y e f = f
 both false y e f = absurd cc
 
 -- a picked text is set where the fit says so
-set-is : (d : Description) (table : NameTable) (v : Derived → Bool) (row : List Bool) (pick : Derived → Option (List ℕ)) (make : List ℕ → Derived) (t : List ℕ) → IsRead d table v row → table.heads ≡ heads d → IsPick pick make → ((t : List ℕ) → is_among (terms_in (make t)) t ≡ true)
-    → ((s : List ℕ) → is_among (head_terms d) s ≡ true → is_among table.terms s ≡ true) → are_in_order table.terms ≡ true
-    → is_among (picked (marked (unset (length table.terms)) row (mentions_by pick table.terms 0 table.heads)) table.terms) t ≡ v (make t)
+set-is : (d : Description) (table : NameTable) (v : Derived → Bool) (row : List Bool) (pick : Derived → Option (List ℕ)) (make : List ℕ → Derived) (t : List ℕ) → IsRead d table v row → table.heads ≡ heads d → IsPick pick make → ((t : List ℕ) → is_among (terms_in State (make t)) t ≡ true)
+    → ((s : List ℕ) → is_among (head_terms State d) s ≡ true → is_among table.states s ≡ true) → are_in_order table.states ≡ true
+    → is_among (picked (marked (unset (length table.states)) row (mentions_by pick table.states 0 table.heads)) table.states) t ≡ v (make t)
 set-is d table v row pick make t read same is about has ordered =
-    let terms = table.terms in
+    let terms = table.states in
     let marks = marked (unset (length terms)) row (mentions_by pick terms 0 table.heads) in
-    let inside : AreIn terms (texts_by pick table.heads) = subst (λ (hs : List Derived). AreIn terms (texts_by pick hs)) (sym same) (picked-in d terms pick make is about has) in
+    let inside : AreIn terms (texts_by pick table.heads) = subst (λ (hs : List Derived). AreIn terms (texts_by pick hs)) (sym same) (picked-in State d terms pick make is about has) in
     let hit = hits-by table v row pick make terms t 0 table.heads read.by is (heads-stand table d same) inside in
     picked-bit marks terms t (marked-size (length terms) row (mentions_by pick terms 0 table.heads)) (ordered-different terms ordered)
     ∙ bool-same (bit marks (place bytes_eq terms t)) (v (make t))
@@ -241,29 +243,29 @@ game-names : (d : Description) (table : NameTable) (rank : ℕ → ℕ) (g : Gam
 game-names d table rank g built = ap names built.role_tables ∙ table-names table table.roles
 
 -- no term and no move
-agrees-empty : (table : NameTable) → Agrees table (situation [] [] []) (numbered [] [])
-agrees-empty table = record {
+agrees-empty : (table : NameTable) (n : ℕ) → Agrees table (situation [] [] []) (numbered (unset n) [])
+agrees-empty table n = record {
   same = λ a b. refl;
   numbers = λ m n. refl;
   same_term = λ t s. refl;
-  in_state = λ t. sym (bit-none (term_number table t));
-  does = λ r m. sym (no-joint (role_number table r) (term_number table m));
+  in_state = λ t. sym (bit-unset n (state_number table t));
+  does = λ r m. sym (no-joint (role_number table r) (move_number table m));
 }
 
-state-agrees : (table : NameTable) (terms : List (List ℕ)) (s : List Bool) (t : List ℕ) → terms ≡ table.terms → are_in_order table.terms ≡ true → length s ≡ length terms → is_among (picked s terms) t ≡ bit s (term_number table t)
+state-agrees : (table : NameTable) (terms : List (List ℕ)) (s : List Bool) (t : List ℕ) → terms ≡ table.states → are_in_order table.states ≡ true → length s ≡ length terms → is_among (picked s terms) t ≡ bit s (state_number table t)
 state-agrees table terms s t same ordered size =
-    ap (λ ts. is_among (picked s ts) t) same ∙ picked-bit s table.terms t (size ∙ ap length same) (ordered-different table.terms ordered)
+    ap (λ ts. is_among (picked s ts) t) same ∙ picked-bit s table.states t (size ∙ ap length same) (ordered-different table.states ordered)
 
 agrees-rest : (d : Description) (table : NameTable) (rank : ℕ → ℕ) (g : GameTables) (s : StateRows) → IsBuilt d table rank g → IsSettled g s → Agrees table (at_rest (loaded_game g) s) (numbered s.row [])
 agrees-rest d table rank g s built is = record {
   same = λ a b. refl;
   numbers = λ m n. refl;
   same_term = λ t u. refl;
-  in_state = λ t. state-agrees table g.terms s.row t built.terms built.ordered is.size;
-  does = λ r m. sym (no-joint (role_number table r) (term_number table m));
+  in_state = λ t. state-agrees table g.states s.row t built.states built.states_ordered is.size;
+  does = λ r m. sym (no-joint (role_number table r) (move_number table m));
 }
 
-joint-terms : (g : GameTables) (s : StateRows) (joint : List GroundMove) → IsLawful (loaded_game g) → IsSettled g s → IsJoint (loaded_game g) s joint → (k : ℕ) (x : GroundMove) → k < length joint → (get_or joint k x).term < length g.terms
+joint-terms : (g : GameTables) (s : StateRows) (joint : List GroundMove) → IsLawful (loaded_game g) → IsSettled g s → IsJoint (loaded_game g) s joint → (k : ℕ) (x : GroundMove) → k < length joint → (get_or joint k x).term < length g.moves
 joint-terms g s joint lawful settled is k x lt =
     let within : k < length g.roles = omega (arith, is.width, lt) in
     let c = is.legal k x within in
@@ -280,12 +282,12 @@ agrees-turn d table rank g s joint built lawful settled is =
       same = λ a b. refl;
       numbers = λ m n. refl;
       same_term = λ t u. refl;
-      in_state = λ t. state-agrees table g.terms s.row t built.terms built.ordered settled.size;
+      in_state = λ t. state-agrees table g.states s.row t built.states built.states_ordered settled.size;
       does = λ r m.
-          ap (λ ns. makes ns (map (text_of g.terms) joint) r m) all
-          ∙ ap (λ ts. makes table.roles (map (text_of ts) joint) r m) built.terms
-          ∙ makes-bit table.roles table.terms joint r m (is.width ∙ sym (length-map g.roles (λ (x : RoleTable). x.name)) ∙ ap length same) built.differ (ordered-different table.terms built.ordered)
-          (λ k x lt. let h = joint-terms g s joint lawful settled is k x lt in omega (arith, h, ap length built.terms));
+          ap (λ ns. makes ns (map (text_of g.moves) joint) r m) all
+          ∙ ap (λ ts. makes table.roles (map (text_of ts) joint) r m) built.moves
+          ∙ makes-bit table.roles table.moves joint r m (is.width ∙ sym (length-map g.roles (λ (x : RoleTable). x.name)) ∙ ap length same) built.differ (ordered-different table.moves built.moves_ordered)
+          (λ k x lt. let h = joint-terms g s joint lawful settled is k x lt in omega (arith, h, ap length built.moves));
     }
 
 role-is : (d : Description) (table : NameTable) (rank : ℕ → ℕ) (g : GameTables) (r : ℕ) → IsBuilt d table rank g → r < length g.roles → role_at g r ≡ role_table table (role_at g r).name
@@ -349,29 +351,30 @@ pub game-of : (d : Description) (table : NameTable) (rank : ℕ → ℕ) (g : Ga
 game-of d table rank g built lawful = record {
   roles = all-names g ∙ game-names d table rank g built ∙ built.roles;
   initial = λ v fits t.
-      let read = read-row d table rank g (situation [] [] []) [] [] v built (agrees-empty table) fits in
-      ap (λ row. is_among (picked (marked (unset (length g.terms)) row g.init) g.terms) t) (turn-is d table rank g (settled g []) [] built refl)
-      ∙ ap (λ ms. is_among (picked (marked (unset (length g.terms)) (row_of g [] []) ms) g.terms) t) built.init
-      ∙ ap (λ ts. is_among (picked (marked (unset (length ts)) (row_of g [] []) (mentions_by (state_term InitHead) table.terms 0 table.heads)) ts) t) built.terms
-      ∙ set-is d table v (row_of g [] []) (state_term InitHead) Init t read built.heads' init-picks one-about built.has_terms built.ordered;
+      let none = unset (length g.states) in
+      let read = read-row d table rank g (situation [] [] []) none [] v built (agrees-empty table (length g.states)) fits in
+      ap (λ row. is_among (picked (marked (unset (length g.states)) row g.init) g.states) t) (turn-is d table rank g (settled g none) [] built refl)
+      ∙ ap (λ ms. is_among (picked (marked (unset (length g.states)) (row_of g none []) ms) g.states) t) built.init
+      ∙ ap (λ ts. is_among (picked (marked (unset (length ts)) (row_of g none []) (mentions_by (state_term InitHead) table.states 0 table.heads)) ts) t) built.states
+      ∙ set-is d table v (row_of g none []) (state_term InitHead) Init t read built.heads' init-picks one-about built.has_states built.states_ordered;
   legal = λ s r v is within fits.
       let read = read-row d table rank g (at_rest (loaded_game g) s) s.row [] v built (agrees-rest d table rank g s built is) fits in
       let name = (role_at g r).name in
-      let inside : AreIn table.terms (texts_by (legal_pick name) table.heads) = subst (λ (hs : List Derived). AreIn table.terms (texts_by (legal_pick name) hs)) (sym built.heads') (picked-in d table.terms (legal_pick name) (Legal name) (legal-picks name) one-about built.has_terms) in
+      let inside : AreIn table.moves (texts_by (legal_pick name) table.heads) = subst (λ (hs : List Derived). AreIn table.moves (texts_by (legal_pick name) hs)) (sym built.heads') (picked-in Move d table.moves (legal_pick name) (Legal name) (legal-picks name) one-about built.has_moves) in
       let says : filter (λ h. bit s.kept h.atom) (role_at g r).legal ≡ filter (λ h. bit (row_of g s.row []) h.atom) (role_at g r).legal =
       subst (λ (ms : List Mention). filter (λ h. bit s.kept h.atom) ms ≡ filter (λ h. bit (row_of g s.row []) h.atom) ms) (sym (ap (λ (x : RoleTable). x.legal) (role-is d table rank g r built within)))
-      (same-legal table table.terms name s.kept (row_of g s.row []) 0 table.heads (heads-stand table d built.heads') (kept-says d table rank g s built is)) in
-      ap (λ (hs : List Mention). map (text_of g.terms) (map (λ h. record { term = h.term }) hs)) says
-      ∙ ap (λ ts. map (text_of ts) (chosen (row_of g s.row []) (role_at g r).legal)) built.terms
-      ∙ ap (λ ms. map (text_of table.terms) (chosen (row_of g s.row []) ms)) (ap (λ (x : RoleTable). x.legal) (role-is d table rank g r built within) ∙ legal-mentions table.terms name 0 table.heads)
-      ∙ chosen-texts table v (row_of g s.row []) (legal_pick name) (Legal name) table.terms 0 table.heads read.by (legal-picks name) (heads-stand table d built.heads') inside
+      (same-legal table table.moves name s.kept (row_of g s.row []) 0 table.heads (heads-stand table d built.heads') (kept-says d table rank g s built is)) in
+      ap (λ (hs : List Mention). map (text_of g.moves) (map (λ h. record { term = h.term }) hs)) says
+      ∙ ap (λ ts. map (text_of ts) (chosen (row_of g s.row []) (role_at g r).legal)) built.moves
+      ∙ ap (λ ms. map (text_of table.moves) (chosen (row_of g s.row []) ms)) (ap (λ (x : RoleTable). x.legal) (role-is d table rank g r built within) ∙ legal-mentions table.moves name 0 table.heads)
+      ∙ chosen-texts table v (row_of g s.row []) (legal_pick name) (Legal name) table.moves 0 table.heads read.by (legal-picks name) (heads-stand table d built.heads') inside
       ∙ ap (filter (λ m. v (Legal name m))) (sym (moves-texts name table.heads) ∙ ap (moves_in name) built.heads');
   next = λ s joint v is lawful' fits t.
       let read = read-row d table rank g (at_turn (loaded_game g) s joint) s.row (terms_of joint) v built (agrees-turn d table rank g s joint built lawful is lawful') fits in
-      ap (λ row. is_among (picked (marked (unset (length g.terms)) row g.next) g.terms) t) (turn-is d table rank g s (terms_of joint) built is.kept)
-      ∙ ap (λ ms. is_among (picked (marked (unset (length g.terms)) (row_of g s.row (terms_of joint)) ms) g.terms) t) built.next
-      ∙ ap (λ ts. is_among (picked (marked (unset (length ts)) (row_of g s.row (terms_of joint)) (mentions_by (state_term NextHead) table.terms 0 table.heads)) ts) t) built.terms
-      ∙ set-is d table v (row_of g s.row (terms_of joint)) (state_term NextHead) Next t read built.heads' next-picks one-about built.has_terms built.ordered;
+      ap (λ row. is_among (picked (marked (unset (length g.states)) row g.next) g.states) t) (turn-is d table rank g s (terms_of joint) built is.kept)
+      ∙ ap (λ ms. is_among (picked (marked (unset (length g.states)) (row_of g s.row (terms_of joint)) ms) g.states) t) built.next
+      ∙ ap (λ ts. is_among (picked (marked (unset (length ts)) (row_of g s.row (terms_of joint)) (mentions_by (state_term NextHead) table.states 0 table.heads)) ts) t) built.states
+      ∙ set-is d table v (row_of g s.row (terms_of joint)) (state_term NextHead) Next t read built.heads' next-picks one-about built.has_states built.states_ordered;
   terminal = λ s v is fits.
       let read = read-row d table rank g (at_rest (loaded_game g) s) s.row [] v built (agrees-rest d table rank g s built is) fits in
       ap (bit s.kept) built.terminal ∙ kept-says d table rank g s built is Terminal tt ∙ sym (read.by Terminal);

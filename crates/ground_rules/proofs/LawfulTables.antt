@@ -5,6 +5,8 @@ use Rattle.game_core.specs.Play.{max_goal}
 use Rattle.game_core.specs.Expression.{Expressions}
 use Rattle.ground_rules.specs.declared.sentence.Derived.{Derived}
 use Rattle.ground_rules.specs.declared.sentence.Derived.TheVariants.{Role, Init, Next, Legal, Goal, Terminal, Other}
+use Rattle.ground_rules.specs.declared.names.TermKind.{TermKind}
+use Rattle.ground_rules.specs.declared.names.TermKind.TheVariants.{State, Move}
 use Rattle.ground_rules.specs.declared.tables.GoalHead.{GoalHead}
 use Rattle.ground_rules.specs.Internal.Bools.{and-both, or-elim, or-left, or-right, not-false}
 use Rattle.ground_rules.specs.Internal.Names.{number-sound, text-same, text-sound}
@@ -76,10 +78,10 @@ goals xs role n (Goal r k ∷ hs) h = goals-by k n (goal_heads role (n + 1) hs) 
 goals xs role n (Terminal ∷ hs) h = goals xs role (n + 1) hs h.1
 goals xs role n (Other t ∷ hs) h = goals xs role (n + 1) hs h.1
 
-pub role-tables : (xs : Expressions) (table : NameTable) (rs : List (List ℕ)) → EachIs (HeadFrom xs) table.heads → StandFrom table 0 table.heads → ((role : List ℕ) → AreIn table.terms (texts_by (legal_pick role) table.heads)) → are_roles (length table.terms) (map (role_table table) rs) ≡ true
+pub role-tables : (xs : Expressions) (table : NameTable) (rs : List (List ℕ)) → EachIs (HeadFrom xs) table.heads → StandFrom table 0 table.heads → ((role : List ℕ) → AreIn table.moves (texts_by (legal_pick role) table.heads)) → are_roles (length table.moves) (map (role_table table) rs) ≡ true
 role-tables xs table [] from stand inside = refl
 role-tables xs table (r ∷ rs) from stand inside =
-    and-both _ _ (ap (have_distinct_terms (length table.terms)) (legal-mentions table.terms r 0 table.heads) ∙ distinct-terms table (legal_pick r) (Legal r) table.terms 0 table.heads (legal-picks r) stand (inside r))
+    and-both _ _ (ap (have_distinct_terms (length table.moves)) (legal-mentions table.moves r 0 table.heads) ∙ distinct-terms table (legal_pick r) (Legal r) table.moves 0 table.heads (legal-picks r) stand (inside r))
     (and-both _ _ (goals xs r 0 table.heads from) (role-tables xs table rs from stand inside))
 
 -- the texts of heads that were read are those of terms
@@ -90,18 +92,25 @@ among-by xs (x ∷ ts) us t f g h = or-elim (bytes_eq x t) (is_among (ts ++ us) 
 one-term : (xs : Expressions) (s t : List ℕ) → is_term_in_any xs s ≡ true → is_among (s ∷ []) t ≡ true → is_term_in_any xs t ≡ true
 one-term xs s t is h = or-elim (bytes_eq s t) false _ (λ e. ap (is_term_in_any xs) (sym (text-sound s t e)) ∙ is) (λ e. absurd cc) h
 
-head-term : (xs : Expressions) (a : Derived) (t : List ℕ) → HeadFrom xs a → is_among (terms_in a) t ≡ true → is_term_in_any xs t ≡ true
-head-term xs (Role r) t from h = absurd cc
-head-term xs (Init s) t from h = one-term xs s t from h
-head-term xs (Next s) t from h = one-term xs s t from h
-head-term xs (Legal r m) t from h = one-term xs m t from h
-head-term xs (Goal r n) t from h = absurd cc
-head-term xs Terminal t from h = absurd cc
-head-term xs (Other s) t from h = absurd cc
+head-term : (xs : Expressions) (kind : TermKind) (a : Derived) (t : List ℕ) → HeadFrom xs a → is_among (terms_in kind a) t ≡ true → is_term_in_any xs t ≡ true
+head-term xs State (Role r) t from h = absurd cc
+head-term xs State (Init s) t from h = one-term xs s t from h
+head-term xs State (Next s) t from h = one-term xs s t from h
+head-term xs State (Legal r m) t from h = absurd cc
+head-term xs State (Goal r n) t from h = absurd cc
+head-term xs State Terminal t from h = absurd cc
+head-term xs State (Other s) t from h = absurd cc
+head-term xs Move (Role r) t from h = absurd cc
+head-term xs Move (Init s) t from h = absurd cc
+head-term xs Move (Next s) t from h = absurd cc
+head-term xs Move (Legal r m) t from h = one-term xs m t from h
+head-term xs Move (Goal r n) t from h = absurd cc
+head-term xs Move Terminal t from h = absurd cc
+head-term xs Move (Other s) t from h = absurd cc
 
-pub head-terms : (xs : Expressions) (d : Description) (t : List ℕ) → EachIs (HeadFrom xs) (map (λ r. r.head) d) → is_among (head_terms d) t ≡ true → is_term_in_any xs t ≡ true
-head-terms xs [] t from h = absurd cc
-head-terms xs (r ∷ rs) t from h = among-by xs (terms_in r.head) (head_terms rs) t (head-term xs r.head t from.0) (head-terms xs rs t from.1) h
+pub head-terms : (xs : Expressions) (kind : TermKind) (d : Description) (t : List ℕ) → EachIs (HeadFrom xs) (map (λ r. r.head) d) → is_among (head_terms kind d) t ≡ true → is_term_in_any xs t ≡ true
+head-terms xs kind [] t from h = absurd cc
+head-terms xs kind (r ∷ rs) t from h = among-by xs (terms_in kind r.head) (head_terms kind rs) t (head-term xs kind r.head t from.0) (head-terms xs kind rs t from.1) h
 
 pub terms-spelled : (xs : Expressions) (ts : List (List ℕ)) → ((t : List ℕ) → is_among ts t ≡ true → is_term_in_any xs t ≡ true) → are_terms_in_any xs ts ≡ true
 terms-spelled xs [] f = refl

@@ -50,7 +50,7 @@ few-moves : (t : NameTable) (d : Description) (ns : List (List ℕ)) → t.heads
 few-moves t d [] same = refl
 few-moves t d (n ∷ ns) same =
     let size : length (role_table t n).legal ≡ length (moves_in n (heads d)) =
-    ap length (legal-mentions t.terms n 0 t.heads) ∙ mentions-length (legal_pick n) t.terms 0 t.heads ∙ ap length (sym (moves-texts n t.heads)) ∙ ap (λ hs. length (moves_in n hs)) same in
+    ap length (legal-mentions t.moves n 0 t.heads) ∙ mentions-length (legal_pick n) t.moves 0 t.heads ∙ ap length (sym (moves-texts n t.heads)) ∙ ap (λ hs. length (moves_in n hs)) same in
     let first = ap (λ k. nat_le k max_moves) size in
     let rest = few-moves t d ns same in
     cc

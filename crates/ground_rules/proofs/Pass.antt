@@ -100,7 +100,7 @@ pass w rank low atoms done (r ∷ rs) row same wide below ranked fit a =
     (step w rank low done r row same (omega arith) below ranked.0 ranked.2 fit) a in
     h ∙ ap (λ t. derived w (bit (row_after w (raised w row r) rs)) t a) q
 
-bit-unset : (n a : ℕ) → bit (unset n) a ≡ false
+pub bit-unset : (n a : ℕ) → bit (unset n) a ≡ false
 bit-unset zero a = refl
 bit-unset (suc n) zero = refl
 bit-unset (suc n) (suc a) = bit-unset n a

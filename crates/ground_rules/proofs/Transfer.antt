@@ -13,7 +13,7 @@ use Rattle.ground_rules.specs.Acyclic.{IsAcyclic}
 use Rattle.ground_rules.specs.Described.{Description, same_derived}
 use Rattle.ground_rules.specs.Numbered.{known, bit, row_after, unset}
 use Rattle.ground_rules.specs.Internal.Ranked.{AreRankedFrom}
-use Rattle.ground_rules.specs.Internal.Resolved.{NameTable, atom_number, term_number, role_number, resolved, all_resolved, resolved_rules}
+use Rattle.ground_rules.specs.Internal.Resolved.{NameTable, atom_number, state_number, move_number, role_number, resolved, all_resolved, resolved_rules}
 use Rattle.ground_rules.proofs.Fits.{fits-unique}
 use Rattle.ground_rules.proofs.Pass.{pass-fits}
 use Rattle.ground_rules.proofs.TablePlaces.{Decides, place-same}
@@ -26,8 +26,8 @@ pub record Agrees (names : NameTable) (w : Situation Derived (List ℕ)) (u : Si
   pub same : (a b : Derived) → w.same a b ≡ same_derived a b
   pub numbers : (m n : ℕ) → u.same m n ≡ nat_eq m n
   pub same_term : (t s : List ℕ) → w.same_term t s ≡ bytes_eq t s
-  pub in_state : (t : List ℕ) → w.in_state t ≡ u.in_state (term_number names t)
-  pub does : (r m : List ℕ) → w.does r m ≡ u.does (role_number names r) (term_number names m)
+  pub in_state : (t : List ℕ) → w.in_state t ≡ u.in_state (state_number names t)
+  pub does : (r m : List ℕ) → w.does r m ≡ u.does (role_number names r) (move_number names m)
 
 known-truth : (u : Situation ℕ ℕ) (row : ℕ → Bool) (b : Bool) → truth u row (known b) ≡ b
 known-truth u row true = refl

@@ -14,7 +14,7 @@ sentences_of g = map view g.vocabulary.description.items
 
 -- the tables of a vocabulary and both parts of the rules
 abbrev pub tables_with : Vocabulary → List (Rule ℕ ℕ) → List (Rule ℕ ℕ) → GameTables
-tables_with v rest turn = record { roles = v.roles.items; terms = v.terms.items; rest = rest; turn = turn; atoms = v.atoms; init = v.init.items; next = v.next.items; terminal = v.terminal }
+tables_with v rest turn = record { roles = v.roles.items; states = v.states.items; moves = v.moves.items; rest = rest; turn = turn; atoms = v.atoms; init = v.init.items; next = v.next.items; terminal = v.terminal }
 
 abbrev pub tables_of : GroundGame → GameTables
 tables_of g = tables_with g.vocabulary (rules_of g.rules.rest.items) (rules_of g.rules.turn.items)

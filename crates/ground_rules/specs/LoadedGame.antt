@@ -9,11 +9,12 @@ use Rattle.ground_rules.specs.Roles.{RoleTable, no_role}
 use Rattle.ground_rules.specs.Tables.{marked, chosen, only_goal, picked}
 use Rattle.ground_rules.specs.Numbered.{bit, numbered, row_after, unset}
 
--- the tables of a game, over numbers for its derived atoms and terms
+-- the tables of a game, over numbers for its derived atoms, the terms of its states and those of its moves
 pub record GameTables : Type 0 where
   pub roles : List RoleTable
-  -- the texts of the terms by their numbers
-  pub terms : List (List ℕ)
+  -- the texts of the terms of states, and of those of moves, by their numbers
+  pub states : List (List ℕ)
+  pub moves : List (List ℕ)
   -- the rules on whose heads no move bears, in the order of a ranking of their heads
   pub rest : List (Rule ℕ ℕ)
   -- the other rules, in the order of a ranking
@@ -43,22 +44,22 @@ settled g row = record { row = row; kept = kept_row g row }
 abbrev pub turn_row : GameTables → StateRows → List ℕ → List Bool
 turn_row g s joint = row_after (numbered s.row joint) s.kept g.turn
 
--- the row has a value for each term, and beside it stands the truth of the derived atoms on which no move bears
+-- the row has a value for each term of a state, and beside it stands the truth of the derived atoms on which no move bears
 pub record IsSettled (g : GameTables) (s : StateRows) : Type 0 where
-  pub size : length s.row ≡ length g.terms
+  pub size : length s.row ≡ length g.states
   pub kept : s.kept ≡ kept_row g s.row
 
 abbrev pub loaded_game : GameTables → Rules StateRows GroundMove
 loaded_game g = record {
   roles = length g.roles;
   role_name = λ r. (role_at g r).name;
-  initial = settled g (marked (unset (length g.terms)) (turn_row g (settled g []) []) g.init);
+  initial = settled g (marked (unset (length g.states)) (turn_row g (settled g (unset (length g.states))) []) g.init);
   legal = λ s r. chosen s.kept (role_at g r).legal;
-  next = λ s joint. settled g (marked (unset (length g.terms)) (turn_row g s (terms_of joint)) g.next);
+  next = λ s joint. settled g (marked (unset (length g.states)) (turn_row g s (terms_of joint)) g.next);
   terminal = λ s. bit s.kept g.terminal;
   goal = λ s r. only_goal s.kept (role_at g r).goals;
-  move_text = λ m. slice_index_or g.terms m.term [];
-  state_text = λ s. picked s.row g.terms;
+  move_text = λ m. slice_index_or g.moves m.term [];
+  state_text = λ s. picked s.row g.states;
   IsState = IsSettled g;
-  IsMove = λ m. m.term < length g.terms;
+  IsMove = λ m. m.term < length g.moves;
 }

@@ -30,7 +30,7 @@ impl Game for GroundGame {
 
     ghost rules = { λ g. loaded_game (tables_of g) };
 
-    ghost laws = { λ g. let v = g.vocabulary in loaded_game_laws (views v.description.items) (tables_of g) v.some_role v.few_roles v.tables v.names_differ v.names_spelled v.terms_ordered v.terms_spelled };
+    ghost laws = { λ g. let v = g.vocabulary in loaded_game_laws (views v.description.items) (tables_of g) v.some_role v.few_roles v.tables v.names_differ v.names_spelled v.states_ordered v.states_spelled v.moves_ordered v.moves_spelled };
 
     fn roles(&self) -> usize {
         self.vocabulary.roles.len()
@@ -42,10 +42,10 @@ impl Game for GroundGame {
 
     fn initial(&self, alloc: Global) -> Result<GroundState, AllocError> {
         let vocabulary = &self.vocabulary;
-        let none = Row::unset(alloc, 0)?;
+        let none = Row::unset(alloc, vocabulary.states.len())?;
         let kept = evaluate(alloc, &self.rules.rest, vocabulary.atoms, &none, &[])?;
         let truth = pass(&self.rules.turn, kept, &none, &[]);
-        let row = mark(alloc, &vocabulary.init, &truth, vocabulary.terms.len())?;
+        let row = mark(alloc, &vocabulary.init, &truth, vocabulary.states.len())?;
         self.settle(alloc, row)
     }
 
@@ -69,7 +69,7 @@ impl Game for GroundGame {
         let moves: Vec<usize> = joint.iter().map(|taken| taken.term).collect(alloc)?;
         let kept = state.kept.clone()?;
         let truth = pass(&self.rules.turn, kept, &state.row, &moves);
-        let row = mark(alloc, &vocabulary.next, &truth, vocabulary.terms.len())?;
+        let row = mark(alloc, &vocabulary.next, &truth, vocabulary.states.len())?;
         self.settle(alloc, row)
     }
 
@@ -87,12 +87,12 @@ impl Game for GroundGame {
     }
 
     fn move_text(&self, alloc: Global, taken: &GroundMove) -> Result<Text, AllocError> {
-        let text = self.vocabulary.terms[taken.term].clone()?;
+        let text = self.vocabulary.moves[taken.term].clone()?;
         Ok(text)
     }
 
     fn state_text(&self, alloc: Global, state: &GroundState) -> Result<Vec<Text>, AllocError> {
-        pick(alloc, &state.row, &self.vocabulary.terms)
+        pick(alloc, &state.row, &self.vocabulary.states)
     }
 
     fn copy_state(&self, alloc: Global, state: &GroundState) -> Result<GroundState, AllocError> {

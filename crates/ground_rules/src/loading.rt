@@ -18,7 +18,7 @@ ghost use Rattle.ground_rules.specs.Internal.Exposed.{exposed_rules};
 use crate::dependence::dependence;
 use crate::fault::LoadFault;
 use crate::lookups::{goal_heads, legal_mentions};
-use crate::names::{head_terms, heads, role_names};
+use crate::names::{TermKind, head_terms, heads, role_names};
 use crate::needs::needs_of;
 use crate::numbered;
 use crate::rank::rank;
@@ -35,7 +35,7 @@ fn role_of(alloc: Global, names: &Names, name: &Text) -> Result<Role, AllocError
     ensures { IfOk result (λ r. r ≡ role_table (table_of names.now) name.now) }
 {
     let heads = names.heads.as_slice();
-    let legal = legal_mentions(alloc, heads, &names.terms, name)?;
+    let legal = legal_mentions(alloc, heads, &names.moves, name)?;
     let goals = goal_heads(alloc, heads, name)?;
     let name = name.clone()?;
     Ok(Role { name, legal, goals })
@@ -120,11 +120,13 @@ fn names_of(alloc: Global, sentences: usize, rules: &[Rule]) -> Result<Names, Lo
         return Err(LoadFault::TooLarge);
     }
     let heads = heads(alloc, rules)?;
-    let terms = head_terms(alloc, rules)?;
+    let states = head_terms(alloc, rules, TermKind::State)?;
+    let moves = head_terms(alloc, rules, TermKind::Move)?;
     Ok(Names {
         roles,
         heads,
-        terms,
+        states,
+        moves,
     })
 }
 

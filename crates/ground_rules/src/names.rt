@@ -78,15 +78,28 @@ pub fn heads(alloc: Global, rules: &[Rule]) -> Result<IndexSet<Derived>, AllocEr
     Ok(heads)
 }
 
-/// The terms of states and moves in the heads, in byte order.
-pub fn head_terms(alloc: Global, rules: &[Rule]) -> Result<IndexSet<Text>, AllocError>
+/// What a term in a head is of.
+#[derive(Clone, Copy)]
+pub enum TermKind {
+    State,
+    Move,
+}
+
+/// The terms of this kind in the heads, in byte order.
+pub fn head_terms(
+    alloc: Global,
+    rules: &[Rule],
+    kind: TermKind,
+) -> Result<IndexSet<Text>, AllocError>
     ensures ordered { IfOk result (λ s. are_in_order s.keys ≡ true) }
-    ensures same { IfOk result (λ s. (t : _) → is_among s.keys t ≡ is_among (head_terms (rules_of rules.now)) t) }
+    ensures same { IfOk result (λ s. (t : _) → is_among s.keys t ≡ is_among (head_terms kind (rules_of rules.now)) t) }
 {
     let mut terms = IndexSet::new(alloc);
     for rule in rules {
-        match &rule.head {
-            Derived::Init(term) | Derived::Next(term) | Derived::Legal(_, term) => {
+        match (kind, &rule.head) {
+            (TermKind::State, Derived::Init(term))
+            | (TermKind::State, Derived::Next(term))
+            | (TermKind::Move, Derived::Legal(_, term)) => {
                 add_text(&mut terms, term)?;
             }
             _ => {}

@@ -17,7 +17,8 @@ use std::alloc::{AllocError, Global};
 pub struct Names {
     pub roles: IndexSet<Text>,
     pub heads: IndexSet<Derived>,
-    pub terms: IndexSet<Text>,
+    pub states: IndexSet<Text>,
+    pub moves: IndexSet<Text>,
 }
 
 #[cycle(resolve)]
@@ -40,10 +41,10 @@ fn resolve_atomic(names: &Names, atomic: &Atomic) -> numbered::Literal
 {
     match atomic {
         Atomic::Derived(atom) => numbered::Literal::Holds(place_of_head(&names.heads, atom)),
-        Atomic::InState(term) => numbered::Literal::InState(place_of_text(&names.terms, term)),
+        Atomic::InState(term) => numbered::Literal::InState(place_of_text(&names.states, term)),
         Atomic::Does(role, taken) => {
             let role = place_of_text(&names.roles, role);
-            let taken = place_of_text(&names.terms, taken);
+            let taken = place_of_text(&names.moves, taken);
             numbered::Literal::Does(role, taken)
         }
     }

@@ -1,5 +1,5 @@
 //! What the game of a description looks up: all but its rules.
-ghost use Rattle.std.specs.Prelude.{◌≡◌, ◌≤◌, length, IsTrue, IfOk, map};
+ghost use Rattle.std.specs.Prelude.{◌≡◌, ◌≤◌, ◌<◌, ◌^◌, length, IsTrue, IfOk, map};
 ghost use Rattle.game_core.specs.Play.{max_roles};
 ghost use Rattle.kif_text.specs.View.{view as expression, views};
 ghost use Rattle.ground_rules.specs.Described.{are_different};
@@ -23,21 +23,26 @@ use std::alloc::{AllocError, Global};
 pub struct Vocabulary {
     pub description: Vec<Expr>,
     pub roles: Vec<Role>,
-    /// The texts of the terms by their numbers.
-    pub terms: Vec<Text>,
+    /// The texts of the terms of states by their numbers, in byte order.
+    pub states: Vec<Text>,
+    /// The texts of the terms of moves by their numbers.
+    pub moves: Vec<Text>,
     /// How many derived atoms are heads.
     pub atoms: usize,
     pub init: Vec<Mention>,
     pub next: Vec<Mention>,
     /// The derived atom `terminal`, or one that is never true.
     pub terminal: usize,
+    ghost few_atoms: { atoms < 2 ^ 63 },
     ghost some_role: { 1 ≤ length roles.items },
     ghost few_roles: { length roles.items ≤ max_roles },
-    ghost tables: { IsTrue (are_roles (length terms.items) roles.items) },
+    ghost tables: { IsTrue (are_roles (length moves.items) roles.items) },
     ghost names_differ: { IsTrue (are_different (names roles.items)) },
     ghost names_spelled: { IsTrue (are_terms_in_any (views description.items) (names roles.items)) },
-    ghost terms_ordered: { IsTrue (are_in_order terms.items) },
-    ghost terms_spelled: { IsTrue (are_terms_in_any (views description.items) terms.items) },
+    ghost states_ordered: { IsTrue (are_in_order states.items) },
+    ghost states_spelled: { IsTrue (are_terms_in_any (views description.items) states.items) },
+    ghost moves_ordered: { IsTrue (are_in_order moves.items) },
+    ghost moves_spelled: { IsTrue (are_terms_in_any (views description.items) moves.items) },
 }
 
 impl Vocabulary {
@@ -54,15 +59,17 @@ impl Vocabulary {
         ensures { IfOk result (IsVocabularyOf description.items roles.items (table_of names)) }
     {
         let heads = names.heads.as_slice();
-        let atoms = heads.len();
-        let init = state_mentions(alloc, heads, &names.terms, StateHead::Init)?;
-        let next = state_mentions(alloc, heads, &names.terms, StateHead::Next)?;
+        let atoms = names.heads.len();
+        let init = state_mentions(alloc, heads, &names.states, StateHead::Init)?;
+        let next = state_mentions(alloc, heads, &names.states, StateHead::Next)?;
         let terminal = place_of_head(&names.heads, &Derived::Terminal);
-        let terms = into_texts(alloc, names.terms)?;
+        let states = into_texts(alloc, names.states)?;
+        let moves = into_texts(alloc, names.moves)?;
         Ok(Vocabulary {
             description,
             roles,
-            terms,
+            states,
+            moves,
             atoms,
             init,
             next,

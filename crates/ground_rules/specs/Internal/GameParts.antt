@@ -3,6 +3,7 @@ use Rattle.std.specs.Prelude.{ℕ, ◌≡◌, Bool, true, false, ◌&&◌, nat_l
 use Rattle.std.specs.List.{list_all}
 use Rattle.std.specs.List.Sorted.{IsPermutation}
 use Rattle.game_core.specs.Play.{max_roles}
+use Rattle.ground_rules.specs.declared.names.TermKind.TheVariants.{State, Move}
 use Rattle.ground_rules.specs.Literals.{Rule}
 use Rattle.ground_rules.specs.Described.{Description, is_among, role_names, heads, each_once}
 use Rattle.ground_rules.specs.Internal.TableTests.{are_in_order}
@@ -17,8 +18,10 @@ use Rattle.ground_rules.specs.Loading.{IsSound}
 pub record IsTableOf (d : Description) (t : NameTable) : Type 0 where
   pub heads' : t.heads ≡ heads d
   pub roles : t.roles ≡ role_names d
-  pub ordered : are_in_order t.terms ≡ true
-  pub terms : (u : List ℕ) → is_among t.terms u ≡ is_among (head_terms d) u
+  pub states_ordered : are_in_order t.states ≡ true
+  pub moves_ordered : are_in_order t.moves ≡ true
+  pub states : (u : List ℕ) → is_among t.states u ≡ is_among (head_terms State d) u
+  pub moves : (u : List ℕ) → is_among t.moves u ≡ is_among (head_terms Move d) u
 
 -- the size without the moves
 abbrev pub is_small_so_far : ℕ → Description → Bool

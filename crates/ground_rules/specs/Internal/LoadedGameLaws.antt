@@ -192,21 +192,21 @@ folded-is-canonical : (t : List ℕ) → IsFoldedText t → IsCanonicalText t
 folded-is-canonical t is = (is.0, is.1, is.3)
 
 -- whatever keeps the tables proves its game lawful by this lemma; `xs` are the sentences of its description
-pub loaded_game_laws : (xs : Expressions) (g : GameTables) → 1 ≤ length g.roles → length g.roles ≤ max_roles → IsTrue (are_roles (length g.terms) g.roles) → IsTrue (are_different (names g.roles))
-    → IsTrue (are_terms_in_any xs (names g.roles)) → IsTrue (are_in_order g.terms) → IsTrue (are_terms_in_any xs g.terms) → IsLawful (loaded_game g)
-loaded_game_laws xs g some few tables names_differ names_spelled terms_ordered terms_spelled = record {
+pub loaded_game_laws : (xs : Expressions) (g : GameTables) → 1 ≤ length g.roles → length g.roles ≤ max_roles → IsTrue (are_roles (length g.moves) g.roles) → IsTrue (are_different (names g.roles))
+    → IsTrue (are_terms_in_any xs (names g.roles)) → IsTrue (are_in_order g.states) → IsTrue (are_terms_in_any xs g.states) → IsTrue (are_in_order g.moves) → IsTrue (are_terms_in_any xs g.moves) → IsLawful (loaded_game g)
+loaded_game_laws xs g some few tables names_differ names_spelled states_ordered states_spelled moves_ordered moves_spelled = record {
   some_role = some;
   few_roles = few;
   role_names_folded = λ r within. rw (name-at g.roles r within) (term-text-folded (slice_index_or (names g.roles) r []) (term-text-at xs (names g.roles) r [] names_spelled (omega (arith, names-length g.roles, within))));
   role_names_differ = λ q r low high e. one-place (names g.roles) q r names_differ (omega (arith, names-length g.roles, low)) (omega (arith, names-length g.roles, high)) (sym (name-at g.roles q low) ∙ (e ∙ name-at g.roles r high));
-  initial_is_state = record { size = marked-size (length g.terms) (turn_row g (settled g []) []) g.init; kept = refl };
-  next_is_state = λ s joint is lawful. record { size = marked-size (length g.terms) (turn_row g s (terms_of joint)) g.next; kept = refl };
-  legal_are_moves = λ s r is within. chosen-are (length g.terms) _ (role_at g r).legal (role-legal _ g.roles r tables);
-  legal_differ = λ s r is within. chosen-differ (length g.terms) _ (role_at g r).legal (role-legal _ g.roles r tables);
-  move_texts_folded = λ m is. term-text-folded (slice_index_or g.terms m.term []) (term-text-at xs g.terms m.term [] terms_spelled is);
-  one_move_for_each_text = λ m n im in' e. same-move m n (one-place g.terms m.term n.term (ordered-different g.terms terms_ordered) im in' e);
-  no_question = λ m is. term-text-no-question (slice_index_or g.terms m.term []) (term-text-at xs g.terms m.term [] terms_spelled is);
-  state_texts_canonical = λ s is k d lt. folded-is-canonical (slice_index_or (picked s.row g.terms) k d) (term-text-folded (slice_index_or (picked s.row g.terms) k d) (picked-texts s.row g.terms (λ j e within. term-text-at xs g.terms j e terms_spelled within) k d lt));
-  state_texts_ordered = λ s is. ordered (picked s.row g.terms) (picked-ordered s.row g.terms terms_ordered);
+  initial_is_state = record { size = marked-size (length g.states) (turn_row g (settled g (unset (length g.states))) []) g.init; kept = refl };
+  next_is_state = λ s joint is lawful. record { size = marked-size (length g.states) (turn_row g s (terms_of joint)) g.next; kept = refl };
+  legal_are_moves = λ s r is within. chosen-are (length g.moves) _ (role_at g r).legal (role-legal _ g.roles r tables);
+  legal_differ = λ s r is within. chosen-differ (length g.moves) _ (role_at g r).legal (role-legal _ g.roles r tables);
+  move_texts_folded = λ m is. term-text-folded (slice_index_or g.moves m.term []) (term-text-at xs g.moves m.term [] moves_spelled is);
+  one_move_for_each_text = λ m n im in' e. same-move m n (one-place g.moves m.term n.term (ordered-different g.moves moves_ordered) im in' e);
+  no_question = λ m is. term-text-no-question (slice_index_or g.moves m.term []) (term-text-at xs g.moves m.term [] moves_spelled is);
+  state_texts_canonical = λ s is k d lt. folded-is-canonical (slice_index_or (picked s.row g.states) k d) (term-text-folded (slice_index_or (picked s.row g.states) k d) (picked-texts s.row g.states (λ j e within. term-text-at xs g.states j e states_spelled within) k d lt));
+  state_texts_ordered = λ s is. ordered (picked s.row g.states) (picked-ordered s.row g.states states_ordered);
   goal_in_range = λ s r v is within e. goals-only (role_at g r).goals _ v (role-goals _ g.roles r tables) e;
 }

@@ -4,6 +4,8 @@ use Rattle.ground_rules.specs.declared.sentence.Derived.{Derived}
 use Rattle.ground_rules.specs.declared.sentence.Derived.TheVariants.{Init, Next, Legal, Goal}
 use Rattle.ground_rules.specs.declared.lookups.StateHead.{StateHead}
 use Rattle.ground_rules.specs.declared.lookups.StateHead.TheVariants.{Init as InitHead, Next as NextHead}
+use Rattle.ground_rules.specs.declared.names.TermKind.{TermKind}
+use Rattle.ground_rules.specs.declared.names.TermKind.TheVariants.{State, Move}
 use Rattle.ground_rules.specs.declared.tables.Mention.{Mention}
 use Rattle.ground_rules.specs.declared.tables.GoalHead.{GoalHead}
 use Rattle.ground_rules.specs.Literals.{Literal, Literals, Holds, InState, Does, Distinct, Not, Or, End, More, Rule}
@@ -17,10 +19,12 @@ use Rattle.ground_rules.specs.Roles.{RoleTable}
 pub record NameTable : Type 0 where
   pub roles : List (List ℕ)
   pub heads : List Derived
-  pub terms : List (List ℕ)
+  -- the terms of states, and those of moves
+  pub states : List (List ℕ)
+  pub moves : List (List ℕ)
 
 abbrev pub table_of : Names → NameTable
-table_of names = record { roles = names.roles.keys; heads = names.heads.keys; terms = names.terms.keys }
+table_of names = record { roles = names.roles.keys; heads = names.heads.keys; states = names.states.keys; moves = names.moves.keys }
 
 -- the first place of x, or the length
 abbrev pub place : {A : Type 0} → (A → A → Bool) → List A → A → ℕ
@@ -30,8 +34,11 @@ place same (y ∷ ys) x = if same x y then 0 else suc (place same ys x)
 abbrev pub atom_number : NameTable → Derived → ℕ
 atom_number names a = place same_derived names.heads a
 
-abbrev pub term_number : NameTable → List ℕ → ℕ
-term_number names t = place bytes_eq names.terms t
+abbrev pub state_number : NameTable → List ℕ → ℕ
+state_number names t = place bytes_eq names.states t
+
+abbrev pub move_number : NameTable → List ℕ → ℕ
+move_number names m = place bytes_eq names.moves m
 
 abbrev pub role_number : NameTable → List ℕ → ℕ
 role_number names r = place bytes_eq names.roles r
@@ -40,8 +47,8 @@ role_number names r = place bytes_eq names.roles r
 abbrev mutual
   pub resolved : NameTable → TextLiteral → Literal ℕ ℕ
   resolved names (Holds a) = Holds (atom_number names a)
-  resolved names (InState t) = InState (term_number names t)
-  resolved names (Does r m) = Does (role_number names r) (term_number names m)
+  resolved names (InState t) = InState (state_number names t)
+  resolved names (Does r m) = Does (role_number names r) (move_number names m)
   resolved names (Distinct t u) = known (not (bytes_eq t u))
   resolved names (Not l) = Not (resolved names l)
   resolved names (Or ls) = Or (all_resolved names ls)
@@ -56,16 +63,16 @@ resolved_rule names r = record { head = atom_number names r.head; body = all_res
 abbrev pub resolved_rules : NameTable → Description → List (Rule ℕ ℕ)
 resolved_rules names d = map (resolved_rule names) d
 
--- the terms of states and moves in a head
-abbrev pub terms_in : Derived → List (List ℕ)
-terms_in (Init t) = t ∷ []
-terms_in (Next t) = t ∷ []
-terms_in (Legal r m) = m ∷ []
-terms_in _ = []
+-- the terms of this kind in a head
+abbrev pub terms_in : TermKind → Derived → List (List ℕ)
+terms_in State (Init t) = t ∷ []
+terms_in State (Next t) = t ∷ []
+terms_in Move (Legal r m) = m ∷ []
+terms_in kind a = []
 
-abbrev pub head_terms : Description → List (List ℕ)
-head_terms [] = []
-head_terms (r ∷ rs) = terms_in r.head ++ head_terms rs
+abbrev pub head_terms : TermKind → Description → List (List ℕ)
+head_terms kind [] = []
+head_terms kind (r ∷ rs) = terms_in kind r.head ++ head_terms kind rs
 
 -- the mentions behind one of the term in the head numbered n, where it has one
 abbrev pub with_mention : List (List ℕ) → ℕ → Option (List ℕ) → List Mention → List Mention
@@ -98,7 +105,7 @@ goal_heads role n (Goal r v ∷ as') = if bytes_eq r role then record { value = 
 goal_heads role n (a ∷ as') = goal_heads role (n + 1) as'
 
 abbrev pub role_table : NameTable → List ℕ → RoleTable
-role_table names role = record { name = role; legal = legal_mentions names.terms role 0 names.heads; goals = goal_heads role 0 names.heads }
+role_table names role = record { name = role; legal = legal_mentions names.moves role 0 names.heads; goals = goal_heads role 0 names.heads }
 
 -- the atoms below this number in a literal
 abbrev mutual

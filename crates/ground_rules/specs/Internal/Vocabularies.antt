@@ -12,8 +12,9 @@ use Rattle.ground_rules.specs.Internal.Resolved.{NameTable, atom_number, state_m
 pub record IsVocabularyOf (description : List Expr) (roles : List RoleTable) (t : NameTable) (v : Vocabulary) : Type 0 where
   pub description' : v.description.items ≡ description
   pub roles' : v.roles.items ≡ roles
-  pub terms : v.terms.items ≡ t.terms
+  pub states : v.states.items ≡ t.states
+  pub moves : v.moves.items ≡ t.moves
   pub atoms : v.atoms ≡ length t.heads
-  pub init : v.init.items ≡ state_mentions InitHead t.terms 0 t.heads
-  pub next : v.next.items ≡ state_mentions NextHead t.terms 0 t.heads
+  pub init : v.init.items ≡ state_mentions InitHead t.states 0 t.heads
+  pub next : v.next.items ≡ state_mentions NextHead t.states 0 t.heads
   pub terminal : v.terminal ≡ atom_number t Terminal

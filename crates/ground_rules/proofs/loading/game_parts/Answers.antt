@@ -15,6 +15,9 @@ returns-then-not-have_few_moves-clause-fault c =
     let small : is_small c.args.sentences d ≡ c.have_few_moves.result = small-by-moves c.args.sentences t d table.heads' table.roles c.in_ok-names.ensures.small ∙ ap have_few_moves_by (sym c.in_ok-roles.ensures) ∙ ap have_few_moves_by (sym c.deref.ensures.value) ∙ sym c.have_few_moves.ensures in
     (c.in_ok-names.ensures.roles, small ∙ c.if-not-have_few_moves.true)
 
+pub returns-in_err-roles-clause-fault : goal.returns-in_err-roles-clause-fault
+returns-in_err-roles-clause-fault c = let p = err_from_is_err_and c.from_residual-in_err-roles.result c.from_residual-in_err-roles.ensures.1 in rw (p.1, p.2) tt
+
 pub returns-in_err-ranked-clause-fault : goal.returns-in_err-ranked-clause-fault
 returns-in_err-ranked-clause-fault c =
     let d = rules_of c.args.rules.now in

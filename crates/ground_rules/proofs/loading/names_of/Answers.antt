@@ -23,7 +23,7 @@ returns-then-sentences-gt-MAX_SENTENCES-clause-fault c =
     )
 
 pub returns-clause-table : goal.returns-clause-table
-returns-clause-table c = record { heads' = c.in_ok-heads.ensures; roles = c.in_ok-roles.ensures.names; ordered = c.in_ok-terms.ensures.ordered; terms = c.in_ok-terms.ensures.same }
+returns-clause-table c = record { heads' = c.in_ok-heads.ensures; roles = c.in_ok-roles.ensures.names; states_ordered = c.in_ok-states.ensures.ordered; moves_ordered = c.in_ok-moves.ensures.ordered; states = c.in_ok-states.ensures.same; moves = c.in_ok-moves.ensures.same }
 
 pub returns-clause-roles : goal.returns-clause-roles
 returns-clause-roles c = record { some' = c.in_ok-roles.ensures.some; differ = c.in_ok-roles.ensures.differ }

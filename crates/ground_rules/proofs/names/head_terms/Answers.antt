@@ -12,5 +12,5 @@ returns-clause-ordered c = sorted-in-order c.sort.new.self.keys c.in_ok-sort.ens
 pub returns-clause-same : goal.returns-clause-same
 returns-clause-same c = λ t.
     let rules = c.args.rules.now in
-    let all : c.loop-rule.terms.keys ≡ each_once bytes_eq (head_terms (rules_of rules)) = sym (ap (λ rs. with_all_new bytes_eq c.loop-rule.terms.keys (head_terms (rules_of rs))) (drop_all c.loop-rule.rule-index rules (omega arith))) ∙ c.loop-rule.invariant in
-    sorted-same c.loop-rule.terms.keys c.sort.new.self.keys (head_terms (rules_of rules)) t c.in_ok-sort.ensures.reordered.0 all
+    let all : c.loop-rule.terms.keys ≡ each_once bytes_eq (head_terms c.args.kind (rules_of rules)) = sym (ap (λ rs. with_all_new bytes_eq c.loop-rule.terms.keys (head_terms c.args.kind (rules_of rs))) (drop_all c.loop-rule.rule-index rules (omega arith))) ∙ c.loop-rule.invariant in
+    sorted-same c.loop-rule.terms.keys c.sort.new.self.keys (head_terms c.args.kind (rules_of rules)) t c.in_ok-sort.ensures.reordered.0 all

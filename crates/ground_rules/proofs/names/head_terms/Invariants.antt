@@ -5,4 +5,4 @@ use Rattle.ground_rules.specs.Internal.Resolved.{head_terms}
 use Rattle.ground_rules.proofs.names.head_terms.Given as goal
 
 abbrev pub invariant-loop-rule : goal.invariant-loop-rule
-invariant-loop-rule l = with_all_new bytes_eq l.terms.keys (head_terms (rules_of (drop l.rule-index l.rules))) ≡ each_once bytes_eq (head_terms (rules_of l.rules))
+invariant-loop-rule l = with_all_new bytes_eq l.terms.keys (head_terms l.kind (rules_of (drop l.rule-index l.rules))) ≡ each_once bytes_eq (head_terms l.kind (rules_of l.rules))

@@ -20,9 +20,9 @@ loaded : (t : NameTable) (g : GroundGame) (xs : List Expr) (roles : List RoleTab
     → AreGameParts (length (map expression xs)) (description_of (map expression xs)) t roles (rules_of g.rules.rest.items) (rules_of g.rules.turn.items) → IsLoaded (map expression xs) g
 loaded t g xs roles v sentences p =
     let w = g.vocabulary in
-    let lawful = loaded_game_laws (views w.description.items) (tables_of g) w.some_role w.few_roles w.tables w.names_differ w.names_spelled w.terms_ordered w.terms_spelled in
+    let lawful = loaded_game_laws (views w.description.items) (tables_of g) w.some_role w.few_roles w.tables w.names_differ w.names_spelled w.states_ordered w.states_spelled w.moves_ordered w.moves_spelled in
     let parts = subst (λ (rs : List RoleTable). AreGameParts (length (map expression xs)) (description_of (map expression xs)) t rs (rules_of g.rules.rest.items) (rules_of g.rules.turn.items)) (sym v.roles') p in
-    record { sentences = sentences; sound = p.names.sound; game = game-of-tables (map expression xs) t (tables_of g) lawful parts v.terms v.init v.next v.terminal v.atoms; description = ap (map expression) v.description' }
+    record { sentences = sentences; sound = p.names.sound; game = game-of-tables (map expression xs) t (tables_of g) lawful parts v.states v.moves v.init v.next v.terminal v.atoms; description = ap (map expression) v.description' }
 
 pub returns : goal.returns
 returns c = loaded (table_of c.args.parts.names) _ c.args.description.items c.args.parts.roles.items c.in_ok-vocabulary.ensures c.requires.sentences c.requires.parts

@@ -4,7 +4,7 @@ use Rattle.ground_rules.specs.Internal.TableTests.{are_in_order}
 use Rattle.ground_rules.specs.declared.lookups.StateHead.TheVariants.{Init as InitHead, Next as NextHead}
 use Rattle.ground_rules.specs.Internal.Resolved.{table_of, state_mentions}
 use Rattle.ground_rules.specs.Loading.{description_of}
-use Rattle.ground_rules.proofs.Assembled.{some-role, few-roles, tables-pass, names-pass, names-read, terms-read}
+use Rattle.ground_rules.proofs.Assembled.{some-role, few-roles, tables-pass, names-pass, names-read, states-read, moves-read}
 use Rattle.ground_rules.proofs.vocabulary.Vocabulary.new.Goals as goal
 
 pub invariant_of-result : goal.invariant_of-result
@@ -16,13 +16,16 @@ invariant_of-result c =
     let roles = c.args.roles.items in
     let p = c.requires in
     record {
+      few_atoms = c.len-atoms.ensures.small;
       some_role = some-role n d t roles p;
       few_roles = few-roles n d t roles p;
-      tables = tables-pass n xs t roles c.in_ok-terms.terms.items p c.in_ok-terms.ensures;
+      tables = tables-pass n xs t roles c.in_ok-moves.moves.items p c.in_ok-moves.ensures;
       names_differ = names-pass n d t roles p;
       names_spelled = names-read n xs t roles p;
-      terms_ordered = ap are_in_order c.in_ok-terms.ensures ∙ p.table.ordered;
-      terms_spelled = terms-read n xs t roles c.in_ok-terms.terms.items p c.in_ok-terms.ensures;
+      states_ordered = ap are_in_order c.in_ok-states.ensures ∙ p.table.states_ordered;
+      states_spelled = states-read n xs t roles c.in_ok-states.states.items p c.in_ok-states.ensures;
+      moves_ordered = ap are_in_order c.in_ok-moves.ensures ∙ p.table.moves_ordered;
+      moves_spelled = moves-read n xs t roles c.in_ok-moves.moves.items p c.in_ok-moves.ensures;
     }
 
 pub returns : goal.returns
@@ -32,9 +35,10 @@ returns c =
     record {
       description' = refl;
       roles' = refl;
-      terms = c.in_ok-terms.ensures;
-      atoms = ap length keys;
-      init = c.in_ok-init.ensures ∙ ap (state_mentions InitHead t.terms 0) keys;
-      next = c.in_ok-next.ensures ∙ ap (state_mentions NextHead t.terms 0) keys;
+      states = c.in_ok-states.ensures;
+      moves = c.in_ok-moves.ensures;
+      atoms = c.len-atoms.ensures.len;
+      init = c.in_ok-init.ensures ∙ ap (state_mentions InitHead t.states 0) keys;
+      next = c.in_ok-next.ensures ∙ ap (state_mentions NextHead t.states 0) keys;
       terminal = c.place_of_head-terminal.ensures;
     }
