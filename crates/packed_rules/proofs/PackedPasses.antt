@@ -1,0 +1,199 @@
+-- A pass over rules by places is the pass over the rules.
+use Rattle.std.proofs.Common.{ℕ, zero, suc, ◌+◌, ◌<◌, ◌≤◌, ◌≡◌, Bool, true, false, not, ◌&&◌, if◌then◌else◌, List, [], ◌∷◌, ◌++◌, length, take, drop, set, get_or, map, refl, sym, ap, ◌∙◌, arith, subst, get_or-set_same, get_or-set_other, length-set, replicate}
+use Rattle.std.proofs.Math.Bool.{beq}
+use Rattle.std.proofs.lemmas.List.{take-set-le, drop-set-add, drop_more, take_more, take-replicate}
+use Rattle.ground_rules.specs.declared.numbered.Literal.{Literal as CodeLiteral}
+use Rattle.ground_rules.specs.declared.numbered.Rule.{Rule as CodeRule}
+use Rattle.ground_rules.specs.Literals.{Literal, Literals, literals, End, More, Rule}
+use Rattle.ground_rules.specs.Fit.{Situation, truth, all_true}
+use Rattle.ground_rules.specs.Numbered.{bit, numbered, row_after, unset, view, rule_of, rules_of}
+use Rattle.packed_rules.specs.declared.rules.Test.{Test}
+use Rattle.packed_rules.specs.declared.rules.PackedRule.{PackedRule}
+use Rattle.packed_rules.specs.Internal.PackedPass.{passes, all_pass, fires, packed_after, IsPacked, ArePacked}
+
+pub take-past : (n : ℕ) (xs : List Bool) (i : ℕ) → n ≤ i → bit (take n xs) i ≡ false
+take-past zero xs i le = none i
+  where
+    none : (i : ℕ) → bit [] i ≡ false
+    none zero = refl
+    none (suc i) = refl
+take-past (suc n) [] i le = none i
+  where
+    none : (i : ℕ) → bit [] i ≡ false
+    none zero = refl
+    none (suc i) = refl
+take-past (suc n) (x ∷ xs) zero le = absurd (omega (arith, le))
+take-past (suc n) (x ∷ xs) (suc i) le = take-past n xs i (omega (arith, le))
+
+-- what is set already stays as it is
+set-again : (xs : List Bool) (i : ℕ) → bit xs i ≡ true → set xs i true ≡ xs
+set-again [] i h = refl
+set-again (x ∷ xs) zero h = ap (λ y. y ∷ xs) (sym h)
+set-again (x ∷ xs) (suc i) h = ap (λ ys. x ∷ ys) (set-again xs i h)
+
+-- the row after one rule
+abbrev pub stepped : ℕ → List ℕ → List Bool → PackedRule → List Bool
+stepped n joint bits p = if not (bit (drop n bits) p.head) && fires n joint bits p then set bits (n + p.head) true else bits
+
+step-terms : (n : ℕ) (bits : List Bool) (h : ℕ) (test : Bool) → take n (if test then set bits (n + h) true else bits) ≡ take n bits
+step-terms n bits h true = take-set-le n bits (n + h) true (omega arith)
+step-terms n bits h false = refl
+
+step-atoms : (n : ℕ) (bits : List Bool) (h : ℕ) (old test : Bool) → bit (drop n bits) h ≡ old → drop n (if not old && test then set bits (n + h) true else bits) ≡ (if test then set (drop n bits) h true else drop n bits)
+step-atoms n bits h true true is = sym (set-again (drop n bits) h is)
+step-atoms n bits h true false is = refl
+step-atoms n bits h false true is = drop-set-add n bits h true
+step-atoms n bits h false false is = refl
+
+-- the pass leaves the terms, and sets the derived atoms that the pass over the rules sets
+pub record IsPass (n : ℕ) (joint : List ℕ) (bits after : List Bool) (rs : List (Rule ℕ ℕ)) : Type 0 where
+  pub terms : take n after ≡ take n bits
+  pub atoms : drop n after ≡ row_after (numbered (take n bits) joint) (drop n bits) rs
+
+pub packed-pass : (n : ℕ) (joint : List ℕ) (bits : List Bool) (ps : List PackedRule) (rs : List (Rule ℕ ℕ)) → ArePacked n ps rs → IsPass n joint bits (packed_after n joint bits ps) rs
+packed-pass n joint bits [] [] are = record { terms = refl; atoms = refl }
+packed-pass n joint bits [] (r ∷ rs) are = absurd are
+packed-pass n joint bits (p ∷ ps) [] are = absurd are
+packed-pass n joint bits (p ∷ ps) (r ∷ rs) are =
+    let next = stepped n joint bits p in
+    let w = numbered (take n bits) joint in
+    let terms : take n next ≡ take n bits = step-terms n bits p.head (not (bit (drop n bits) p.head) && fires n joint bits p) in
+    let atoms : drop n next ≡ (if all_true w (bit (drop n bits)) r.body then set (drop n bits) r.head true else drop n bits) =
+    step-atoms n bits p.head (bit (drop n bits) p.head) (fires n joint bits p) refl
+    ∙ ap (λ (t : Bool). if t then set (drop n bits) p.head true else drop n bits) (are.0.body bits joint)
+    ∙ ap (λ (h : ℕ). if all_true w (bit (drop n bits)) r.body then set (drop n bits) h true else drop n bits) are.0.head in
+    let rest = packed-pass n joint next ps rs are.1 in
+    record {
+      terms = rest.terms ∙ terms;
+      atoms = rest.atoms ∙ ap (λ (xs : List Bool). row_after (numbered xs joint) (drop n next) rs) terms ∙ ap (λ (xs : List Bool). row_after w xs rs) atoms;
+    }
+
+-- one more rule
+pub packed-push : (n : ℕ) (ps : List PackedRule) (rs : List (Rule ℕ ℕ)) (p : PackedRule) (r : Rule ℕ ℕ) → ArePacked n ps rs → IsPacked n p r → ArePacked n (ps ++ p ∷ []) (rs ++ r ∷ [])
+packed-push n [] [] p r are is = (is, tt)
+packed-push n [] (q ∷ rs) p r are is = absurd are
+packed-push n (q ∷ ps) [] p r are is = absurd are
+packed-push n (q ∷ ps) (s ∷ rs) p r are is = (are.0, packed-push n ps rs p r are.1 is)
+
+and-assoc : (x y z : Bool) → ((x && y) && z) ≡ (x && (y && z))
+and-assoc true y z = refl
+and-assoc false y z = refl
+
+and-swap : (x y z : Bool) → ((x && y) && z) ≡ ((x && z) && y)
+and-swap true true true = refl
+and-swap true true false = refl
+and-swap true false true = refl
+and-swap true false false = refl
+and-swap false y z = refl
+
+all-pass-push : (bits : List Bool) (ts : List Test) (t : Test) → all_pass bits (ts ++ t ∷ []) ≡ (all_pass bits ts && passes bits t)
+all-pass-push bits [] t = and-true (passes bits t)
+  where
+    and-true : (b : Bool) → (b && true) ≡ b
+    and-true true = refl
+    and-true false = refl
+all-pass-push bits (u ∷ ts) t = ap (λ x. passes bits u && x) (all-pass-push bits ts t) ∙ sym (and-assoc (passes bits u) (all_pass bits ts) (passes bits t))
+
+all-true-push : (w : Situation ℕ ℕ) (v : ℕ → Bool) (ls : List (Literal ℕ ℕ)) (l : Literal ℕ ℕ) → all_true w v (literals (ls ++ l ∷ [])) ≡ (all_true w v (literals ls) && truth w v l)
+all-true-push w v [] l = and-true (truth w v l)
+  where
+    and-true : (b : Bool) → (b && true) ≡ b
+    and-true true = refl
+    and-true false = refl
+all-true-push w v (k ∷ ls) l = ap (λ x. truth w v k && x) (all-true-push w v ls l) ∙ sym (and-assoc (truth w v k) (all_true w v (literals ls)) (truth w v l))
+
+-- the literals passed so far, as tests and others, and those to come, say what all literals say
+abbrev pub SaysSoFar : ℕ → List Test → List (Literal ℕ ℕ) → List (Literal ℕ ℕ) → List (Literal ℕ ℕ) → Type 0
+SaysSoFar n tests others rest all =
+    (bits : List Bool) (joint : List ℕ)
+    → ((all_true (numbered (take n bits) joint) (bit (drop n bits)) (literals others) && all_pass bits tests) && all_true (numbered (take n bits) joint) (bit (drop n bits)) (literals rest))
+    ≡ all_true (numbered (take n bits) joint) (bit (drop n bits)) (literals all)
+
+pub test-more : (n : ℕ) (tests : List Test) (others rest all : List (Literal ℕ ℕ)) (l : Literal ℕ ℕ) (t : Test) → SaysSoFar n tests others (l ∷ rest) all
+    → ((bits : List Bool) (joint : List ℕ) → passes bits t ≡ truth (numbered (take n bits) joint) (bit (drop n bits)) l) → SaysSoFar n (tests ++ t ∷ []) others rest all
+test-more n tests others rest all l t says is bits joint =
+    let w = numbered (take n bits) joint in
+    let v : ℕ → Bool = bit (drop n bits) in
+    let o = all_true w v (literals others) in
+    let p = all_pass bits tests in
+    let q = all_true w v (literals rest) in
+    ap (λ x. (o && x) && q) (all-pass-push bits tests t ∙ ap (λ x. p && x) (is bits joint))
+    ∙ ap (λ x. x && q) (sym (and-assoc o p (truth w v l))) ∙ and-assoc (o && p) (truth w v l) q ∙ says bits joint
+
+pub other-more : (n : ℕ) (tests : List Test) (others rest all : List (Literal ℕ ℕ)) (l : Literal ℕ ℕ) → SaysSoFar n tests others (l ∷ rest) all → SaysSoFar n tests (others ++ l ∷ []) rest all
+other-more n tests others rest all l says bits joint =
+    let w = numbered (take n bits) joint in
+    let v : ℕ → Bool = bit (drop n bits) in
+    let o = all_true w v (literals others) in
+    let p = all_pass bits tests in
+    let q = all_true w v (literals rest) in
+    ap (λ x. (x && p) && q) (all-true-push w v others l) ∙ ap (λ x. x && q) (and-swap o (truth w v l) p) ∙ and-assoc (o && p) (truth w v l) q ∙ says bits joint
+
+-- a row is empty in both parts
+pub none-terms : (n m : ℕ) → take n (unset (n + m)) ≡ unset n
+none-terms n m = take-replicate n (n + m) false (omega arith)
+
+pub none-atoms : (n m : ℕ) → drop n (unset (n + m)) ≡ unset m
+none-atoms zero m = ap unset (zero-add m)
+  where
+    zero-add : (m : ℕ) → 0 + m ≡ m
+    zero-add m = omega arith
+none-atoms (suc n) m = ap (λ k. drop (suc n) (unset k)) (suc-add n m) ∙ none-atoms n m
+  where
+    suc-add : (n m : ℕ) → suc n + m ≡ suc (n + m)
+    suc-add n m = omega arith
+
+-- a row cut at two places with as many terms before them
+pub record AreSameCut (m n : ℕ) (bits : List Bool) : Type 0 where
+  pub terms : take n bits ≡ take m bits
+  pub atoms : drop n bits ≡ drop m bits
+
+pub same-cut : (m n : ℕ) (bits : List Bool) → length (take m bits) ≡ n → AreSameCut m n bits
+same-cut zero n bits e = rw (sym e) (record { terms = refl; atoms = refl })
+same-cut (suc m) n [] e = rw (sym e) (record { terms = refl; atoms = refl })
+same-cut (suc m) n (b ∷ bits) e =
+    let rest = same-cut m (length (take m bits)) bits refl in
+    rw (sym e) (record { terms = ap (λ xs. b ∷ xs) rest.terms; atoms = rest.atoms })
+
+-- the literal at this place is the next one
+pub says-next : (n : ℕ) (tests : List Test) (others : List (Literal ℕ ℕ)) (items : List CodeLiteral) (i : ℕ) (item : CodeLiteral) (all : List (Literal ℕ ℕ)) → i < length items → item ≡ get_or items i item
+    → SaysSoFar n tests others (map view (drop i items)) all → SaysSoFar n tests others (view item ∷ map view (drop (i + 1) items)) all
+says-next n tests others items i item all lt is says =
+    subst (λ (x : CodeLiteral). SaysSoFar n tests others (view x ∷ map view (drop (i + 1) items)) all) (sym is)
+    (subst (λ (xs : List CodeLiteral). SaysSoFar n tests others (map view xs) all) (drop_more items i item lt) says)
+
+views-push : (ls : List CodeLiteral) (l : CodeLiteral) → map view (ls ++ l ∷ []) ≡ map view ls ++ view l ∷ []
+views-push [] l = refl
+views-push (k ∷ ls) l = ap (λ xs. view k ∷ xs) (views-push ls l)
+
+pub other-next : (n : ℕ) (tests : List Test) (others : List CodeLiteral) (rest all : List (Literal ℕ ℕ)) (l copied : CodeLiteral) → view copied ≡ view l
+    → SaysSoFar n tests (map view others) (view l ∷ rest) all → SaysSoFar n tests (map view (others ++ copied ∷ [])) rest all
+other-next n tests others rest all l copied same says =
+    subst (λ (ls : List (Literal ℕ ℕ)). SaysSoFar n tests ls rest all) (sym (views-push others copied ∙ ap (λ x. map view others ++ x ∷ []) same)) (other-more n tests (map view others) rest all (view l) says)
+
+rules-push : (rs : List CodeRule) (r : CodeRule) → rules_of (rs ++ r ∷ []) ≡ rules_of rs ++ rule_of r ∷ []
+rules-push [] r = refl
+rules-push (q ∷ rs) r = ap (λ xs. rule_of q ∷ xs) (rules-push rs r)
+
+-- one more rule of the code
+pub packed-next : (n : ℕ) (ps : List PackedRule) (rules : List CodeRule) (i : ℕ) (rule : CodeRule) (p : PackedRule) → i < length rules → rule ≡ get_or rules i rule → IsPacked n p (rule_of rule)
+    → ArePacked n ps (rules_of (take i rules)) → ArePacked n (ps ++ p ∷ []) (rules_of (take (i + 1) rules))
+packed-next n ps rules i rule p lt is packed are =
+    subst (λ (rs : List (Rule ℕ ℕ)). ArePacked n (ps ++ p ∷ []) rs) (sym (ap rules_of (take_more rules i rule lt) ∙ rules-push (take i rules) (get_or rules i rule)))
+    (packed-push n ps (rules_of (take i rules)) p (rule_of (get_or rules i rule)) are (subst (λ (r : CodeRule). IsPacked n p (rule_of r)) is packed))
+
+begun-at : (n atoms : ℕ) (none first second : List Bool) (rest turn : List (Rule ℕ ℕ)) → none ≡ unset (n + atoms) → take n first ≡ take n none → drop n first ≡ row_after (numbered (take n none) []) (drop n none) rest
+    → drop n second ≡ row_after (numbered (take n first) []) (drop n first) turn → drop n second ≡ row_after (numbered (unset n) []) (row_after (numbered (unset n) []) (unset atoms) rest) turn
+begun-at n atoms none first second rest turn empty terms kept after =
+    let no_terms : take n none ≡ unset n = ap (take n) empty ∙ none-terms n atoms in
+    let no_atoms : drop n none ≡ unset atoms = ap (drop n) empty ∙ none-atoms n atoms in
+    let is_kept : drop n first ≡ row_after (numbered (unset n) []) (unset atoms) rest =
+    kept ∙ ap (λ (xs : List Bool). row_after (numbered xs []) (drop n none) rest) no_terms ∙ ap (λ (xs : List Bool). row_after (numbered (unset n) []) xs rest) no_atoms in
+    after ∙ ap (λ (xs : List Bool). row_after (numbered xs []) (drop n first) turn) (terms ∙ no_terms) ∙ ap (λ (xs : List Bool). row_after (numbered (unset n) []) xs turn) is_kept
+
+-- both passes where the state has no term, from a row with nothing set
+pub begun : (n m atoms : ℕ) (none first second : List Bool) (rest turn : List (Rule ℕ ℕ)) → m ≡ n → none ≡ unset (n + atoms) → take m first ≡ take m none → drop m first ≡ row_after (numbered (take m none) []) (drop m none) rest
+    → drop m second ≡ row_after (numbered (take m first) []) (drop m first) turn → drop n second ≡ row_after (numbered (unset n) []) (row_after (numbered (unset n) []) (unset atoms) rest) turn
+begun n m atoms none first second rest turn same =
+    subst (λ (k : ℕ). none ≡ unset (n + atoms) → take k first ≡ take k none → drop k first ≡ row_after (numbered (take k none) []) (drop k none) rest → drop k second ≡ row_after (numbered (take k first) []) (drop k first) turn
+    → drop n second ≡ row_after (numbered (unset n) []) (row_after (numbered (unset n) []) (unset atoms) rest) turn) (sym same) (begun-at n atoms none first second rest turn)

@@ -1,0 +1,5 @@
+pub mod Bits
+pub mod Rows
+pub mod PackedTables
+pub mod PackedGames
+pub mod Internal

@@ -1,0 +1,16 @@
+-- What contracts see of packed rules.
+use Rattle.std.specs.Prelude.{ℕ, List}
+use Rattle.ground_rules.specs.declared.split.SplitRules.{SplitRules}
+use Rattle.ground_rules.specs.Literals.{Rule}
+use Rattle.ground_rules.specs.Numbered.{rules_of}
+
+-- how many terms a state's row has, and the rules that were packed
+pub record PackedTable : Type 0 where
+  pub terms : ℕ
+  pub plain : SplitRules
+
+abbrev pub rest_of : PackedTable → List (Rule ℕ ℕ)
+rest_of t = rules_of t.plain.rest.items
+
+abbrev pub turn_of : PackedTable → List (Rule ℕ ℕ)
+turn_of t = rules_of t.plain.turn.items

@@ -1,0 +1,21 @@
+//! Games by their rules, in a form that is fast to play.
+//!
+//! `pack` makes the packed form of a `GroundGame`: the same game, and so a `Game` with the same
+//! answers. A state is one row of bits: one for each term of an `init` or `next` head, and one for
+//! each derived atom on which no move bears. A literal asks for the bit at one place. A turn passes
+//! each rule once, and takes no memory but for the rows.
+#![tactic(auto)]
+
+mod bits;
+mod lookups;
+mod packed_form;
+mod packed_game;
+mod packed_rules;
+mod packing;
+mod passing;
+mod rules;
+mod state;
+
+pub use packed_form::pack;
+pub use packed_game::PackedGame;
+pub use state::PackedState;

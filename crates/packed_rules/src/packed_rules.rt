@@ -1,0 +1,72 @@
+//! Both parts of a game's rules, by places.
+ghost use Rattle.std.specs.Prelude.{◌≡◌, [], IfOk, take, drop};
+ghost use Rattle.ground_rules.specs.Numbered.{numbered, row_after};
+ghost use Rattle.packed_rules.specs.PackedTables.{rest_of, turn_of};
+
+use crate::bits::BitRow;
+use crate::packing::pack_rules;
+use crate::passing::pass;
+use crate::rules::PackedRule;
+use ground_rules::split::SplitRules;
+use std::alloc::{AllocError, Global};
+use std::marker::Model;
+use std::snapshot::Snapshot;
+
+/// The rules on whose heads no move bears, and the others. Contracts see the rules that they were
+/// packed from.
+#[derive(Drop)]
+pub struct PackedRules {
+    /// How many terms a state's row has.
+    terms: usize,
+    rest: Vec<PackedRule>,
+    turn: Vec<PackedRule>,
+    plain: Snapshot<SplitRules>,
+}
+
+impl Model for PackedRules {
+    ghost use Rattle.ground_rules.specs.Numbered.{rules_of};
+    ghost use Rattle.packed_rules.specs.PackedTables.{PackedTable};
+    ghost use Rattle.packed_rules.specs.Internal.PackedPass.{ArePacked};
+    ghost use Rattle.std.specs.Coded.{codes};
+    ghost use Rattle.ground_rules.specs.contracts.numbered.Literal as literal;
+
+    ghost Value = { PackedTable };
+
+    ghost coded = { Prim.hlevel (codes, literal.the_row.coded) };
+
+    ghost view = { λ p. record { terms = p.terms; plain = p.plain.value } };
+
+    ghost invariant = { λ p. ArePacked p.terms p.rest.items (rules_of p.plain.value.rest.items) × ArePacked p.terms p.turn.items (rules_of p.plain.value.turn.items) };
+}
+
+impl PackedRules {
+    /// The rules by the places of a row with so many terms.
+    pub fn new(alloc: Global, rules: &SplitRules, terms: usize) -> Result<PackedRules, AllocError>
+        ensures { IfOk result (λ p. p ≡ record { terms = terms; plain = rules.now }) }
+    {
+        let rest = pack_rules(alloc, &rules.rest, terms)?;
+        let turn = pack_rules(alloc, &rules.turn, terms)?;
+        Ok(PackedRules {
+            terms,
+            rest,
+            turn,
+            plain: Snapshot::of(rules),
+        })
+    }
+
+    /// The row after a pass over the rules on which no move bears.
+    pub fn pass_rest(&self, bits: BitRow) -> BitRow
+        ensures terms { take self.now.terms result ≡ take self.now.terms bits }
+        ensures atoms { drop self.now.terms result ≡ row_after (numbered (take self.now.terms bits) []) (drop self.now.terms bits) (rest_of self.now) }
+    {
+        pass(&self.rest, bits, self.terms, &[])
+    }
+
+    /// The row after a pass over the other rules, with the terms of the moves by role.
+    pub fn pass_turn(&self, bits: BitRow, joint: &[usize]) -> BitRow
+        ensures terms { take self.now.terms result ≡ take self.now.terms bits }
+        ensures atoms { drop self.now.terms result ≡ row_after (numbered (take self.now.terms bits) joint.now) (drop self.now.terms bits) (turn_of self.now) }
+    {
+        pass(&self.turn, bits, self.terms, joint)
+    }
+}

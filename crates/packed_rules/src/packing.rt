@@ -1,0 +1,96 @@
+//! From numbered rules to rules by places.
+ghost use Rattle.std.specs.Prelude.{◌≡◌, IfOk, IfSome, map, true};
+ghost use Rattle.ground_rules.specs.Numbered.{view, rule_of, rules_of};
+ghost use Rattle.packed_rules.specs.Internal.PackedPass.{IsTestOf, IsPacked, ArePacked};
+
+use crate::rules::{PackedRule, Test};
+use ground_rules::numbered::{Literal, Rule};
+use std::alloc::{AllocError, Global};
+
+#[cycle(copy)]
+fn copy(alloc: Global, literal: &Literal) -> Result<Literal, AllocError>
+    ensures { IfOk result (λ l. view l ≡ view literal.now) }
+{
+    match literal {
+        Literal::Holds(atom) => Ok(Literal::Holds(*atom)),
+        Literal::InState(term) => Ok(Literal::InState(*term)),
+        Literal::Does(role, term) => Ok(Literal::Does(*role, *term)),
+        Literal::Not(inner) => {
+            let inner = copy(alloc, inner)?;
+            Ok(Literal::Not(Box::new(alloc, inner)?))
+        }
+        Literal::Or(literals) => Ok(Literal::Or(copy_all(alloc, literals)?)),
+        Literal::Known(truth) => Ok(Literal::Known(*truth)),
+    }
+}
+
+#[cycle(copy)]
+fn copy_all(alloc: Global, literals: &Vec<Literal>) -> Result<Vec<Literal>, AllocError>
+    ensures { IfOk result (λ v. map view v.items ≡ map view literals.now.items) }
+{
+    let mut copies = Vec::with_capacity(alloc, literals.len())?;
+    for literal in literals {
+        copies.push(copy(alloc, literal)?)?;
+    }
+    Ok(copies)
+}
+
+/// The test whether the value at this place is true, if the place has a number of 32 bits.
+fn test_at(place: usize) -> Option<Test>
+    ensures { IfSome result (λ t. (t.place ≡ place) × (t.value ≡ true)) }
+{
+    let place = u32::try_from(place).ok()?;
+    Some(Test { place, value: true })
+}
+
+/// The test that says what the literal says, if the literal asks for one value of a row with so many
+/// terms and behind them the derived atoms.
+fn test_of(literal: &Literal, terms: usize) -> Option<Test>
+    ensures { IfSome result (IsTestOf terms (view literal.now)) }
+{
+    match literal {
+        Literal::Holds(atom) => test_at(terms.checked_add(*atom)?),
+        Literal::InState(term) if *term < terms => test_at(*term),
+        Literal::Not(inner) => {
+            let test = test_of(inner, terms)?;
+            Some(Test {
+                place: test.place,
+                value: !test.value,
+            })
+        }
+        _ => None,
+    }
+}
+
+fn pack_rule(alloc: Global, rule: &Rule, terms: usize) -> Result<PackedRule, AllocError>
+    ensures { IfOk result (λ p. IsPacked terms p (rule_of rule.now)) }
+{
+    let mut tests = Vec::new(alloc);
+    let mut others = Vec::new(alloc);
+    for literal in &rule.body {
+        match test_of(literal, terms) {
+            Some(test) => tests.push(test)?,
+            None => others.push(copy(alloc, literal)?)?,
+        }
+    }
+    Ok(PackedRule {
+        head: rule.head,
+        tests,
+        others,
+    })
+}
+
+/// The rules by the places of a row with so many terms, in their order.
+pub fn pack_rules(
+    alloc: Global,
+    rules: &[Rule],
+    terms: usize,
+) -> Result<Vec<PackedRule>, AllocError>
+    ensures { IfOk result (λ v. ArePacked terms v.items (rules_of rules.now)) }
+{
+    let mut packed = Vec::with_capacity(alloc, rules.len())?;
+    for rule in rules {
+        packed.push(pack_rule(alloc, rule, terms)?)?;
+    }
+    Ok(packed)
+}

@@ -1,0 +1,39 @@
+//! States of packed games.
+ghost use Rattle.std.specs.Prelude.{◌≡◌};
+ghost use Rattle.ground_rules.specs.Numbered.{bit};
+
+use crate::bits::BitRow;
+use std::marker::Model;
+
+/// A state of a packed game, as one row of bits: one for each term of the state, and behind them one
+/// for each derived atom on which no move bears. Contracts see both rows.
+#[derive(Drop)]
+pub struct PackedState {
+    pub(crate) bits: BitRow,
+    pub(crate) terms: usize,
+}
+
+impl Model for PackedState {
+    ghost use Rattle.ground_rules.specs.States.{StateRows};
+    ghost use Rattle.packed_rules.specs.Rows.{rows_at};
+
+    ghost Value = { StateRows };
+
+    ghost view = { λ s. rows_at s.terms s.bits };
+}
+
+impl PackedState {
+    /// Whether the state has the term with this number.
+    pub(crate) fn has_term(&self, term: usize) -> bool
+        ensures { result ≡ bit self.now.row term }
+    {
+        self.bits.is_set_before(self.terms, term)
+    }
+
+    /// Whether the derived atom with this number is true, where no move is made.
+    pub(crate) fn has_atom(&self, atom: usize) -> bool
+        ensures { result ≡ bit self.now.kept atom }
+    {
+        self.bits.is_set_after(self.terms, atom)
+    }
+}
