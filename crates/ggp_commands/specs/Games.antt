@@ -8,12 +8,20 @@ use Rattle.ground_rules.specs.declared.fault.LoadFault.TheVariants.{Memory}
 use Rattle.ground_rules.specs.declared.ground_game.GroundGame.{GroundGame}
 use Rattle.ground_rules.specs.Loading.{IsLoadFault}
 use Rattle.ground_rules.specs.Loaded.{IsLoaded}
+use Rattle.packed_rules.specs.PackedGames.{IsPackedFormOf}
+use Rattle.packed_rules.specs.declared.packed_game.PackedGame.{PackedGame}
 
 -- the text spells sentences, and the game is what they describe without their capitals
-pub record IsDescribed (text : List ℕ) (game : GroundGame) : Type 0 where
+pub record IsLoadedFrom (text : List ℕ) (game : GroundGame) : Type 0 where
   pub sentences : List Expression
   pub spelled : SpellsAll text (expressions sentences)
   pub loaded : IsLoaded (map folded sentences) game
+
+-- the game is the packed form of what the text describes
+pub record IsDescribed (text : List ℕ) (game : PackedGame) : Type 0 where
+  pub plain : GroundGame
+  pub loaded : IsLoadedFrom text plain
+  pub packed : IsPackedFormOf plain game
 
 -- the text spells no sentences, or sentences that have a fault
 pub data DescribesNone (text : List ℕ) : Type 0 where

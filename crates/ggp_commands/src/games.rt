@@ -1,10 +1,11 @@
 //! Games that are given as text.
 ghost use Rattle.std.specs.Prelude.{◌≡◌, ◌≢◌, IfOk, IfErr};
-ghost use Rattle.ggp_commands.specs.Games.{IsDescribed, DescribesNone};
+ghost use Rattle.ggp_commands.specs.Games.{IsLoadedFrom, IsDescribed, DescribesNone};
 
 use crate::fault::Fault;
 use ground_rules::{GroundGame, LoadFault, load};
 use kif_text::{KifFault, read_all};
+use packed_rules::{PackedGame, pack};
 use std::alloc::Global;
 
 impl From<KifFault> for Fault {
@@ -35,11 +36,22 @@ impl From<LoadFault> for Fault {
     }
 }
 
-/// The game that a ground description is of.
-pub fn described_game(alloc: Global, rules: &str) -> Result<GroundGame, Fault>
-    ensures described { IfOk result (IsDescribed rules.now) }
+/// The game that a ground description is of, as it is loaded.
+fn loaded(alloc: Global, rules: &str) -> Result<GroundGame, Fault>
+    ensures loaded { IfOk result (IsLoadedFrom rules.now) }
     ensures refused { IfErr result (λ fault. fault ≢ Fault.Memory → (fault ≡ Fault.BadDescription) × DescribesNone rules.now) }
 {
     let sentences = read_all(alloc, rules.as_bytes())?;
     Ok(load(alloc, sentences.as_slice())?)
+}
+
+/// The game that a ground description is of, in the form that is fast to play.
+pub fn described_game(alloc: Global, rules: &str) -> Result<PackedGame, Fault>
+    ensures described { IfOk result (IsDescribed rules.now) }
+    ensures refused { IfErr result (λ fault. fault ≢ Fault.Memory → (fault ≡ Fault.BadDescription) × DescribesNone rules.now) }
+{
+    match pack(alloc, loaded(alloc, rules)?) {
+        Ok(game) => Ok(game),
+        Err((_, refused)) => Err(Fault::from(refused)),
+    }
 }

@@ -9,12 +9,12 @@ use crate::fault::Fault;
 use crate::games::described_game;
 use crate::socket_player::Reach;
 use game_core::{Game, Text, Texts};
-use ground_rules::GroundGame;
 use kif_text::{Expr, copy};
 use match_book::{Phase, Setup};
 use match_desk::Manager;
 use match_record::record_json;
 use match_workers::{Player, RefereeFault, referee};
+use packed_rules::PackedGame;
 use std::alloc::{AllocError, Global};
 use std::sync::Wait;
 use std::thread::Threads;
@@ -107,7 +107,7 @@ where
     R: Threads + Wait + Sync,
     P: Player + Drop + Send,
     S: Reach<P>,
-    ensures ended { IfOk result (λ text. (d : ManagerValue _ _) × IsEndedRecord ⟦<GroundGame as Game>⟧.rules d text) }
+    ensures ended { IfOk result (λ text. (d : ManagerValue _ _) × IsEndedRecord ⟦<PackedGame as Game>⟧.rules d text) }
     ensures fails { IfErr result (RunFails plan.now.rules.now) }
 {
     let game = described_game(alloc, plan.rules)?;

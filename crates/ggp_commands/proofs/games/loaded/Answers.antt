@@ -11,7 +11,7 @@ use Rattle.ggp_commands.specs.declared.fault.Fault.{Fault}
 use Rattle.ggp_commands.specs.declared.fault.Fault.TheVariants.{Memory, BadDescription}
 use Rattle.ggp_commands.specs.Faults.{loading_fault}
 use Rattle.ggp_commands.specs.Games.{DescribesNone, faulty}
-use Rattle.ggp_commands.proofs.games.described_game.Goals as goal
+use Rattle.ggp_commands.proofs.games.loaded.Goals as goal
 
 IsRefusedAs : List ℕ → Fault → Type 0
 IsRefusedAs text fault = fault ≢ Memory → (fault ≡ BadDescription) × DescribesNone text
