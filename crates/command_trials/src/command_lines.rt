@@ -80,7 +80,7 @@ const WRONG_LINES: [&[&str]; 28] = [
 #[test]
 fn wrong_use_is_refused(rt: HostRuntime) -> Result<(), AllocError> {
     for words in WRONG_LINES {
-        expect(&rt, &rt, words, b"query m\n", WRONG_USE)?;
+        expect(&rt, rt.alloc(), words, b"query m\n", WRONG_USE)?;
     }
     Ok(())
 }
@@ -92,7 +92,7 @@ fn help_is_no_fault(rt: HostRuntime) -> Result<(), AllocError> {
         ["-h"].as_slice(),
         ["help"].as_slice(),
     ] {
-        let outcome = outcome_of(&rt, &rt, words, b"")?;
+        let outcome = outcome_of(&rt, rt.alloc(), words, b"")?;
         // What the help says is not looked at.
         assert!(rt; !outcome.output.is_empty());
         expect_outcome(&rt, &outcome, Wanted::output(&outcome.output));
@@ -106,7 +106,11 @@ fn players_are_named_by_their_addresses(rt: HostRuntime) {
         ("ann@host:80", "ann", "host", 80),
         ("ann@bob@host:80", "ann", "bob@host", 80),
         ("ann@:080", "ann", "", 80),
-        ("ann@[::1]:65535", "ann", "[::1]", 65_535),
+        ("ann@[::1]:65535", "ann", "::1", 65_535),
+        ("ann@::1:65535", "ann", "::1", 65_535),
+        ("ann@[127.0.0.1]:1", "ann", "[127.0.0.1]", 1),
+        ("ann@[::1:1", "ann", "[::1", 1),
+        ("ann@[]:1", "ann", "[]", 1),
     ] {
         let wanted = PlayerAddress { name, host, port };
         assert!(rt; player_address(word) == Some(wanted));

@@ -1,8 +1,10 @@
 //! The largest description that is taken, through a whole match and the check of its record.
-use crate::network::{answer, listen};
-use crate::outcomes::{Outcome, Wanted, expect_outcome, outcome_of};
+use crate::network::{HostPlayer, answer, listen};
+use crate::outcomes::{Outcome, Wanted, expect_outcome, outcome_of, outcome_with};
 use game_core::Text;
+use ggp_commands::{Reach, Signal, Sockets};
 use match_wire::{Message, read_message};
+use match_workers::Player;
 use std::alloc::{AllocError, Global};
 use std::fmt::Write as _;
 use std::net::{Net, TcpListener, TcpStream};
@@ -10,6 +12,7 @@ use std::process::Abort;
 use std::sync::Wait;
 use std::test::Fail;
 use std::thread::Threads;
+use std::time::Clock;
 use std::{fmt, thread};
 
 const ROLES: usize = 16;
@@ -86,11 +89,12 @@ where
 }
 
 /// What `run` leaves of the match, once its players say that all messages were owed.
-fn played<R>(rt: &R, host: &HostRuntime, rules: &str) -> Result<Outcome, Fail>
+fn played<R, P, S>(rt: &R, reach: &S, alloc: Global, rules: &str) -> Result<Outcome, Fail>
 where
-    R: Net<Listener = TcpListener, Stream = TcpStream> + Threads + Wait + Abort + Sync,
+    R: Net<Listener = TcpListener, Stream = TcpStream> + Clock + Threads + Wait + Abort + Sync,
+    P: Player + Drop + Send,
+    S: Reach<P> + Sync,
 {
-    let alloc = host.alloc();
     let mut players = Vec::new(alloc);
     let seats = seats(rt, alloc, rules, &mut players)?;
     let mut words: Vec<&str> = Vec::new(alloc);
@@ -104,7 +108,7 @@ where
     let (all, outcome) = thread::join(
         rt,
         move || thread::map_vec(rt, seats, &|seat| play(alloc, &seat)),
-        move || outcome_of(rt, host, words, b""),
+        move || outcome_with::<R, P, S>(rt, reach, alloc, words),
     );
     let all = all.ok().ok_or("no memory")?;
     assert!(rt; all.iter().all(|owed| *owed == Some(true)));
@@ -112,15 +116,17 @@ where
 }
 
 /// Plays the match, and checks its record.
-fn play_and_check<R>(rt: &R, host: &HostRuntime, rules: &str) -> Result<(), Fail>
+fn play_and_check<R, P, S>(rt: &R, reach: &S, alloc: Global, rules: &str) -> Result<(), Fail>
 where
-    R: Net<Listener = TcpListener, Stream = TcpStream> + Threads + Wait + Abort + Sync,
+    R: Net<Listener = TcpListener, Stream = TcpStream> + Clock + Threads + Wait + Abort + Sync,
+    P: Player + Drop + Send,
+    S: Reach<P> + Sync,
 {
-    let record = played(rt, host, rules)?;
+    let record = played::<R, P, S>(rt, reach, alloc, rules)?;
     assert_eq!(rt; record.status, 0);
     let checked = outcome_of(
         rt,
-        host,
+        alloc,
         &["verify", "--rules", rules],
         record.output.as_slice(),
     )?;
@@ -131,5 +137,10 @@ where
 #[test]
 fn largest_descriptions_are_played_and_checked(rt: HostRuntime) -> Result<(), Fail> {
     let rules = largest_rules(rt.alloc())?;
-    play_and_check(&rt, &rt, rules.as_str())
+    let signal = Signal::new();
+    let reach = Sockets {
+        rt: &rt,
+        signal: &signal,
+    };
+    play_and_check::<_, HostPlayer<'_>, _>(&rt, &reach, rt.alloc(), rules.as_str())
 }

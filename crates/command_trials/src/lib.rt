@@ -4,6 +4,10 @@
 #[cfg(test)]
 mod command_lines;
 #[cfg(test)]
+mod conducts;
+#[cfg(test)]
+mod deadlines;
+#[cfg(test)]
 mod example_games;
 #[cfg(test)]
 mod largest;
@@ -16,7 +20,13 @@ mod patience;
 #[cfg(test)]
 mod records;
 #[cfg(test)]
+mod refereed;
+#[cfg(test)]
+mod rests;
+#[cfg(test)]
 mod scripts;
+#[cfg(test)]
+mod simulated;
 #[cfg(test)]
 mod stalled;
 #[cfg(test)]

@@ -1,8 +1,10 @@
 //! The commands that reach players, over loopback.
 use crate::example_games::COUNTDOWN_RULES;
-use crate::outcomes::{Wanted, expect, expect_outcome, outcome_of};
+use crate::outcomes::{Wanted, expect, expect_outcome, outcome_of, outcome_with};
 use game_core::{Counted, Text};
+use ggp_commands::{Reach, Signal, SocketPlayer, Sockets};
 use match_wire::{give_reply, take_request};
+use match_workers::Player;
 use std::alloc::{AllocError, Global};
 use std::io::{Read, Write};
 use std::net::{Ipv4Addr, Net, SocketAddr, TcpListener, TcpStream};
@@ -10,7 +12,11 @@ use std::process::Abort;
 use std::sync::Wait;
 use std::test::Fail;
 use std::thread::Threads;
+use std::time::Clock;
 use std::{io, thread};
+
+/// A player on the network of the computer itself.
+pub type HostPlayer<'a> = SocketPlayer<'a, HostRuntime>;
 
 /// What a player does with one message.
 #[derive(Clone, Copy)]
@@ -30,7 +36,7 @@ enum Deed {
 }
 
 /// A port of this computer, and its number.
-fn bound<N>(net: &N) -> io::Result<(TcpListener, u16)>
+pub fn bound<N>(net: &N) -> io::Result<(TcpListener, u16)>
 where
     N: Net<Listener = TcpListener, Stream = TcpStream>,
 {
@@ -114,21 +120,20 @@ fn serve(alloc: Global, listener: TcpListener, deeds: &[Deed]) -> bool {
 /// Asks a player with the command `info`, and compares what the player heard, and what the command leaves.
 fn expect_info<R>(
     rt: &R,
-    host: &HostRuntime,
+    alloc: Global,
     deed: Deed,
     heard: &[u8],
     wanted: Wanted<'_>,
 ) -> Result<(), Fail>
 where
-    R: Net<Listener = TcpListener, Stream = TcpStream> + Threads + Wait + Abort + Sync,
+    R: Net<Listener = TcpListener, Stream = TcpStream> + Clock + Threads + Wait + Abort + Sync,
 {
-    let alloc = host.alloc();
     let (listener, player) = listen(rt, alloc, "zed")?;
     let (listener, player) = (&listener, player.as_str());
     let (met, outcome) = thread::join(
         rt,
         move || serve_one(alloc, listener, deed),
-        move || outcome_of(rt, host, &["info", player], b""),
+        move || outcome_of(rt, alloc, &["info", player], b""),
     );
     let met = met.ok_or("no message was taken")?;
     assert!(rt; met.as_slice() == heard);
@@ -145,7 +150,7 @@ fn info_tells_what_a_player_answers(rt: HostRuntime) -> Result<(), Fail> {
     ];
     for (reply, output) in table {
         let wanted = Wanted::output(output);
-        expect_info(&rt, &rt, Deed::Answers(reply), b"(INFO)", wanted)?;
+        expect_info(&rt, rt.alloc(), Deed::Answers(reply), b"(INFO)", wanted)?;
     }
     Ok(())
 }
@@ -153,28 +158,31 @@ fn info_tells_what_a_player_answers(rt: HostRuntime) -> Result<(), Fail> {
 #[test]
 fn requests_name_their_player(rt: HostRuntime) -> Result<(), Fail> {
     let wanted = Wanted::output(b"ready\n");
-    expect_info(&rt, &rt, Deed::IsReady, INFO_REQUEST, wanted)
+    expect_info(&rt, rt.alloc(), Deed::IsReady, INFO_REQUEST, wanted)
 }
 
 #[test]
 fn closed_connections_are_no_answer(rt: HostRuntime) -> Result<(), Fail> {
     let wanted = Wanted::fault(b"ggp_manager: no answer\n");
-    expect_info(&rt, &rt, Deed::Closes, b"", wanted)
+    expect_info(&rt, rt.alloc(), Deed::Closes, b"", wanted)
 }
 
-/// Runs a match with these options between ann and, where there is one, bob, and compares its record. Each player does its deeds.
-fn expect_match<R>(
+/// Runs a match with these options between ann and, where there is one, bob, who are reached there, and compares its record. Each
+/// player does its deeds.
+fn expect_match<R, P, S>(
     rt: &R,
-    host: &HostRuntime,
+    reach: &S,
+    alloc: Global,
     options: &[&str],
     ann: &'static [Deed],
     bob: Option<&'static [Deed]>,
     record: &[u8],
 ) -> Result<(), Fail>
 where
-    R: Net<Listener = TcpListener, Stream = TcpStream> + Threads + Wait + Abort + Sync,
+    R: Net<Listener = TcpListener, Stream = TcpStream> + Clock + Threads + Wait + Abort + Sync,
+    P: Player + Drop + Send,
+    S: Reach<P> + Sync,
 {
-    let alloc = host.alloc();
     let (first, ann_word) = listen(rt, alloc, "ann")?;
     let (second, bob_word) = listen(rt, alloc, "bob")?;
     let mut words = Vec::new(alloc);
@@ -195,7 +203,7 @@ where
                 move || serve(alloc, second, bob),
             )
         },
-        move || outcome_of(rt, host, words, b""),
+        move || outcome_with::<R, P, S>(rt, reach, alloc, words),
     );
     assert!(rt; anns && bobs);
     expect_outcome(rt, &outcome?, Wanted::output(record));
@@ -208,6 +216,11 @@ const COUNTDOWN_RECORD: &[u8] =
 
 #[test]
 fn matches_are_run_to_their_records(rt: HostRuntime) -> Result<(), Fail> {
+    let signal = Signal::new();
+    let reach = Sockets {
+        rt: &rt,
+        signal: &signal,
+    };
     let options = ["run", "--rules", COUNTDOWN_RULES, "--id", "m1"];
     let ann: &[Deed] = &[
         Deed::Answers(b"READY"),
@@ -221,7 +234,15 @@ fn matches_are_run_to_their_records(rt: HostRuntime) -> Result<(), Fail> {
         Deed::Answers(b"(take 2)"),
         Deed::Answers(b"DONE"),
     ];
-    expect_match(&rt, &rt, &options, ann, Some(bob), COUNTDOWN_RECORD)
+    expect_match::<_, HostPlayer<'_>, _>(
+        &rt,
+        &reach,
+        rt.alloc(),
+        &options,
+        ann,
+        Some(bob),
+        COUNTDOWN_RECORD,
+    )
 }
 
 /// A game of one turn, in which both move at once.
@@ -254,6 +275,11 @@ const BLUE: &[Deed] = &[
 
 #[test]
 fn players_are_sent_what_they_are_owed(rt: HostRuntime) -> Result<(), Fail> {
+    let signal = Signal::new();
+    let reach = Sockets {
+        rt: &rt,
+        signal: &signal,
+    };
     let options = [
         "run",
         "--rules",
@@ -265,7 +291,15 @@ fn players_are_sent_what_they_are_owed(rt: HostRuntime) -> Result<(), Fail> {
         "--play",
         "5",
     ];
-    expect_match(&rt, &rt, &options, RED, Some(BLUE), ONE_TURN_RECORD)
+    expect_match::<_, HostPlayer<'_>, _>(
+        &rt,
+        &reach,
+        rt.alloc(),
+        &options,
+        RED,
+        Some(BLUE),
+        ONE_TURN_RECORD,
+    )
 }
 
 /// A game in whose first state nobody can move.
@@ -278,6 +312,11 @@ const STUCK_RECORD: &[u8] =
 
 #[test]
 fn aborted_matches_have_records(rt: HostRuntime) -> Result<(), Fail> {
+    let signal = Signal::new();
+    let reach = Sockets {
+        rt: &rt,
+        signal: &signal,
+    };
     let options = [
         "run",
         "--rules",
@@ -290,7 +329,7 @@ fn aborted_matches_have_records(rt: HostRuntime) -> Result<(), Fail> {
         "5",
     ];
     let ann: &[Deed] = &[Deed::Answers(b"READY"), Deed::Answers(b"DONE")];
-    expect_match(&rt, &rt, &options, ann, None, STUCK_RECORD)
+    expect_match::<_, HostPlayer<'_>, _>(&rt, &reach, rt.alloc(), &options, ann, None, STUCK_RECORD)
 }
 
 /// Whether a connection has come.
@@ -309,34 +348,38 @@ const REFUSED: [(&str, &str, &str, usize, &[u8]); 5] = [
 ];
 
 /// Tries such a match, with as many players at this address as the words have room for.
-fn expect_refused<R>(
+fn expect_refused<R, P, S>(
     rt: &R,
-    host: &HostRuntime,
+    reach: &S,
+    alloc: Global,
     player: &str,
     (start, play, id, count, errors): (&str, &str, &str, usize, &[u8]),
 ) -> Result<(), AllocError>
 where
-    R: Net + Threads + Wait + Abort + Sync,
+    R: Net + Clock + Threads + Wait + Abort + Sync,
+    P: Player + Drop + Send,
+    S: Reach<P>,
 {
     let rules = COUNTDOWN_RULES;
     let words = [
         "run", "--rules", rules, "--start", start, "--play", play, "--id", id, player, player,
         player,
     ];
-    expect(
-        rt,
-        host,
-        &words[..count.min(12)],
-        b"",
-        Wanted::fault(errors),
-    )
+    let outcome = outcome_with::<R, P, S>(rt, reach, alloc, &words[..count.min(12)])?;
+    expect_outcome(rt, &outcome, Wanted::fault(errors));
+    Ok(())
 }
 
 #[test]
 fn refused_matches_reach_no_player(rt: HostRuntime) -> Result<(), Fail> {
+    let signal = Signal::new();
+    let reach = Sockets {
+        rt: &rt,
+        signal: &signal,
+    };
     let (listener, player) = listen(&rt, rt.alloc(), "ann")?;
     for refused in REFUSED {
-        expect_refused(&rt, &rt, player.as_str(), refused)?;
+        expect_refused::<_, HostPlayer<'_>, _>(&rt, &reach, rt.alloc(), player.as_str(), refused)?;
         assert!(rt; !is_called(&listener)?);
     }
     Ok(())
@@ -347,7 +390,7 @@ fn rules_are_read_before_the_match_is_opened(rt: HostRuntime) -> Result<(), Allo
     for rules in ["(", "(role ?r)"] {
         let words = ["run", "--rules", rules, "--id", "m!", "ann@127.0.0.1:1"];
         let wanted = Wanted::fault(b"ggp_manager: bad description\n");
-        expect(&rt, &rt, &words, b"", wanted)?;
+        expect(&rt, rt.alloc(), &words, b"", wanted)?;
     }
     Ok(())
 }
@@ -383,6 +426,11 @@ const FAILING: [(&[Deed], &str, &str); 5] = [
 
 #[test]
 fn failing_players_end_no_match(rt: HostRuntime) -> Result<(), Fail> {
+    let signal = Signal::new();
+    let reach = Sockets {
+        rt: &rt,
+        signal: &signal,
+    };
     let options = [
         "run",
         "--rules",
@@ -396,7 +444,15 @@ fn failing_players_end_no_match(rt: HostRuntime) -> Result<(), Fail> {
     ];
     for (blue, mark, error) in FAILING {
         let record = failing_record(rt.alloc(), mark, error)?;
-        expect_match(&rt, &rt, &options, STEADY, Some(blue), record.as_bytes())?;
+        expect_match::<_, HostPlayer<'_>, _>(
+            &rt,
+            &reach,
+            rt.alloc(),
+            &options,
+            STEADY,
+            Some(blue),
+            record.as_bytes(),
+        )?;
     }
     Ok(())
 }

@@ -1,12 +1,15 @@
 //! Commands over streams in memory, and what they leave.
 use game_core::Counted;
-use ggp_commands::{SocketPlayer, Sockets, command};
+use ggp_commands::{PlayerAddress, Reach, command};
+use match_book::Answer;
+use match_workers::Player;
 use std::alloc::{AllocError, Global};
 use std::io::{Read, Write};
 use std::net::Net;
 use std::process::Abort;
 use std::sync::Wait;
 use std::thread::Threads;
+use std::time::Clock;
 
 /// What a command left: its output, its line of a fault, and its status.
 #[derive(Drop)]
@@ -52,39 +55,65 @@ pub fn strings(alloc: Global, words: &[&str]) -> Result<Vec<String>, AllocError>
     Ok(all)
 }
 
-/// Runs a command over these streams. The runtime is handed in twice, since only a test itself knows that the very one that it
-/// takes has threads.
+/// A player that never answers.
+#[derive(Drop)]
+pub struct SilentPlayer;
+
+impl Player for SilentPlayer {
+    ghost use Rattle.std.specs.Prelude.{None};
+
+    ghost handed = { λ p. None };
+
+    fn ask(&mut self, _seconds: u32, _body: &[u8]) -> Answer {
+        Answer::Silent
+    }
+
+    fn rest(&mut self) {}
+}
+
+/// Where no player answers.
+#[derive(Drop)]
+pub struct NoNetwork;
+
+impl Reach<SilentPlayer> for NoNetwork {
+    fn player(
+        &self,
+        _alloc: Global,
+        _address: &PlayerAddress<'_>,
+    ) -> Result<SilentPlayer, AllocError> {
+        Ok(SilentPlayer)
+    }
+}
+
+/// Runs a command over these streams, with players that never answer.
 pub fn run_command<H, R: Read, W: Write, E: Write>(
     rt: &H,
-    host: &HostRuntime,
+    alloc: Global,
     words: &[String],
     reader: &mut Counted<R>,
     writer: &mut Counted<W>,
     errors: &mut E,
 ) -> u8
 where
-    H: Net + Threads + Wait + Sync,
+    H: Net + Clock + Threads + Wait + Sync,
 {
-    let (alloc, reach) = (host.alloc(), Sockets { rt: host });
-    command::<_, SocketPlayer<'_, HostRuntime>, _, _, _, _>(
-        rt, alloc, &reach, words, reader, writer, errors,
-    )
+    command::<_, SilentPlayer, _, _, _, _>(rt, alloc, &NoNetwork, words, reader, writer, errors)
 }
 
-/// Runs a command on what this stream gives.
+/// Runs a command on what this stream gives, with players that never answer.
 pub fn outcome_over<H, R: Read>(
     rt: &H,
-    host: &HostRuntime,
+    alloc: Global,
     words: &[&str],
     reader: &mut Counted<R>,
 ) -> Result<Outcome, AllocError>
 where
-    H: Net + Threads + Wait + Sync,
+    H: Net + Clock + Threads + Wait + Sync,
 {
-    let words = strings(host.alloc(), words)?;
-    let mut writer = Counted::new(Vec::new(host.alloc()));
-    let mut errors = Vec::new(host.alloc());
-    let status = run_command(rt, host, &words, reader, &mut writer, &mut errors);
+    let words = strings(alloc, words)?;
+    let mut writer = Counted::new(Vec::new(alloc));
+    let mut errors = Vec::new(alloc);
+    let status = run_command(rt, alloc, &words, reader, &mut writer, &mut errors);
     Ok(Outcome {
         output: writer.end(),
         errors,
@@ -92,17 +121,49 @@ where
     })
 }
 
-/// Runs a command on that input.
+/// Runs a command on no input, with the players that are reached there.
+pub fn outcome_with<H, P, S>(
+    rt: &H,
+    reach: &S,
+    alloc: Global,
+    words: &[&str],
+) -> Result<Outcome, AllocError>
+where
+    H: Net + Clock + Threads + Wait + Sync,
+    P: Player + Drop + Send,
+    S: Reach<P>,
+{
+    let words = strings(alloc, words)?;
+    let mut reader = Counted::new(b"".as_slice());
+    let mut writer = Counted::new(Vec::new(alloc));
+    let mut errors = Vec::new(alloc);
+    let status = command::<H, P, S, _, _, _>(
+        rt,
+        alloc,
+        reach,
+        &words,
+        &mut reader,
+        &mut writer,
+        &mut errors,
+    );
+    Ok(Outcome {
+        output: writer.end(),
+        errors,
+        status,
+    })
+}
+
+/// Runs a command on that input, with players that never answer.
 pub fn outcome_of<H>(
     rt: &H,
-    host: &HostRuntime,
+    alloc: Global,
     words: &[&str],
     input: &[u8],
 ) -> Result<Outcome, AllocError>
 where
-    H: Net + Threads + Wait + Sync,
+    H: Net + Clock + Threads + Wait + Sync,
 {
-    outcome_over(rt, host, words, &mut Counted::new(input))
+    outcome_over(rt, alloc, words, &mut Counted::new(input))
 }
 
 /// Compares what a command left with what it has to leave.
@@ -112,18 +173,18 @@ pub fn expect_outcome(rt: &impl Abort, outcome: &Outcome, wanted: Wanted<'_>) {
     assert!(rt; outcome.output.as_slice() == wanted.output);
 }
 
-/// Runs a command on that input, and compares what it leaves.
+/// Runs a command on that input, with players that never answer, and compares what it leaves.
 pub fn expect<H>(
     rt: &H,
-    host: &HostRuntime,
+    alloc: Global,
     words: &[&str],
     input: &[u8],
     wanted: Wanted<'_>,
 ) -> Result<(), AllocError>
 where
-    H: Net + Threads + Wait + Abort + Sync,
+    H: Net + Clock + Threads + Wait + Abort + Sync,
 {
-    let outcome = outcome_of(rt, host, words, input)?;
+    let outcome = outcome_of(rt, alloc, words, input)?;
     expect_outcome(rt, &outcome, wanted);
     Ok(())
 }

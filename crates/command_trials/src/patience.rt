@@ -1,8 +1,6 @@
-//! How long a player is waited for, and left alone.
+//! How long a player is waited for.
 use crate::network::{answer, listen};
 use crate::outcomes::{Wanted, expect_outcome, outcome_of};
-use ggp_commands::{PlayerAddress, Reach, Sockets};
-use match_workers::Player;
 use std::alloc::Global;
 use std::io::Read;
 use std::net::{Net, TcpListener, TcpStream};
@@ -21,20 +19,19 @@ fn wait_out(alloc: Global, listener: &TcpListener) -> Option<usize> {
 }
 
 /// How long `info` waits for a player that never answers.
-fn patience<R>(rt: &R, host: &HostRuntime) -> Result<Duration, Fail>
+fn patience<R>(rt: &R, alloc: Global) -> Result<Duration, Fail>
 where
-    R: Net<Listener = TcpListener, Stream = TcpStream> + Threads + Wait + Abort + Sync,
+    R: Net<Listener = TcpListener, Stream = TcpStream> + Clock + Threads + Wait + Abort + Sync,
 {
-    let alloc = host.alloc();
     let (listener, player) = listen(rt, alloc, "zed")?;
     let (listener, player) = (&listener, player.as_str());
-    let began = Instant::now(host)?;
+    let began = Instant::now(rt)?;
     let (heard, outcome) = thread::join(
         rt,
         move || wait_out(alloc, listener),
-        move || outcome_of(rt, host, &["info", player], b""),
+        move || outcome_of(rt, alloc, &["info", player], b""),
     );
-    let waited = began.elapsed(host)?;
+    let waited = began.elapsed(rt)?;
     assert!(rt; heard.is_some());
     expect_outcome(rt, &outcome?, Wanted::fault(b"ggp_manager: no answer\n"));
     Ok(waited)
@@ -42,32 +39,16 @@ where
 
 #[test]
 fn info_waits_ten_seconds(rt: HostRuntime) -> Result<(), Fail> {
-    let waited = patience(&rt, &rt)?;
+    let waited = patience(&rt, rt.alloc())?;
     assert!(rt; waited >= Duration::from_millis(9_900) && waited < Duration::from_secs(15));
     Ok(())
 }
 
-#[test]
-fn rests_take_a_tenth_of_a_second(rt: HostRuntime) -> Result<(), Fail> {
-    let nobody = PlayerAddress {
-        name: "ann",
-        host: "127.0.0.1",
-        port: 1,
-    };
-    let mut player = Sockets { rt: &rt }.player(rt.alloc(), &nobody)?;
-    let began = Instant::now(&rt)?;
-    player.rest();
-    let rested = began.elapsed(&rt)?;
-    assert!(rt; rested >= Duration::from_millis(99) && rested < Duration::from_secs(5));
-    Ok(())
-}
-
 /// A name of this computer may stand for several addresses, of which not all take a connection.
-fn ask_by_name<R>(rt: &R, host: &HostRuntime) -> Result<(), Fail>
+fn ask_by_name<R>(rt: &R, alloc: Global) -> Result<(), Fail>
 where
-    R: Net<Listener = TcpListener, Stream = TcpStream> + Threads + Wait + Abort + Sync,
+    R: Net<Listener = TcpListener, Stream = TcpStream> + Clock + Threads + Wait + Abort + Sync,
 {
-    let alloc = host.alloc();
     let (listener, _) = listen(rt, alloc, "zed")?;
     let port = listener.local_addr()?.port();
     let player = format!(in alloc; "zed@localhost:{port}")?;
@@ -78,7 +59,7 @@ where
             let (stream, _) = listener.accept().ok()?;
             answer(alloc, stream, b"READY")
         },
-        move || outcome_of(rt, host, &["info", player], b""),
+        move || outcome_of(rt, alloc, &["info", player], b""),
     );
     assert!(rt; heard.is_some());
     expect_outcome(rt, &outcome?, Wanted::output(b"ready\n"));
@@ -87,5 +68,5 @@ where
 
 #[test]
 fn players_are_reached_by_name(rt: HostRuntime) -> Result<(), Fail> {
-    ask_by_name(&rt, &rt)
+    ask_by_name(&rt, rt.alloc())
 }

@@ -8,31 +8,32 @@ use crate::scripts::{
     ABORT_OUTPUT, EARLY_OUTPUT, ENDED_OUTPUT, ENDED_RULES, ENDLESS_RULES, JUDGED_OUTPUT,
     NO_GOAL_OUTPUT, NO_GOAL_RULES, NO_LEGAL_OUTPUT, NO_LEGAL_RULES, SPELLED_OUTPUT, endless_output,
 };
-use std::alloc::AllocError;
+use std::alloc::{AllocError, Global};
 use std::net::Net;
 use std::process::Abort;
 use std::str::from_utf8;
 use std::sync::Wait;
 use std::test::Fail;
 use std::thread::Threads;
+use std::time::Clock;
 
 /// Checks each record among these lines with the command `verify`, and compares what that leaves. How many records there are is
 /// answered.
 fn expect_checked<H>(
     rt: &H,
-    host: &HostRuntime,
+    alloc: Global,
     option: &str,
     game: &str,
     output: &[u8],
     wanted: Wanted<'_>,
 ) -> Result<usize, AllocError>
 where
-    H: Net + Threads + Wait + Abort + Sync,
+    H: Net + Clock + Threads + Wait + Abort + Sync,
 {
     let mut records = 0usize;
     for line in output.split(|b| *b == b'\n') {
         if line.starts_with(b"{") {
-            expect(rt, host, &["verify", option, game], line, wanted)?;
+            expect(rt, alloc, &["verify", option, game], line, wanted)?;
             records = records.saturating_add(1);
         }
     }
@@ -64,7 +65,7 @@ const PRINTED: [(&str, &str, &[u8], usize); 12] = [
 #[test]
 fn printed_records_are_lawful(rt: HostRuntime) -> Result<(), AllocError> {
     for (option, game, output, count) in PRINTED {
-        let records = expect_checked(&rt, &rt, option, game, output, LAWFUL)?;
+        let records = expect_checked(&rt, rt.alloc(), option, game, output, LAWFUL)?;
         assert_eq!(rt; records, count);
     }
     Ok(())
@@ -73,7 +74,7 @@ fn printed_records_are_lawful(rt: HostRuntime) -> Result<(), AllocError> {
 #[test]
 fn longest_records_are_lawful(rt: HostRuntime) -> Result<(), AllocError> {
     let output = endless_output(rt.alloc())?;
-    let records = expect_checked(&rt, &rt, "--rules", ENDLESS_RULES, &output, LAWFUL)?;
+    let records = expect_checked(&rt, rt.alloc(), "--rules", ENDLESS_RULES, &output, LAWFUL)?;
     assert_eq!(rt; records, 1);
     Ok(())
 }
@@ -93,7 +94,7 @@ const UNLAWFUL: [(&[u8], &[u8]); 4] = [
 fn texts_that_are_no_records_are_refused(rt: HostRuntime) -> Result<(), AllocError> {
     for (text, errors) in UNLAWFUL {
         let words = ["verify", "--countdown", "3"];
-        expect(&rt, &rt, &words, text, Wanted::fault(errors))?;
+        expect(&rt, rt.alloc(), &words, text, Wanted::fault(errors))?;
     }
     Ok(())
 }
@@ -146,18 +147,18 @@ const CHANGES_OF_ROLE_1: [(&str, &str, &[u8]); 2] = [
 /// Changes what the desk printed of a game, and compares what `verify` says of each change.
 fn expect_changes<H>(
     rt: &H,
-    host: &HostRuntime,
+    alloc: Global,
     (option, game, output): (&str, &str, &[u8]),
     changes: &[(&str, &str, &[u8])],
 ) -> Result<(), Fail>
 where
-    H: Net + Threads + Wait + Abort + Sync,
+    H: Net + Clock + Threads + Wait + Abort + Sync,
 {
     let printed = from_utf8(output)?;
     for (from, to, errors) in changes {
-        let changed = printed.replace(host.alloc(), from, to)?;
+        let changed = printed.replace(alloc, from, to)?;
         let (lines, wanted) = (changed.as_bytes(), Wanted::fault(errors));
-        let records = expect_checked(rt, host, option, game, lines, wanted)?;
+        let records = expect_checked(rt, alloc, option, game, lines, wanted)?;
         assert_eq!(rt; records, 1);
     }
     Ok(())
@@ -166,9 +167,9 @@ where
 #[test]
 fn changed_records_are_not_lawful(rt: HostRuntime) -> Result<(), Fail> {
     let countdown = ("--countdown", "3", COUNTDOWN_OUTPUT);
-    expect_changes(&rt, &rt, countdown, &CHANGES)?;
+    expect_changes(&rt, rt.alloc(), countdown, &CHANGES)?;
     let roshambo = ("--rules", ROSHAMBO_RULES, ROSHAMBO_OUTPUT);
-    expect_changes(&rt, &rt, roshambo, &CHANGES_OF_ROLE_1)
+    expect_changes(&rt, rt.alloc(), roshambo, &CHANGES_OF_ROLE_1)
 }
 
 #[test]
@@ -176,8 +177,8 @@ fn long_records_are_refused(rt: HostRuntime) -> Result<(), AllocError> {
     let words = ["verify", "--countdown", "3"];
     let mut text = vec![in rt.alloc(); b' '; 16_777_216]?;
     let kept = Wanted::fault(b"ggp_manager: not lawful: json\n");
-    expect(&rt, &rt, &words, &text, kept)?;
+    expect(&rt, rt.alloc(), &words, &text, kept)?;
     text.push(b' ')?;
     let refused = Wanted::fault(b"ggp_manager: input too long\n");
-    expect(&rt, &rt, &words, &text, refused)
+    expect(&rt, rt.alloc(), &words, &text, refused)
 }

@@ -162,7 +162,7 @@ const ANSWERED: [(&[&str], &[u8], &[u8]); 9] = [
 #[test]
 fn scripts_are_answered(rt: HostRuntime) -> Result<(), AllocError> {
     for (words, script, replies) in ANSWERED {
-        expect(&rt, &rt, words, script, Wanted::output(replies))?;
+        expect(&rt, rt.alloc(), words, script, Wanted::output(replies))?;
     }
     Ok(())
 }
@@ -179,7 +179,7 @@ const PLAYED: [(&str, &[u8], &[u8]); 4] = [
 fn games_are_played_by_their_rules(rt: HostRuntime) -> Result<(), AllocError> {
     for (rules, script, output) in PLAYED {
         let words = ["desk", "--rules", rules];
-        expect(&rt, &rt, &words, script, Wanted::output(output))?;
+        expect(&rt, rt.alloc(), &words, script, Wanted::output(output))?;
     }
     Ok(())
 }
@@ -246,7 +246,7 @@ fn games_end_by_their_rules(rt: HostRuntime) -> Result<(), AllocError> {
     ];
     for (rules, script, replies) in table {
         let words = ["desk", "--rules", rules];
-        expect(&rt, &rt, &words, script, Wanted::output(replies))?;
+        expect(&rt, rt.alloc(), &words, script, Wanted::output(replies))?;
     }
     Ok(())
 }
@@ -321,7 +321,13 @@ fn longest_matches_are_recorded(rt: HostRuntime) -> Result<(), AllocError> {
     let script = endless_script(rt.alloc())?;
     let output = endless_output(rt.alloc())?;
     let words = ["desk", "--rules", ENDLESS_RULES];
-    expect(&rt, &rt, &words, script.as_bytes(), Wanted::output(&output))?;
+    expect(
+        &rt,
+        rt.alloc(),
+        &words,
+        script.as_bytes(),
+        Wanted::output(&output),
+    )?;
     Ok(())
 }
 
@@ -344,7 +350,7 @@ fn bad_descriptions_are_refused(rt: HostRuntime) -> Result<(), AllocError> {
     for rules in BAD_RULES {
         // The input fails, and is not read.
         let mut reader = Counted::new(Broken);
-        let outcome = outcome_over(&rt, &rt, &["desk", "--rules", rules], &mut reader)?;
+        let outcome = outcome_over(&rt, rt.alloc(), &["desk", "--rules", rules], &mut reader)?;
         expect_outcome(&rt, &outcome, BAD_DESCRIPTION);
         assert_eq!(rt; reader.faults(), 0);
     }
@@ -377,7 +383,13 @@ fn bad_lines_are_counted(rt: HostRuntime) -> Result<(), AllocError> {
             errors,
             status: 1,
         };
-        expect(&rt, &rt, &["desk", "--countdown", "3"], script, wanted)?;
+        expect(
+            &rt,
+            rt.alloc(),
+            &["desk", "--countdown", "3"],
+            script,
+            wanted,
+        )?;
     }
     Ok(())
 }

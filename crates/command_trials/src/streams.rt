@@ -1,4 +1,5 @@
 //! Streams that fail, and the faults that the commands then show.
+use crate::example_games::COUNTDOWN_SCRIPT;
 use crate::outcomes::{
     Wanted, expect, expect_outcome, outcome_of, outcome_over, run_command, strings,
 };
@@ -39,7 +40,7 @@ const READ_FAULT: Wanted<'_> = Wanted {
 #[test]
 fn reads_that_fail_are_faults(rt: HostRuntime) -> Result<(), AllocError> {
     let mut input = Counted::new(Broken);
-    let outcome = outcome_over(&rt, &rt, &["desk", "--countdown", "3"], &mut input)?;
+    let outcome = outcome_over(&rt, rt.alloc(), &["desk", "--countdown", "3"], &mut input)?;
     expect_outcome(&rt, &outcome, READ_FAULT);
     Ok(())
 }
@@ -47,13 +48,22 @@ fn reads_that_fail_are_faults(rt: HostRuntime) -> Result<(), AllocError> {
 #[test]
 fn writes_that_fail_are_faults(rt: HostRuntime) -> Result<(), AllocError> {
     let words = strings(rt.alloc(), &["desk", "--countdown", "3"])?;
-    // The script has a bad line too, and the failed write alone is told.
-    let mut input = Counted::new(b"frob".as_slice());
-    let mut errors = Vec::new(rt.alloc());
-    let mut output = Counted::new(Broken);
-    let status = run_command(&rt, &rt, &words, &mut input, &mut output, &mut errors);
-    assert_eq!(rt; status, 1);
-    assert!(rt; errors.as_slice() == b"ggp_manager: write fault\n".as_slice());
+    // One script has a bad line too, and the failed write alone is told.
+    for script in [COUNTDOWN_SCRIPT, b"frob".as_slice()] {
+        let mut input = Counted::new(script);
+        let mut errors = Vec::new(rt.alloc());
+        let mut output = Counted::new(Broken);
+        let status = run_command(
+            &rt,
+            rt.alloc(),
+            &words,
+            &mut input,
+            &mut output,
+            &mut errors,
+        );
+        assert_eq!(rt; status, 1);
+        assert!(rt; errors.as_slice() == b"ggp_manager: write fault\n".as_slice());
+    }
     Ok(())
 }
 
@@ -62,7 +72,14 @@ fn faults_that_cannot_be_written_are_passed_by(rt: HostRuntime) -> Result<(), Al
     let words = strings(rt.alloc(), &["desk", "--countdown", "3"])?;
     let mut input = Counted::new(b"frob".as_slice());
     let mut output = Counted::new(Vec::new(rt.alloc()));
-    let status = run_command(&rt, &rt, &words, &mut input, &mut output, &mut Broken);
+    let status = run_command(
+        &rt,
+        rt.alloc(),
+        &words,
+        &mut input,
+        &mut output,
+        &mut Broken,
+    );
     assert_eq!(rt; status, 1);
     assert!(rt; output.end().as_slice() == b"badline\n".as_slice());
     Ok(())
@@ -98,7 +115,7 @@ impl Write for Trickle {
 fn commands_end_on_streams_without_an_end(rt: HostRuntime) -> Result<(), AllocError> {
     for command in ["desk", "verify"] {
         let mut input = Counted::new(Trickle);
-        let outcome = outcome_over(&rt, &rt, &[command, "--countdown", "3"], &mut input)?;
+        let outcome = outcome_over(&rt, rt.alloc(), &[command, "--countdown", "3"], &mut input)?;
         expect_outcome(&rt, &outcome, READ_FAULT);
     }
     report(&mut Trickle, Fault::WrongUse);
@@ -136,13 +153,12 @@ fn faults_have_their_lines_and_statuses(rt: HostRuntime) -> Result<(), AllocErro
 
 #[test]
 fn want_of_memory_stays_that_fault(rt: HostRuntime) {
-    let unreached = ContactFault::from(io::Error::from(ErrorKind::OutOfMemory));
     for fault in [
         Fault::from(ScriptFault::Memory),
         Fault::from(ArgumentFault::Memory),
         Fault::from(AllocError),
-        Fault::from(unreached),
-        Fault::from(ContactFault::from(WireFault::Memory)),
+        Fault::from(ContactFault::Memory),
+        Fault::from(ContactFault::Exchange(WireFault::Memory)),
     ] {
         assert!(rt; fault == Fault::Memory);
     }
@@ -152,10 +168,10 @@ fn want_of_memory_stays_that_fault(rt: HostRuntime) {
 fn long_scripts_are_refused(rt: HostRuntime) -> Result<(), AllocError> {
     let words = ["desk", "--countdown", "3"];
     let mut script = vec![in rt.alloc(); b' '; 1_048_576]?;
-    let kept = outcome_of(&rt, &rt, &words, &script)?;
+    let kept = outcome_of(&rt, rt.alloc(), &words, &script)?;
     assert!(rt; kept.output.as_slice() == b"badline\n".as_slice());
     script.push(b' ')?;
     let wanted = Wanted::fault(b"ggp_manager: input too long\n");
-    expect(&rt, &rt, &words, &script, wanted)?;
+    expect(&rt, rt.alloc(), &words, &script, wanted)?;
     Ok(())
 }

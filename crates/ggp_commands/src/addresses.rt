@@ -1,7 +1,9 @@
 //! Players, as the command line names them.
 use match_book::is_name;
+use std::net::Ipv6Addr;
 
-/// Where a player is reached, written `NAME@HOST:PORT`: the first `@` and the last `:` cut the word.
+/// Where a player is reached, written `NAME@HOST:PORT`: the first `@` and the last `:` cut the word. An IPv6 address stands in
+/// brackets in the word, and without them here.
 #[derive(Clone, Copy, Debug, PartialEq, Eq)]
 pub struct PlayerAddress<'a> {
     pub name: &'a str,
@@ -17,6 +19,17 @@ pub fn decimal(text: &str, most: u64) -> Option<u64> {
     text.parse().ok().filter(|number| *number <= most)
 }
 
+/// The IPv6 address in brackets, or the host as it is written.
+fn plain_host(host: &str) -> &str {
+    let inner = host
+        .strip_prefix('[')
+        .and_then(|host| host.strip_suffix(']'));
+    match inner {
+        Some(address) if address.parse::<Ipv6Addr>().is_ok() => address,
+        _ => host,
+    }
+}
+
 /// The player that a word names: none where the name is no lawful one, or the port not 1 to 65,535.
 pub fn player_address(word: &str) -> Option<PlayerAddress<'_>> {
     let (name, place) = word.split_once('@')?;
@@ -27,7 +40,7 @@ pub fn player_address(word: &str) -> Option<PlayerAddress<'_>> {
     }
     Some(PlayerAddress {
         name,
-        host,
+        host: plain_host(host),
         port: u16::try_from(port).ok()?,
     })
 }

@@ -3,7 +3,7 @@
 use crate::addresses::PlayerAddress;
 use crate::arguments::{ArgumentFault, GameSource, MatchPlan, Task, read_arguments};
 use crate::checking::check_record;
-use crate::contact::{ContactFault, contact};
+use crate::contacting::{ContactFault, contact};
 use crate::fault::Fault;
 use crate::games::described_game;
 use crate::running::played_record;
@@ -21,6 +21,7 @@ use std::io::{Read, Write};
 use std::net::Net;
 use std::sync::Wait;
 use std::thread::Threads;
+use std::time::Clock;
 
 /// How many seconds a player has to answer INFO.
 const INFO_SECONDS: u32 = 10;
@@ -82,7 +83,7 @@ pub fn command<H, P, S, R: Read, W: Write, E: Write>(
     errors: &mut E,
 ) -> u8
 where
-    H: Net + Threads + Wait + Sync,
+    H: Net + Clock + Threads + Wait + Sync,
     P: Player + Drop + Send,
     S: Reach<P>,
 {
@@ -130,7 +131,7 @@ fn perform<H, P, S, R: Read, W: Write>(
     writer: &mut Counted<W>,
 ) -> Result<(), Fault>
 where
-    H: Net + Threads + Wait + Sync,
+    H: Net + Clock + Threads + Wait + Sync,
     P: Player + Drop + Send,
     S: Reach<P>,
 {
@@ -215,7 +216,7 @@ fn run<H, P, S, W: Write>(
     writer: &mut Counted<W>,
 ) -> Result<(), Fault>
 where
-    H: Net + Threads + Wait + Sync,
+    H: Net + Clock + Threads + Wait + Sync,
     P: Player + Drop + Send,
     S: Reach<P>,
 {
@@ -234,7 +235,7 @@ fn info_line(info: Info) -> &'static [u8] {
     }
 }
 
-fn info<N: Net, W: Write>(
+fn info<N: Net + Clock, W: Write>(
     rt: &N,
     alloc: Global,
     player: &PlayerAddress<'_>,

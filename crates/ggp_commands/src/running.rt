@@ -19,7 +19,8 @@ use std::alloc::{AllocError, Global};
 use std::sync::Wait;
 use std::thread::Threads;
 
-/// How often a role may ask what is due to it. With the pause of a player at rest that is under three hours.
+/// How often a role may ask what is due to it. To wait for a message of another takes the role of a player on the network 101 asks in
+/// ten seconds and 1,011 in a day.
 const MAX_TRIES: u64 = 100_000;
 
 impl From<RefereeFault> for Fault {

@@ -3,7 +3,8 @@ ghost use Rattle.std.specs.Prelude.{◌≡◌};
 ghost use Rattle.ggp_commands.specs.Contacts.{answer_of, contact_answer};
 
 use crate::addresses::PlayerAddress;
-use crate::contact::{ContactFault, contact};
+use crate::contacting::{ContactFault, contact};
+use crate::signal::{Signal, rest_after};
 use game_core::Text;
 use match_book::Answer;
 use match_wire::WireFault;
@@ -11,11 +12,8 @@ use match_workers::Player;
 use std::alloc::{AllocError, Global};
 use std::io::ErrorKind;
 use std::net::Net;
-use std::thread;
-use std::time::{Clock, Duration};
-
-/// For how many milliseconds a player with nothing to do is left alone.
-const REST_MILLIS: u64 = 100;
+use std::sync::Wait;
+use std::time::{Clock, Duration, Instant};
 
 /// Where players are reached.
 pub trait Reach<P> {
@@ -23,21 +21,46 @@ pub trait Reach<P> {
     fn player(&self, alloc: Global, address: &PlayerAddress<'_>) -> Result<P, AllocError>;
 }
 
-/// The network, as a runtime reaches it. It is made where it is known which runtime that is, as in `main`: a player goes to
-/// another thread, and a function for any runtime can't tell that its players may.
+/// The network, as a runtime reaches it, for the players of one match. It is made where it is known which runtime that is, as in
+/// `main`: a player goes to another thread, and a function for any runtime can't tell that its players may.
 #[derive(Drop)]
 pub struct Sockets<'a, H> {
     pub rt: &'a H,
+    pub signal: &'a Signal,
 }
 
 /// A player on the network. Each message goes over a connection of its own.
-#[derive(Drop)]
 pub struct SocketPlayer<'a, H> {
     rt: &'a H,
+    signal: &'a Signal,
     alloc: Global,
     name: String,
     host: String,
     port: u16,
+    /// How many messages it was handed.
+    messages: u64,
+    /// What the signal said before the role last asked what is due.
+    seen: u64,
+    /// When the last message was answered, where the clock could be read.
+    answered: Option<Instant>,
+}
+
+/// Whose player goes is attended no longer, since the match is over as a rule: so the others are woken.
+impl<H> Drop for SocketPlayer<'_, H> {
+    fn drop(self) {
+        let SocketPlayer {
+            rt: _,
+            signal,
+            alloc: _,
+            name: _,
+            host: _,
+            port: _,
+            messages,
+            seen: _,
+            answered: _,
+        } = self;
+        signal.raise(messages.saturating_add(1));
+    }
 }
 
 impl<'a, H: Net + Clock> Reach<SocketPlayer<'a, H>> for Sockets<'a, H> {
@@ -46,12 +69,18 @@ impl<'a, H: Net + Clock> Reach<SocketPlayer<'a, H>> for Sockets<'a, H> {
         alloc: Global,
         address: &PlayerAddress<'_>,
     ) -> Result<SocketPlayer<'a, H>, AllocError> {
+        let name = String::from_str(alloc, address.name)?;
+        let host = String::from_str(alloc, address.host)?;
         Ok(SocketPlayer {
             rt: self.rt,
+            signal: self.signal,
             alloc,
-            name: String::from_str(alloc, address.name)?,
-            host: String::from_str(alloc, address.host)?,
+            name,
+            host,
             port: address.port,
+            messages: 0,
+            seen: self.signal.latest(),
+            answered: None,
         })
     }
 }
@@ -67,33 +96,55 @@ pub fn answer_of(exchanged: Result<Text, WireFault>) -> Answer
     }
 }
 
-/// What handing a message over came to: where no connection was made, a broken answer.
+/// What handing a message over came to: where the time was over a silence, without a connection a broken answer.
 fn contact_answer(reached: Result<Text, ContactFault>) -> Answer
     ensures { result ≡ contact_answer reached }
 {
     match reached {
         Ok(text) => answer_of(Ok(text)),
         Err(ContactFault::Exchange(fault)) => answer_of(Err(fault)),
-        Err(ContactFault::NoConnection | ContactFault::Memory) => Answer::Broken,
+        Err(ContactFault::Late) => Answer::Silent,
+        Err(
+            ContactFault::NoAddress
+            | ContactFault::NoConnection
+            | ContactFault::NoClock
+            | ContactFault::Memory,
+        ) => Answer::Broken,
     }
 }
 
-impl<H: Net + Clock> Player for SocketPlayer<'_, H> {
+/// How long ago that was: no time where the clock can't be read.
+fn time_since(clock: &impl Clock, moment: Option<Instant>) -> Duration {
+    match moment {
+        Some(moment) => moment.elapsed(clock).unwrap_or(Duration::ZERO),
+        None => Duration::ZERO,
+    }
+}
+
+impl<H: Net + Clock + Wait> Player for SocketPlayer<'_, H> {
     ghost use Rattle.std.specs.Prelude.{None};
 
     // What a socket carries no contract can name.
     ghost handed = { λ p. None };
 
     fn ask(&mut self, seconds: u32, body: &[u8]) -> Answer {
+        self.messages = self.messages.saturating_add(1);
+        self.signal.raise(self.messages);
         let address = PlayerAddress {
             name: self.name.as_str(),
             host: self.host.as_str(),
             port: self.port,
         };
-        contact_answer(contact(self.rt, self.alloc, &address, seconds, body))
+        let answer = contact_answer(contact(self.rt, self.alloc, &address, seconds, body));
+        self.seen = self.signal.latest();
+        self.answered = Instant::now(self.rt).ok();
+        answer
     }
 
     fn rest(&mut self) {
-        thread::sleep(self.rt, Duration::from_millis(REST_MILLIS));
+        let most = rest_after(time_since(self.rt, self.answered));
+        self.signal.wait(self.rt, self.seen, most);
+        // Read before the role asks again: whatever is raised after that ends the next rest.
+        self.seen = self.signal.latest();
     }
 }

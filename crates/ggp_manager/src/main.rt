@@ -2,7 +2,7 @@
 #![tactic(auto)]
 
 use game_core::Counted;
-use ggp_commands::{Fault, SocketPlayer, Sockets, command, report};
+use ggp_commands::{Fault, Signal, SocketPlayer, Sockets, command, report};
 use std::io::ErrorKind;
 use std::process::ExitCode;
 use std::{env, io};
@@ -27,7 +27,11 @@ fn main(rt: HostRuntime) -> ExitCode {
     };
     let mut reader = Counted::new(rt.stdin());
     let mut writer = Counted::new(rt.stdout());
-    let reach = Sockets { rt: &rt };
+    let signal = Signal::new();
+    let reach = Sockets {
+        rt: &rt,
+        signal: &signal,
+    };
     let status = command::<_, SocketPlayer<'_, HostRuntime>, _, _, _, _>(
         &rt,
         rt.alloc(),

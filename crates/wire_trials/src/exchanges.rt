@@ -391,9 +391,16 @@ fn heads_at_their_limits(rt: HostRuntime) -> Result<(), Fail> {
             "many fields",
         );
     }
-    let endless = run_of(alloc, "HTTP/1.0 200 OK|A: ", 20_000, "b", "")?;
-    let answer = exchange_with(alloc, MemoryStream::new(alloc, endless));
-    is_answer(&rt, answer, Err(WireFault::TooLong), "a head without end");
+    // 20 bytes before the value: a head that is unfinished at 16,383 bytes, at 16,384, and past them.
+    for (count, want) in [
+        (16_363, WireFault::CutShort),
+        (16_364, WireFault::TooLong),
+        (20_000, WireFault::TooLong),
+    ] {
+        let endless = run_of(alloc, "HTTP/1.0 200 OK|A: ", count, "b", "")?;
+        let answer = exchange_with(alloc, MemoryStream::new(alloc, endless));
+        is_answer(&rt, answer, Err(want), "a head without end");
+    }
     let bad = run_of(alloc, "HTTP/1.0 200 OK|A: ", 16_000, "b", "\n \n")?;
     let answer = exchange_with(alloc, MemoryStream::new(alloc, bad));
     is_answer(

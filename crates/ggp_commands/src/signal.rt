@@ -1,0 +1,57 @@
+//! What wakes the players of a match that rest.
+ghost use Rattle.std.specs.Prelude.{◌≡◌, ◌/◌, max};
+ghost use Rattle.std.specs.Duration.{as_nanos};
+
+use std::sync::Wait;
+use std::sync::atomic::{AtomicU64, Ordering};
+use std::time::Duration;
+
+/// For how many milliseconds a player with nothing to do is left alone at first.
+const REST_MILLIS: u64 = 100;
+
+/// Which part of the time since its last message a player is left alone for later.
+const REST_PART: u32 = 100;
+
+/// For how long at most a player rests whose last message was answered so long ago.
+pub(crate) fn rest_after(since: Duration) -> Duration
+    ensures { as_nanos result ≡ max 100_000_000 (as_nanos since / 100) }
+{
+    let first = Duration::from_millis(REST_MILLIS);
+    let part = since / REST_PART;
+    if part < first { first } else { part }
+}
+
+/// How far the players of one match have come: the highest number of a message that one of them was handed. Each role gets one
+/// message a round, so with a higher number a round has begun, and the players that rest are woken.
+///
+/// Nothing that is promised of a match rests on it: a player that is not woken goes on when its rest is over.
+#[derive(Drop)]
+pub struct Signal {
+    latest: AtomicU64,
+}
+
+impl Signal {
+    /// That of a match whose players were handed nothing.
+    pub const fn new() -> Signal {
+        Signal {
+            latest: AtomicU64::new(0),
+        }
+    }
+
+    pub(crate) fn latest(&self) -> u64 {
+        self.latest.load(Ordering::SeqCst)
+    }
+
+    /// Says that a message of this number is handed over. All who wait are woken where it is the highest so far.
+    pub(crate) fn raise(&self, number: u64) {
+        if self.latest.fetch_max(number, Ordering::SeqCst) < number {
+            self.latest.wake_all();
+        }
+    }
+
+    /// Waits while the number is the one that was seen, and at most for so long. It may return for no reason.
+    pub(crate) fn wait<R: Wait>(&self, rt: &R, seen: u64, most: Duration) {
+        self.latest
+            .park_timeout(rt, (seen & 0xffff_ffff) as u32, most);
+    }
+}
