@@ -29,11 +29,24 @@ fn open(
     clocks: (u32, u32),
     players: &str,
 ) -> Result<Call, AllocError> {
+    strict(alloc, id, game, clocks, 0, players)
+}
+
+/// An `Open` by which so many substitutions in a row retire a role.
+fn strict(
+    alloc: Global,
+    id: &str,
+    game: usize,
+    clocks: (u32, u32),
+    strikes: u32,
+    players: &str,
+) -> Result<Call, AllocError> {
     Ok(Call::Open {
         id: text(alloc, id)?,
         game,
         start: clocks.0,
         play: clocks.1,
+        strikes,
         players: names(alloc, players)?,
     })
 }
@@ -139,21 +152,23 @@ fn names_the_first_refusal_of_an_opening(rt: HostRuntime) -> Result<(), Fail> {
 fn refuses_openings<R: Abort>(rt: &R, alloc: Global, desk: &mut Desk) -> Result<(), Fail> {
     let long = "abcdefghijklmnopqrstuvwxyz-ABCDEFGHIJKLMNOPQRSTUVWXYZ_0123456789.";
     let openings = [
-        ("m", 0, (1, 1), "ann bob", None),
-        ("m", 0, (1, 1), "ann", Some(Refusal::IdUsed)),
-        ("m!", 9, (0, 0), "", Some(Refusal::BadId)),
-        ("", 0, (1, 1), "ann bob", Some(Refusal::BadId)),
-        (long, 0, (1, 1), "ann bob", Some(Refusal::BadId)),
-        ("n", 9, (0, 0), "", Some(Refusal::NoGame)),
-        ("n", 0, (0, 1), "ann", Some(Refusal::WrongPlayers)),
-        ("n", 0, (0, 1), "ann b@b", Some(Refusal::BadName)),
-        ("n", 0, (0, 1), "ann bob", Some(Refusal::BadClock)),
-        ("n", 0, (1, 86_401), "ann bob", Some(Refusal::BadClock)),
-        ("n", 0, (86_400, 1), "ann bob", None),
-        ("M", 0, (1, 1), "ann ann", None),
+        ("m", 0, (1, 1), 0, "ann bob", None),
+        ("m", 0, (1, 1), 0, "ann", Some(Refusal::IdUsed)),
+        ("m!", 9, (0, 0), 0, "", Some(Refusal::BadId)),
+        ("", 0, (1, 1), 0, "ann bob", Some(Refusal::BadId)),
+        (long, 0, (1, 1), 0, "ann bob", Some(Refusal::BadId)),
+        ("n", 9, (0, 0), 0, "", Some(Refusal::NoGame)),
+        ("n", 0, (0, 1), 0, "ann", Some(Refusal::WrongPlayers)),
+        ("n", 0, (0, 1), 0, "ann b@b", Some(Refusal::BadName)),
+        ("n", 0, (0, 1), 0, "ann bob", Some(Refusal::BadClock)),
+        ("n", 0, (1, 86_401), 0, "ann bob", Some(Refusal::BadClock)),
+        ("n", 0, (0, 1), 256, "ann bob", Some(Refusal::BadClock)),
+        ("n", 0, (1, 1), 256, "ann bob", Some(Refusal::BadStrikes)),
+        ("n", 0, (86_400, 1), 255, "ann bob", None),
+        ("M", 0, (1, 1), 0, "ann ann", None),
     ];
-    for (id, game, clocks, players, expected) in openings {
-        let opening = open(alloc, id, game, clocks, players);
+    for (id, game, clocks, strikes, players, expected) in openings {
+        let opening = strict(alloc, id, game, clocks, strikes, players);
         check_refusal(rt, desk, opening, expected, id)?;
     }
     assert_eq!(rt; desk.object().matches(), 3);
@@ -184,6 +199,8 @@ fn fills_the_desk<R: Abort>(rt: &R, alloc: Global, desk: &mut Desk) -> Result<()
     }
     let late = open(alloc, "late", 0, (1, 1), "ann bob");
     check_refusal(rt, desk, late, Some(Refusal::DeskFull), "late")?;
+    let strict = strict(alloc, "late", 0, (1, 1), 256, "ann bob");
+    check_refusal(rt, desk, strict, Some(Refusal::BadStrikes), "late")?;
     let used = open(alloc, "m1023", 0, (1, 1), "ann bob");
     check_refusal(rt, desk, used, Some(Refusal::IdUsed), "m1023")?;
     assert_eq!(rt; desk.object().matches(), 1_024);
@@ -382,7 +399,7 @@ fn play_side_by_side(alloc: Global, desk: &mut Desk) -> Result<(), Fail> {
 }
 
 /// What each refusal says.
-const REFUSALS: [(Refusal, &str); 13] = [
+const REFUSALS: [(Refusal, &str); 14] = [
     (Refusal::BadId, "the id is not lawful"),
     (Refusal::IdUsed, "the id is used"),
     (Refusal::NoGame, "there is no such game"),
@@ -392,6 +409,7 @@ const REFUSALS: [(Refusal, &str); 13] = [
     ),
     (Refusal::BadName, "a player's name is not lawful"),
     (Refusal::BadClock, "a clock is out of range"),
+    (Refusal::BadStrikes, "the number of strikes is out of range"),
     (Refusal::DeskFull, "the desk is full"),
     (Refusal::NoMatch, "there is no such match"),
     (Refusal::NoRole, "there is no such role"),

@@ -37,6 +37,7 @@ fn open(alloc: Global, number: u32) -> Result<Call, AllocError> {
         game: 0,
         start: 1,
         play: 1,
+        strikes: 0,
         players: players(alloc)?,
     })
 }
@@ -181,6 +182,7 @@ fn is_same_call(some: &Call, other: &Call) -> bool {
                 game,
                 start,
                 play,
+                strikes,
                 players,
             },
             Call::Open {
@@ -188,11 +190,12 @@ fn is_same_call(some: &Call, other: &Call) -> bool {
                 game: same_game,
                 start: same_start,
                 play: same_play,
+                strikes: same_strikes,
                 players: same_players,
             },
         ) => {
             id.as_slice() == same_id.as_slice()
-                && (game, start, play) == (same_game, same_start, same_play)
+                && (game, start, play, strikes) == (same_game, same_start, same_play, same_strikes)
                 && are_same_texts(players, same_players)
         }
         (Call::Query { id }, Call::Query { id: same }) => id.as_slice() == same.as_slice(),

@@ -5,14 +5,14 @@ use Rattle.std.proofs.lemmas.Bool.Decides.{nat_tests}
 use Rattle.std.specs.Prelude.{is_none, nat_lt, ◌==◌, if◌then◌else◌, ◌↔◌}
 use Rattle.game_core.specs.Play.{Rules, IsLawful, AreLegal}
 use Rattle.game_core.proofs.Plays.{AreLegal-push}
-use Rattle.match_book.specs.Roles.{every_role, is_there, blank}
+use Rattle.match_book.specs.Roles.{every_role, blank}
 use Rattle.match_book.specs.Marks.{mark_of}
 use Rattle.match_book.specs.AnswerReading.{answer_reading}
 use Rattle.match_book.specs.Judgement.{judgement, substitute, error_text, move_named, taken_or_substituted, judged_reading}
 use Rattle.match_book.specs.MatchValue.{MatchValue, state_after, joint_moves}
-use Rattle.match_book.specs.Phase.{stage, is_over, has_answered, round, is_live}
+use Rattle.match_book.specs.Phase.{stage, is_over, still_answers, answered_in, has_answered, round, is_live}
 use Rattle.match_book.specs.Lawful.{AreLawful, IsLawfulMatch}
-use Rattle.match_book.specs.Steps.{refusal, turn_of, with_answer_in, with_answer, with_open_answer, with_abort, after_answer}
+use Rattle.match_book.specs.Steps.{refusal, turn_of, parts, with_answer_in, with_answer, with_open_answer, with_abort, after_answer}
 use Rattle.match_book.specs.Laws.{NewMatchIsLawful, AnswersKeepLawful, AbortKeepsLawful, RecordedMovesAreLegal, NoErrorMeansNamed, IsPlayed, AnswersInPlay, AnswersOutOfPlay, TakenForTheRound}
 use Rattle.match_book.specs.declared.answer.Answer.{Answer}
 use Rattle.match_book.specs.declared.answer.Answer.TheVariants.{Text, Silent, Broken}
@@ -20,12 +20,13 @@ use Rattle.match_book.specs.declared.answer.AnswerRefusal.{AnswerRefusal}
 use Rattle.match_book.specs.declared.answer.AnswerRefusal.TheVariants.{NoRole, Over, Stale, Twice}
 use Rattle.match_book.specs.declared.judgement.Judgement.{Judgement}
 use Rattle.match_book.specs.declared.judgement.Substitution.{Substitution}
-use Rattle.match_book.specs.declared.judgement.Substitution.TheVariants.{TimeOut, ConnectionError, Unreadable, Illegal}
+use Rattle.match_book.specs.declared.judgement.Substitution.TheVariants.{TimeOut, ConnectionError, Unreadable, Illegal, Retired}
 use Rattle.match_book.specs.declared.turn.Turn.{Turn}
 use Rattle.match_book.specs.declared.phase.Stage.{Stage}
 use Rattle.match_book.specs.declared.phase.Stage.TheVariants.{Starting, Playing, Stopping, Aborting}
 use Rattle.match_book.proofs.Judgements.{judgement-judged, substitute-is, first-contains, move_named-none, move_named-text}
 use Rattle.match_book.proofs.TurnParts.{some_of}
+use Rattle.match_book.proofs.Stages.{not_answered-parts}
 use Rattle.match_book.proofs.LawfulMatches.{lawful-new_match, lawful-with_start_mark, lawful-with_end_mark, lawful-with_abort, answer-judged, lawful-open_answer, lawful-recorded}
 
 pub new_match_is_lawful : {S M : Type 0} (g : Rules S M) → IsLawful g → NewMatchIsLawful g
@@ -63,37 +64,41 @@ taken g m role n e = not_refused role g.roles n (round g m) (is_over g m) (has_a
 pub taken_for_the_round : {S M : Type 0} (g : Rules S M) → TakenForTheRound g
 taken_for_the_round g m role n e = let parts = taken g m role n e in (parts.0, parts.1)
 
+-- a role that has not answered in play still answers
+pub still-answers : {S M : Type 0} (g : Rules S M) (m : MatchValue M) (role : ℕ) → has_answered g m role ≡ false → stage g m ≡ Playing → still_answers m role ≡ true
+still-answers g m role free playing = (not_answered-parts m role (subst (λ (x : Stage). answered_in x m role ≡ false) playing free)).0
+
 module _ {S M : Type 0} (g : Rules S M) (laws : IsLawful g) (m : MatchValue M) (lawful : IsLawfulMatch g m) (role : ℕ) (lt : role < g.roles) (answer : Answer) where
-  module _ (playing : stage g m ≡ Playing) where
-    played_as : (j : Judgement M) → judgement g (state_after g m.turns) role answer ≡ Some j → (all : Bool) → every_role g.roles (is_there (set m.open_answers role (Some j))) ≡ all → (n : MatchValue M)
-        → n ≡ (if all then record m { turns = m.turns ++ turn_of (set m.open_answers role (Some j)) ∷ []; open_answers = blank g.roles } else record m { open_answers = set m.open_answers role (Some j) })
+  module _ (playing : stage g m ≡ Playing) (answers : still_answers m role ≡ true) where
+    played_as : (j : Judgement M) → judgement g (state_after g m.turns) role answer ≡ Some j → (all : Bool) → every_role g.roles (answered_in Playing (record m { open_answers = set m.open_answers role (Some j) })) ≡ all → (n : MatchValue M)
+        → n ≡ (if all then record m { turns = m.turns ++ turn_of (parts g (record m { open_answers = set m.open_answers role (Some j) })) ∷ []; open_answers = blank g.roles } else record m { open_answers = set m.open_answers role (Some j) })
         → IsPlayed g m n role answer × IsLawfulMatch g n
     played_as j is true all n e =
         let judged = judgement-judged g (state_after g m.turns) role answer j is in
-        (record { judged = j; is_judgement = is; opened_or_recorded = inr e }, subst (λ (x : MatchValue M). IsLawfulMatch g x) (sym e) (lawful-recorded g laws m lawful playing role lt j judged all))
+        (record { judged = j; is_judgement = is; opened_or_recorded = inr e }, subst (λ (x : MatchValue M). IsLawfulMatch g x) (sym e) (lawful-recorded g laws m lawful playing role lt j answers judged all))
     played_as j is false missing n e =
         let judged = judgement-judged g (state_after g m.turns) role answer j is in
-        (record { judged = j; is_judgement = is; opened_or_recorded = inl e }, subst (λ (x : MatchValue M). IsLawfulMatch g x) (sym e) (lawful-open_answer g laws m lawful playing role lt j judged missing))
+        (record { judged = j; is_judgement = is; opened_or_recorded = inl e }, subst (λ (x : MatchValue M). IsLawfulMatch g x) (sym e) (lawful-open_answer g laws m lawful playing role lt j answers judged missing))
 
     played : (n : MatchValue M) → n ≡ with_open_answer g m role (judgement g (state_after g m.turns) role answer) → IsPlayed g m n role answer × IsLawfulMatch g n
     played n e =
         let found = some_of (judgement g (state_after g m.turns) role answer) (answer-judged g laws m lawful playing role lt answer) in
-        played_as found.0 found.1 (every_role g.roles (is_there (set m.open_answers role (Some found.0)))) refl n (e ∙ ap (λ o. with_open_answer g m role o) found.1)
+        played_as found.0 found.1 (every_role g.roles (answered_in Playing (record m { open_answers = set m.open_answers role (Some found.0) }))) refl n (e ∙ ap (λ o. with_open_answer g m role o) found.1)
 
-  with_answer_in-lawful : (at : Stage) → stage g m ≡ at → IsLawfulMatch g (with_answer_in at g m role answer)
-  with_answer_in-lawful Starting e = lawful-with_start_mark g laws m lawful role (mark_of answer) e
-  with_answer_in-lawful Playing e = (played e (with_open_answer g m role (judgement g (state_after g m.turns) role answer)) refl).1
-  with_answer_in-lawful Stopping e = lawful-with_end_mark g laws m lawful role (mark_of answer) (rw e refl)
-  with_answer_in-lawful (Aborting c) e = lawful-with_end_mark g laws m lawful role (mark_of answer) (rw e refl)
+  with_answer_in-lawful : has_answered g m role ≡ false → (at : Stage) → stage g m ≡ at → IsLawfulMatch g (with_answer_in at g m role answer)
+  with_answer_in-lawful free Starting e = lawful-with_start_mark g laws m lawful role (mark_of answer) e
+  with_answer_in-lawful free Playing e = (played e (still-answers g m role free e) (with_open_answer g m role (judgement g (state_after g m.turns) role answer)) refl).1
+  with_answer_in-lawful free Stopping e = lawful-with_end_mark g laws m lawful role (mark_of answer) (rw e refl)
+  with_answer_in-lawful free (Aborting c) e = lawful-with_end_mark g laws m lawful role (mark_of answer) (rw e refl)
 
-  with_answer-lawful : IsLawfulMatch g (with_answer g m role answer)
-  with_answer-lawful = with_answer_in-lawful (stage g m) refl
+  with_answer-lawful : has_answered g m role ≡ false → IsLawfulMatch g (with_answer g m role answer)
+  with_answer-lawful free = with_answer_in-lawful free (stage g m) refl
 
 pub answers_keep_lawful : {S M : Type 0} (g : Rules S M) → IsLawful g → AnswersKeepLawful g
 answers_keep_lawful {S} {M} g laws m role n answer lawful = step (refusal g m role n) refl
   where
     step : (o : Option AnswerRefusal) → refusal g m role n ≡ o → IsLawfulMatch g (if is_none o then with_answer g m role answer else m)
-    step None e = with_answer-lawful g laws m lawful role (taken g m role n e).0 answer
+    step None e = let parts = taken g m role n e in with_answer-lawful g laws m lawful role parts.0 answer parts.3
     step (Some f) e = lawful
 
 taken_or_same : {M : Type 0} (o : Option AnswerRefusal) (m n : MatchValue M) → o ≡ None → (if is_none o then n else m) ≡ n
@@ -105,7 +110,8 @@ answers_in_play {S} {M} g laws m role n answer lawful playing none =
     let now : after_answer g m role n answer ≡ with_open_answer g m role (judgement g (state_after g m.turns) role answer) =
     taken_or_same (refusal g m role n) m (with_answer g m role answer) none ∙ ap (λ (x : Stage). with_answer_in x g m role answer) playing
     in
-    (played g laws m lawful role (taken g m role n none).0 answer playing (after_answer g m role n answer) now).0
+    let parts = taken g m role n none in
+    (played g laws m lawful role parts.0 answer playing (still-answers g m role parts.3 playing) (after_answer g m role n answer) now).0
 
 pub answers_out_of_play : {S M : Type 0} (g : Rules S M) → AnswersOutOfPlay g
 answers_out_of_play {S} {M} g m role n answer out = step (refusal g m role n) (stage g m) out
@@ -118,28 +124,29 @@ answers_out_of_play {S} {M} g m role n answer out = step (refusal g m role n) (s
     step None Stopping out = (refl, refl)
     step None (Aborting c) out = (refl, refl)
 
-prefix_is_legal : {S M : Type 0} (g : Rules S M) (turns : List (Turn M)) → AreLawful g turns → (k : ℕ) (d : Turn M) → k ≤ length turns → AreLegal g (joint_moves (take k turns))
-prefix_is_legal g turns lawful zero d le = tt
-prefix_is_legal {S} {M} g turns lawful (suc k) d le =
+prefix_is_legal : {S M : Type 0} (g : Rules S M) (strikes : ℕ) (turns : List (Turn M)) → AreLawful g strikes turns → (k : ℕ) (d : Turn M) → k ≤ length turns → AreLegal g (joint_moves (take k turns))
+prefix_is_legal g strikes turns lawful zero d le = tt
+prefix_is_legal {S} {M} g strikes turns lawful (suc k) d le =
     let t = slice_index_or turns k d in
     let turn = lawful k d (omega arith) in
     let more : take (suc k) turns ≡ take k turns ++ t ∷ [] = subst (λ (n : ℕ). take n turns ≡ take k turns ++ t ∷ []) (add-one k) (take_more turns k d (omega arith)) in
     let moves : joint_moves (take (suc k) turns) ≡ joint_moves (take k turns) ++ t.moves ∷ [] = ap joint_moves more ∙ map-append (λ u. u.moves) (take k turns) (t ∷ []) in
-    subst (λ (x : List (List M)). AreLegal g x) (sym moves) (AreLegal-push g (joint_moves (take k turns)) t.moves (prefix_is_legal g turns lawful k d (omega arith)) turn.goes_on turn.joint)
+    subst (λ (x : List (List M)). AreLegal g x) (sym moves) (AreLegal-push g (joint_moves (take k turns)) t.moves (prefix_is_legal g strikes turns lawful k d (omega arith)) turn.goes_on turn.joint)
 
-AreLawful-legal : {S M : Type 0} (g : Rules S M) (turns : List (Turn M)) → AreLawful g turns → AreLegal g (joint_moves turns)
-AreLawful-legal g [] lawful = tt
-AreLawful-legal {S} {M} g (t ∷ ts) lawful =
-    subst (λ (x : List (Turn M)). AreLegal g (joint_moves x)) (take_all (length (t ∷ ts)) (t ∷ ts) (omega arith)) (prefix_is_legal g (t ∷ ts) lawful (length (t ∷ ts)) t (omega arith))
+AreLawful-legal : {S M : Type 0} (g : Rules S M) (strikes : ℕ) (turns : List (Turn M)) → AreLawful g strikes turns → AreLegal g (joint_moves turns)
+AreLawful-legal g strikes [] lawful = tt
+AreLawful-legal {S} {M} g strikes (t ∷ ts) lawful =
+    subst (λ (x : List (Turn M)). AreLegal g (joint_moves x)) (take_all (length (t ∷ ts)) (t ∷ ts) (omega arith)) (prefix_is_legal g strikes (t ∷ ts) lawful (length (t ∷ ts)) t (omega arith))
 
 pub recorded_moves_are_legal : {S M : Type 0} (g : Rules S M) → RecordedMovesAreLegal g
-recorded_moves_are_legal g m lawful = AreLawful-legal g m.turns lawful.turns
+recorded_moves_are_legal g m lawful = AreLawful-legal g m.setup.strikes m.turns lawful.turns
 
 error_text-some : (why : Substitution) → error_text why ≢ []
 error_text-some TimeOut e = absurd cc
 error_text-some ConnectionError e = absurd cc
 error_text-some Unreadable e = absurd cc
 error_text-some (Illegal x) e = absurd cc
+error_text-some Retired e = absurd cc
 
 -- a substituted move has an error, and is not the one that the answer names
 substituted : {S M : Type 0} (g : Rules S M) (moves : List M) (why : Substitution) (j : Judgement M) (N : Type 0) → substitute moves why ≡ Some j → (N → ⊥) → (j.error ≡ []) ↔ N

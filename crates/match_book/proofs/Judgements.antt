@@ -73,7 +73,7 @@ judgement-judged g s r (Text t) j is = text-judged g (g.legal s r) t j (answer_r
 judgement-judged g s r Silent j is = substitute-judged g (g.legal s r) TimeOut j tt is
 judgement-judged g s r Broken j is = substitute-judged g (g.legal s r) ConnectionError j tt is
 
-substitute-some : {M : Type 0} (moves : List M) (why : Substitution) → (length moves == 0) ≡ false → IsSome (substitute moves why)
+pub substitute-some : {M : Type 0} (moves : List M) (why : Substitution) → (length moves == 0) ≡ false → IsSome (substitute moves why)
 substitute-some [] why some = absurd cc
 substitute-some (m ∷ ms) why some = refl
 

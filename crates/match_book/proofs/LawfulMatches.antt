@@ -2,25 +2,27 @@
 use Rattle.std.proofs.Common.{◌≡◌, ◌≢◌, ℕ, ◌+◌, ◌<◌, ◌≤◌, Bool, true, false, eqb, Option, Some, None, List, [], ◌∷◌, ◌++◌, length, set, refl, arith, ap, sym, ◌∙◌, subst, inl, inr, ◌⊎◌, Contains, length-append, length-set}
 use Rattle.std.proofs.lemmas.List.{length-map, length-replicate}
 use Rattle.std.proofs.lemmas.Bool.Decides.{nat_tests}
-use Rattle.std.specs.Prelude.{IsSome, nat_le}
+use Rattle.std.specs.Prelude.{IsSome, is_some, nat_le, slice_get, not, if◌then◌else◌}
 use Rattle.game_core.specs.Play.{Rules, IsLawful}
-use Rattle.match_book.specs.Roles.{every_role, at_role, is_there, blank, present}
-use Rattle.match_book.specs.Judgement.{judgement, IsJudged}
+use Rattle.match_book.specs.Roles.{every_role, lowest_role, at_role, is_there, blank, present}
+use Rattle.match_book.specs.Judgement.{judgement, substitute, IsJudged, IsPart}
+use Rattle.match_book.specs.Retirement.{is_retired, are_all_retired}
 use Rattle.match_book.specs.MatchValue.{MatchValue, state_after}
-use Rattle.match_book.specs.Phase.{stage, settled, answered_in, is_live, max_turns, has_no_move, is_playing}
+use Rattle.match_book.specs.Phase.{stage, settled, still_answers, answered_in, is_live, max_turns, has_no_move, is_playing}
 use Rattle.match_book.specs.Lawful.{IsLawfulTurn, AreLawful, IsLawfulMatch}
-use Rattle.match_book.specs.Steps.{new_match, with_abort, with_start_mark, with_end_mark, turn_of}
+use Rattle.match_book.specs.Steps.{new_match, with_abort, with_start_mark, with_end_mark, turn_of, part, parts}
 use Rattle.match_book.specs.declared.setup.Setup.{Setup}
 use Rattle.match_book.specs.declared.answer.Answer.{Answer}
 use Rattle.match_book.specs.declared.answer.Mark.{Mark}
 use Rattle.match_book.specs.declared.judgement.Judgement.{Judgement}
+use Rattle.match_book.specs.declared.judgement.Substitution.TheVariants.{Retired}
 use Rattle.match_book.specs.declared.phase.Stage.{Stage}
 use Rattle.match_book.specs.declared.phase.Stage.TheVariants.{Starting, Playing, Stopping, Aborting}
 use Rattle.match_book.specs.declared.phase.Cause.TheVariants.{Asked}
-use Rattle.match_book.proofs.RoleTests.{every_role-but, every_role-at, at_role-set, at_role-other, at_role-blank, is_there-blank, lowest_role-none}
-use Rattle.match_book.proofs.Judgements.{judgement-some}
-use Rattle.match_book.proofs.TurnParts.{length-present, present-at, some_of}
-use Rattle.match_book.proofs.Stages.{stage-by, stage-asked, live-not_asked, starting-missing, playing-live, playing-settled, settled-playing}
+use Rattle.match_book.proofs.RoleTests.{every_role-at, every_role-same, at_role-set, at_role-other, at_role-blank, lowest_role-none, same_or_other, length-of_each_role, get-of_each_role}
+use Rattle.match_book.proofs.Judgements.{judgement-some, substitute-is, substitute-some, first-contains}
+use Rattle.match_book.proofs.TurnParts.{length-present, present-at, present-get, some_of}
+use Rattle.match_book.proofs.Stages.{stage-by, stage-asked, live-not_asked, starting-missing, playing-live, playing-settled, settled-playing, answered_in-retired}
 use Rattle.match_book.proofs.LawfulTurns.{AreLawful-push}
 
 pub none_blank : {A : Type 0} (n r : ℕ) (x : A) → at_role (blank n) r ≡ Some x → ⊥
@@ -29,28 +31,20 @@ none_blank {A} n r x e = let w : Some x ≡ None = sym e ∙ at_role-blank A n r
 less-max : (n : ℕ) → nat_le max_turns n ≡ false → n < max_turns
 less-max n e = grind (arith, nat_tests)
 
-pub same_or_other : (k r : ℕ) → (k ≡ r) ⊎ (k ≢ r)
-same_or_other k r = step (eqb k r) refl
-  where
-    same : (k r : ℕ) → eqb k r ≡ true → k ≡ r
-    same k r e = grind (arith, nat_tests)
-
-    other : (k r : ℕ) → eqb k r ≡ false → k ≢ r
-    other k r e = grind (arith, nat_tests)
-
-    step : (b : Bool) → eqb k r ≡ b → (k ≡ r) ⊎ (k ≢ r)
-    step true e = inl (same k r e)
-    step false e = inr (other k r e)
-
 ended-not_playing : (at : Stage) → is_live at ≡ false → is_playing at ≡ false
 ended-not_playing Starting e = absurd cc
 ended-not_playing Playing e = absurd cc
 ended-not_playing Stopping e = refl
 ended-not_playing (Aborting c) e = refl
 
+-- a role's part of a turn, by whether the role is retired
+record IsGiven {S M : Type 0} (g : Rules S M) (retired : Bool) (moves : List M) (i : Judgement M) : Type 0 where
+  pub among : Contains moves i.taken
+  pub fits : IsPart g retired moves i.taken i.error
+
 -- a match with no open answer and no end mark
 pub lawful-round_begun : {S M : Type 0} (g : Rules S M) → IsLawful g → (m : MatchValue M) → length m.setup.players ≡ g.roles → length m.start_marks ≡ g.roles → m.abort_asked ≡ false
-    → m.open_answers ≡ blank g.roles → m.end_marks ≡ blank g.roles → AreLawful g m.turns → length m.turns ≤ max_turns → (every_role g.roles (is_there m.start_marks) ≡ false → m.turns ≡ []) → IsLawfulMatch g m
+    → m.open_answers ≡ blank g.roles → m.end_marks ≡ blank g.roles → AreLawful g m.setup.strikes m.turns → length m.turns ≤ max_turns → (every_role g.roles (is_there m.start_marks) ≡ false → m.turns ≡ []) → IsLawfulMatch g m
 lawful-round_begun {S} {M} g laws m players starts asked answers ends turns few after =
     record {
       one_player = players;
@@ -63,8 +57,10 @@ lawful-round_begun {S} {M} g laws m players starts asked answers ends turns few 
       judged = λ r j lt e. absurd (none_blank g.roles r j (rw answers at e));
       answers_in_play = λ _. answers;
       round_is_open = λ e.
-          let free : answered_in Playing m 0 ≡ false = rw answers (is_there-blank (Judgement M) g.roles 0) in
-          subst (λ (at : Stage). every_role g.roles (answered_in at m) ≡ false) (sym (playing-live (stage g m) e)) (every_role-but g.roles 0 (answered_in Playing m) laws.some_role free);
+          let playing : stage g m ≡ Playing = playing-live (stage g m) e in
+          let not_all : are_all_retired g.roles m ≡ false = (settled-playing g (length m.turns) (are_all_retired g.roles m) (state_after g m.turns) (playing-settled g m playing).1).3 in
+          let none : every_role g.roles (answered_in Playing m) ≡ false = every_role-same g.roles (is_retired m) (answered_in Playing m) (λ k lt. answered_in-retired m g.roles k answers) ∙ not_all in
+          subst (λ (at : Stage). every_role g.roles (answered_in at m) ≡ false) (sym playing) none;
       ends_at_end = λ _. ends;
       asked_when_live = λ e. absurd cc;
     }
@@ -82,7 +78,7 @@ module _ {S M : Type 0} (g : Rules S M) (laws : IsLawful g) (m : MatchValue M) (
 
   pub lawful-with_end_mark : (r : ℕ) (mark : Mark) → is_live (stage g m) ≡ false → IsLawfulMatch g (with_end_mark m r mark)
   lawful-with_end_mark r mark ended =
-      let same : stage g (with_end_mark m r mark) ≡ stage g m = stage-by g m (with_end_mark m r mark) refl refl refl in
+      let same : stage g (with_end_mark m r mark) ≡ stage g m = stage-by g m (with_end_mark m r mark) refl refl refl refl in
       let playing : is_playing (stage g m) ≡ false = ended-not_playing (stage g m) ended in
       record {
         one_player = lawful.one_player;
@@ -96,13 +92,13 @@ module _ {S M : Type 0} (g : Rules S M) (laws : IsLawful g) (m : MatchValue M) (
         answers_in_play = λ _. lawful.answers_in_play playing;
         round_is_open = λ e. absurd (let w : false ≡ true = sym playing ∙ rw same at e in cc);
         ends_at_end = λ e. absurd (let w : false ≡ true = sym ended ∙ rw same at e in cc);
-        asked_when_live = λ e. rw (stage-by g (record m { abort_asked = false }) (record (with_end_mark m r mark) { abort_asked = false }) refl refl refl) (lawful.asked_when_live e);
+        asked_when_live = λ e. rw (stage-by g (record m { abort_asked = false }) (record (with_end_mark m r mark) { abort_asked = false }) refl refl refl refl) (lawful.asked_when_live e);
       }
 
   pub lawful-with_abort : is_live (stage g m) ≡ true → IsLawfulMatch g (with_abort g m)
   lawful-with_abort live =
       let aborting : stage g (with_abort g m) ≡ Aborting Asked = stage-asked g (with_abort g m) refl in
-      let before : stage g (record (with_abort g m) { abort_asked = false }) ≡ stage g m = stage-by g m (record (with_abort g m) { abort_asked = false }) (sym (live-not_asked g m live)) refl refl in
+      let before : stage g (record (with_abort g m) { abort_asked = false }) ≡ stage g m = stage-by g m (record (with_abort g m) { abort_asked = false }) refl (sym (live-not_asked g m live)) refl refl in
       record {
         one_player = lawful.one_player;
         one_start_mark = lawful.one_start_mark;
@@ -119,16 +115,20 @@ module _ {S M : Type 0} (g : Rules S M) (laws : IsLawful g) (m : MatchValue M) (
       }
 
   module _ (playing : stage g m ≡ Playing) (r : ℕ) (lt : r < g.roles) where
-    settles : settled g (length m.turns) (state_after g m.turns) ≡ Playing
+    settles : settled g (length m.turns) (are_all_retired g.roles m) (state_after g m.turns) ≡ Playing
     settles = (playing-settled g m playing).1
+
+    plays : (g.terminal (state_after g m.turns) ≡ false) × (nat_le max_turns (length m.turns) ≡ false) × (lowest_role g.roles (has_no_move g (state_after g m.turns)) ≡ None) × (are_all_retired g.roles m ≡ false)
+    plays = settled-playing g (length m.turns) (are_all_retired g.roles m) (state_after g m.turns) settles
+
+    has_move : (k : ℕ) → k < g.roles → has_no_move g (state_after g m.turns) k ≡ false
+    has_move k below = lowest_role-none g.roles k (has_no_move g (state_after g m.turns)) plays.2 below
 
     -- each role has a legal move, so each answer is judged
     pub answer-judged : (a : Answer) → IsSome (judgement g (state_after g m.turns) r a)
-    answer-judged a =
-        let moves = (settled-playing g (length m.turns) (state_after g m.turns) settles).2 in
-        judgement-some g (state_after g m.turns) r a (lowest_role-none g.roles r (has_no_move g (state_after g m.turns)) moves lt)
+    answer-judged a = judgement-some g (state_after g m.turns) r a (has_move r lt)
 
-    module _ (j : Judgement M) (judged : IsJudged g (g.legal (state_after g m.turns) r) j.taken j.error) where
+    module _ (j : Judgement M) (answers : still_answers m r ≡ true) (judged : IsJudged g (g.legal (state_after g m.turns) r) j.taken j.error) where
       -- the open answers, with this one
       more : List (Option (Judgement M))
       more = set m.open_answers r (Some j)
@@ -137,23 +137,23 @@ module _ {S M : Type 0} (g : Rules S M) (laws : IsLawful g) (m : MatchValue M) (
       unfolding more
       more-wide = length-set m.open_answers r (Some j) ∙ lawful.one_open_answer
 
-      more-judged : (k : ℕ) (i : Judgement M) → k < g.roles → at_role more k ≡ Some i → IsJudged g (g.legal (state_after g m.turns) k) i.taken i.error
+      more-judged : (k : ℕ) (i : Judgement M) → k < g.roles → at_role more k ≡ Some i → (still_answers m k ≡ true) × IsJudged g (g.legal (state_after g m.turns) k) i.taken i.error
       unfolding more
       more-judged k i lt' e =
           elim (same_or_other k r) [
             | inl same ↦
                 let e' : Some j ≡ Some i = sym (at_role-set m.open_answers r (Some j) (omega (arith, lawful.one_open_answer))) ∙ (ap (at_role more) (sym same) ∙ e) in
                 let w : j ≡ i = cc in
-                subst (λ (x : ℕ). IsJudged g (g.legal (state_after g m.turns) x) i.taken i.error) (sym same)
-                (subst (λ (x : Judgement M). IsJudged g (g.legal (state_after g m.turns) r) x.taken x.error) w judged)
+                subst (λ (x : ℕ). (still_answers m x ≡ true) × IsJudged g (g.legal (state_after g m.turns) x) i.taken i.error) (sym same)
+                (answers, subst (λ (x : Judgement M). IsJudged g (g.legal (state_after g m.turns) r) x.taken x.error) w judged)
             | inr other ↦ lawful.judged k i lt' (sym (at_role-other m.open_answers r k (Some j) other) ∙ e)
           ]
 
       -- an answer that is not the last
-      pub lawful-open_answer : every_role g.roles (is_there (set m.open_answers r (Some j))) ≡ false → IsLawfulMatch g (record m { open_answers = set m.open_answers r (Some j) })
+      pub lawful-open_answer : every_role g.roles (answered_in Playing (record m { open_answers = set m.open_answers r (Some j) })) ≡ false → IsLawfulMatch g (record m { open_answers = set m.open_answers r (Some j) })
       unfolding more
       lawful-open_answer missing =
-          let same : stage g (record m { open_answers = set m.open_answers r (Some j) }) ≡ stage g m = stage-by g m (record m { open_answers = set m.open_answers r (Some j) }) refl refl refl in
+          let same : stage g (record m { open_answers = set m.open_answers r (Some j) }) ≡ stage g m = stage-by g m (record m { open_answers = set m.open_answers r (Some j) }) refl refl refl refl in
           let now : stage g (record m { open_answers = set m.open_answers r (Some j) }) ≡ Playing = same ∙ playing in
           record {
             one_player = lawful.one_player;
@@ -170,36 +170,78 @@ module _ {S M : Type 0} (g : Rules S M) (laws : IsLawful g) (m : MatchValue M) (
             asked_when_live = λ e. absurd (let w : true ≡ false = sym e ∙ live-not_asked g m (rw playing refl) in cc);
           }
 
-      module _ (all : every_role g.roles (is_there (set m.open_answers r (Some j))) ≡ true) where
-        more-all : (k : ℕ) → k < length more → is_there more k ≡ true
+      module _ (all : every_role g.roles (answered_in Playing (record m { open_answers = set m.open_answers r (Some j) })) ≡ true) where
+        -- what each role gives to the turn may stand there
+        given : (k : ℕ) → k < g.roles → (i : Judgement M) × (part g (record m { open_answers = set m.open_answers r (Some j) }) k ≡ Some i) × IsGiven g (is_retired m k) (g.legal (state_after g m.turns) k) i
         unfolding more
-        more-all k lt' = every_role-at g.roles k (is_there more) all (omega (arith, more-wide))
+        given k lt' = step (is_retired m k) refl (every_role-at g.roles k (answered_in Playing (record m { open_answers = set m.open_answers r (Some j) })) all lt')
+          where
+            step : (b : Bool) → is_retired m k ≡ b → (if not b then is_there (set m.open_answers r (Some j)) k else true) ≡ true
+                → (i : Judgement M) × ((if not b then at_role (set m.open_answers r (Some j)) k else substitute (g.legal (state_after g m.turns) k) Retired) ≡ Some i)
+                × IsGiven g b (g.legal (state_after g m.turns) k) i
+            step true is there =
+                let found = some_of (substitute (g.legal (state_after g m.turns) k) Retired) (substitute-some (g.legal (state_after g m.turns) k) Retired (has_move k lt')) in
+                let first = substitute-is (g.legal (state_after g m.turns) k) Retired found.0 found.1 in
+                (found.0, found.1, record { among = first-contains (g.legal (state_after g m.turns) k) found.0.taken first.0; fits = first })
+            step false is there =
+                let found = some_of (at_role (set m.open_answers r (Some j)) k) there in
+                let judged' = more-judged k found.0 lt' found.1 in
+                (found.0, found.1, record { among = judged'.1.0; fits = judged'.1 })
+
+        -- the parts of all roles
+        all_parts : List (Option (Judgement M))
+        all_parts = parts g (record m { open_answers = set m.open_answers r (Some j) })
+
+        parts-wide : length all_parts ≡ g.roles
+        unfolding all_parts
+        parts-wide = length-of_each_role g.roles (part g (record m { open_answers = set m.open_answers r (Some j) }))
+
+        parts-at : (k : ℕ) → k < g.roles → at_role all_parts k ≡ part g (record m { open_answers = set m.open_answers r (Some j) }) k
+        unfolding all_parts
+        parts-at k lt' = get-of_each_role g.roles (part g (record m { open_answers = set m.open_answers r (Some j) })) k None lt'
+
+        parts-all : (k : ℕ) → k < length all_parts → is_there all_parts k ≡ true
+        parts-all k lt' =
+            let below : k < g.roles = omega (arith, parts-wide) in
+            ap is_some (parts-at k below ∙ (given k below).1)
+
+        -- what a role gives stands in its place of the turn
+        pub turn-move : (q : ℕ) → q < g.roles → (i : Judgement M) → part g (record m { open_answers = set m.open_answers r (Some j) }) q ≡ Some i
+            → slice_get (turn_of (parts g (record m { open_answers = set m.open_answers r (Some j) }))).moves q ≡ Some i.taken
+        unfolding all_parts
+        turn-move q lt' i is = present-get (λ k. k.taken) all_parts q i parts-all (omega (arith, parts-wide)) (parts-at q lt' ∙ is)
+
+        pub turn-error : (q : ℕ) → q < g.roles → (i : Judgement M) → part g (record m { open_answers = set m.open_answers r (Some j) }) q ≡ Some i
+            → slice_get (turn_of (parts g (record m { open_answers = set m.open_answers r (Some j) }))).errors q ≡ Some i.error
+        unfolding all_parts
+        turn-error q lt' i is = present-get (λ k. k.error) all_parts q i parts-all (omega (arith, parts-wide)) (parts-at q lt' ∙ is)
 
         -- the answers of all roles make a lawful turn
-        pub lawful-turn : IsLawfulTurn g m.turns (turn_of (set m.open_answers r (Some j)))
-        unfolding more
+        pub lawful-turn : IsLawfulTurn g m.setup.strikes m.turns (turn_of (parts g (record m { open_answers = set m.open_answers r (Some j) })))
+        unfolding all_parts
         lawful-turn = record {
-          goes_on = (settled-playing g (length m.turns) (state_after g m.turns) settles).0;
+          goes_on = plays.0;
+          some_answer = plays.3;
           joint = record {
-            width = length-map (present more) (λ i. i.taken) ∙ (length-present more more-all ∙ more-wide);
+            width = length-map (present all_parts) (λ i. i.taken) ∙ (length-present all_parts parts-all ∙ parts-wide);
             legal = λ q d lt'.
-                let found = some_of (at_role more q) (more-all q (omega (arith, more-wide))) in
-                subst (λ (x : M). Contains (g.legal (state_after g m.turns) q) x) (sym (present-at (λ i. i.taken) more q d found.0 more-all (omega (arith, more-wide)) found.1)) (more-judged q found.0 lt' found.1).0;
+                let found = given q lt' in
+                subst (λ (x : M). Contains (g.legal (state_after g m.turns) q) x) (sym (present-at (λ i. i.taken) all_parts q d found.0 parts-all (omega (arith, parts-wide)) (parts-at q lt' ∙ found.1))) found.2.among;
           };
-          one_error = length-map (present more) (λ i. i.error) ∙ (length-present more more-all ∙ more-wide);
+          one_error = length-map (present all_parts) (λ i. i.error) ∙ (length-present all_parts parts-all ∙ parts-wide);
           judged = λ q d lt'.
-              let found = some_of (at_role more q) (more-all q (omega (arith, more-wide))) in
-              let moves = present-at (λ i. i.taken) more q d found.0 more-all (omega (arith, more-wide)) found.1 in
-              let errors = present-at (λ i. i.error) more q [] found.0 more-all (omega (arith, more-wide)) found.1 in
-              rw (moves, errors) (more-judged q found.0 lt' found.1);
+              let found = given q lt' in
+              let moves = present-at (λ i. i.taken) all_parts q d found.0 parts-all (omega (arith, parts-wide)) (parts-at q lt' ∙ found.1) in
+              let errors = present-at (λ i. i.error) all_parts q [] found.0 parts-all (omega (arith, parts-wide)) (parts-at q lt' ∙ found.1) in
+              rw (moves, errors) found.2.fits;
         }
 
         -- the last answer
-        pub lawful-recorded : IsLawfulMatch g (record m { turns = m.turns ++ turn_of (set m.open_answers r (Some j)) ∷ []; open_answers = blank g.roles })
+        pub lawful-recorded : IsLawfulMatch g (record m { turns = m.turns ++ turn_of (parts g (record m { open_answers = set m.open_answers r (Some j) })) ∷ []; open_answers = blank g.roles })
         lawful-recorded =
-            let t = turn_of (set m.open_answers r (Some j)) in
-            let long : length m.turns < max_turns = less-max (length m.turns) (settled-playing g (length m.turns) (state_after g m.turns) settles).1 in
+            let t = turn_of (parts g (record m { open_answers = set m.open_answers r (Some j) })) in
+            let long : length m.turns < max_turns = less-max (length m.turns) plays.1 in
             let wide : length (m.turns ++ t ∷ []) ≡ length m.turns + 1 = length-append m.turns (t ∷ []) in
             let started : every_role g.roles (is_there m.start_marks) ≡ true = (playing-settled g m playing).0 in
             lawful-round_begun g laws (record m { turns = m.turns ++ t ∷ []; open_answers = blank g.roles }) lawful.one_player lawful.one_start_mark (live-not_asked g m (rw playing refl)) refl
-            (lawful.ends_at_end (rw playing refl)) (AreLawful-push g m.turns t lawful.turns lawful-turn) (omega arith) (λ e. absurd (let w : true ≡ false = sym started ∙ e in cc))
+            (lawful.ends_at_end (rw playing refl)) (AreLawful-push g m.setup.strikes m.turns t lawful.turns lawful-turn) (omega arith) (λ e. absurd (let w : true ≡ false = sym started ∙ e in cc))

@@ -1,11 +1,13 @@
 -- What lawful turns keep.
-use Rattle.std.proofs.Common.{◌≡◌, ℕ, zero, suc, ◌*◌, ◌<◌, ◌≤◌, List, [], ◌∷◌, ◌++◌, length, take, slice_index_or, refl, arith, ap, sym, ◌∙◌, subst, inl, inr, length-append, add-one}
+use Rattle.std.proofs.Common.{◌≡◌, Bool, false, ℕ, zero, suc, ◌*◌, ◌<◌, ◌≤◌, List, [], ◌∷◌, ◌++◌, length, take, slice_index_or, refl, arith, ap, sym, ◌∙◌, subst, inl, inr, length-append, add-one}
 use Rattle.std.proofs.lemmas.List.{map-append, take-append-le, take_all, take_more, get_or_append_left}
 use Rattle.std.proofs.lemmas.List.Sums.{count_by-le-length, sum_by-le}
 use Rattle.std.proofs.lemmas.Option.{slice_get_read, slice_get_within, get_or_from_slice_get}
 use Rattle.std.proofs.Math.Seq.{take-append_seam, get_or-append_seam}
 use Rattle.std.specs.Prelude.{All, count_by, map, slice_get, Some, None, ◌-◌}
-use Rattle.game_core.specs.Play.{Rules, IsLawful, play, max_roles}
+use Rattle.game_core.specs.Play.{Rules, IsLawful, IsJoint, play, max_roles}
+use Rattle.match_book.specs.Judgement.{IsJudged, IsPart}
+use Rattle.match_book.proofs.StruckTurns.{retired_by-never, all_retired-never}
 use Rattle.game_core.proofs.Plays.{play-push}
 use Rattle.match_book.specs.MatchValue.{state_after, substitutions, move_at, error_at, joint_moves, is_error}
 use Rattle.match_book.specs.Due.{last_move_texts}
@@ -18,60 +20,60 @@ pub state_after-push : {S M : Type 0} (g : Rules S M) (turns : List (Turn M)) (t
 state_after-push g turns t = ap (play g) (map-append (λ u. u.moves) turns (t ∷ [])) ∙ play-push g (joint_moves turns) t.moves
 
 -- one lawful turn more
-pub AreLawful-push : {S M : Type 0} (g : Rules S M) (turns : List (Turn M)) (t : Turn M) → AreLawful g turns → IsLawfulTurn g turns t → AreLawful g (turns ++ t ∷ [])
-AreLawful-push {S} {M} g turns t lawful turn k d lt =
+pub AreLawful-push : {S M : Type 0} (g : Rules S M) (strikes : ℕ) (turns : List (Turn M)) (t : Turn M) → AreLawful g strikes turns → IsLawfulTurn g strikes turns t → AreLawful g strikes (turns ++ t ∷ [])
+AreLawful-push {S} {M} g strikes turns t lawful turn k d lt =
     elim (below_or_at k (length turns) (omega (arith, length-append turns (t ∷ [])))) [
       | inl last ↦
-          subst (λ (n : ℕ). IsLawfulTurn g (take n (turns ++ t ∷ [])) (slice_index_or (turns ++ t ∷ []) n d)) (sym last)
-          (subst (λ (x : List (Turn M)). IsLawfulTurn g x (slice_index_or (turns ++ t ∷ []) (length turns) d)) (sym (take-append_seam turns (t ∷ [])))
-          (subst (λ (x : Turn M). IsLawfulTurn g turns x) (sym (get_or-append_seam turns t [] d)) turn))
+          subst (λ (n : ℕ). IsLawfulTurn g strikes (take n (turns ++ t ∷ [])) (slice_index_or (turns ++ t ∷ []) n d)) (sym last)
+          (subst (λ (x : List (Turn M)). IsLawfulTurn g strikes x (slice_index_or (turns ++ t ∷ []) (length turns) d)) (sym (take-append_seam turns (t ∷ [])))
+          (subst (λ (x : Turn M). IsLawfulTurn g strikes turns x) (sym (get_or-append_seam turns t [] d)) turn))
       | inr below ↦
-          subst (λ (x : List (Turn M)). IsLawfulTurn g x (slice_index_or (turns ++ t ∷ []) k d)) (sym (take-append-le k turns (t ∷ []) (omega arith)))
-          (subst (λ (x : Turn M). IsLawfulTurn g (take k turns) x) (sym (get_or_append_left turns (t ∷ []) d k below)) (lawful k d below))
+          subst (λ (x : List (Turn M)). IsLawfulTurn g strikes x (slice_index_or (turns ++ t ∷ []) k d)) (sym (take-append-le k turns (t ∷ []) (omega arith)))
+          (subst (λ (x : Turn M). IsLawfulTurn g strikes (take k turns) x) (sym (get_or_append_left turns (t ∷ []) d k below)) (lawful k d below))
     ]
 
-prefix_is_state : {S M : Type 0} (g : Rules S M) → IsLawful g → (turns : List (Turn M)) → AreLawful g turns → (k : ℕ) (d : Turn M) → k ≤ length turns → g.IsState (state_after g (take k turns))
-prefix_is_state g laws turns lawful zero d le = laws.initial_is_state
-prefix_is_state {S} {M} g laws turns lawful (suc k) d le =
+prefix_is_state : {S M : Type 0} (g : Rules S M) → IsLawful g → {strikes : ℕ} → (turns : List (Turn M)) → AreLawful g strikes turns → (k : ℕ) (d : Turn M) → k ≤ length turns → g.IsState (state_after g (take k turns))
+prefix_is_state g laws {strikes} turns lawful zero d le = laws.initial_is_state
+prefix_is_state {S} {M} g laws {strikes} turns lawful (suc k) d le =
     let t = slice_index_or turns k d in
-    let before = prefix_is_state g laws turns lawful k d (omega arith) in
+    let before = prefix_is_state g laws {strikes = strikes} turns lawful k d (omega arith) in
     let more : take (suc k) turns ≡ take k turns ++ t ∷ [] = subst (λ (n : ℕ). take n turns ≡ take k turns ++ t ∷ []) (add-one k) (take_more turns k d (omega arith)) in
     let state : state_after g (take (suc k) turns) ≡ g.next (state_after g (take k turns)) t.moves = ap (state_after g) more ∙ state_after-push g (take k turns) t in
     subst (λ (s : S). g.IsState s) (sym state) (laws.next_is_state (state_after g (take k turns)) t.moves before (lawful k d (omega arith)).joint)
 
 -- lawful turns lead to a state of the game
-pub state_after-is_state : {S M : Type 0} (g : Rules S M) → IsLawful g → (turns : List (Turn M)) → AreLawful g turns → g.IsState (state_after g turns)
-state_after-is_state g laws [] lawful = laws.initial_is_state
-state_after-is_state {S} {M} g laws (t ∷ ts) lawful =
-    subst (λ (x : List (Turn M)). g.IsState (state_after g x)) (take_all (length (t ∷ ts)) (t ∷ ts) (omega arith)) (prefix_is_state g laws (t ∷ ts) lawful (length (t ∷ ts)) t (omega arith))
+pub state_after-is_state : {S M : Type 0} (g : Rules S M) → IsLawful g → {strikes : ℕ} → (turns : List (Turn M)) → AreLawful g strikes turns → g.IsState (state_after g turns)
+state_after-is_state g laws {strikes} [] lawful = laws.initial_is_state
+state_after-is_state {S} {M} g laws {strikes} (t ∷ ts) lawful =
+    subst (λ (x : List (Turn M)). g.IsState (state_after g x)) (take_all (length (t ∷ ts)) (t ∷ ts) (omega arith)) (prefix_is_state g laws {strikes = strikes} (t ∷ ts) lawful (length (t ∷ ts)) t (omega arith))
 
 -- each turn has one move for each role, and one error
-pub turn-width : {S M : Type 0} (g : Rules S M) (turns : List (Turn M)) (k : ℕ) (t : Turn M) → AreLawful g turns → k < length turns → t ≡ slice_index_or turns k t → (length t.moves ≡ g.roles) × (length t.errors ≡ g.roles)
-turn-width {S} {M} g turns k t lawful lt read =
+pub turn-width : {S M : Type 0} (g : Rules S M) {strikes : ℕ} (turns : List (Turn M)) (k : ℕ) (t : Turn M) → AreLawful g strikes turns → k < length turns → t ≡ slice_index_or turns k t → (length t.moves ≡ g.roles) × (length t.errors ≡ g.roles)
+turn-width {S} {M} g {strikes} turns k t lawful lt read =
     let turn = lawful k t lt in
     subst (λ (x : Turn M). (length x.moves ≡ g.roles) × (length x.errors ≡ g.roles)) (sym read) (turn.joint.width, turn.one_error)
 
 -- each recorded move is of the game
-pub turn-moves : {S M : Type 0} (g : Rules S M) → IsLawful g → (turns : List (Turn M)) (k : ℕ) (t : Turn M) → AreLawful g turns → k < length turns → t ≡ slice_index_or turns k t → All (λ m. g.IsMove m) t.moves
-turn-moves {S} {M} g laws turns k t lawful lt read =
+pub turn-moves : {S M : Type 0} (g : Rules S M) → IsLawful g → {strikes : ℕ} (turns : List (Turn M)) (k : ℕ) (t : Turn M) → AreLawful g strikes turns → k < length turns → t ≡ slice_index_or turns k t → All (λ m. g.IsMove m) t.moves
+turn-moves {S} {M} g laws {strikes} turns k t lawful lt read =
     let turn = lawful k t lt in
-    let state = prefix_is_state g laws turns lawful k t (omega arith) in
+    let state = prefix_is_state g laws {strikes = strikes} turns lawful k t (omega arith) in
     subst (λ (x : Turn M). All (λ m. g.IsMove m) x.moves) (sym read)
     (λ i d within.
     let role : i < g.roles = omega (arith, turn.joint.width) in
     Contains-move g laws (state_after g (take k turns)) i (slice_index_or (slice_index_or turns k t).moves i d) state role (turn.joint.legal i d role))
 
-pub turn_errors-few : {S M : Type 0} (g : Rules S M) → IsLawful g → (before : List (Turn M)) (t : Turn M) → IsLawfulTurn g before t → count_by is_error t.errors ≤ max_roles
-turn_errors-few g laws before t turn =
+pub turn_errors-few : {S M : Type 0} (g : Rules S M) → IsLawful g → {strikes : ℕ} (before : List (Turn M)) (t : Turn M) → IsLawfulTurn g strikes before t → count_by is_error t.errors ≤ max_roles
+turn_errors-few g laws {strikes} before t turn =
     let here = count_by-le-length is_error t.errors in
     let wide = turn.one_error in
     let few = laws.few_roles in
     omega arith
 
 -- at most one substitution for each role in each turn
-pub substitutions-few : {S M : Type 0} (g : Rules S M) → IsLawful g → (turns : List (Turn M)) → AreLawful g turns → substitutions turns ≤ length turns * max_roles
-substitutions-few g laws turns lawful =
-    sum_by-le (λ u. count_by is_error u.errors) max_roles turns (λ k d lt. turn_errors-few g laws _ _ (lawful k d lt))
+pub substitutions-few : {S M : Type 0} (g : Rules S M) → IsLawful g → {strikes : ℕ} (turns : List (Turn M)) → AreLawful g strikes turns → substitutions turns ≤ length turns * max_roles
+substitutions-few g laws {strikes} turns lawful =
+    sum_by-le (λ u. count_by is_error u.errors) max_roles turns (λ k d lt. turn_errors-few g laws {strikes = strikes} _ _ (lawful k d lt))
 
 pub All-get : {A : Type 0} (P : A → Type 0) (xs : List A) (k : ℕ) (x : A) → All P xs → slice_get xs k ≡ Some x → P x
 All-get P xs k x all at = subst P (get_or_from_slice_get xs k x x at) (all k x (slice_get_within xs k x at))
@@ -88,3 +90,20 @@ last_move_texts-is g turns k t lt last read = rw (← last, slice_get_read turns
 pub last_move_texts-none : {S M : Type 0} (g : Rules S M) (turns : List (Turn M)) → length turns ≡ 0 → None ≡ last_move_texts g turns
 last_move_texts-none g [] e = refl
 last_move_texts-none g (t ∷ ts) e = absurd (omega arith)
+
+-- with 0 strikes a turn is lawful where each part is what an answer counts as
+pub never-judged : {S M : Type 0} (g : Rules S M) (before : List (Turn M)) (t : Turn M) → IsLawfulTurn g 0 before t → (r : ℕ) (d : M) → r < g.roles
+    → IsJudged g (g.legal (state_after g before) r) (slice_index_or t.moves r d) (slice_index_or t.errors r [])
+never-judged g before t turn r d lt =
+    subst (λ (b : Bool). IsPart g b (g.legal (state_after g before) r) (slice_index_or t.moves r d) (slice_index_or t.errors r [])) (retired_by-never before r) (turn.judged r d lt)
+
+pub never-lawful : {S M : Type 0} (g : Rules S M) → IsLawful g → (before : List (Turn M)) (t : Turn M) → g.terminal (state_after g before) ≡ false → IsJoint g (state_after g before) t.moves → length t.errors ≡ g.roles
+    → ((r : ℕ) (d : M) → r < g.roles → IsJudged g (g.legal (state_after g before) r) (slice_index_or t.moves r d) (slice_index_or t.errors r [])) → IsLawfulTurn g 0 before t
+never-lawful g laws before t goes_on joint one_error judged = record {
+  goes_on = goes_on;
+  some_answer = all_retired-never g.roles before laws.some_role;
+  joint = joint;
+  one_error = one_error;
+  judged = λ r d lt.
+      subst (λ (b : Bool). IsPart g b (g.legal (state_after g before) r) (slice_index_or t.moves r d) (slice_index_or t.errors r [])) (sym (retired_by-never before r)) (judged r d lt);
+}

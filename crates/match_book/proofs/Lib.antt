@@ -3,6 +3,7 @@ pub mod NamedMoves
 pub mod AnswerReadings
 pub mod Judgements
 pub mod TurnParts
+pub mod StruckTurns
 pub mod Stages
 pub mod LawfulTurns
 pub mod LawfulMatches

@@ -1,11 +1,24 @@
 -- Tests over the roles of a game.
-use Rattle.std.proofs.Common.{◌≡◌, ◌≢◌, ℕ, zero, suc, ◌+◌, ◌<◌, ◌≤◌, Bool, true, false, eqb, Option, Some, None, List, [], ◌∷◌, ◌++◌, length, set, slice_index_or, refl, arith, ap, sym, ◌∙◌, subst, add-one, inl, inr, ◌⊎◌}
-use Rattle.std.proofs.lemmas.List.{get_or_push, get_or_append_left}
+use Rattle.std.proofs.Common.{◌≡◌, ◌≢◌, ℕ, zero, suc, ◌+◌, ◌<◌, ◌≤◌, Bool, true, false, eqb, Option, Some, None, List, [], ◌∷◌, ◌++◌, length, set, slice_index_or, refl, arith, ap, sym, ◌∙◌, subst, add-one, inl, inr, ◌⊎◌, length-append, length-set}
+use Rattle.std.proofs.lemmas.List.{get_or_push, get_or_append_left, ext_get_or}
 use Rattle.std.proofs.lemmas.Bool.Decides.{nat_tests}
 use Rattle.std.specs.Prelude.{is_some, if◌then◌else◌}
 use Rattle.std.specs.Option.{option_or}
-use Rattle.match_book.specs.Roles.{every_role, lowest_role, at_role, is_there, blank}
-use Rattle.match_book.specs.Internal.Kept.{count_roles}
+use Rattle.match_book.specs.Roles.{every_role, lowest_role, of_each_role, at_role, is_there, blank}
+use Rattle.match_book.specs.Internal.RoleStrikes.{count_roles}
+
+pub same_or_other : (k r : ℕ) → (k ≡ r) ⊎ (k ≢ r)
+same_or_other k r = step (eqb k r) refl
+  where
+    same : (k r : ℕ) → eqb k r ≡ true → k ≡ r
+    same k r e = grind (arith, nat_tests)
+
+    other : (k r : ℕ) → eqb k r ≡ false → k ≢ r
+    other k r e = grind (arith, nat_tests)
+
+    step : (b : Bool) → eqb k r ≡ b → (k ≡ r) ⊎ (k ≢ r)
+    step true e = inl (same k r e)
+    step false e = inr (other k r e)
 
 pub lowest_role-more : (n : ℕ) (p : ℕ → Bool) → lowest_role n p ≡ None → p n ≡ false → lowest_role (n + 1) p ≡ None
 lowest_role-more n p none not' = rw (add-one, none, not') refl
@@ -171,3 +184,36 @@ pub is_there-read : {A : Type 0} (xs : List (Option A)) (k : ℕ) (x : Option A)
 is_there-read [] k x read none = refl
 is_there-read (y ∷ ys) zero x read none = ap is_some (sym read) ∙ none
 is_there-read (y ∷ ys) (suc k) x read none = is_there-read ys k x read none
+
+pub every_role-same : (n : ℕ) (p q : ℕ → Bool) → ((k : ℕ) → k < n → q k ≡ p k) → every_role n q ≡ every_role n p
+every_role-same zero p q same = refl
+every_role-same (suc n) p q same = rw (same n (omega arith), every_role-same n p q (λ k lt. same k (omega arith))) refl
+
+-- what each role gives
+pub length-of_each_role : {A : Type 0} (n : ℕ) (f : ℕ → A) → length (of_each_role n f) ≡ n
+length-of_each_role zero f = refl
+length-of_each_role (suc n) f = length-append (of_each_role n f) (f n ∷ []) ∙ (ap (λ k. k + 1) (length-of_each_role n f) ∙ add-one n)
+
+pub get-of_each_role : {A : Type 0} (n : ℕ) (f : ℕ → A) (r : ℕ) (d : A) → r < n → slice_index_or (of_each_role n f) r d ≡ f r
+get-of_each_role zero f r d lt = absurd (omega arith)
+get-of_each_role (suc n) f r d lt = get-push (of_each_role n f) n f (length-of_each_role n f) (get-of_each_role n f) r d (omega arith)
+
+pub of_each_role-push : {A : Type 0} (n : ℕ) (f : ℕ → A) (x : A) → x ≡ f n → of_each_role n f ++ x ∷ [] ≡ of_each_role (n + 1) f
+of_each_role-push n f x here = rw (add-one n) (ap (λ y. of_each_role n f ++ y ∷ []) here)
+
+pub of_each_role-same : {A : Type 0} (n : ℕ) (f h : ℕ → A) → ((k : ℕ) → k < n → h k ≡ f k) → of_each_role n h ≡ of_each_role n f
+of_each_role-same zero f h same = refl
+of_each_role-same (suc n) f h same = rw (same n (omega arith), of_each_role-same n f h (λ k lt. same k (omega arith))) refl
+
+-- another thing in one place
+pub of_each_role-set : {A : Type 0} (n r : ℕ) (f h : ℕ → Option A) (x : Option A) → h r ≡ x → ((k : ℕ) → k < n → k ≢ r → h k ≡ f k) → set (of_each_role n f) r x ≡ of_each_role n h
+of_each_role-set n r f h x here others =
+    ext_get_or None (set (of_each_role n f) r x) (of_each_role n h) (length-set (of_each_role n f) r x ∙ (length-of_each_role n f ∙ sym (length-of_each_role n h)))
+    (λ k within.
+    let lt : k < n = omega (arith, length-set (of_each_role n f) r x, length-of_each_role n f) in
+    elim (same_or_other k r) [
+      | inl same ↦
+          subst (λ (q : ℕ). at_role (set (of_each_role n f) r x) q ≡ at_role (of_each_role n h) q) (sym same)
+          (at_role-set (of_each_role n f) r x (omega (arith, length-of_each_role n f)) ∙ (sym here ∙ sym (get-of_each_role n h r None (omega arith))))
+      | inr other ↦ at_role-other (of_each_role n f) r k x other ∙ (get-of_each_role n f k None lt ∙ (sym (others k lt other) ∙ sym (get-of_each_role n h k None lt)))
+    ])

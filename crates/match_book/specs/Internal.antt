@@ -1,2 +1,3 @@
 pub mod OpenAnswers
+pub mod RoleStrikes
 pub mod Kept

@@ -1,5 +1,5 @@
 -- What an answer counts as while the match is played.
-use Rattle.std.specs.Prelude.{◌≡◌, ◌≢◌, ℕ, ◌<◌, ◌≤◌, List, [], ◌++◌, length, Option, Some, None, option_map, find, slice_get, bytes_eq, codes, Contains, All, ◌⊎◌}
+use Rattle.std.specs.Prelude.{◌≡◌, ◌≢◌, ℕ, Bool, true, false, ◌<◌, ◌≤◌, List, [], ◌++◌, length, Option, Some, None, option_map, find, slice_get, bytes_eq, codes, Contains, All, ◌⊎◌}
 use Rattle.std.specs.List.{HoldsAt, AllWithin}
 use Rattle.game_core.specs.Canonical.{IsFoldedText}
 use Rattle.game_core.specs.Play.{Rules}
@@ -7,7 +7,7 @@ use Rattle.match_book.specs.AnswerReading.{answer_reading, max_reading}
 use Rattle.match_book.specs.Marks.{time_out_text, connection_error_text}
 use Rattle.match_book.specs.declared.judgement.Judgement.{Judgement}
 use Rattle.match_book.specs.declared.judgement.Substitution.{Substitution}
-use Rattle.match_book.specs.declared.judgement.Substitution.TheVariants.{TimeOut, ConnectionError, Unreadable, Illegal}
+use Rattle.match_book.specs.declared.judgement.Substitution.TheVariants.{TimeOut, ConnectionError, Unreadable, Illegal, Retired}
 use Rattle.match_book.specs.declared.answer.Answer.{Answer}
 use Rattle.match_book.specs.declared.answer.Answer.TheVariants.{Text, Silent, Broken}
 
@@ -19,12 +19,17 @@ unreadable_text = codes "IL ?"
 abbrev pub illegal_prefix : List ℕ
 illegal_prefix = codes "IL "
 
+-- the role is retired
+abbrev pub retired_text : List ℕ
+retired_text = codes "RT"
+
 -- the error that stands beside the first legal move
 abbrev pub error_text : Substitution → List ℕ
 error_text TimeOut = time_out_text
 error_text ConnectionError = connection_error_text
 error_text Unreadable = unreadable_text
 error_text (Illegal x) = illegal_prefix ++ x
+error_text Retired = retired_text
 
 -- the first of these moves in place of the one answered, with the error: none where there is no move
 abbrev pub substitute : {M : Type 0} → List M → Substitution → Option (Judgement M)
@@ -61,17 +66,23 @@ judged_answer g moves Broken = substitute moves ConnectionError
 unfoldable pub judgement : {S M : Type 0} → Rules S M → S → ℕ → Answer → Option (Judgement M)
 judgement g s r answer = judged_answer g (g.legal s r) answer
 
--- the reason may stand where these moves are legal
+-- an answer may have come to this where these moves are legal
 abbrev pub MayStand : {S M : Type 0} → Rules S M → List M → Substitution → Type 0
 MayStand g moves TimeOut = Unit {0}
 MayStand g moves ConnectionError = Unit {0}
 MayStand g moves Unreadable = Unit {0}
 MayStand g moves (Illegal x) = IsFoldedText x × (length x ≤ max_reading) × NamesNone g moves x
+MayStand g moves Retired = ⊥
 
--- an error that stands beside the first of these moves
+-- an error that an answer puts beside the first of these moves
 abbrev pub IsSubstitution : {S M : Type 0} → Rules S M → List M → List ℕ → Type 0
 IsSubstitution g moves e = (why : Substitution) × (e ≡ error_text why) × MayStand g moves why
 
--- a legal move without an error, or the first legal one with an error
+-- what an answer counts as: a legal move without an error, or the first legal one with an error
 abbrev pub IsJudged : {S M : Type 0} → Rules S M → List M → M → List ℕ → Type 0
 IsJudged g moves m e = Contains moves m × ((e ≡ []) ⊎ ((slice_get moves 0 ≡ Some m) × IsSubstitution g moves e))
+
+-- what a role gives to a turn, by whether it is retired: the first legal move with the error that says so, or what an answer counts as
+abbrev pub IsPart : {S M : Type 0} → Rules S M → Bool → List M → M → List ℕ → Type 0
+IsPart g true moves m e = (slice_get moves 0 ≡ Some m) × (e ≡ retired_text)
+IsPart g false moves m e = IsJudged g moves m e

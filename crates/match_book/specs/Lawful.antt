@@ -2,22 +2,25 @@
 use Rattle.std.specs.Prelude.{◌≡◌, ℕ, ◌<◌, ◌≤◌, true, false, List, [], length, take, Some, slice_index_or}
 use Rattle.game_core.specs.Play.{Rules, IsJoint}
 use Rattle.match_book.specs.Roles.{every_role, at_role, is_there, blank}
-use Rattle.match_book.specs.Judgement.{IsJudged}
+use Rattle.match_book.specs.Judgement.{IsJudged, IsPart}
+use Rattle.match_book.specs.Retirement.{retired_by}
 use Rattle.match_book.specs.MatchValue.{MatchValue, state_after}
-use Rattle.match_book.specs.Phase.{stage, has_answered, is_playing, is_live, max_turns}
+use Rattle.match_book.specs.Phase.{stage, has_answered, still_answers, is_playing, is_live, max_turns}
 use Rattle.match_book.specs.declared.judgement.Judgement.{Judgement}
 use Rattle.match_book.specs.declared.turn.Turn.{Turn}
 
--- A turn that may follow the turns before it: the game goes on, and each role's move is legal, with an error that may stand beside it.
-pub record IsLawfulTurn {S M : Type 0} (g : Rules S M) (before : List (Turn M)) (t : Turn M) : Type 0 where
+-- A turn that may follow the turns before it: the game goes on, not all roles are retired, and each role's move is legal, with an error
+-- that may stand beside it.
+pub record IsLawfulTurn {S M : Type 0} (g : Rules S M) (strikes : ℕ) (before : List (Turn M)) (t : Turn M) : Type 0 where
   pub goes_on : g.terminal (state_after g before) ≡ false
+  pub some_answer : every_role g.roles (retired_by strikes before) ≡ false
   pub joint : IsJoint g (state_after g before) t.moves
   pub one_error : length t.errors ≡ g.roles
-  pub judged : (r : ℕ) (d : M) → r < g.roles → IsJudged g (g.legal (state_after g before) r) (slice_index_or t.moves r d) (slice_index_or t.errors r [])
+  pub judged : (r : ℕ) (d : M) → r < g.roles → IsPart g (retired_by strikes before r) (g.legal (state_after g before) r) (slice_index_or t.moves r d) (slice_index_or t.errors r [])
 
--- each turn may follow the turns before it
-abbrev pub AreLawful : {S M : Type 0} → Rules S M → List (Turn M) → Type 0
-AreLawful {S} {M} g turns = (k : ℕ) (d : Turn M) → k < length turns → IsLawfulTurn g (take k turns) (slice_index_or turns k d)
+-- each turn may follow the turns before it, where so many substitutions in a row retire a role
+abbrev pub AreLawful : {S M : Type 0} → Rules S M → ℕ → List (Turn M) → Type 0
+AreLawful {S} {M} g strikes turns = (k : ℕ) (d : Turn M) → k < length turns → IsLawfulTurn g strikes (take k turns) (slice_index_or turns k d)
 
 -- a match as a game's answers can have made it
 pub record IsLawfulMatch {S M : Type 0} (g : Rules S M) (m : MatchValue M) : Type 0 where
@@ -27,11 +30,11 @@ pub record IsLawfulMatch {S M : Type 0} (g : Rules S M) (m : MatchValue M) : Typ
   pub one_open_answer : length m.open_answers ≡ g.roles
   pub one_end_mark : length m.end_marks ≡ g.roles
   -- lawful turns, and none before all START marks are there
-  pub turns : AreLawful g m.turns
+  pub turns : AreLawful g m.setup.strikes m.turns
   pub few_turns : length m.turns ≤ max_turns
   pub turns_after_start : every_role g.roles (is_there m.start_marks) ≡ false → m.turns ≡ []
-  -- open answers only in play, each a judgement in the present state, and not of all roles
-  pub judged : (r : ℕ) (j : Judgement M) → r < g.roles → at_role m.open_answers r ≡ Some j → IsJudged g (g.legal (state_after g m.turns) r) j.taken j.error
+  -- open answers only in play, of roles that still answer, each a judgement in the present state, and not of all these roles
+  pub judged : (r : ℕ) (j : Judgement M) → r < g.roles → at_role m.open_answers r ≡ Some j → (still_answers m r ≡ true) × IsJudged g (g.legal (state_after g m.turns) r) j.taken j.error
   pub answers_in_play : is_playing (stage g m) ≡ false → m.open_answers ≡ blank g.roles
   pub round_is_open : is_playing (stage g m) ≡ true → every_role g.roles (has_answered g m) ≡ false
   -- end marks only where the match stops or aborts

@@ -7,7 +7,7 @@ use Rattle.match_book.specs.Judgement.{judgement}
 use Rattle.match_book.specs.MatchValue.{MatchValue, state_after, joint_moves}
 use Rattle.match_book.specs.Phase.{stage, round}
 use Rattle.match_book.specs.Lawful.{IsLawfulMatch}
-use Rattle.match_book.specs.Steps.{new_match, refusal, turn_of, after_answer, after_abort}
+use Rattle.match_book.specs.Steps.{new_match, refusal, turn_of, parts, after_answer, after_abort}
 use Rattle.match_book.specs.declared.setup.Setup.{Setup}
 use Rattle.match_book.specs.declared.answer.Answer.{Answer}
 use Rattle.match_book.specs.declared.answer.Answer.TheVariants.{Text, Silent, Broken}
@@ -44,7 +44,7 @@ pub record IsPlayed {S M : Type 0} (g : Rules S M) (m n : MatchValue M) (role : 
   pub judged : Judgement M
   pub is_judgement : judgement g (state_after g m.turns) role answer ≡ Some judged
   pub opened_or_recorded : (n ≡ record m { open_answers = slice_set m.open_answers role (Some judged) })
-      ⊎ (n ≡ record m { turns = m.turns ++ turn_of (slice_set m.open_answers role (Some judged)) ∷ []; open_answers = blank g.roles })
+      ⊎ (n ≡ record m { turns = m.turns ++ turn_of (parts g (record m { open_answers = slice_set m.open_answers role (Some judged) })) ∷ []; open_answers = blank g.roles })
 
 abbrev pub AnswersInPlay : {S M : Type 0} → Rules S M → Type 0
 AnswersInPlay {S} {M} g = (m : MatchValue M) (role round : ℕ) (answer : Answer) → IsLawfulMatch g m → stage g m ≡ Playing → refusal g m role round ≡ None → IsPlayed g m (after_answer g m role round answer) role answer

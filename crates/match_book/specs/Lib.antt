@@ -3,6 +3,7 @@ pub mod Marks
 pub mod AnswerReading
 pub mod Judgement
 pub mod MatchValue
+pub mod Retirement
 pub mod Phase
 pub mod LegalMoves
 pub mod Due

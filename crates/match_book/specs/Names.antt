@@ -42,9 +42,18 @@ is_name text = is_between 1 max_name (length text) && list_all is_name_byte text
 abbrev pub is_clock : ℕ → Bool
 is_clock seconds = is_between 1 max_clock seconds
 
--- a lawful id, lawful names and lawful clocks
+-- how many substitutions in a row can be asked for
+abbrev pub max_strikes : ℕ
+max_strikes = 255
+
+-- a lawful number of substitutions in a row that retire a role: 0 is never
+abbrev pub is_strikes : ℕ → Bool
+is_strikes n = nat_le n max_strikes
+
+-- a lawful id, lawful names, lawful clocks and a lawful number of strikes
 pub record IsLawfulSetup (setup : Setup) : Type 0 where
   pub id : is_name setup.id ≡ true
   pub players : list_all is_name setup.players ≡ true
   pub start : is_clock setup.start ≡ true
   pub play : is_clock setup.play ≡ true
+  pub strikes : is_strikes setup.strikes ≡ true

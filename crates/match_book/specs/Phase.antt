@@ -1,10 +1,11 @@
 -- The phase of a match, its round, and why it is aborted.
-use Rattle.std.specs.Prelude.{ℕ, ◌+◌, ◌==◌, nat_le, Bool, true, false, if◌then◌else◌, length, Option, Some, None, is_none}
+use Rattle.std.specs.Prelude.{ℕ, ◌+◌, ◌==◌, nat_le, Bool, true, false, if◌then◌else◌, length, Option, Some, None, is_none, not}
 use Rattle.game_core.specs.Play.{Rules}
 use Rattle.match_book.specs.Roles.{every_role, lowest_role, is_there}
 use Rattle.match_book.specs.MatchValue.{MatchValue, state_after, substitutions}
+use Rattle.match_book.specs.Retirement.{is_retired, are_all_retired}
 use Rattle.match_book.specs.declared.phase.Cause.{Cause}
-use Rattle.match_book.specs.declared.phase.Cause.TheVariants.{Asked, NoLegal, NoGoal, TooLong}
+use Rattle.match_book.specs.declared.phase.Cause.TheVariants.{Asked, NoLegal, NoGoal, TooLong, AllRetired}
 use Rattle.match_book.specs.declared.phase.Stage.{Stage}
 use Rattle.match_book.specs.declared.phase.Stage.TheVariants.{Starting, Playing, Stopping, Aborting}
 use Rattle.match_book.specs.declared.phase.Phase.{Phase}
@@ -20,10 +21,10 @@ abbrev pub after_the_end : Option ℕ → Stage
 after_the_end None = Stopping
 after_the_end (Some r) = Aborting (NoGoal r)
 
--- before it, by the lowest role without a legal move
-abbrev pub before_the_end : Option ℕ → Stage
-before_the_end None = Playing
-before_the_end (Some r) = Aborting (NoLegal r)
+-- before it, by the lowest role without a legal move, and whether all roles are retired
+abbrev pub before_the_end : Option ℕ → Bool → Stage
+before_the_end None all_retired = if all_retired then Aborting AllRetired else Playing
+before_the_end (Some r) all_retired = Aborting (NoLegal r)
 
 abbrev pub has_no_goal : {S M : Type 0} → Rules S M → S → ℕ → Bool
 has_no_goal g s r = is_none (g.goal s r)
@@ -31,18 +32,18 @@ has_no_goal g s r = is_none (g.goal s r)
 abbrev pub has_no_move : {S M : Type 0} → Rules S M → S → ℕ → Bool
 has_no_move g s r = length (g.legal s r) == 0
 
--- the settling rule, in the state s after t turns
-unfoldable pub settled : {S M : Type 0} → Rules S M → ℕ → S → Stage
-settled g t s = if g.terminal s then after_the_end (lowest_role g.roles (has_no_goal g s))
-    else (if nat_le max_turns t then Aborting TooLong else before_the_end (lowest_role g.roles (has_no_move g s)))
+-- the settling rule, in the state s after t turns, which retire all roles or not
+unfoldable pub settled : {S M : Type 0} → Rules S M → ℕ → Bool → S → Stage
+settled g t all_retired s = if g.terminal s then after_the_end (lowest_role g.roles (has_no_goal g s))
+    else (if nat_le max_turns t then Aborting TooLong else before_the_end (lowest_role g.roles (has_no_move g s)) all_retired)
 
 -- what a match is doing: an asked abort comes first, then missing START marks, then the settling rule
 unfoldable pub stage : {S M : Type 0} → Rules S M → MatchValue M → Stage
-stage g m = if m.abort_asked then Aborting Asked else (if every_role g.roles (is_there m.start_marks) then settled g (length m.turns) (state_after g m.turns) else Starting)
+stage g m = if m.abort_asked then Aborting Asked else (if every_role g.roles (is_there m.start_marks) then settled g (length m.turns) (are_all_retired g.roles m) (state_after g m.turns) else Starting)
 
--- the role still has to answer in play: each role of the game
+-- the role still has to answer in play
 abbrev pub still_answers : {M : Type 0} → MatchValue M → ℕ → Bool
-still_answers m r = true
+still_answers m r = not (is_retired m r)
 
 -- the role has answered this round, where the match is at this stage
 abbrev pub answered_in : {M : Type 0} → Stage → MatchValue M → ℕ → Bool
@@ -96,6 +97,7 @@ aborting_round Asked all_started t = if all_started then t + 2 else 1
 aborting_round (NoLegal r) all_started t = t + 1
 aborting_round (NoGoal r) all_started t = t + 1
 aborting_round TooLong all_started t = t + 1
+aborting_round AllRetired all_started t = t + 1
 
 -- by whether all START marks are there, and the number of turns
 abbrev pub round_in : Stage → Bool → ℕ → ℕ

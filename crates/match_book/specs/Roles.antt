@@ -1,5 +1,5 @@
 -- Tests over the roles of a game, which are numbered from 0, and lists with one place for each role.
-use Rattle.std.specs.Prelude.{ℕ, zero, suc, Bool, true, false, if◌then◌else◌, List, [], ◌∷◌, Option, Some, None, is_some, slice_index_or, replicate}
+use Rattle.std.specs.Prelude.{ℕ, zero, suc, Bool, true, false, if◌then◌else◌, List, [], ◌∷◌, ◌++◌, Option, Some, None, is_some, slice_index_or, replicate}
 use Rattle.std.specs.Option.{option_or}
 
 -- the test passes at each role of n
@@ -11,6 +11,11 @@ every_role (suc n) p = if p n then every_role n p else false
 abbrev pub lowest_role : ℕ → (ℕ → Bool) → Option ℕ
 lowest_role zero p = None
 lowest_role (suc n) p = option_or (lowest_role n p) (if p n then Some n else None)
+
+-- what each role of n gives, in the order of the roles
+abbrev pub of_each_role : {A : Type 0} → ℕ → (ℕ → A) → List A
+of_each_role zero f = []
+of_each_role (suc n) f = of_each_role n f ++ f n ∷ []
 
 -- what stands in the role's place
 abbrev pub at_role : {A : Type 0} → List (Option A) → ℕ → Option A

@@ -1,13 +1,14 @@
 -- What an answer and an abort make of a match.
 use Rattle.std.specs.Prelude.{◌≡◌, ◌≢◌, ◌⊎◌, ◌<◌, ℕ, nat_lt, ◌==◌, true, false, if◌then◌else◌, List, [], ◌∷◌, ◌++◌, map, Option, Some, None, is_none, slice_set, Result, Ok, Err}
 use Rattle.game_core.specs.Play.{Rules}
-use Rattle.match_book.specs.Roles.{every_role, is_there, blank, present}
+use Rattle.match_book.specs.Roles.{every_role, of_each_role, at_role, is_there, blank, present}
 use Rattle.match_book.specs.Marks.{mark_of}
-use Rattle.match_book.specs.Judgement.{judgement}
+use Rattle.match_book.specs.Judgement.{judgement, substitute}
 use Rattle.match_book.specs.MatchValue.{MatchValue, state_after}
-use Rattle.match_book.specs.Phase.{stage, answered_in, has_answered, is_over, is_live, round}
+use Rattle.match_book.specs.Phase.{stage, still_answers, answered_in, has_answered, is_over, is_live, round}
 use Rattle.match_book.specs.declared.setup.Setup.{Setup}
 use Rattle.match_book.specs.declared.judgement.Judgement.{Judgement}
+use Rattle.match_book.specs.declared.judgement.Substitution.TheVariants.{Retired}
 use Rattle.match_book.specs.declared.turn.Turn.{Turn}
 use Rattle.match_book.specs.declared.answer.Answer.{Answer}
 use Rattle.match_book.specs.declared.answer.Mark.{Mark}
@@ -30,9 +31,16 @@ refusal g m r n = if nat_lt r g.roles then (if is_over g m then Some Over else (
 abbrev pub turn_of : {M : Type 0} → List (Option (Judgement M)) → Turn M
 turn_of parts = record { moves = map (λ j. j.taken) (present parts); errors = map (λ j. j.error) (present parts) }
 
--- once all roles have answered, their answers become a turn
+-- what the role gives to the turn: its open answer, or the first legal move in its place where it is retired
+abbrev pub part : {S M : Type 0} → Rules S M → MatchValue M → ℕ → Option (Judgement M)
+part g m r = if still_answers m r then at_role m.open_answers r else substitute (g.legal (state_after g m.turns) r) Retired
+
+abbrev pub parts : {S M : Type 0} → Rules S M → MatchValue M → List (Option (Judgement M))
+parts g m = of_each_role g.roles (part g m)
+
+-- once all roles that are not retired have answered, a turn is made of what the roles give
 abbrev pub recorded : {S M : Type 0} → Rules S M → MatchValue M → MatchValue M
-recorded g m = if every_role g.roles (answered_in Playing m) then record m { turns = m.turns ++ turn_of m.open_answers ∷ []; open_answers = blank g.roles } else m
+recorded g m = if every_role g.roles (answered_in Playing m) then record m { turns = m.turns ++ turn_of (parts g m) ∷ []; open_answers = blank g.roles } else m
 
 abbrev pub with_start_mark : {M : Type 0} → MatchValue M → ℕ → Mark → MatchValue M
 with_start_mark m r mark = record m { start_marks = slice_set m.start_marks r (Some mark) }

@@ -14,6 +14,9 @@ pub const UNREADABLE: &[u8] = b"IL ?";
 /// What stands before the answered text in the error of an answer that is no legal move.
 pub const ILLEGAL_PREFIX: &[u8] = b"IL ";
 
+/// The error beside the move of a retired role.
+pub const RETIRED: &[u8] = b"RT";
+
 /// A move, and the error of the answer that it stands for: empty where the answer named the move.
 #[derive(Drop)]
 pub struct Judgement<M> {
@@ -21,7 +24,7 @@ pub struct Judgement<M> {
     pub error: Text,
 }
 
-/// Why the first legal move stands in place of an answer.
+/// Why the first legal move stands in the turn.
 #[derive(Drop)]
 pub enum Substitution {
     TimeOut,
@@ -30,6 +33,8 @@ pub enum Substitution {
     Unreadable,
     /// The answer spells this text, which is no legal move's.
     Illegal(Text),
+    /// The role is retired, and was not asked.
+    Retired,
 }
 
 impl Substitution {
@@ -41,6 +46,7 @@ impl Substitution {
             Substitution::TimeOut => Text::from_slice(alloc, Mark::TimeOut.text()),
             Substitution::ConnectionError => Text::from_slice(alloc, Mark::ConnectionError.text()),
             Substitution::Unreadable => Text::from_slice(alloc, UNREADABLE),
+            Substitution::Retired => Text::from_slice(alloc, RETIRED),
             Substitution::Illegal(read) => {
                 let mut bytes = Vec::from_slice(alloc, ILLEGAL_PREFIX)?;
                 bytes.extend_from_slice(read.as_slice())?;
@@ -51,7 +57,7 @@ impl Substitution {
 }
 
 /// The first of these moves, if there is one, with the error of this reason.
-fn substitute<G: Game>(
+pub fn substitute<G: Game>(
     alloc: Global,
     game: &G,
     moves: &[G::Move],

@@ -7,20 +7,23 @@ ghost use Rattle.match_book.specs.Judgement.{judgement, IsJudged};
 ghost use Rattle.match_book.specs.MatchValue.{state_after, move_at, error_at};
 ghost use Rattle.match_book.specs.declared.answer.AnswerFault.TheVariants.{Memory};
 ghost use Rattle.match_book.specs.declared.phase.Stage.TheVariants.{Starting, Playing};
-ghost use Rattle.match_book.specs.Phase.{stage, answered_in, has_answered, status, round, cause, goal_of, is_live};
+ghost use Rattle.match_book.specs.Phase.{stage, still_answers, answered_in, has_answered, status, round, cause, goal_of, is_live};
 ghost use Rattle.match_book.specs.Due.{IsDueAnswer, CarriesMoves, owed_in, last_move_texts};
 ghost use Rattle.match_book.specs.Lawful.{IsLawfulMatch};
-ghost use Rattle.match_book.specs.Steps.{new_match, after_abort, after_answer, with_start_mark, with_open_answer, with_end_mark, refusal, IsTakenUnless, IsLastToStart, MayWantMemory};
+ghost use Rattle.match_book.specs.Steps.{new_match, turn_of, parts, after_abort, after_answer, with_start_mark, with_open_answer, with_end_mark, refusal, IsTakenUnless, IsLastToStart, MayWantMemory};
 
 use crate::answer::{AbortFault, Answer, AnswerFault, AnswerRefusal, LentAnswer, Mark};
 use crate::due::{Due, Owed, OwedFault};
 use crate::judgement::{Judgement, judge};
 use crate::phase::{Cause, Stage, Status};
 use crate::places::{are_all_there, blank, clear};
+use crate::retirement::{
+    RoleStrikes, all_unstruck, answered_at_first, count_retired, strikes_after,
+};
 use crate::role_moves::RoleMoves;
 use crate::settlement::settle;
 use crate::setup::Setup;
-use crate::turn::{Turn, count_errors, move_texts, turn_with};
+use crate::turn::{Turn, count_errors, move_texts, parts_with, turn_of};
 use game_core::{Game, Texts};
 use std::alloc::{AllocError, Global};
 use std::marker::Model;
@@ -43,6 +46,7 @@ pub struct Match<G: Game> {
     stage: Stage,
     answered: usize,
     substituted: u64,
+    strikes: Vec<RoleStrikes>,
     legal: Vec<RoleMoves<G::Move>>,
     goals: Vec<Option<u8>>,
 }
@@ -72,7 +76,7 @@ impl<G: Game> Model for Match<G> {
       open_answers = m.open_answers.items;
       abort_asked = m.abort_asked;
       end_marks = m.end_marks.items;
-    }) m.state m.stage m.answered m.substituted m.legal.items m.goals.items };
+    }) m.state m.stage m.answered m.substituted m.strikes.items m.legal.items m.goals.items };
 }
 
 impl<G: Game> Match<G> {
@@ -86,6 +90,7 @@ impl<G: Game> Match<G> {
         let start_marks = blank(alloc, roles)?;
         let open_answers = blank(alloc, roles)?;
         let end_marks = blank(alloc, roles)?;
+        let strikes = all_unstruck(alloc, roles)?;
         Ok(Match {
             game: Snapshot::of(game),
             setup,
@@ -98,6 +103,7 @@ impl<G: Game> Match<G> {
             stage: Stage::Starting,
             answered: 0,
             substituted: 0,
+            strikes,
             legal: Vec::new(alloc),
             goals: Vec::new(alloc),
         })
@@ -212,7 +218,7 @@ impl<G: Game> Match<G> {
     {
         match self.stage {
             Stage::Starting => self.start_marks[role].is_some(),
-            Stage::Playing => self.open_answers[role].is_some(),
+            Stage::Playing => { self.strikes[role].is_retired || self.open_answers[role].is_some() }
             Stage::Stopping | Stage::Aborting(_) => self.end_marks[role].is_some(),
         }
     }
@@ -358,7 +364,7 @@ impl<G: Game> Match<G> {
             self.answered += 1;
             return Ok(());
         }
-        let settlement = settle(alloc, game, &self.state, self.turns.len())?;
+        let settlement = settle(alloc, game, &self.state, self.turns.len(), 0)?;
         self.start_marks[role] = Some(mark);
         self.stage = settlement.stage;
         self.legal = settlement.legal;
@@ -405,7 +411,7 @@ impl<G: Game> Match<G> {
         requires game { self.old.game ≡ game.now }
         requires role { role < (G.rules self.old.game).roles }
         requires stage { stage (G.rules self.old.game) self.old.value ≡ Playing }
-        requires free { is_there self.old.value.open_answers role ≡ false }
+        requires free { answered_in Playing self.old.value role ≡ false }
         requires judged { IsJudged (G.rules self.old.game) ((G.rules self.old.game).legal (state_after (G.rules self.old.game) self.old.value.turns) role) judged.taken judged.error }
         ensures game { self.new.game ≡ self.old.game }
         ensures ok { OnOk result (self.new.value ≡ with_open_answer (G.rules self.old.game) self.old.value role (Some judged)) }
@@ -417,6 +423,28 @@ impl<G: Game> Match<G> {
             return Ok(());
         }
         self.record_turn(alloc, game, role, judged)
+    }
+
+    /// The turn of the open answers, of the role's, the last one, and of the first legal moves of the roles that
+    /// are retired. The open answers are copied, so that they stay where a later growth is refused.
+    fn turn_with(
+        &self,
+        alloc: Global,
+        game: &G,
+        role: usize,
+        judged: Judgement<G::Move>,
+    ) -> Result<Turn<G::Move>, AllocError>
+        requires game { self.now.game ≡ game.now }
+        requires role { role < (G.rules self.now.game).roles }
+        requires stage { stage (G.rules self.now.game) self.now.value ≡ Playing }
+        requires answers { still_answers self.now.value role ≡ true }
+        ensures { IfOk result (λ t. t ≡ turn_of (parts (G.rules self.now.game) (record self.now.value { open_answers = slice_set self.now.value.open_answers role (Some judged) }))) }
+    {
+        let answers = self.open_answers.as_slice();
+        let strikes = self.strikes.as_slice();
+        let legal = self.legal.as_slice();
+        let parts = parts_with(alloc, game, answers, strikes, legal, role, judged)?;
+        turn_of(alloc, parts)
     }
 
     /// Makes a turn of the open answers and of the role's, the last one.
@@ -431,23 +459,28 @@ impl<G: Game> Match<G> {
         requires role { role < (G.rules self.old.game).roles }
         requires stage { stage (G.rules self.old.game) self.old.value ≡ Playing }
         requires judged { IsJudged (G.rules self.old.game) ((G.rules self.old.game).legal (state_after (G.rules self.old.game) self.old.value.turns) role) judged.taken judged.error }
+        requires answers { still_answers self.old.value role ≡ true }
         requires last { every_role (G.rules self.old.game).roles (answered_in Playing (record self.old.value { open_answers = slice_set self.old.value.open_answers role (Some judged) })) ≡ true }
         ensures game { self.new.game ≡ self.old.game }
         ensures ok { OnOk result (self.new.value ≡ with_open_answer (G.rules self.old.game) self.old.value role (Some judged)) }
         ensures err { OnErr result (self.new ≡ self.old) }
     {
-        let turn = turn_with(alloc, game, self.open_answers.as_slice(), role, judged)?;
+        let turn = self.turn_with(alloc, game, role, judged)?;
         let state = game.next(alloc, &self.state, turn.moves.as_slice())?;
-        let settlement = settle(alloc, game, &state, self.turns.len() + 1)?;
-        let errors = count_errors(turn.errors.as_slice());
+        let errors = turn.errors.as_slice();
+        let strikes = strikes_after(alloc, self.setup.strikes, self.strikes.as_slice(), errors)?;
+        let retired = count_retired(strikes.as_slice());
+        let settlement = settle(alloc, game, &state, self.turns.len() + 1, retired)?;
+        let substituted = count_errors(errors);
         self.turns.push(turn)?;
         clear(&mut self.open_answers);
         self.state = state;
         self.stage = settlement.stage;
         self.legal = settlement.legal;
         self.goals = settlement.goals;
-        self.answered = 0;
-        self.substituted += errors as u64;
+        self.strikes = strikes;
+        self.answered = answered_at_first(settlement.stage, retired);
+        self.substituted += substituted as u64;
         Ok(())
     }
 

@@ -1,7 +1,7 @@
-//! Lawful ids, players' names and clocks.
+//! Lawful ids, players' names, clocks and strikes.
 ghost use Rattle.std.specs.Prelude.{◌≡◌, ◌&&◌};
 ghost use Rattle.std.specs.List.{list_all};
-ghost use Rattle.match_book.specs.Names.{is_between, max_name, is_name_byte, is_name, is_clock};
+ghost use Rattle.match_book.specs.Names.{is_between, max_name, is_name_byte, is_name, is_clock, is_strikes};
 
 use game_core::Text;
 
@@ -10,6 +10,9 @@ const MAX_NAME: usize = 64;
 
 /// The most seconds of a clock.
 pub const MAX_CLOCK: u32 = 86_400;
+
+/// The most substitutions in a row that can be asked for to retire a role.
+pub const MAX_STRIKES: u32 = 255;
 
 fn is_name_byte(byte: u8) -> bool
     ensures { result ≡ is_name_byte byte }
@@ -55,4 +58,11 @@ pub fn are_clocks(start: u32, play: u32) -> bool
     ensures { result ≡ (is_clock start && is_clock play) }
 {
     is_clock(start) && is_clock(play)
+}
+
+/// Whether so many substitutions in a row can be asked for to retire a role. 0 is never.
+pub fn is_strikes(strikes: u32) -> bool
+    ensures { result ≡ is_strikes strikes }
+{
+    strikes <= MAX_STRIKES
 }

@@ -13,6 +13,8 @@ pub enum Cause {
     NoGoal(usize),
     /// 10,000 turns led to no terminal state.
     TooLong,
+    /// Every role is retired.
+    AllRetired,
 }
 
 /// The phase of a match, leaving open whether every role has answered STOP or ABORT.

@@ -1,5 +1,5 @@
 //! The settling rule: what comes after START and after each turn.
-ghost use Rattle.std.specs.Prelude.{◌≡◌, ◌<◌, ℕ, IfOk, None};
+ghost use Rattle.std.specs.Prelude.{◌≡◌, ◌<◌, ◌==◌, ℕ, IfOk, None};
 ghost use Rattle.match_book.specs.Roles.{lowest_role, at_role};
 ghost use Rattle.match_book.specs.declared.phase.Stage.TheVariants.{Playing, Aborting};
 ghost use Rattle.match_book.specs.Phase.{settled, goal_in, has_no_goal};
@@ -43,18 +43,19 @@ fn goals_of<G: Game>(
     Ok((None, goals))
 }
 
-/// What comes in the state after as many turns.
+/// What comes in the state after as many turns, where so many roles are retired.
 #[tactic(auto, unfolding(crate::specs::Phase::settled))]
 pub fn settle<G: Game>(
     alloc: Global,
     game: &G,
     state: &G::State,
     turns: usize,
+    retired: usize,
 ) -> Result<Settlement<G::Move>, AllocError>
     requires { (G.rules game.now).IsState state.now }
-    ensures stage { IfOk result (λ o. o.stage ≡ settled (G.rules game.now) turns state.now) }
+    ensures stage { IfOk result (λ o. o.stage ≡ settled (G.rules game.now) turns (retired == (G.rules game.now).roles) state.now) }
     ensures legal { IfOk result (λ o. o.stage ≡ Playing → AreLegalMoves (G.rules game.now) state.now o.legal.items) }
-    ensures goals { IfOk result (λ o. (r : ℕ) → r < (G.rules game.now).roles → at_role o.goals.items r ≡ goal_in (settled (G.rules game.now) turns state.now) (G.rules game.now) state.now r) }
+    ensures goals { IfOk result (λ o. (r : ℕ) → r < (G.rules game.now).roles → at_role o.goals.items r ≡ goal_in (settled (G.rules game.now) turns (retired == (G.rules game.now).roles) state.now) (G.rules game.now) state.now r) }
 {
     if game.terminal(alloc, state)? {
         let (without, goals) = goals_of(alloc, game, state)?;
@@ -72,6 +73,7 @@ pub fn settle<G: Game>(
     }
     let (without, legal) = legal_moves(alloc, game, state)?;
     match without {
+        None if retired == game.roles() => Ok(Settlement::aborting(alloc, Cause::AllRetired)),
         None => Ok(Settlement {
             stage: Stage::Playing,
             legal,

@@ -1,11 +1,15 @@
 //! Turns, and how open answers become one.
-ghost use Rattle.std.specs.Prelude.{◌≡◌, ◌<◌, ◌++◌, All, IfOk, IfSome, OnOk, Some, map, count_by, length, option_to_list, slice_set};
-ghost use Rattle.match_book.specs.Roles.{present};
+ghost use Rattle.std.specs.Prelude.{◌≡◌, ◌<◌, ◌++◌, if◌then◌else◌, All, IfOk, IfSome, OnOk, Some, map, count_by, length, option_to_list, slice_set};
+ghost use Rattle.match_book.specs.Judgement.{substitute};
+ghost use Rattle.match_book.specs.declared.judgement.Substitution.TheVariants.{Retired};
+ghost use Rattle.match_book.specs.Roles.{of_each_role};
 ghost use Rattle.match_book.specs.MatchValue.{is_error};
-ghost use Rattle.match_book.specs.Internal.OpenAnswers.{AreMoves};
+ghost use Rattle.match_book.specs.Internal.OpenAnswers.{AreMoves, kept_part};
 ghost use Rattle.match_book.specs.Steps.{turn_of};
 
-use crate::judgement::Judgement;
+use crate::judgement::{Judgement, Substitution, substitute};
+use crate::retirement::{RoleStrikes, is_retired_at};
+use crate::role_moves::RoleMoves;
 use game_core::{Game, Joint, Text, Texts};
 use std::alloc::{AllocError, Global};
 
@@ -16,64 +20,116 @@ pub struct Turn<M> {
     pub errors: Texts,
 }
 
-/// Adds an equal judgement, if there is one.
-fn push_copy<G: Game>(
+/// An equal judgement in memory of its own.
+fn copy_judgement<G: Game>(
+    alloc: Global,
+    game: &G,
+    judged: &Judgement<G::Move>,
+) -> Result<Judgement<G::Move>, AllocError>
+    requires { (G.rules game.now).IsMove judged.now.taken }
+    ensures { IfOk result (λ j. j ≡ judged.now) }
+{
+    let taken = game.copy_move(alloc, &judged.taken)?;
+    let error = judged.error.copy(alloc)?;
+    Ok(Judgement { taken, error })
+}
+
+/// What a role gives to the turn: an equal judgement to its open answer, or the first of its legal moves where
+/// it is retired.
+fn part_of<G: Game>(
     alloc: Global,
     game: &G,
     answer: &Option<Judgement<G::Move>>,
-    moves: &mut Vec<G::Move>,
-    errors: &mut Vec<Text>,
-) -> Result<(), AllocError>
-    requires { IfSome answer.now (λ j. (G.rules game.now).IsMove j.taken) }
-    ensures moves { OnOk result (moves.new.items ≡ moves.old.items ++ map (λ j. j.taken) (option_to_list answer.now)) }
-    ensures errors { OnOk result (errors.new.items ≡ errors.old.items ++ map (λ j. j.error) (option_to_list answer.now)) }
+    is_retired: bool,
+    moves: &[G::Move],
+) -> Result<Option<Judgement<G::Move>>, AllocError>
+    requires answer { IfSome answer.now (λ j. (G.rules game.now).IsMove j.taken) }
+    requires moves { All (λ m. (G.rules game.now).IsMove m) moves.now }
+    ensures { IfOk result (λ o. o ≡ (if is_retired then substitute moves.now Retired else answer.now)) }
 {
-    if let Some(judged) = answer {
-        moves.push(game.copy_move(alloc, &judged.taken)?)?;
-        errors.push(judged.error.copy(alloc)?)?;
+    if is_retired {
+        return substitute(alloc, game, moves, &Substitution::Retired);
     }
-    Ok(())
+    match answer {
+        Some(judged) => Ok(Some(copy_judgement(alloc, game, judged)?)),
+        None => Ok(None),
+    }
 }
 
-/// Adds equal judgements, in their order.
-fn push_copies<G: Game>(
+/// What each role gives to the turn.
+fn parts_of<G: Game>(
     alloc: Global,
     game: &G,
     answers: &[Option<Judgement<G::Move>>],
-    moves: &mut Vec<G::Move>,
-    errors: &mut Vec<Text>,
-) -> Result<(), AllocError>
-    requires { AreMoves (G.rules game.now) answers.now }
-    ensures moves { OnOk result (moves.new.items ≡ moves.old.items ++ map (λ j. j.taken) (present answers.now)) }
-    ensures errors { OnOk result (errors.new.items ≡ errors.old.items ++ map (λ j. j.error) (present answers.now)) }
+    strikes: &[RoleStrikes],
+    legal: &[RoleMoves<G::Move>],
+) -> Result<Vec<Option<Judgement<G::Move>>>, AllocError>
+    requires answers { AreMoves (G.rules game.now) answers.now }
+    requires strikes { length strikes.now ≡ length answers.now }
+    requires one_list { length legal.now ≡ length answers.now }
+    requires legal { All (λ l. All (λ m. (G.rules game.now).IsMove m) l) legal.now }
+    ensures { IfOk result (λ v. v.items ≡ of_each_role (length answers.now) (kept_part answers.now strikes.now legal.now)) }
 {
-    for answer in answers {
-        push_copy(alloc, game, answer, moves, errors)?;
+    let mut parts = Vec::with_capacity(alloc, answers.len())?;
+    for role in 0..answers.len() {
+        let is_retired = is_retired_at(strikes, role);
+        let moves = legal[role].as_slice();
+        let part = part_of(alloc, game, &answers[role], is_retired, moves)?;
+        parts.push(part)?;
     }
-    Ok(())
+    Ok(parts)
 }
 
-/// The turn of the open answers and of the role's judgement. The open answers are copied, so that they stay
-/// where a later growth is refused.
-pub fn turn_with<G: Game>(
+/// What each role gives to the turn, this judgement being what the role gives whose answer is the last.
+pub fn parts_with<G: Game>(
     alloc: Global,
     game: &G,
     answers: &[Option<Judgement<G::Move>>],
+    strikes: &[RoleStrikes],
+    legal: &[RoleMoves<G::Move>],
     role: usize,
     judged: Judgement<G::Move>,
-) -> Result<Turn<G::Move>, AllocError>
-    requires moves { AreMoves (G.rules game.now) answers.now }
+) -> Result<Vec<Option<Judgement<G::Move>>>, AllocError>
+    requires answers { AreMoves (G.rules game.now) answers.now }
+    requires strikes { length strikes.now ≡ length answers.now }
+    requires one_list { length legal.now ≡ length answers.now }
+    requires legal { All (λ l. All (λ m. (G.rules game.now).IsMove m) l) legal.now }
     requires role { role < length answers.now }
-    ensures { IfOk result (λ t. t ≡ turn_of (slice_set answers.now role (Some judged))) }
+    ensures { IfOk result (λ v. v.items ≡ slice_set (of_each_role (length answers.now) (kept_part answers.now strikes.now legal.now)) role (Some judged)) }
 {
-    let mut moves = Vec::new(alloc);
-    let mut errors = Vec::new(alloc);
-    let (before, _) = answers.split_at(role);
-    let (_, after) = answers.split_at(role + 1);
-    push_copies(alloc, game, before, &mut moves, &mut errors)?;
-    moves.push(judged.taken)?;
-    errors.push(judged.error)?;
-    push_copies(alloc, game, after, &mut moves, &mut errors)?;
+    let mut parts = parts_of(alloc, game, answers, strikes, legal)?;
+    parts[role] = Some(judged);
+    Ok(parts)
+}
+
+/// Adds a judgement to the turn, if there is one.
+fn push_part<M: Drop>(
+    part: Option<Judgement<M>>,
+    moves: &mut Vec<M>,
+    errors: &mut Vec<Text>,
+) -> Result<(), AllocError>
+    ensures moves { OnOk result (moves.new.items ≡ moves.old.items ++ map (λ j. j.taken) (option_to_list part)) }
+    ensures errors { OnOk result (errors.new.items ≡ errors.old.items ++ map (λ j. j.error) (option_to_list part)) }
+{
+    if let Some(judged) = part {
+        moves.push(judged.taken)?;
+        errors.push(judged.error)?;
+    }
+    Ok(())
+}
+
+/// The turn that is made of these judgements.
+pub fn turn_of<M: Drop>(
+    alloc: Global,
+    parts: Vec<Option<Judgement<M>>>,
+) -> Result<Turn<M>, AllocError>
+    ensures { IfOk result (λ t. t ≡ turn_of parts.items) }
+{
+    let mut moves = Vec::with_capacity(alloc, parts.len())?;
+    let mut errors = Vec::with_capacity(alloc, parts.len())?;
+    for part in parts {
+        push_part(part, &mut moves, &mut errors)?;
+    }
     Ok(Turn {
         moves: Joint { moves },
         errors: Texts { items: errors },

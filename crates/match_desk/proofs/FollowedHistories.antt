@@ -301,9 +301,9 @@ module _ {G S M : Type 0} (rules : G → Rules S M) (laws : (g : G) → IsLawful
 
   followed-step : (d : ManagerValue G M) (history : List (Entry Call Reply)) → IsFollowedManager rules d history → (line : ℕ) (call : Call) (r : Reply) → r ≡ reply rules d call
       → IsFollowedManager rules (after rules d call) (history ++ (record { line = line; call = call; reply = r }) ∷ [])
-  followed-step d history followed line (Open id game start play players) r is =
-      followed-open d history followed (record { line = line; call = Open id game start play players; reply = r }) (λ i role n. nothing (is_taken r)) game (setup_of id start play players)
-      (lawful-after rules laws d followed.lawful (Open id game start play players))
+  followed-step d history followed line (Open id game start play strikes players) r is =
+      followed-open d history followed (record { line = line; call = Open id game start play strikes players; reply = r }) (λ i role n. nothing (is_taken r)) game (setup_of id start play strikes players)
+      (lawful-after rules laws d followed.lawful (Open id game start play strikes players))
   followed-step d history followed line (Next id role) r is = followed-unchanged rules laws d history followed (record { line = line; call = Next id role; reply = r }) (λ i role' n. nothing (is_taken r))
   followed-step d history followed line (Submit id role n text) r is =
       followed-answer rules laws d history followed id role n (Text text) (record { line = line; call = Submit id role n text; reply = r }) is (λ i role' k. refl) (lawful-after rules laws d followed.lawful (Submit id role n text))

@@ -2,14 +2,16 @@
 use Rattle.std.proofs.Common.{◌≡◌, ◌≢◌, ℕ, zero, suc, ◌+◌, ◌<◌, ◌≤◌, Bool, true, false, Option, Some, None, List, [], ◌∷◌, ◌++◌, length, set, take, refl, arith, ap, sym, ◌∙◌, subst, length-append, length-set, ◌⊎◌, inl, inr}
 use Rattle.std.proofs.lemmas.List.{take-append-le}
 use Rattle.std.proofs.Math.Seq.{take-append_seam}
-use Rattle.std.specs.Prelude.{is_none, is_some, IsSome, nat_lt, ◌==◌, if◌then◌else◌, map, slice_get}
+use Rattle.std.specs.Prelude.{is_none, is_some, IsSome, nat_lt, ◌==◌, if◌then◌else◌, not, slice_get}
 use Rattle.game_core.specs.Play.{Rules, IsLawful}
-use Rattle.match_book.specs.Roles.{every_role, at_role, is_there, blank, present}
-use Rattle.match_book.specs.Judgement.{judgement}
+use Rattle.match_book.specs.Roles.{every_role, at_role, is_there, blank}
+use Rattle.match_book.specs.Judgement.{judgement, substitute}
+use Rattle.match_book.specs.Retirement.{retired_by, is_retired}
+use Rattle.match_book.specs.declared.judgement.Substitution.TheVariants.{Retired}
 use Rattle.match_book.specs.MatchValue.{MatchValue, state_after, move_at, error_at}
-use Rattle.match_book.specs.Phase.{stage, is_over, is_live, is_playing, has_answered, answered_in, round, round_in}
+use Rattle.match_book.specs.Phase.{stage, is_over, is_live, is_playing, still_answers, has_answered, answered_in, round, round_in}
 use Rattle.match_book.specs.Lawful.{IsLawfulMatch}
-use Rattle.match_book.specs.Steps.{new_match, refusal, turn_of, with_answer_in, with_open_answer, with_abort, with_end_mark, after_answer, after_abort}
+use Rattle.match_book.specs.Steps.{new_match, refusal, turn_of, part, parts, with_answer_in, with_open_answer, with_abort, with_end_mark, after_answer, after_abort}
 use Rattle.match_book.specs.declared.setup.Setup.{Setup}
 use Rattle.match_book.specs.declared.answer.Answer.{Answer}
 use Rattle.match_book.specs.Marks.{mark_of}
@@ -18,20 +20,21 @@ use Rattle.match_book.specs.declared.answer.AnswerRefusal.{AnswerRefusal}
 use Rattle.match_book.specs.declared.answer.AnswerRefusal.TheVariants.{NoRole, Over, Stale, Twice}
 use Rattle.match_book.specs.declared.judgement.Judgement.{Judgement}
 use Rattle.match_book.specs.declared.turn.Turn.{Turn}
-use Rattle.match_book.specs.declared.phase.Cause.TheVariants.{Asked, NoLegal, NoGoal, TooLong}
+use Rattle.match_book.specs.declared.phase.Cause.TheVariants.{Asked, NoLegal, NoGoal, TooLong, AllRetired}
 use Rattle.match_book.specs.declared.phase.Stage.{Stage}
 use Rattle.match_book.specs.declared.phase.Stage.TheVariants.{Starting, Playing, Stopping, Aborting}
-use Rattle.match_book.proofs.RoleTests.{every_role-at, at_role-set, at_role-other}
-use Rattle.match_book.proofs.Stages.{stage-by, stage-asked, starting-missing, playing-settled}
+use Rattle.match_book.proofs.RoleTests.{every_role-at, at_role-set, at_role-other, same_or_other}
+use Rattle.match_book.proofs.Stages.{stage-by, stage-asked, starting-missing, playing-settled, not_answered-parts}
 use Rattle.match_book.proofs.TurnParts.{some_of}
-use Rattle.match_book.proofs.LawfulMatches.{none_blank, same_or_other, answer-judged}
-use Rattle.match_book.proofs.AnswerLaws.{taken_for_the_round, no_error_means_named}
-use Rattle.match_desk.specs.Accepted.{IsAnswered}
+use Rattle.match_book.proofs.LawfulMatches.{none_blank, answer-judged, turn-move, turn-error}
+use Rattle.match_book.proofs.Judgements.{judgement-judged}
+use Rattle.match_book.proofs.AnswerLaws.{taken_for_the_round, no_error_means_named, still-answers}
+use Rattle.match_desk.specs.Accepted.{IsAnswered, AreTaken}
 
--- The answers that were taken for a match, by role and round: one for each role of each recorded turn and for each open answer, and
--- none for a later round.
+-- The answers that were taken for a match, by role and round: one for each role of each recorded turn that is not retired and for each
+-- open answer, and none for a later round.
 pub record IsFollowed {S M : Type 0} (g : Rules S M) (m : MatchValue M) (taken : ℕ → ℕ → List Answer) : Type 0 where
-  pub recorded : (turn role : ℕ) → turn < length m.turns → role < g.roles → IsAnswered g m.turns turn role (taken role (turn + 1))
+  pub recorded : (turn role : ℕ) → turn < length m.turns → role < g.roles → AreTaken (retired_by m.setup.strikes (take turn m.turns) role) g m.turns turn role (taken role (turn + 1))
   pub open_one : (role : ℕ) (j : Judgement M) → role < g.roles → at_role m.open_answers role ≡ Some j → (a : Answer) × (taken role (length m.turns + 1) ≡ a ∷ []) × (judgement g (state_after g m.turns) role a ≡ Some j)
   pub open_none : stage g m ≡ Playing → (role : ℕ) → role < g.roles → at_role m.open_answers role ≡ None → taken role (length m.turns + 1) ≡ []
   pub later : (role n : ℕ) → round g m < n → taken role n ≡ []
@@ -39,7 +42,7 @@ pub record IsFollowed {S M : Type 0} (g : Rules S M) (m : MatchValue M) (taken :
 -- the same answers
 pub followed-same : {S M : Type 0} (g : Rules S M) (m : MatchValue M) (old new : ℕ → ℕ → List Answer) → ((role n : ℕ) → new role n ≡ old role n) → IsFollowed g m old → IsFollowed g m new
 followed-same g m old new same follows = record {
-  recorded = λ turn role lt within. subst (λ (l : List Answer). IsAnswered g m.turns turn role l) (sym (same role (turn + 1))) (follows.recorded turn role lt within);
+  recorded = λ turn role lt within. subst (λ (l : List Answer). AreTaken (retired_by m.setup.strikes (take turn m.turns) role) g m.turns turn role l) (sym (same role (turn + 1))) (follows.recorded turn role lt within);
   open_one = λ role j within at. let one = follows.open_one role j within at in (one.0, same role (length m.turns + 1) ∙ one.1, one.2);
   open_none = λ playing role within at. same role (length m.turns + 1) ∙ follows.open_none playing role within at;
   later = λ role n past. same role n ∙ follows.later role n past;
@@ -62,6 +65,7 @@ round_in-past (Aborting Asked) t ne = omega arith
 round_in-past (Aborting (NoLegal r)) t ne = omega arith
 round_in-past (Aborting (NoGoal r)) t ne = omega arith
 round_in-past (Aborting TooLong) t ne = omega arith
+round_in-past (Aborting AllRetired) t ne = omega arith
 
 -- once all START marks are there, the round is past the recorded turns
 round-past : {S M : Type 0} (g : Rules S M) (m : MatchValue M) → every_role g.roles (is_there m.start_marks) ≡ true → length m.turns + 1 ≤ round g m
@@ -113,13 +117,6 @@ error_at-last : {M : Type 0} (turns : List (Turn M)) (t : Turn M) (role : ℕ) �
 error_at-last [] t role = refl
 error_at-last (x ∷ xs) t role = error_at-last xs t role
 
--- what a role's place has, once the open answers have become a turn
-present-get : {A B : Type 0} (f : A → B) (xs : List (Option A)) (q : ℕ) (x : A) → ((k : ℕ) → k < length xs → is_there xs k ≡ true) → q < length xs → at_role xs q ≡ Some x → slice_get (map f (present xs)) q ≡ Some (f x)
-present-get f [] q x all lt is = absurd (omega arith)
-present-get f (None ∷ xs) q x all lt is = let w : false ≡ true = all 0 (omega arith) in absurd cc
-present-get f (Some y ∷ xs) zero x all lt is = let w : y ≡ x = cc in ap (λ z. Some (f z)) w
-present-get f (Some y ∷ xs) (suc q) x all lt is = present-get f xs q x (λ k less. all (suc k) (omega arith)) (omega arith) is
-
 below_or_last : (k n : ℕ) → k < n + 1 → (k ≡ n) ⊎ (k < n)
 below_or_last k n lt = grind arith
 
@@ -158,19 +155,21 @@ module _ {S M : Type 0} (g : Rules S M) (laws : IsLawful g) (m : MatchValue M) (
     is_role = (taken_for_the_round g m role (round g m) free).0
 
     -- the recorded turns keep their answers
-    recorded-same : (turn r : ℕ) → turn < length m.turns → r < g.roles → IsAnswered g m.turns turn r (new r (turn + 1))
+    recorded-same : (turn r : ℕ) → turn < length m.turns → r < g.roles → AreTaken (retired_by m.setup.strikes (take turn m.turns) r) g m.turns turn r (new r (turn + 1))
     recorded-same turn r lt within =
         let before = round-turns g m lawful turn lt in
-        subst (λ (l : List Answer). IsAnswered g m.turns turn r l) (sym (others r (turn + 1) (inr (λ e. omega arith)))) (follows.recorded turn r lt within)
+        subst (λ (l : List Answer). AreTaken (retired_by m.setup.strikes (take turn m.turns) r) g m.turns turn r l) (sym (others r (turn + 1) (inr (λ e. omega arith)))) (follows.recorded turn r lt within)
 
     later-same : (r n : ℕ) → round g m < n → new r n ≡ []
     later-same r n after = others r n (inr (λ e. omega arith)) ∙ follows.later r n after
 
     -- an answer that is no answer of a turn
-    module _ (n : MatchValue M) (turns : n.turns ≡ m.turns) (answers : n.open_answers ≡ blank g.roles) (past : round g m ≤ round g n) (begins : stage g n ≡ Playing → round g m < length m.turns + 1) where
+    module _ (n : MatchValue M) (setup : n.setup ≡ m.setup) (turns : n.turns ≡ m.turns) (answers : n.open_answers ≡ blank g.roles) (past : round g m ≤ round g n) (begins : stage g n ≡ Playing → round g m < length m.turns + 1) where
       followed-mark : IsFollowed g n new
       followed-mark = record {
-        recorded = λ turn r lt within. subst (λ (l : List (Turn M)). IsAnswered g l turn r (new r (turn + 1))) (sym turns) (recorded-same turn r (subst (λ (l : List (Turn M)). turn < length l) turns lt) within);
+        recorded = λ turn r lt within.
+            subst (λ (x : Setup). AreTaken (retired_by x.strikes (take turn n.turns) r) g n.turns turn r (new r (turn + 1))) (sym setup)
+            (subst (λ (l : List (Turn M)). AreTaken (retired_by m.setup.strikes (take turn l) r) g l turn r (new r (turn + 1))) (sym turns) (recorded-same turn r (subst (λ (l : List (Turn M)). turn < length l) turns lt) within));
         open_one = λ r j within at. absurd (none_blank g.roles r j (ap (λ l. at_role l r) (sym answers) ∙ at));
         open_none = λ playing r within at.
             let wide : length n.turns ≡ length m.turns = ap length turns in
@@ -184,7 +183,10 @@ module _ {S M : Type 0} (g : Rules S M) (laws : IsLawful g) (m : MatchValue M) (
       round_is = round-playing g m playing
 
       open_here : at_role m.open_answers role ≡ None
-      open_here = is_none-none (at_role m.open_answers role) (subst (λ (x : Stage). answered_in x m role ≡ false) playing (not_answered g m role (round g m) free))
+      open_here = is_none-none (at_role m.open_answers role) (not_answered-parts m role (subst (λ (x : Stage). answered_in x m role ≡ false) playing (not_answered g m role (round g m) free))).1
+
+      still : still_answers m role ≡ true
+      still = still-answers g m role (not_answered g m role (round g m) free) playing
 
       none_before : taken role (length m.turns + 1) ≡ []
       none_before = follows.open_none playing role is_role open_here
@@ -218,48 +220,73 @@ module _ {S M : Type 0} (g : Rules S M) (laws : IsLawful g) (m : MatchValue M) (
                 | inr other ↦ others r (length m.turns + 1) (inl other) ∙ follows.open_none playing r within (sym (at_role-other m.open_answers role r (Some j) other) ∙ at)
               ];
           later = λ r k after.
-              let same : stage g (record m { open_answers = set m.open_answers role (Some j) }) ≡ stage g m = stage-by g m (record m { open_answers = set m.open_answers role (Some j) }) refl refl refl in
+              let same : stage g (record m { open_answers = set m.open_answers role (Some j) }) ≡ stage g m = stage-by g m (record m { open_answers = set m.open_answers role (Some j) }) refl refl refl refl in
               later-same r k (subst (λ (x : Stage). round_in x (every_role g.roles (is_there m.start_marks)) (length m.turns) < k) same after);
         })
 
-        module _ (all : every_role g.roles (is_there (set m.open_answers role (Some j))) ≡ true) where
-          wide : length more ≡ g.roles
-          unfolding more
-          wide = length-set m.open_answers role (Some j) ∙ lawful.one_open_answer
-
-          more-all : (k : ℕ) → k < length more → is_there more k ≡ true
-          unfolding more
-          more-all k lt = every_role-at g.roles k (is_there more) all (omega (arith, wide))
-
+        module _ (all : every_role g.roles (answered_in Playing (record m { open_answers = set m.open_answers role (Some j) })) ≡ true) where
           t : Turn M
-          t = turn_of (set m.open_answers role (Some j))
+          t = turn_of (parts g (record m { open_answers = set m.open_answers role (Some j) }))
+
+          -- a role that is retired has no open answer, and none was taken
+          retired-none : (r : ℕ) → r < g.roles → is_retired m r ≡ true → new r (length m.turns + 1) ≡ []
+          retired-none r within out =
+              let other : r ≢ role = λ e. let w : false ≡ true = sym (ap not (subst (λ (k : ℕ). is_retired m k ≡ true) e out)) ∙ still in cc in
+              others r (length m.turns + 1) (inl other) ∙ follows.open_none playing r within (none (at_role m.open_answers r) refl)
+            where
+              none : (o : Option (Judgement M)) → at_role m.open_answers r ≡ o → at_role m.open_answers r ≡ None
+              none None e = e
+              none (Some i) e = absurd (let w : false ≡ true = sym (ap not out) ∙ (lawful.judged r i within e).0 in cc)
+
+          -- a role that is not has an open answer
+          more-there : (r : ℕ) → r < g.roles → is_retired m r ≡ false → is_there more r ≡ true
+          unfolding more
+          more-there r within in' = step (is_retired m r) in' (every_role-at g.roles r (answered_in Playing (record m { open_answers = set m.open_answers role (Some j) })) all within)
+            where
+              step : (b : Bool) → b ≡ false → (if not b then is_there (set m.open_answers role (Some j)) r else true) ≡ true → is_there (set m.open_answers role (Some j)) r ≡ true
+              step true e there = absurd cc
+              step false e there = there
 
           -- each role of the new turn
-          last-answered : (r : ℕ) → r < g.roles → IsAnswered g (m.turns ++ t ∷ []) (length m.turns) r (new r (length m.turns + 1))
+          last-answered : (r : ℕ) → r < g.roles → AreTaken (retired_by m.setup.strikes (take (length m.turns) (m.turns ++ t ∷ [])) r) g (m.turns ++ t ∷ []) (length m.turns) r (new r (length m.turns + 1))
           unfolding more t
           last-answered r within =
-              let found = some_of (at_role more r) (more-all r (omega (arith, wide))) in
-              let one = more-one r found.0 within found.1 in
-              let before : take (length m.turns) (m.turns ++ t ∷ []) ≡ m.turns = take-append_seam m.turns (t ∷ []) in
-              record {
-                answer = one.0;
-                one = one.1;
-                judged = found.0;
-                is_judgement = ap (λ (l : List (Turn M)). judgement g (state_after g l) r one.0) before ∙ one.2;
-                move_is = move_at-last m.turns t r ∙ present-get (λ i. i.taken) more r found.0 more-all (omega (arith, wide)) found.1;
-                error_is = error_at-last m.turns t r ∙ present-get (λ i. i.error) more r found.0 more-all (omega (arith, wide)) found.1;
-                no_error = no_error_means_named g (state_after g m.turns) r one.0 found.0 one.2;
-              }
+              subst (λ (l : List (Turn M)). AreTaken (retired_by m.setup.strikes l r) g (m.turns ++ t ∷ []) (length m.turns) r (new r (length m.turns + 1))) (sym (take-append_seam m.turns (t ∷ []))) (step (is_retired m r) refl)
+            where
+              step : (b : Bool) → is_retired m r ≡ b
+                  → AreTaken b g (m.turns ++ turn_of (parts g (record m { open_answers = set m.open_answers role (Some j) })) ∷ []) (length m.turns) r (new r (length m.turns + 1))
+              step true out = retired-none r within out
+              step false in' =
+                  let found = some_of (at_role (set m.open_answers role (Some j)) r) (more-there r within in') in
+                  let one = more-one r found.0 within found.1 in
+                  let before : take (length m.turns) (m.turns ++ t ∷ []) ≡ m.turns = take-append_seam m.turns (t ∷ []) in
+                  let given : part g (record m { open_answers = set m.open_answers role (Some j) }) r ≡ Some found.0 =
+                  ap (λ b. if not b then at_role (set m.open_answers role (Some j)) r else substitute (g.legal (state_after g m.turns) r) Retired) in' ∙ found.1
+                  in
+                  let judged = judgement-judged g (state_after g m.turns) role answer j is in
+                  record {
+                    answer = one.0;
+                    one = one.1;
+                    judged = found.0;
+                    is_judgement = ap (λ (l : List (Turn M)). judgement g (state_after g l) r one.0) before ∙ one.2;
+                    move_is = move_at-last m.turns t r ∙ turn-move g laws m lawful playing role is_role j still judged all r within found.0 given;
+                    error_is = error_at-last m.turns t r ∙ turn-error g laws m lawful playing role is_role j still judged all r within found.0 given;
+                    no_error = no_error_means_named g (state_after g m.turns) r one.0 found.0 one.2;
+                  }
 
-          before-answered : (turn r : ℕ) → turn < length m.turns → r < g.roles → IsAnswered g (m.turns ++ t ∷ []) turn r (new r (turn + 1))
+          before-answered : (turn r : ℕ) → turn < length m.turns → r < g.roles → AreTaken (retired_by m.setup.strikes (take turn (m.turns ++ t ∷ [])) r) g (m.turns ++ t ∷ []) turn r (new r (turn + 1))
           before-answered turn r lt within =
-              let old = recorded-same turn r lt within in
               let before : take turn (m.turns ++ t ∷ []) ≡ take turn m.turns = take-append-le turn m.turns (t ∷ []) (omega arith) in
-              record {
+              subst (λ (l : List (Turn M)). AreTaken (retired_by m.setup.strikes l r) g (m.turns ++ t ∷ []) turn r (new r (turn + 1))) (sym before)
+              (step (retired_by m.setup.strikes (take turn m.turns) r) (recorded-same turn r lt within))
+            where
+              step : (b : Bool) → AreTaken b g m.turns turn r (new r (turn + 1)) → AreTaken b g (m.turns ++ t ∷ []) turn r (new r (turn + 1))
+              step true none = none
+              step false old = record {
                 answer = old.answer;
                 one = old.one;
                 judged = old.judged;
-                is_judgement = ap (λ (l : List (Turn M)). judgement g (state_after g l) r old.answer) before ∙ old.is_judgement;
+                is_judgement = ap (λ (l : List (Turn M)). judgement g (state_after g l) r old.answer) (take-append-le turn m.turns (t ∷ []) (omega arith)) ∙ old.is_judgement;
                 move_is = move_at-before m.turns t turn r lt ∙ old.move_is;
                 error_is = error_at-before m.turns t turn r lt ∙ old.error_is;
                 no_error = old.no_error;
@@ -273,7 +300,7 @@ module _ {S M : Type 0} (g : Rules S M) (laws : IsLawful g) (m : MatchValue M) (
               subst (λ (x : MatchValue M). IsFollowed g x new) (sym now) (record {
                 recorded = λ turn r lt within.
                     elim (below_or_last turn (length m.turns) (omega arith)) [
-                      | inl last ↦ subst (λ (k : ℕ). IsAnswered g (m.turns ++ t ∷ []) k r (new r (k + 1))) (sym last) (last-answered r within)
+                      | inl last ↦ subst (λ (k : ℕ). AreTaken (retired_by m.setup.strikes (take k (m.turns ++ t ∷ [])) r) g (m.turns ++ t ∷ []) k r (new r (k + 1))) (sym last) (last-answered r within)
                       | inr below ↦ before-answered turn r below within
                     ];
                 open_one = λ r i within at. absurd (none_blank g.roles r i at);
@@ -284,24 +311,24 @@ module _ {S M : Type 0} (g : Rules S M) (laws : IsLawful g) (m : MatchValue M) (
       followed-judged : (o : Option (Judgement M)) → judgement g (state_after g m.turns) role answer ≡ o → IsSome o → IsFollowed g (with_open_answer g m role o) new
       unfolding t
       followed-judged None is some = absurd cc
-      followed-judged (Some j) is some = step (every_role g.roles (is_there (set m.open_answers role (Some j)))) refl
+      followed-judged (Some j) is some = step (every_role g.roles (answered_in Playing (record m { open_answers = set m.open_answers role (Some j) }))) refl
         where
-          step : (all : Bool) → every_role g.roles (is_there (set m.open_answers role (Some j))) ≡ all
-              → IsFollowed g (if all then record m { turns = m.turns ++ turn_of (set m.open_answers role (Some j)) ∷ []; open_answers = blank g.roles } else record m { open_answers = set m.open_answers role (Some j) }) new
-          step true all = followed-turn j is all (record m { turns = m.turns ++ turn_of (set m.open_answers role (Some j)) ∷ []; open_answers = blank g.roles }) refl
+          step : (all : Bool) → every_role g.roles (answered_in Playing (record m { open_answers = set m.open_answers role (Some j) })) ≡ all
+              → IsFollowed g (if all then record m { turns = m.turns ++ turn_of (parts g (record m { open_answers = set m.open_answers role (Some j) })) ∷ []; open_answers = blank g.roles } else record m { open_answers = set m.open_answers role (Some j) }) new
+          step true all = followed-turn j is all (record m { turns = m.turns ++ turn_of (parts g (record m { open_answers = set m.open_answers role (Some j) })) ∷ []; open_answers = blank g.roles }) refl
           step false missing = followed-open j is (record m { open_answers = set m.open_answers role (Some j) }) refl
 
     -- an answer to STOP or ABORT
     followed-end : (mark : Mark) → stage g m ≢ Playing → is_playing (stage g m) ≡ false → IsFollowed g (with_end_mark m role mark) new
     followed-end mark out not_playing =
-        let same : stage g (with_end_mark m role mark) ≡ stage g m = stage-by g m (with_end_mark m role mark) refl refl refl in
+        let same : stage g (with_end_mark m role mark) ≡ stage g m = stage-by g m (with_end_mark m role mark) refl refl refl refl in
         let rounds : round g (with_end_mark m role mark) ≡ round g m = ap (λ (x : Stage). round_in x (every_role g.roles (is_there m.start_marks)) (length m.turns)) same in
-        followed-mark (with_end_mark m role mark) refl (lawful.answers_in_play not_playing) (omega (arith, rounds)) (λ e. absurd (out (sym same ∙ e)))
+        followed-mark (with_end_mark m role mark) refl refl (lawful.answers_in_play not_playing) (omega (arith, rounds)) (λ e. absurd (out (sym same ∙ e)))
 
     -- by what the match is doing
     followed-in : (at : Stage) → stage g m ≡ at → IsFollowed g (with_answer_in at g m role answer) new
     followed-in Starting is =
-        followed-mark (with_answer_in Starting g m role answer) refl (lawful.answers_in_play (ap is_playing is)) (starts is) (λ _. starts-below is)
+        followed-mark (with_answer_in Starting g m role answer) refl refl (lawful.answers_in_play (ap is_playing is)) (starts is) (λ _. starts-below is)
       where
         starts-zero : stage g m ≡ Starting → round g m ≡ 0
         starts-zero e = ap (λ (x : Stage). round_in x (every_role g.roles (is_there m.start_marks)) (length m.turns)) e

@@ -53,7 +53,7 @@ module _ {G S M : Type 0} (rules : G → Rules S M) (laws : (g : G) → IsLawful
       step (Some reason) is = lawful
 
   pub lawful-after : (call : Call) → IsLawfulManager rules (after rules d call)
-  lawful-after (Open id game start play players) = lawful-after_open game (setup_of id start play players)
+  lawful-after (Open id game start play strikes players) = lawful-after_open game (setup_of id start play strikes players)
   lawful-after (Next id role) = lawful
   lawful-after (Submit id role round text) = lawful-with_change rules d id _ (keeps-answer rules laws role round (Text text)) lawful
   lawful-after (Miss id role round broken) = lawful-with_change rules d id _ (keeps-answer rules laws role round (missed broken)) lawful

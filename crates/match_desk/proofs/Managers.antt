@@ -7,10 +7,10 @@ use Rattle.std.specs.Global.{Global}
 use Rattle.game_core.specs.Play.{Rules, IsLawful}
 use Rattle.match_book.specs.MatchValue.{MatchValue, state_after}
 use Rattle.match_book.specs.Lawful.{IsLawfulMatch}
-use Rattle.match_book.specs.Roles.{every_role, is_there, blank}
+use Rattle.match_book.specs.Roles.{every_role, blank}
 use Rattle.match_book.specs.Judgement.{judgement}
-use Rattle.match_book.specs.Phase.{stage, is_live}
-use Rattle.match_book.specs.Steps.{refusal, recorded, turn_of, with_answer_in, with_answer, with_abort, after_answer, after_abort}
+use Rattle.match_book.specs.Phase.{stage, answered_in, is_live}
+use Rattle.match_book.specs.Steps.{refusal, recorded, turn_of, parts, with_answer_in, with_answer, with_abort, after_answer, after_abort}
 use Rattle.match_book.specs.declared.phase.Stage.{Stage}
 use Rattle.match_book.specs.declared.phase.Stage.TheVariants.{Starting, Playing, Stopping, Aborting}
 use Rattle.match_book.specs.declared.setup.Setup.{Setup}
@@ -38,9 +38,9 @@ kept-opening {G} {S} {M} rules games entries empty =
 
 -- no answer and no abort changes the setup
 recorded-setup : {S M : Type 0} (g : Rules S M) (m : MatchValue M) → (recorded g m).setup ≡ m.setup
-recorded-setup {S} {M} g m = step (every_role g.roles (is_there m.open_answers))
+recorded-setup {S} {M} g m = step (every_role g.roles (answered_in Playing m))
   where
-    step : (b : Bool) → (if b then record m { turns = m.turns ++ turn_of m.open_answers ∷ []; open_answers = blank g.roles } else m).setup ≡ m.setup
+    step : (b : Bool) → (if b then record m { turns = m.turns ++ turn_of (parts g m) ∷ []; open_answers = blank g.roles } else m).setup ≡ m.setup
     step true = refl
     step false = refl
 

@@ -1,13 +1,15 @@
 -- A match that is opened lies in its place.
-use Rattle.std.proofs.Common.{◌≡◌, ◌<◌, ℕ, length, slice_index_or, Option, Some, None, List, [], ◌∷◌, ◌++◌, refl, ap, sym, ◌∙◌, subst, Vec}
+use Rattle.std.proofs.Common.{◌≡◌, ◌<◌, ◌≤◌, ℕ, true, arith, length, slice_index_or, Option, Some, None, List, [], ◌∷◌, ◌++◌, refl, ap, sym, ◌∙◌, subst, Vec}
 use Rattle.std.proofs.lemmas.List.{map-append}
 use Rattle.std.proofs.lemmas.List.Elements.{All-push}
 use Rattle.std.proofs.lemmas.Option.{slice_get_within, slice_get_read}
-use Rattle.std.specs.Prelude.{All, is_none, slice_get, option_map, bytes_eq, if◌then◌else◌}
+use Rattle.std.proofs.lemmas.Bool.Decides.{nat_tests}
+use Rattle.std.specs.Prelude.{All, nat_le, is_none, slice_get, option_map, bytes_eq, if◌then◌else◌}
 use Rattle.std.specs.Global.{Global}
 use Rattle.std.specs.Map.{lookup}
 use Rattle.game_core.specs.Play.{Rules, IsLawful}
 use Rattle.match_book.specs.MatchValue.{GameMatch}
+use Rattle.match_book.specs.Names.{max_strikes}
 use Rattle.match_book.specs.Steps.{new_match}
 use Rattle.match_book.specs.declared.setup.Setup.{Setup}
 use Rattle.match_desk.specs.ManagerValue.{ManagerValue, DeskMatch, match_of, IsLawfulManager}
@@ -18,10 +20,16 @@ use Rattle.match_desk.proofs.MatchSlots.{lookup-find}
 use Rattle.match_desk.proofs.OpenTests.{IsOpenable, openable}
 use Rattle.match_desk.proofs.LawfulSteps.{lawful-after_open}
 
+at_most : (m n : ℕ) → nat_le m n ≡ true → m ≤ n
+at_most m n e = grind (arith, nat_tests)
+
 module _ {G S M : Type 0} (rules : G → Rules S M) (laws : (g : G) → IsLawful (rules g)) (games : List G) (entries : List (Vec ℕ Global × Slot G S M)) (kept : AreKept rules games entries)
     (d : ManagerValue G M) (view : ◌≡◌ {A = ManagerValue G M} (record { games = games; matches = desk_matches entries }) d) (game : ℕ) (setup : Setup) (opens : open_refusal rules d game setup ≡ None) where
   pub is_openable : IsOpenable rules d game setup
   is_openable = openable rules d game setup opens
+
+  pub few-strikes : setup.strikes ≤ max_strikes
+  few-strikes = at_most setup.strikes max_strikes is_openable.lawful.strikes
 
   pub index-none : (key : List ℕ) → key ≡ setup.id → lookup (λ k. bytes_eq key k.items) entries ≡ None
   index-none key is = step (lookup (λ k. bytes_eq key k.items) entries) (lookup-find games key entries kept.slots ∙ (ap (λ (x : ManagerValue G M). match_of x key) view ∙ (ap (match_of d) is ∙ is_openable.free)))

@@ -3,6 +3,7 @@ use Rattle.std.specs.Prelude.{◌≡◌, ◌↔◌, ℕ, ◌+◌, ◌<◌, ◌==
 use Rattle.game_core.specs.Play.{Rules}
 use Rattle.match_book.specs.Judgement.{judgement}
 use Rattle.match_book.specs.MatchValue.{state_after, move_at, error_at}
+use Rattle.match_book.specs.Retirement.{retired_by}
 use Rattle.match_book.specs.Laws.{Names}
 use Rattle.match_book.specs.declared.judgement.Judgement.{Judgement}
 use Rattle.match_book.specs.declared.turn.Turn.{Turn}
@@ -22,7 +23,7 @@ answer_if wanted a = if wanted then Some a else None
 
 -- the answer that a call gives for this role and round of the match with this id, if it gives one
 abbrev pub answer_of : List ℕ → ℕ → ℕ → Call → Option Answer
-answer_of id role round (Open i game start play players) = None
+answer_of id role round (Open i game start play strikes players) = None
 answer_of id role round (Next i r) = None
 answer_of id role round (Submit i r n text) = answer_if (bytes_eq i id && r == role && n == round) (Text text)
 answer_of id role round (Miss i r n broken) = answer_if (bytes_eq i id && r == role && n == round) (missed broken)
@@ -57,12 +58,18 @@ pub record IsAnswered {S M : Type 0} (g : Rules S M) (turns : List (Turn M)) (tu
   pub error_is : error_at turns turn role ≡ Some judged.error
   pub no_error : (judged.error ≡ []) ↔ Names g answer judged.taken
 
--- for each recorded turn of the match, and each role, the history took one answer for the turn's round, and the turn has its judgement
+-- these answers were taken of a role for a recorded turn, by whether the turns before retire the role: none then, and else the one that is judged
+abbrev pub AreTaken : {S M : Type 0} → Bool → Rules S M → List (Turn M) → ℕ → ℕ → List Answer → Type 0
+AreTaken true g turns turn role answers = answers ≡ []
+AreTaken false g turns turn role answers = IsAnswered g turns turn role answers
+
+-- For each recorded turn of the match, and each role that the turns before do not retire, the history took one answer for the turn's
+-- round, and the turn has its judgement. Of a role that they retire it took none.
 pub record IsAccounted {G S M : Type 0} (rules : G → Rules S M) (games : List G) (history : List (Entry Call Reply)) (m : DeskMatch M) : Type 0 where
   pub game : G
   pub is_game : slice_get games m.game ≡ Some game
   pub answered : (turn role : ℕ) → turn < length m.value.turns → role < (rules game).roles
-      → IsAnswered (rules game) m.value.turns turn role (taken_answers m.value.setup.id role (turn + 1) history)
+      → AreTaken (retired_by m.value.setup.strikes (take turn m.value.turns) role) (rules game) m.value.turns turn role (taken_answers m.value.setup.id role (turn + 1) history)
 
 -- so it is for each match
 abbrev pub AreAccounted : {G S M : Type 0} → (G → Rules S M) → ManagerValue G M → List (Entry Call Reply) → Type 0

@@ -32,5 +32,6 @@ pub record HasHeadline {G S M : Type 0} (rules : G → Rules S M) (lines : ℕ) 
   pub lawful : IsLawfulManager rules d
   -- each match's recorded joint moves are legal turns of its game
   pub legal : ArePlayedLegally rules d
-  -- for each recorded move the history took exactly one answer of its role, and the move and its error are that answer's judgement
+  -- for each recorded move of a role that the turns before do not retire, the history took exactly one answer of the role, and the move and its
+  -- error are that answer's judgement; of a role that they retire it took none
   pub accounted : AreAccounted rules d history

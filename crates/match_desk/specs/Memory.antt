@@ -24,7 +24,7 @@ AnswerWantsMemory rules d id role = IsSomeAnd (match_with_id d id) (λ m. MayWan
 
 -- What the call makes of the manager may want memory: a new match, or an answer.
 abbrev pub WantsMemory : {G S M : Type 0} → (G → Rules S M) → ManagerValue G M → Call → Type 0
-WantsMemory rules d (Open id game start play players) = ⊤
+WantsMemory rules d (Open id game start play strikes players) = ⊤
 WantsMemory rules d (Next id role) = ⊥
 WantsMemory rules d (Submit id role round text) = AnswerWantsMemory rules d id role
 WantsMemory rules d (Miss id role round broken) = AnswerWantsMemory rules d id role

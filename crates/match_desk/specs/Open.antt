@@ -4,10 +4,10 @@ use Rattle.std.specs.List.{list_all}
 use Rattle.game_core.specs.Play.{Rules}
 use Rattle.match_book.specs.Steps.{new_match}
 use Rattle.match_book.specs.declared.setup.Setup.{Setup}
-use Rattle.match_book.specs.Names.{is_name, is_clock}
+use Rattle.match_book.specs.Names.{is_name, is_clock, is_strikes}
 use Rattle.match_desk.specs.ManagerValue.{ManagerValue, match_of, max_matches}
 use Rattle.match_desk.specs.declared.call.Refusal.{Refusal}
-use Rattle.match_desk.specs.declared.call.Refusal.TheVariants.{BadId, IdUsed, NoGame, WrongPlayers, BadName, BadClock, DeskFull}
+use Rattle.match_desk.specs.declared.call.Refusal.TheVariants.{BadId, IdUsed, NoGame, WrongPlayers, BadName, BadClock, BadStrikes, DeskFull}
 
 -- the refusal of the first test that fails
 abbrev pub first_refusal : List (Bool × Refusal) → Option Refusal
@@ -27,8 +27,9 @@ open_tests rules d game setup =
     ∷ ((has_roles rules (slice_get d.games game) (length setup.players), WrongPlayers)
     ∷ ((list_all is_name setup.players, BadName)
     ∷ ((is_clock setup.start && is_clock setup.play, BadClock)
+    ∷ ((is_strikes setup.strikes, BadStrikes)
     ∷ ((nat_lt (length d.matches) max_matches, DeskFull)
-    ∷ []))))))
+    ∷ [])))))))
 
 -- why a match is not opened: none where it is
 abbrev pub open_refusal : {G S M : Type 0} → (G → Rules S M) → ManagerValue G M → ℕ → Setup → Option Refusal

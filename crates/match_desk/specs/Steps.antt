@@ -29,8 +29,8 @@ is_refused Aborting = false
 is_refused (Refused reason) = true
 
 -- the setup that an `Open` asks for
-abbrev pub setup_of : List ℕ → ℕ → ℕ → List (List ℕ) → Setup
-setup_of id start play players = record { id = id; start = start; play = play; players = players }
+abbrev pub setup_of : List ℕ → ℕ → ℕ → ℕ → List (List ℕ) → Setup
+setup_of id start play strikes players = record { id = id; start = start; play = play; strikes = strikes; players = players }
 
 -- the answer that a `Miss` stands for
 abbrev pub missed : Bool → Answer
@@ -68,7 +68,7 @@ reply_of rules d id f = unwrap_or (option_map (λ m. f (rules m.game) m.value) (
 
 -- the reply to a call
 abbrev pub reply : {G S M : Type 0} → (G → Rules S M) → ManagerValue G M → Call → Reply
-reply rules d (Open id game start play players) = refused_or (open_refusal rules d game (setup_of id start play players)) Opened
+reply rules d (Open id game start play strikes players) = refused_or (open_refusal rules d game (setup_of id start play strikes players)) Opened
 reply rules d (Next id role) = reply_of rules d id (next_reply role)
 reply rules d (Submit id role round text) = reply_of rules d id (answer_reply role round)
 reply rules d (Miss id role round broken) = reply_of rules d id (answer_reply role round)
@@ -85,7 +85,7 @@ with_change rules d id f = record d { matches = map (λ m. if has_id id m then c
 
 -- the manager after a call
 abbrev pub after : {G S M : Type 0} → (G → Rules S M) → ManagerValue G M → Call → ManagerValue G M
-after rules d (Open id game start play players) = after_open rules d game (setup_of id start play players)
+after rules d (Open id game start play strikes players) = after_open rules d game (setup_of id start play strikes players)
 after rules d (Next id role) = d
 after rules d (Submit id role round text) = with_change rules d id (λ g m. after_answer g m role round (Text text))
 after rules d (Miss id role round broken) = with_change rules d id (λ g m. after_answer g m role round (missed broken))

@@ -1,5 +1,6 @@
 //! What an `Open` carries.
-ghost use Rattle.std.specs.Prelude.{◌≡◌, IfOk};
+ghost use Rattle.std.specs.Prelude.{◌≡◌, ◌≤◌, IfOk};
+ghost use Rattle.match_book.specs.Names.{max_strikes};
 ghost use Rattle.match_desk.specs.Internal.AskedSetups.{asked_setup};
 ghost use Rattle.match_desk.specs.declared.call.Call.TheVariants.{Open};
 
@@ -15,6 +16,7 @@ pub struct AskedSetup<'a> {
     pub game: usize,
     pub start: u32,
     pub play: u32,
+    pub strikes: u32,
     pub players: &'a Texts,
 }
 
@@ -35,28 +37,31 @@ impl<'a> AskedSetup<'a> {
         game: usize,
         start: u32,
         play: u32,
+        strikes: u32,
         players: &'a Texts,
     ) -> AskedSetup<'a>
-        ensures { result ≡ record { id = id.entry; game = game; start = start; play = play; players = players.entry } }
+        ensures { result ≡ record { id = id.entry; game = game; start = start; play = play; strikes = strikes; players = players.entry } }
     {
         AskedSetup {
             id,
             game,
             start,
             play,
+            strikes,
             players,
         }
     }
 
     /// The call that asks for it, in memory of its own.
     pub fn to_call(&self, alloc: Global) -> Result<Call, AllocError>
-        ensures { IfOk result (λ call. call ≡ Open self.now.id.now self.now.game self.now.start self.now.play self.now.players.now) }
+        ensures { IfOk result (λ call. call ≡ Open self.now.id.now self.now.game self.now.start self.now.play self.now.strikes self.now.players.now) }
     {
         let AskedSetup {
             id,
             game,
             start,
             play,
+            strikes,
             players,
         } = *self;
         Ok(Call::Open {
@@ -64,12 +69,14 @@ impl<'a> AskedSetup<'a> {
             game,
             start,
             play,
+            strikes,
             players: copy_texts(alloc, players.as_slice())?,
         })
     }
 
     /// The setup of the match that is asked for.
     pub fn setup(&self, alloc: Global) -> Result<Setup, AllocError>
+        requires { self.now.strikes ≤ max_strikes }
         ensures { IfOk result (λ setup. setup ≡ asked_setup self.now) }
     {
         let id = self.id.copy(alloc)?;
@@ -78,6 +85,7 @@ impl<'a> AskedSetup<'a> {
             id,
             start: self.start,
             play: self.play,
+            strikes: self.strikes as u8,
             players,
         })
     }

@@ -6,12 +6,14 @@ use thiserror::Error;
 /// A call on the desk. Games and roles are numbered from 0; a match is named by its id, compared byte for byte.
 #[derive(Drop)]
 pub enum Call {
-    /// Opens a match of a game. The clocks are in seconds, the players in the order of the roles.
+    /// Opens a match of a game. The clocks are in seconds, the players in the order of the roles. So many
+    /// substitutions in a row retire a role; 0 is never.
     Open {
         id: Text,
         game: usize,
         start: u32,
         play: u32,
+        strikes: u32,
         players: Texts,
     },
     /// Asks what is due to a role.
@@ -81,6 +83,9 @@ pub enum Refusal {
     /// A clock is not 1 to 86,400 seconds.
     #[error("a clock is out of range")]
     BadClock,
+    /// More than 255 strikes.
+    #[error("the number of strikes is out of range")]
+    BadStrikes,
     /// The desk holds 1,024 matches.
     #[error("the desk is full")]
     DeskFull,

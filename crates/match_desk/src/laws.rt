@@ -11,8 +11,9 @@ use call_history::Entry;
 use game_core::Game;
 
 /// The accepted-answer law. In a history that is legal from an opening, exactly one entry is an answer that was taken for each
-/// recorded turn of each match and each role: a `Submit` or a `Miss` for the match's id, the role and the turn's round, with the
-/// reply `Taken`. The recorded move and error are the judgement of its answer in the state before the turn.
+/// recorded turn of each match and each role that the turns before do not retire: a `Submit` or a `Miss` for the match's id, the
+/// role and the turn's round, with the reply `Taken`. The recorded move and error are the judgement of its answer in the state
+/// before the turn. Of a role that they retire none was taken.
 pub fn answers_are_accounted<G: Game>(opening: &Manager<G>, history: &[Entry<Call, Reply>])
     requires opening { opening.now.matches ≡ [] }
     requires legal { IsLegalHistory (reply G.rules) (after G.rules) opening.now history.now }

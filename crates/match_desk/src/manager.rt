@@ -15,7 +15,7 @@ use crate::slot::{self, Slot};
 use call_history::Object;
 use game_core::Game;
 use indexmap::IndexMap;
-use match_book::{LentAnswer, Match, are_clocks, are_names, is_name};
+use match_book::{LentAnswer, Match, are_clocks, are_names, is_name, is_strikes};
 use std::alloc::{AllocError, Global};
 use std::marker::Model;
 
@@ -133,6 +133,9 @@ impl<G: Game> Manager<G> {
         }
         if !are_clocks(asked.start, asked.play) {
             return Some(Refusal::BadClock);
+        }
+        if !is_strikes(asked.strikes) {
+            return Some(Refusal::BadStrikes);
         }
         if self.matches() >= MAX_MATCHES {
             return Some(Refusal::DeskFull);
@@ -274,8 +277,9 @@ impl<G: Game> Object for Manager<G> {
                 game,
                 start,
                 play,
+                strikes,
                 players,
-            } => Ok(self.open_reply(&AskedSetup::new(id, *game, *start, *play, players))),
+            } => Ok(self.open_reply(&AskedSetup::new(id, *game, *start, *play, *strikes, players))),
             Call::Next { id, role } => self.next_reply(alloc, id.as_slice(), *role),
             Call::Submit {
                 id,
@@ -307,8 +311,12 @@ impl<G: Game> Object for Manager<G> {
                 game,
                 start,
                 play,
+                strikes,
                 players,
-            } => self.open(alloc, &AskedSetup::new(id, *game, *start, *play, players)),
+            } => self.open(
+                alloc,
+                &AskedSetup::new(id, *game, *start, *play, *strikes, players),
+            ),
             Call::Submit {
                 id,
                 role,
@@ -342,8 +350,9 @@ impl<G: Game> Object for Manager<G> {
                 game,
                 start,
                 play,
+                strikes,
                 players,
-            } => AskedSetup::new(id, *game, *start, *play, players).to_call(alloc)?,
+            } => AskedSetup::new(id, *game, *start, *play, *strikes, players).to_call(alloc)?,
             Call::Next { id, role } => Call::Next {
                 id: id.copy(alloc)?,
                 role: *role,

@@ -1,5 +1,5 @@
 -- The texts of a record are ASCII.
-use Rattle.std.proofs.Common.{◌≡◌, inl, inr, ℕ, zero, suc, ◌<◌, nat_lt, true, Option, Some, None, List, [], ◌∷◌, ◌++◌, length, take, codes, refl, sym, subst, arith, lit<}
+use Rattle.std.proofs.Common.{◌≡◌, inl, inr, ℕ, zero, suc, ◌<◌, nat_lt, Bool, true, false, Option, Some, None, List, [], ◌∷◌, ◌++◌, length, take, codes, refl, sym, subst, arith, lit<}
 use Rattle.std.specs.Prelude.{slice_index_or, slice_get, option_map, option_and_then, All, IfSome}
 use Rattle.std.specs.List.{list_all}
 use Rattle.std.specs.Str.{IsAscii}
@@ -13,12 +13,13 @@ use Rattle.game_core.specs.Canonical.{canonical, members, later, IsCanonicalText
 use Rattle.game_core.specs.Play.{Rules}
 use Rattle.match_book.specs.Names.{is_name}
 use Rattle.match_book.specs.Marks.{mark_text}
-use Rattle.match_book.specs.Judgement.{IsSubstitution, IsJudged, unreadable_text, illegal_prefix}
+use Rattle.match_book.specs.Judgement.{IsSubstitution, IsJudged, IsPart, unreadable_text, retired_text, illegal_prefix}
+use Rattle.match_book.specs.Retirement.{retired_by}
 use Rattle.match_book.specs.MatchValue.{error_at}
 use Rattle.match_book.specs.Lawful.{IsLawfulTurn, AreLawful}
 use Rattle.match_book.specs.declared.answer.Mark.{Mark}
 use Rattle.match_book.specs.declared.answer.Mark.TheVariants.{Clear, TimeOut, ConnectionError}
-use Rattle.match_book.specs.declared.judgement.Substitution.TheVariants.{TimeOut as OfTime, ConnectionError as OfConnection, Unreadable, Illegal}
+use Rattle.match_book.specs.declared.judgement.Substitution.TheVariants.{TimeOut as OfTime, ConnectionError as OfConnection, Unreadable, Illegal, Retired}
 use Rattle.match_book.specs.declared.phase.Phase.{Phase}
 use Rattle.match_book.specs.declared.phase.Phase.TheVariants.{Starting, Playing, Stopping, Finished, Aborting, Aborted}
 use Rattle.match_book.specs.declared.turn.Turn.{Turn}
@@ -98,25 +99,30 @@ substitution_is_ascii g moves e (OfTime, is, stands) = subst IsAscii (sym is) (t
 substitution_is_ascii g moves e (OfConnection, is, stands) = subst IsAscii (sym is) (tested (codes "CE") refl)
 substitution_is_ascii g moves e (Unreadable, is, stands) = subst IsAscii (sym is) (tested unreadable_text refl)
 substitution_is_ascii g moves e (Illegal x, is, stands) = subst IsAscii (sym is) (IsAscii-append illegal_prefix x (tested illegal_prefix refl) (folded_text_is_ascii x stands.0))
+substitution_is_ascii g moves e (Retired, is, stands) = absurd stands
 
 judged_is_ascii : {S M : Type 0} (g : Rules S M) (moves : List M) (m : M) (e : List ℕ) → IsJudged g moves m e → IsAscii e
 judged_is_ascii g moves m e (has, inl is) = subst IsAscii (sym is) (tested [] refl)
 judged_is_ascii g moves m e (has, inr is) = substitution_is_ascii g moves e is.1
 
+part_is_ascii : {S M : Type 0} (g : Rules S M) (retired : Bool) (moves : List M) (m : M) (e : List ℕ) → IsPart g retired moves m e → IsAscii e
+part_is_ascii g true moves m e (first, is) = subst IsAscii (sym is) (tested retired_text refl)
+part_is_ascii g false moves m e judged = judged_is_ascii g moves m e judged
+
 there : {A : Type 0} (xs : List A) (i : ℕ) → i < length xs → A
 there [] i within = absurd (omega arith)
 there (x ∷ xs) i within = x
 
-turn_error_is_ascii : {S M : Type 0} (g : Rules S M) (before : List (Turn M)) (t : Turn M) (r : ℕ) (e : List ℕ) → IsLawfulTurn g before t → r < g.roles → slice_get t.errors r ≡ Some e → IsAscii e
-turn_error_is_ascii g before t r e lawful role at =
+turn_error_is_ascii : {S M : Type 0} (g : Rules S M) (strikes : ℕ) (before : List (Turn M)) (t : Turn M) (r : ℕ) (e : List ℕ) → IsLawfulTurn g strikes before t → r < g.roles → slice_get t.errors r ≡ Some e → IsAscii e
+turn_error_is_ascii g strikes before t r e lawful role at =
     let some : r < length t.moves = omega (arith, lawful.joint.width) in
     let judged = lawful.judged r (there t.moves r some) role in
-    subst IsAscii (get_or_from_slice_get t.errors r e [] at) (judged_is_ascii g _ _ _ judged)
+    subst IsAscii (get_or_from_slice_get t.errors r e [] at) (part_is_ascii g (retired_by strikes before r) _ _ _ judged)
 
 -- the errors of a lawful match are ASCII
-pub error_is_ascii : {S M : Type 0} (g : Rules S M) (turns : List (Turn M)) (k r : ℕ) (e : List ℕ) → AreLawful g turns → k < length turns → r < g.roles → error_at turns k r ≡ Some e → IsAscii e
-error_is_ascii {S} {M} g turns k r e lawful turn role at = go (slice_get turns k) refl at
+pub error_is_ascii : {S M : Type 0} (g : Rules S M) {strikes : ℕ} (turns : List (Turn M)) (k r : ℕ) (e : List ℕ) → AreLawful g strikes turns → k < length turns → r < g.roles → error_at turns k r ≡ Some e → IsAscii e
+error_is_ascii {S} {M} g {strikes} turns k r e lawful turn role at = go (slice_get turns k) refl at
   where
     go : (o : Option (Turn M)) → slice_get turns k ≡ o → option_and_then (λ t. slice_get t.errors r) o ≡ Some e → IsAscii e
     go None is found = absurd cc
-    go (Some t) is found = turn_error_is_ascii g (take k turns) t r e (subst (λ (u : Turn M). IsLawfulTurn g (take k turns) u) (get_or_from_slice_get turns k t t is) (lawful k t turn)) role found
+    go (Some t) is found = turn_error_is_ascii g strikes (take k turns) t r e (subst (λ (u : Turn M). IsLawfulTurn g strikes (take k turns) u) (get_or_from_slice_get turns k t t is) (lawful k t turn)) role found

@@ -12,7 +12,7 @@ use Rattle.match_book.specs.declared.answer.Mark.{Mark}
 use Rattle.match_book.specs.declared.answer.Mark.TheVariants.{Clear, TimeOut, ConnectionError}
 use Rattle.match_book.specs.Judgement.{error_text, unreadable_text, illegal_prefix}
 use Rattle.match_book.specs.declared.judgement.Substitution.{Substitution}
-use Rattle.match_book.specs.declared.judgement.Substitution.TheVariants.{TimeOut as ForTimeOut, ConnectionError as ForConnectionError, Unreadable, Illegal}
+use Rattle.match_book.specs.declared.judgement.Substitution.TheVariants.{TimeOut as ForTimeOut, ConnectionError as ForConnectionError, Unreadable, Illegal, Retired}
 use Rattle.match_record.specs.RecordParts.{IsErrorText, MayBeGiven}
 use Rattle.match_record.specs.Internal.Shown.{Shows, AnyShape}
 
@@ -42,6 +42,7 @@ named_why : (text : List ℕ) (o : Option Mark) → Shows mark_text AnyShape (So
 named_why text o shown is other ForTimeOut same may = absurd (no_mark text o TimeOut shown is same)
 named_why text o shown is other ForConnectionError same may = absurd (no_mark text o ConnectionError shown is same)
 named_why text o shown is other Unreadable same may = absurd (other same)
+named_why text o shown is other Retired same may = absurd may
 named_why text o shown is other (Illegal x) same may = (x, record { named = same; is_folded = may.0; short = may.1 })
 
 -- an error that is neither a mark nor that of an unreadable answer names what was answered

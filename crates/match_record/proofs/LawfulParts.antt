@@ -14,12 +14,13 @@ use Rattle.match_book.specs.MatchValue.{MatchValue, state_after}
 use Rattle.match_book.specs.Phase.{stage, settled, after_the_end, before_the_end, has_no_goal, cause_in, cause, goal_in, max_turns}
 use Rattle.match_book.specs.Roles.{lowest_role, every_role, is_there}
 use Rattle.match_book.specs.declared.judgement.Substitution.{Substitution}
-use Rattle.match_book.specs.declared.judgement.Substitution.TheVariants.{TimeOut, ConnectionError, Unreadable, Illegal}
+use Rattle.match_book.specs.declared.judgement.Substitution.TheVariants.{TimeOut, ConnectionError, Unreadable, Illegal, Retired}
 use Rattle.match_book.specs.declared.phase.Cause.TheVariants.{Asked, TooLong}
 use Rattle.match_book.specs.declared.phase.Stage.{Stage}
 use Rattle.match_book.specs.declared.phase.Stage.TheVariants.{Starting, Playing, Stopping, Aborting}
 use Rattle.match_book.specs.declared.turn.Turn.{Turn}
-use Rattle.match_book.proofs.LawfulTurns.{state_after-is_state}
+use Rattle.match_book.specs.Retirement.{are_all_retired}
+use Rattle.match_book.proofs.LawfulTurns.{state_after-is_state, never-judged}
 use Rattle.match_book.proofs.RoleTests.{lowest_role-none}
 use Rattle.match_record.specs.LawfulRecord.{RecordTreeHoldsParts, RecordsAreLawful, LawfulPartsHaveShape}
 use Rattle.match_record.specs.Internal.KeyReading.{HoldsForEach}
@@ -42,21 +43,22 @@ lowest_below (suc n) p r is = go (lowest_role n p) (p n) refl is (lowest_below n
     go None true lower found below = let same : n ≡ r = cc in omega arith
     go None false lower found below = absurd cc
 
-settled_names : {S M : Type 0} (g : Rules S M) (t : ℕ) (s : S) → IfSome (cause_in (settled g t s)) (NamesRole g.roles)
+settled_names : {S M : Type 0} (g : Rules S M) (t : ℕ) (out : Bool) (s : S) → IfSome (cause_in (settled g t out s)) (NamesRole g.roles)
 unfolding settled
-settled_names g t s = go (g.terminal s) (nat_le max_turns t) (lowest_role g.roles (has_no_goal g s)) (lowest_role g.roles (λ r. length (g.legal s r) == 0)) (lowest_below g.roles (has_no_goal g s)) (lowest_below g.roles (λ r. length (g.legal s r) == 0))
+settled_names g t out s = go (g.terminal s) (nat_le max_turns t) out (lowest_role g.roles (has_no_goal g s)) (lowest_role g.roles (λ r. length (g.legal s r) == 0)) (lowest_below g.roles (has_no_goal g s)) (lowest_below g.roles (λ r. length (g.legal s r) == 0))
   where
-    go : (ended long : Bool) (goal move : Option ℕ) → ((r : ℕ) → goal ≡ Some r → r < g.roles) → ((r : ℕ) → move ≡ Some r → r < g.roles)
-        → IfSome (cause_in (if ended then after_the_end goal else (if long then Aborting TooLong else before_the_end move))) (NamesRole g.roles)
-    go true long None move goal_below move_below = tt
-    go true long (Some r) move goal_below move_below = goal_below r refl
-    go false true goal move goal_below move_below = tt
-    go false false goal None goal_below move_below = tt
-    go false false goal (Some r) goal_below move_below = move_below r refl
+    go : (ended long out : Bool) (goal move : Option ℕ) → ((r : ℕ) → goal ≡ Some r → r < g.roles) → ((r : ℕ) → move ≡ Some r → r < g.roles)
+        → IfSome (cause_in (if ended then after_the_end goal else (if long then Aborting TooLong else before_the_end move out))) (NamesRole g.roles)
+    go true long out None move goal_below move_below = tt
+    go true long out (Some r) move goal_below move_below = goal_below r refl
+    go false true out goal move goal_below move_below = tt
+    go false false true goal None goal_below move_below = tt
+    go false false false goal None goal_below move_below = tt
+    go false false out goal (Some r) goal_below move_below = move_below r refl
 
 cause_names : {S M : Type 0} (g : Rules S M) (m : MatchValue M) → IfSome (cause g m) (NamesRole g.roles)
 unfolding stage
-cause_names g m = go m.abort_asked (every_role g.roles (is_there m.start_marks)) (settled g (length m.turns) (state_after g m.turns)) (settled_names g (length m.turns) (state_after g m.turns))
+cause_names g m = go m.abort_asked (every_role g.roles (is_there m.start_marks)) (settled g (length m.turns) (are_all_retired g.roles m) (state_after g m.turns)) (settled_names g (length m.turns) (are_all_retired g.roles m) (state_after g m.turns))
   where
     go : (asked started : Bool) (at : Stage) → IfSome (cause_in at) (NamesRole g.roles) → IfSome (cause_in (if asked then Aborting Asked else (if started then at else Starting))) (NamesRole g.roles)
     go true started at named = tt
@@ -65,20 +67,21 @@ cause_names g m = go m.abort_asked (every_role g.roles (is_there m.start_marks))
 
 -- ---- goals
 
-stopping : {S M : Type 0} (g : Rules S M) (t : ℕ) (s : S) → settled g t s ≡ Stopping → lowest_role g.roles (has_no_goal g s) ≡ None
+stopping : {S M : Type 0} (g : Rules S M) (t : ℕ) (out : Bool) (s : S) → settled g t out s ≡ Stopping → lowest_role g.roles (has_no_goal g s) ≡ None
 unfolding settled
-stopping g t s is = go (g.terminal s) (nat_le max_turns t) (lowest_role g.roles (has_no_goal g s)) (lowest_role g.roles (λ r. length (g.legal s r) == 0)) is
+stopping g t out s is = go (g.terminal s) (nat_le max_turns t) out (lowest_role g.roles (has_no_goal g s)) (lowest_role g.roles (λ r. length (g.legal s r) == 0)) is
   where
-    go : (ended long : Bool) (goal move : Option ℕ) → (if ended then after_the_end goal else (if long then Aborting TooLong else before_the_end move)) ≡ Stopping → goal ≡ None
-    go true long None move h = refl
-    go true long (Some r) move h = absurd cc
-    go false true goal move h = absurd cc
-    go false false goal None h = absurd cc
-    go false false goal (Some r) h = absurd cc
+    go : (ended long out : Bool) (goal move : Option ℕ) → (if ended then after_the_end goal else (if long then Aborting TooLong else before_the_end move out)) ≡ Stopping → goal ≡ None
+    go true long out None move h = refl
+    go true long out (Some r) move h = absurd cc
+    go false true out goal move h = absurd cc
+    go false false true goal None h = absurd cc
+    go false false false goal None h = absurd cc
+    go false false out goal (Some r) h = absurd cc
 
 stage_stopping : {S M : Type 0} (g : Rules S M) (m : MatchValue M) → stage g m ≡ Stopping → lowest_role g.roles (has_no_goal g (state_after g m.turns)) ≡ None
 unfolding stage
-stage_stopping g m is = go m.abort_asked (every_role g.roles (is_there m.start_marks)) (settled g (length m.turns) (state_after g m.turns)) is (stopping g (length m.turns) (state_after g m.turns))
+stage_stopping g m is = go m.abort_asked (every_role g.roles (is_there m.start_marks)) (settled g (length m.turns) (are_all_retired g.roles m) (state_after g m.turns)) is (stopping g (length m.turns) (are_all_retired g.roles m) (state_after g m.turns))
   where
     go : (asked started : Bool) (at : Stage) → (if asked then Aborting Asked else (if started then at else Starting)) ≡ Stopping → (at ≡ Stopping → lowest_role g.roles (has_no_goal g (state_after g m.turns)) ≡ None)
         → lowest_role g.roles (has_no_goal g (state_after g m.turns)) ≡ None
@@ -135,46 +138,47 @@ given g moves TimeOut may = tt
 given g moves ConnectionError may = tt
 given g moves Unreadable may = tt
 given g moves (Illegal x) may = (may.0, may.1)
+given g moves Retired may = may
 
 judged_error : {S M : Type 0} (g : Rules S M) (moves : List M) (m : M) (e : List ℕ) → IsJudged g moves m e → IsErrorText e
 judged_error g moves m e (there, inl empty) = inl empty
 judged_error g moves m e (there, inr (first, (why, same, may))) = inr (why, same, given g moves why may)
 
-turn_errors : {S M : Type 0} (g : Rules S M) (before : List (Turn M)) (t : Turn M) → IsLawfulTurn g before t → All IsErrorText t.errors
+turn_errors : {S M : Type 0} (g : Rules S M) (before : List (Turn M)) (t : Turn M) → IsLawfulTurn g 0 before t → All IsErrorText t.errors
 turn_errors g before t lawful =
     All-from_get_or IsErrorText t.errors []
     (λ r below.
     let within : r < g.roles = omega (arith, lawful.one_error) in
-    judged_error g (g.legal (state_after g before) r) _ (get_or t.errors r []) (lawful.judged r (some_member t.moves r (omega (arith, lawful.joint.width, lawful.one_error))) within))
+    judged_error g (g.legal (state_after g before) r) _ (get_or t.errors r []) (never-judged g before t lawful r (some_member t.moves r (omega (arith, lawful.joint.width, lawful.one_error))) within))
 
-turns_errors : {S M : Type 0} (g : Rules S M) (turns : List (Turn M)) → AreLawful g turns → AreErrors g.roles (map (λ t. t.errors) turns)
+turns_errors : {S M : Type 0} (g : Rules S M) (turns : List (Turn M)) → AreLawful g 0 turns → AreErrors g.roles (map (λ t. t.errors) turns)
 turns_errors g turns lawful =
     All-map (λ texts. (length texts ≡ g.roles) × All IsErrorText texts) (λ t. t.errors) turns
     (λ k d below. let turn = lawful k d below in (turn.one_error, turn_errors g _ (slice_index_or turns k d) turn))
 
-turns_moves : {S M : Type 0} (g : Rules S M) (turns : List (Turn M)) → AreLawful g turns → All (λ texts. length texts ≡ g.roles) (map (λ t. map g.move_text t.moves) turns)
+turns_moves : {S M : Type 0} (g : Rules S M) (turns : List (Turn M)) → AreLawful g 0 turns → All (λ texts. length texts ≡ g.roles) (map (λ t. map g.move_text t.moves) turns)
 turns_moves g turns lawful = All-map (λ texts. length texts ≡ g.roles) (λ t. map g.move_text t.moves) turns (λ k d below. length-map (slice_index_or turns k d).moves g.move_text ∙ (lawful k d below).joint.width)
 
 -- ---- the whole
 
-shaped_at : {S M : Type 0} (g : Rules S M) → IsLawful g → (m : MatchValue M) → IsLawfulMatch g m → IsLawfulSetup m.setup → (key : Key) → IsShapedAt g key (parts_of g m)
-shaped_at g laws m lawful setup AtCause = cause_names g m
-shaped_at g laws m lawful setup EndMarks = lawful.one_end_mark
-shaped_at g laws m lawful setup Errors = turns_errors g m.turns lawful.turns
-shaped_at g laws m lawful setup GoalValues = goals_shape g laws (state_after g m.turns) (state_after-is_state g laws m.turns lawful.turns) (stage g m) (stage_stopping g m)
-shaped_at g laws m lawful setup MatchId = setup.id
-shaped_at g laws m lawful setup Moves = (turns_moves g m.turns lawful.turns, subst (λ (n : ℕ). n ≤ max_turns) (sym (length-map m.turns (λ t. map g.move_text t.moves))) lawful.few_turns)
-shaped_at g laws m lawful setup AtPhase = tt
-shaped_at g laws m lawful setup PlayClock = setup.play
-shaped_at g laws m lawful setup Players = (lawful.one_player, setup.players)
-shaped_at g laws m lawful setup Roles = refl
-shaped_at g laws m lawful setup StartClock = setup.start
-shaped_at g laws m lawful setup StartMarks = lawful.one_start_mark
-shaped_at g laws m lawful setup States = tt
+shaped_at : {S M : Type 0} (g : Rules S M) → IsLawful g → (m : MatchValue M) → IsLawfulMatch g m → IsLawfulSetup m.setup → m.setup.strikes ≡ 0 → (key : Key) → IsShapedAt g key (parts_of g m)
+shaped_at g laws m lawful setup never AtCause = cause_names g m
+shaped_at g laws m lawful setup never EndMarks = lawful.one_end_mark
+shaped_at g laws m lawful setup never Errors = turns_errors g m.turns (subst (λ (k : ℕ). AreLawful g k m.turns) never lawful.turns)
+shaped_at g laws m lawful setup never GoalValues = goals_shape g laws (state_after g m.turns) (state_after-is_state g laws m.turns lawful.turns) (stage g m) (stage_stopping g m)
+shaped_at g laws m lawful setup never MatchId = setup.id
+shaped_at g laws m lawful setup never Moves = (turns_moves g m.turns (subst (λ (k : ℕ). AreLawful g k m.turns) never lawful.turns), subst (λ (n : ℕ). n ≤ max_turns) (sym (length-map m.turns (λ t. map g.move_text t.moves))) lawful.few_turns)
+shaped_at g laws m lawful setup never AtPhase = tt
+shaped_at g laws m lawful setup never PlayClock = setup.play
+shaped_at g laws m lawful setup never Players = (lawful.one_player, setup.players)
+shaped_at g laws m lawful setup never Roles = refl
+shaped_at g laws m lawful setup never StartClock = setup.start
+shaped_at g laws m lawful setup never StartMarks = lawful.one_start_mark
+shaped_at g laws m lawful setup never States = tt
 
 pub lawful_parts_have_shape : {S M : Type 0} (g : Rules S M) → IsLawful g → LawfulPartsHaveShape g
-lawful_parts_have_shape g laws m lawful setup = record {
-  keys = shaped_at g laws m lawful setup;
+lawful_parts_have_shape g laws m lawful setup never = record {
+  keys = shaped_at g laws m lawful setup never;
   as_many_errors = length-map m.turns (λ t. t.errors) ∙ sym (length-map m.turns (λ t. map g.move_text t.moves));
   one_state_more =
       length-map (prefixes m.turns) (λ front. g.state_text (state_after g front)) ∙ length_prefixes m.turns
@@ -189,4 +193,4 @@ unfolding record_tree
 record_tree_holds_parts g m = each_key (λ key. get_member (key_text key) (members_at keys (parts_of g m)) ≡ Some (key_tree key (parts_of g m))) (members_hold (parts_of g m))
 
 pub records_are_lawful : {S M : Type 0} (g : Rules S M) → RecordsAreLawful g
-records_are_lawful g text m lawful setup json = (record_tree g m, m, record { json = json; setup = setup; lawful = lawful; holds = record_tree_holds_parts g m })
+records_are_lawful g text m lawful setup never json = (record_tree g m, m, record { json = json; setup = setup; lawful = lawful; never = never; holds = record_tree_holds_parts g m })

@@ -10,15 +10,15 @@ use Rattle.match_book.specs.Roles.{every_role, lowest_role}
 use Rattle.match_book.specs.Judgement.{IsJudged, NamesNone}
 use Rattle.match_book.specs.MatchValue.{MatchValue, state_after}
 use Rattle.match_book.specs.Phase.{stage, phase_in, answered_in, has_no_move, max_turns}
-use Rattle.match_book.specs.Lawful.{IsLawfulTurn, IsLawfulMatch}
-use Rattle.match_book.specs.declared.judgement.Judgement.{Judgement}
+use Rattle.match_book.specs.Lawful.{IsLawfulTurn, AreLawful, IsLawfulMatch}
 use Rattle.match_book.specs.declared.phase.Stage.{Stage}
 use Rattle.match_book.specs.declared.phase.Stage.TheVariants.{Playing}
 use Rattle.match_book.specs.declared.turn.Turn.{Turn}
-use Rattle.match_book.proofs.RoleTests.{every_role-but, is_there-blank, lowest_role-more}
-use Rattle.match_book.proofs.Stages.{playing-live}
+use Rattle.match_book.proofs.RoleTests.{every_role-but, lowest_role-more}
+use Rattle.match_book.proofs.Stages.{playing-live, answered_in-retired}
+use Rattle.match_book.proofs.StruckTurns.{retired_by-never}
 use Rattle.match_book.proofs.LawfulMatches.{none_blank}
-use Rattle.match_book.proofs.LawfulTurns.{state_after-is_state}
+use Rattle.match_book.proofs.LawfulTurns.{state_after-is_state, never-judged}
 use Rattle.match_record.specs.RecordParts.{prefixes, parts_of}
 use Rattle.match_record.specs.RecordTree.{HasShape}
 use Rattle.match_record.specs.Replaying.{AreLawfulParts, IsWrongError, ShowsState, LeadsTo, ComesTo, IsReplayed, AreGoalsIn, IsRightEnd, IsFirstFault, match_of, turn_at, text_at}
@@ -71,7 +71,7 @@ module _ {S M : Type 0} (g : Rules S M) (laws : IsLawful g) (p : RecordParts) (s
         judged = λ r j lt e. absurd (none_blank g.roles r j e);
         answers_in_play = λ _. refl;
         round_is_open = λ e.
-            let free : answered_in Playing n 0 ≡ false = is_there-blank (Judgement M) g.roles 0 in
+            let free : answered_in Playing n 0 ≡ false = answered_in-retired n g.roles 0 refl ∙ retired_by-never played.leads.turns 0 in
             subst (λ (at : Stage). every_role g.roles (answered_in at n) ≡ false) (sym (playing-live (stage g n) e)) (every_role-but g.roles 0 (answered_in Playing n) laws.some_role free);
         ends_at_end = right.ends_at_end;
         asked_when_live = right.asked_when_live;
@@ -116,7 +116,7 @@ module _ {S M : Type 0} (g : Rules S M) (laws : IsLawful g) (p : RecordParts) (s
 
   -- a record without a fault is that of a lawful match
   pub record-lawful : AreLawfulParts g p
-  record-lawful = (match_of g p played.leads.turns, made-lawful, made-shows)
+  record-lawful = (match_of g p played.leads.turns, made-lawful, refl, made-shows)
 
 -- ---- the record of a lawful match has no fault
 
@@ -131,7 +131,10 @@ some-move (x ∷ xs) m among = longer (length xs)
     longer : (n : ℕ) → (suc n == 0) ≡ false
     longer n = grind (arith, nat_tests)
 
-module _ {S M : Type 0} (g : Rules S M) (laws : IsLawful g) (p : RecordParts) (m : MatchValue M) (lawful : IsLawfulMatch g m) (shows : parts_of g m ≡ p) where
+module _ {S M : Type 0} (g : Rules S M) (laws : IsLawful g) (p : RecordParts) (m : MatchValue M) (lawful : IsLawfulMatch g m) (never : m.setup.strikes ≡ 0) (shows : parts_of g m ≡ p) where
+  turns-lawful : AreLawful g 0 m.turns
+  turns-lawful = subst (λ (k : ℕ). AreLawful g k m.turns) never lawful.turns
+
   moves-same : map (λ u. map g.move_text u.moves) m.turns ≡ p.moves
   moves-same = ap (λ (q : RecordParts). q.moves) shows
 
@@ -142,7 +145,7 @@ module _ {S M : Type 0} (g : Rules S M) (laws : IsLawful g) (p : RecordParts) (m
   as-many = sym (length-map m.turns (λ (u : Turn M). map g.move_text u.moves)) ∙ ap length moves-same
 
   front : (t : ℕ) (s : S) (leads : LeadsTo g p t s) → leads.turns ≡ take t m.turns
-  front t s leads = leads-front g laws p t s leads m.turns lawful.turns moves-same errors-same
+  front t s leads = leads-front g laws p t s leads m.turns turns-lawful moves-same errors-same
 
   state-is : (t : ℕ) (s : S) → LeadsTo g p t s → s ≡ state_after g (take t m.turns)
   state-is t s leads = leads.state ∙ ap (state_after g) (front t s leads)
@@ -161,7 +164,7 @@ module _ {S M : Type 0} (g : Rules S M) (laws : IsLawful g) (p : RecordParts) (m
       let lt : t < length m.turns = omega (arith, comes.follows, as-many) in
       let u = element-at m.turns t lt in
       let at = state-is t s comes.leads in
-      let turn : IsLawfulTurn g (take t m.turns) u.0 = subst (λ (x : Turn M). IsLawfulTurn g (take t m.turns) x) u.1 (lawful.turns t u.0 lt) in
+      let turn : IsLawfulTurn g 0 (take t m.turns) u.0 = subst (λ (x : Turn M). IsLawfulTurn g 0 (take t m.turns) x) u.1 (turns-lawful t u.0 lt) in
       let joint : IsJoint g s u.0.moves = subst (λ (x : S). IsJoint g x u.0.moves) (sym at) turn.joint in
       let texts : map g.move_text u.0.moves ≡ turn_at p.moves t =
       ap (λ (x : Turn M). map g.move_text x.moves) (sym u.1) ∙ sym (get_or-map (λ (x : Turn M). map g.move_text x.moves) m.turns t u.0 [] lt) ∙ ap (λ ts. turn_at ts t) moves-same in
@@ -181,7 +184,7 @@ module _ {S M : Type 0} (g : Rules S M) (laws : IsLawful g) (p : RecordParts) (m
           texts = texts;
           judged = λ r d below.
               subst (λ (es : List (List ℕ)). IsJudged g (g.legal s r) (slice_index_or u.0.moves r d) (text_at es r)) errors
-              (subst (λ (x : S). IsJudged g (g.legal x r) (slice_index_or u.0.moves r d) (text_at u.0.errors r)) (sym at) (turn.judged r d below));
+              (subst (λ (x : S). IsJudged g (g.legal x r) (slice_index_or u.0.moves r d) (text_at u.0.errors r)) (sym at) (never-judged g (take t m.turns) u.0 turn r d below));
         },
       )
 
@@ -221,11 +224,11 @@ module _ {S M : Type 0} (g : Rules S M) (laws : IsLawful g) (p : RecordParts) (m
   no-fault (WrongState t) other fault = fault.2 (shown t fault.0 fault.1)
   no-fault (Illegal t r) other fault = no-illegal t fault.0 fault.1 r fault.2.within fault.3
   no-fault (NotFirst t r) other fault = no-wrong_error t fault.0 fault.1 r fault.2.within fault.3
-  no-fault WrongGoals other fault = fault.2 (lawful-goals g m lawful p shows fault.0 (fault.1.leads.state ∙ ap (state_after g) (all-turns fault.0 fault.1.leads)))
+  no-fault WrongGoals other fault = fault.2 (lawful-goals g m lawful p shows never fault.0 (fault.1.leads.state ∙ ap (state_after g) (all-turns fault.0 fault.1.leads)))
   no-fault WrongEnd other (inl early) = early.3 (next-turn early.0 early.1 early.2).1.goes_on
-  no-fault WrongEnd other (inr late) = late.3 (subst (λ (ts : List (Turn M)). IsRightEnd g p ts) (sym (all-turns late.0 late.1.leads)) (lawful-right_end g m lawful p shows))
+  no-fault WrongEnd other (inr late) = late.3 (subst (λ (ts : List (Turn M)). IsRightEnd g p ts) (sym (all-turns late.0 late.1.leads)) (lawful-right_end g m lawful p shows never))
   no-fault Memory other fault = other refl
 
 -- a record with a fault is that of no lawful match
 pub fault-not_lawful : {S M : Type 0} (g : Rules S M) → IsLawful g → (p : RecordParts) (f : VerifyFault) → IsFirstFault g p f → f ≢ Memory → ¬ (AreLawfulParts g p)
-fault-not_lawful g laws p f fault other record' = no-fault g laws p record'.0 record'.1 record'.2 f other fault
+fault-not_lawful g laws p f fault other record' = no-fault g laws p record'.0 record'.1 record'.2 record'.3 f other fault

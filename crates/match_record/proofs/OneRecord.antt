@@ -11,7 +11,7 @@ use Rattle.match_book.specs.Marks.{mark_text}
 use Rattle.match_book.specs.declared.answer.Mark.{Mark}
 use Rattle.match_book.specs.declared.answer.Mark.TheVariants.{Clear, TimeOut, ConnectionError}
 use Rattle.match_book.specs.declared.phase.Cause.{Cause}
-use Rattle.match_book.specs.declared.phase.Cause.TheVariants.{Asked, NoLegal, NoGoal, TooLong}
+use Rattle.match_book.specs.declared.phase.Cause.TheVariants.{Asked, NoLegal, NoGoal, TooLong, AllRetired}
 use Rattle.match_book.specs.declared.phase.Phase.{Phase}
 use Rattle.match_book.specs.declared.phase.Phase.TheVariants.{Starting, Playing, Stopping, Finished, Aborting, Aborted}
 use Rattle.match_record.specs.LawfulRecord.{IsJson, IsRecordOf, HasWrongLength, IsMisshapen, HoldsOnePartsAtMost, RefusedIsUnlawful}
@@ -81,18 +81,27 @@ cause_text_same n few Asked Asked named other is = refl
 cause_text_same n few Asked (NoLegal s) named other is = absurd (apart 97 110 _ _ (λ h. omega arith) is)
 cause_text_same n few Asked (NoGoal s) named other is = absurd (apart 97 110 _ _ (λ h. omega arith) is)
 cause_text_same n few Asked TooLong named other is = absurd (apart 97 116 _ _ (λ h. omega arith) is)
+cause_text_same n few Asked AllRetired named other is = absurd (apart 115 108 _ _ (λ h. omega arith) (ap (drop 1) is))
 cause_text_same n few (NoLegal r) Asked named other is = absurd (apart 110 97 _ _ (λ h. omega arith) is)
 cause_text_same n few (NoLegal r) (NoLegal s) named other is = let digits : decimal r ≡ decimal s = cc in ap NoLegal (role_same r s n few named other digits)
 cause_text_same n few (NoLegal r) (NoGoal s) named other is = absurd (apart 108 103 _ _ (λ h. omega arith) (ap (drop 2) is))
 cause_text_same n few (NoLegal r) TooLong named other is = absurd (apart 110 116 _ _ (λ h. omega arith) is)
+cause_text_same n few (NoLegal r) AllRetired named other is = absurd (apart 110 97 _ _ (λ h. omega arith) is)
 cause_text_same n few (NoGoal r) Asked named other is = absurd (apart 110 97 _ _ (λ h. omega arith) is)
 cause_text_same n few (NoGoal r) (NoLegal s) named other is = absurd (apart 103 108 _ _ (λ h. omega arith) (ap (drop 2) is))
 cause_text_same n few (NoGoal r) (NoGoal s) named other is = let digits : decimal r ≡ decimal s = cc in ap NoGoal (role_same r s n few named other digits)
 cause_text_same n few (NoGoal r) TooLong named other is = absurd (apart 110 116 _ _ (λ h. omega arith) is)
+cause_text_same n few (NoGoal r) AllRetired named other is = absurd (apart 110 97 _ _ (λ h. omega arith) is)
 cause_text_same n few TooLong Asked named other is = absurd (apart 116 97 _ _ (λ h. omega arith) is)
 cause_text_same n few TooLong (NoLegal s) named other is = absurd (apart 116 110 _ _ (λ h. omega arith) is)
 cause_text_same n few TooLong (NoGoal s) named other is = absurd (apart 116 110 _ _ (λ h. omega arith) is)
 cause_text_same n few TooLong TooLong named other is = refl
+cause_text_same n few TooLong AllRetired named other is = absurd (apart 116 97 _ _ (λ h. omega arith) is)
+cause_text_same n few AllRetired Asked named other is = absurd (apart 108 115 _ _ (λ h. omega arith) (ap (drop 1) is))
+cause_text_same n few AllRetired (NoLegal s) named other is = absurd (apart 97 110 _ _ (λ h. omega arith) is)
+cause_text_same n few AllRetired (NoGoal s) named other is = absurd (apart 97 110 _ _ (λ h. omega arith) is)
+cause_text_same n few AllRetired TooLong named other is = absurd (apart 97 116 _ _ (λ h. omega arith) is)
+cause_text_same n few AllRetired AllRetired named other is = refl
 
 cause_same : (n : ℕ) → n ≤ max_roles → (a b : Option Cause) → IfSome a (NamesRole n) → IfSome b (NamesRole n) → cause_tree a ≡ cause_tree b → a ≡ b
 cause_same n few None None named other is = refl
@@ -158,10 +167,10 @@ right_lengths g tree p q key held also shape (inr states) =
 
 not_misshapen : {S M : Type 0} (g : Rules S M) → IsLawful g → (text : List ℕ) (tree : Data) (m : MatchValue M) (key : Key) → IsRecordOf g text tree m → IsMisshapen g tree key → ⊥
 not_misshapen g laws text tree m key record_of (inl (before, after, split, shaped, unshaped)) =
-    let shape = lawful_parts_have_shape g laws m record_of.lawful record_of.setup in
+    let shape = lawful_parts_have_shape g laws m record_of.lawful record_of.setup record_of.never in
     unshaped ((row_of key).said (parts_of g m), record_of.holds key, shape.keys key)
 not_misshapen g laws text tree m key record_of (inr (p, held, shaped, wrong)) =
-    right_lengths g tree p (parts_of g m) key held record_of.holds (lawful_parts_have_shape g laws m record_of.lawful record_of.setup) wrong
+    right_lengths g tree p (parts_of g m) key held record_of.holds (lawful_parts_have_shape g laws m record_of.lawful record_of.setup record_of.never) wrong
 
 pub same_read : (text : List ℕ) (tree other : Data) → IsJson text tree → IsJson text other → tree ≡ other
 same_read text tree other is also = let same : Some tree ≡ Some other = sym is.is_read ∙ also.is_read in cc

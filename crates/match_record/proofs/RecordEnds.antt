@@ -4,7 +4,9 @@ use Rattle.std.proofs.Math.Nat.{eq-or-lt_of_le}
 use Rattle.std.specs.Prelude.{slice_index_or, slice_get, option_to_list, is_none, if◌then◌else◌, nat_le, IsTrue, ◌↔◌}
 use Rattle.std.proofs.lemmas.List.{length_push, nil_from_length, take_all}
 use Rattle.std.proofs.lemmas.Option.{slice_get-get_or}
-use Rattle.game_core.specs.Play.{Rules}
+use Rattle.game_core.specs.Play.{Rules, IsLawful}
+use Rattle.match_book.specs.Retirement.{are_all_retired}
+use Rattle.match_book.proofs.StruckTurns.{all_retired-never}
 use Rattle.match_book.specs.Roles.{every_role, lowest_role, is_there}
 use Rattle.match_book.specs.MatchValue.{MatchValue, state_after}
 use Rattle.match_book.specs.Phase.{stage, settled, after_the_end, before_the_end, phase, phase_in, cause, cause_in, goal_in, goal_of, is_live, max_turns, has_no_goal, has_no_move}
@@ -89,20 +91,21 @@ goals-in g s Stopping false some = goals-all g s (some refl)
 goals-in g s (Aborting c) true some = goals_from-none g.roles (goal_in (Aborting c) g s) (λ r. refl)
 goals-in g s (Aborting c) false some = goals_from-none g.roles (goal_in (Aborting c) g s) (λ r. refl)
 
-settled-stopping : {S M : Type 0} (g : Rules S M) (t : ℕ) (s : S) → settled g t s ≡ Stopping → lowest_role g.roles (has_no_goal g s) ≡ None
+settled-stopping : {S M : Type 0} (g : Rules S M) (t : ℕ) (out : Bool) (s : S) → settled g t out s ≡ Stopping → lowest_role g.roles (has_no_goal g s) ≡ None
 unfolding settled
-settled-stopping g t s e = step (g.terminal s) (nat_le max_turns t) (lowest_role g.roles (has_no_goal g s)) (lowest_role g.roles (has_no_move g s)) e
+settled-stopping g t out s e = step (g.terminal s) (nat_le max_turns t) out (lowest_role g.roles (has_no_goal g s)) (lowest_role g.roles (has_no_move g s)) e
   where
-    step : (over long : Bool) (goals moves : Option ℕ) → (if over then after_the_end goals else (if long then Aborting TooLong else before_the_end moves)) ≡ Stopping → goals ≡ None
-    step true long None moves e = refl
-    step true long (Some r) moves e = absurd cc
-    step false true goals moves e = absurd cc
-    step false false goals None e = absurd cc
-    step false false goals (Some r) e = absurd cc
+    step : (over long out : Bool) (goals moves : Option ℕ) → (if over then after_the_end goals else (if long then Aborting TooLong else before_the_end moves out)) ≡ Stopping → goals ≡ None
+    step true long out None moves e = refl
+    step true long out (Some r) moves e = absurd cc
+    step false true out goals moves e = absurd cc
+    step false false true goals None e = absurd cc
+    step false false false goals None e = absurd cc
+    step false false out goals (Some r) e = absurd cc
 
-stopping-settled : {S M : Type 0} (g : Rules S M) (m : MatchValue M) → stage g m ≡ Stopping → settled g (length m.turns) (state_after g m.turns) ≡ Stopping
+stopping-settled : {S M : Type 0} (g : Rules S M) (m : MatchValue M) → stage g m ≡ Stopping → settled g (length m.turns) (are_all_retired g.roles m) (state_after g m.turns) ≡ Stopping
 unfolding stage
-stopping-settled g m e = step m.abort_asked (every_role g.roles (is_there m.start_marks)) (settled g (length m.turns) (state_after g m.turns)) e
+stopping-settled g m e = step m.abort_asked (every_role g.roles (is_there m.start_marks)) (settled g (length m.turns) (are_all_retired g.roles m) (state_after g m.turns)) e
   where
     step : (a all : Bool) (rest : Stage) → (if a then Aborting Asked else (if all then rest else Starting)) ≡ Stopping → rest ≡ Stopping
     step true all rest e = absurd cc
@@ -111,16 +114,19 @@ stopping-settled g m e = step m.abort_asked (every_role g.roles (is_there m.star
 
 -- ---- the stage of a match with these turns
 
-module _ {S M : Type 0} (g : Rules S M) (p : RecordParts) (turns : List (Turn M)) (s : S) (many : length turns ≡ length p.moves) (at : s ≡ state_after g turns) where
-  stage-is : stage g (match_of g p turns) ≡ stage_by (is_asked p.cause) (has_started g.roles p) (settled g (length p.moves) s)
-  unfolding stage
-  stage-is = ap (stage_by (is_asked p.cause) (has_started g.roles p)) (ap₂ (settled g) many (sym at))
+module _ {S M : Type 0} (g : Rules S M) (laws : IsLawful g) (p : RecordParts) (turns : List (Turn M)) (s : S) (many : length turns ≡ length p.moves) (at : s ≡ state_after g turns) where
+  settles : settled g (length turns) (are_all_retired g.roles (match_of g p turns)) (state_after g turns) ≡ settled g (length p.moves) false s
+  settles = ap₂ (λ n (out : Bool). settled g n out (state_after g turns)) many (all_retired-never g.roles turns laws.some_role) ∙ ap (settled g (length p.moves) false) (sym at)
 
-  unasked-is : stage g (record (match_of g p turns) { abort_asked = false }) ≡ stage_by false (has_started g.roles p) (settled g (length p.moves) s)
+  stage-is : stage g (match_of g p turns) ≡ stage_by (is_asked p.cause) (has_started g.roles p) (settled g (length p.moves) false s)
   unfolding stage
-  unasked-is = ap (stage_by false (has_started g.roles p)) (ap₂ (settled g) many (sym at))
+  stage-is = ap (stage_by (is_asked p.cause) (has_started g.roles p)) settles
 
-  pub right-from_agrees : AgreesWith g.roles p (settled g (length p.moves) s) → IsRightEnd g p turns
+  unasked-is : stage g (record (match_of g p turns) { abort_asked = false }) ≡ stage_by false (has_started g.roles p) (settled g (length p.moves) false s)
+  unfolding stage
+  unasked-is = ap (stage_by false (has_started g.roles p)) settles
+
+  pub right-from_agrees : AgreesWith g.roles p (settled g (length p.moves) false s) → IsRightEnd g p turns
   right-from_agrees agrees = record {
     phase_is = ap (λ (x : Stage). phase_in x (has_ended g.roles p)) stage-is ∙ agrees.phase_is;
     cause_is = ap cause_in stage-is ∙ agrees.cause_is;
@@ -129,7 +135,7 @@ module _ {S M : Type 0} (g : Rules S M) (p : RecordParts) (turns : List (Turn M)
     asked_when_live = λ e. ap is_live unasked-is ∙ agrees.asked_when_live e;
   }
 
-  pub agrees-from_right : IsRightEnd g p turns → AgreesWith g.roles p (settled g (length p.moves) s)
+  pub agrees-from_right : IsRightEnd g p turns → AgreesWith g.roles p (settled g (length p.moves) false s)
   agrees-from_right right = record {
     phase_is = ap (λ (x : Stage). phase_in x (has_ended g.roles p)) (sym stage-is) ∙ right.phase_is;
     cause_is = ap cause_in (sym stage-is) ∙ right.cause_is;
@@ -138,36 +144,37 @@ module _ {S M : Type 0} (g : Rules S M) (p : RecordParts) (turns : List (Turn M)
     asked_when_live = λ e. ap is_live (sym unasked-is) ∙ right.asked_when_live e;
   }
 
-pub end-answer : {S M : Type 0} (g : Rules S M) (p : RecordParts) (s : S) (roles : ℕ) (at : Stage) (right : Bool) → roles ≡ g.roles → at ≡ settled g (length p.moves) s → IsTrue right ↔ AgreesWith roles p at → IsEndAnswer g p s right
-end-answer {S} {M} g p s roles at right same_roles same_stage agrees turns many is = (
-  λ yes. right-from_agrees g p turns s many is (subst (λ n. AgreesWith n p (settled g (length p.moves) s)) same_roles (subst (λ (x : Stage). AgreesWith roles p x) same_stage (agrees.0 yes))),
-  λ end. agrees.1 (subst (λ (x : Stage). AgreesWith roles p x) (sym same_stage) (subst (λ n. AgreesWith n p (settled g (length p.moves) s)) (sym same_roles) (agrees-from_right g p turns s many is end))),
+pub end-answer : {S M : Type 0} (g : Rules S M) → IsLawful g → (p : RecordParts) (s : S) (roles : ℕ) (at : Stage) (right : Bool) → roles ≡ g.roles → at ≡ settled g (length p.moves) false s → IsTrue right ↔ AgreesWith roles p at → IsEndAnswer g p s right
+end-answer {S} {M} g laws p s roles at right same_roles same_stage agrees turns many is = (
+  λ yes. right-from_agrees g laws p turns s many is (subst (λ n. AgreesWith n p (settled g (length p.moves) false s)) same_roles (subst (λ (x : Stage). AgreesWith roles p x) same_stage (agrees.0 yes))),
+  λ end. agrees.1 (subst (λ (x : Stage). AgreesWith roles p x) (sym same_stage) (subst (λ n. AgreesWith n p (settled g (length p.moves) false s)) (sym same_roles) (agrees-from_right g laws p turns s many is end))),
 )
 
 -- ---- the end of a lawful match is right
 
-settled-not_asked : {S M : Type 0} (g : Rules S M) (t : ℕ) (s : S) → is_asked (cause_in (settled g t s)) ≡ false
+settled-not_asked : {S M : Type 0} (g : Rules S M) (t : ℕ) (out : Bool) (s : S) → is_asked (cause_in (settled g t out s)) ≡ false
 unfolding settled
-settled-not_asked g t s = step (g.terminal s) (nat_le max_turns t) (lowest_role g.roles (has_no_goal g s)) (lowest_role g.roles (has_no_move g s))
+settled-not_asked g t out s = step (g.terminal s) (nat_le max_turns t) out (lowest_role g.roles (has_no_goal g s)) (lowest_role g.roles (has_no_move g s))
   where
-    step : (over long : Bool) (goals moves : Option ℕ) → is_asked (cause_in (if over then after_the_end goals else (if long then Aborting TooLong else before_the_end moves))) ≡ false
-    step true long None moves = refl
-    step true long (Some r) moves = refl
-    step false true goals moves = refl
-    step false false goals None = refl
-    step false false goals (Some r) = refl
+    step : (over long out : Bool) (goals moves : Option ℕ) → is_asked (cause_in (if over then after_the_end goals else (if long then Aborting TooLong else before_the_end moves out))) ≡ false
+    step true long out None moves = refl
+    step true long out (Some r) moves = refl
+    step false true out goals moves = refl
+    step false false true goals None = refl
+    step false false false goals None = refl
+    step false false out goals (Some r) = refl
 
 -- the cause tells whether an abort was asked
 asked-is : {S M : Type 0} (g : Rules S M) (m : MatchValue M) → is_asked (cause g m) ≡ m.abort_asked
 unfolding stage
-asked-is g m = step m.abort_asked (every_role g.roles (is_there m.start_marks)) (settled g (length m.turns) (state_after g m.turns)) (settled-not_asked g (length m.turns) (state_after g m.turns))
+asked-is g m = step m.abort_asked (every_role g.roles (is_there m.start_marks)) (settled g (length m.turns) (are_all_retired g.roles m) (state_after g m.turns)) (settled-not_asked g (length m.turns) (are_all_retired g.roles m) (state_after g m.turns))
   where
     step : (a all : Bool) (rest : Stage) → is_asked (cause_in rest) ≡ false → is_asked (cause_in (if a then Aborting Asked else (if all then rest else Starting))) ≡ a
     step true all rest other = refl
     step false true rest other = other
     step false false rest other = refl
 
-module _ {S M : Type 0} (g : Rules S M) (m : MatchValue M) (lawful : IsLawfulMatch g m) (p : RecordParts) (shows : parts_of g m ≡ p) where
+module _ {S M : Type 0} (g : Rules S M) (m : MatchValue M) (lawful : IsLawfulMatch g m) (p : RecordParts) (shows : parts_of g m ≡ p) (never : m.setup.strikes ≡ 0) where
   starts-same : p.start_marks ≡ m.start_marks
   starts-same = sym (ap (λ (q : RecordParts). q.start_marks) shows)
 
@@ -177,11 +184,20 @@ module _ {S M : Type 0} (g : Rules S M) (m : MatchValue M) (lawful : IsLawfulMat
   asked-same : is_asked p.cause ≡ m.abort_asked
   asked-same = ap (λ (q : RecordParts). is_asked q.cause) (sym shows) ∙ asked-is g m
 
+  setup-same : (match_of g p m.turns).setup ≡ m.setup
+  setup-same = λ i. record {
+    id = sym (ap (λ (q : RecordParts). q.id) shows) i;
+    start = sym (ap (λ (q : RecordParts). q.start) shows) i;
+    play = sym (ap (λ (q : RecordParts). q.play) shows) i;
+    strikes = sym never i;
+    players = sym (ap (λ (q : RecordParts). q.players) shows) i;
+  }
+
   same-stage : stage g (match_of g p m.turns) ≡ stage g m
-  same-stage = stage-by g m (match_of g p m.turns) asked-same starts-same refl
+  same-stage = stage-by g m (match_of g p m.turns) setup-same asked-same starts-same refl
 
   same-unasked : stage g (record (match_of g p m.turns) { abort_asked = false }) ≡ stage g (record m { abort_asked = false })
-  same-unasked = stage-by g (record m { abort_asked = false }) (record (match_of g p m.turns) { abort_asked = false }) refl starts-same refl
+  same-unasked = stage-by g (record m { abort_asked = false }) (record (match_of g p m.turns) { abort_asked = false }) setup-same refl starts-same refl
 
   pub lawful-right_end : IsRightEnd g p m.turns
   lawful-right_end = record {
@@ -196,5 +212,5 @@ module _ {S M : Type 0} (g : Rules S M) (m : MatchValue M) (lawful : IsLawfulMat
   lawful-goals s at =
       let here : AreGoalsIn g (phase g m) (state_after g m.turns) (goals_from g.roles (goal_of g m)) =
       goals-in g (state_after g m.turns) (stage g m) (every_role g.roles (is_there m.end_marks))
-      (λ stops r lt. lowest_role-none g.roles r (has_no_goal g (state_after g m.turns)) (settled-stopping g (length m.turns) (state_after g m.turns) (stopping-settled g m stops)) lt) in
+      (λ stops r lt. lowest_role-none g.roles r (has_no_goal g (state_after g m.turns)) (settled-stopping g (length m.turns) (are_all_retired g.roles m) (state_after g m.turns) (stopping-settled g m stops)) lt) in
       subst (λ (x : S). AreGoalsIn g p.phase x p.goals) (sym at) (subst (λ (q : RecordParts). AreGoalsIn g q.phase (state_after g m.turns) q.goals) shows here)

@@ -76,14 +76,14 @@ part_of-all {T} {A} {B} part f r ts k done wide is = go (slice_get ts k) refl is
     go (Some t) at found = ap (λ xs. Some (map f xs)) (sym (take_all r (part t) (omega (arith, wide t at)))) ∙ found
 
 -- each turn has a move and an error for each role
-pub turn-widths : {S M : Type 0} (g : Rules S M) (turns : List (Turn M)) (k : ℕ) (t : Turn M) → AreLawful g turns → slice_get turns k ≡ Some t → (length t.moves ≡ g.roles) × (length t.errors ≡ g.roles)
-turn-widths {S} {M} g turns k t lawful at =
+pub turn-widths : {S M : Type 0} (g : Rules S M) {strikes : ℕ} (turns : List (Turn M)) (k : ℕ) (t : Turn M) → AreLawful g strikes turns → slice_get turns k ≡ Some t → (length t.moves ≡ g.roles) × (length t.errors ≡ g.roles)
+turn-widths {S} {M} g {strikes} turns k t lawful at =
     let turn = lawful k t (slice_get_within turns k t at) in
     subst (λ (u : Turn M). (length u.moves ≡ g.roles) × (length u.errors ≡ g.roles)) (get_or_from_slice_get turns k t t at) (turn.joint.width, turn.one_error)
 
 -- and its moves are a joint move in the state before it
-pub turn-joint : {S M : Type 0} (g : Rules S M) (turns : List (Turn M)) (k : ℕ) (t : Turn M) → AreLawful g turns → slice_get turns k ≡ Some t → IsJoint g (state_after g (take k turns)) t.moves
-turn-joint {S} {M} g turns k t lawful at =
+pub turn-joint : {S M : Type 0} (g : Rules S M) {strikes : ℕ} (turns : List (Turn M)) (k : ℕ) (t : Turn M) → AreLawful g strikes turns → slice_get turns k ≡ Some t → IsJoint g (state_after g (take k turns)) t.moves
+turn-joint {S} {M} g {strikes} turns k t lawful at =
     subst (λ (u : Turn M). IsJoint g (state_after g (take k turns)) u.moves) (get_or_from_slice_get turns k t t at) (lawful k t (slice_get_within turns k t at)).joint
 
 -- ---- values in memory
@@ -147,9 +147,9 @@ pub record IsNext {S M : Type 0} (g : Rules S M) (turns : List (Turn M)) (k : �
   pub is_state : g.IsState (g.next s moves)
   pub longer : prefixes (take (k + 1) turns) ≡ prefixes (take k turns) ++ take (k + 1) turns ∷ []
 
-pub next_state : {S M : Type 0} (g : Rules S M) → IsLawful g → (turns : List (Turn M)) (k : ℕ) (s : S) (joint : List M) → AreLawful g turns → s ≡ state_after g (take k turns) → g.IsState s
+pub next_state : {S M : Type 0} (g : Rules S M) → IsLawful g → {strikes : ℕ} (turns : List (Turn M)) (k : ℕ) (s : S) (joint : List M) → AreLawful g strikes turns → s ≡ state_after g (take k turns) → g.IsState s
     → Some joint ≡ option_map (λ t. t.moves) (slice_get turns k) → IsNext g turns k s joint
-next_state {S} {M} g laws turns k s joint lawful at is_state found = go (slice_get turns k) refl found
+next_state {S} {M} g laws {strikes} turns k s joint lawful at is_state found = go (slice_get turns k) refl found
   where
     go : (o : Option (Turn M)) → slice_get turns k ≡ o → Some joint ≡ option_map (λ t. t.moves) o → IsNext g turns k s joint
     go None there same = absurd cc

@@ -11,7 +11,7 @@ use Rattle.game_core.specs.Play.{Rules, IsLawful}
 use Rattle.match_book.specs.LegalMoves.{AreLegalMoves}
 use Rattle.match_book.specs.Judgement.{error_text, MayStand, IsJudged, NamesNone, IsPlaceOf, illegal_prefix}
 use Rattle.match_book.specs.declared.judgement.Substitution.{Substitution}
-use Rattle.match_book.specs.declared.judgement.Substitution.TheVariants.{TimeOut, ConnectionError, Unreadable, Illegal}
+use Rattle.match_book.specs.declared.judgement.Substitution.TheVariants.{TimeOut, ConnectionError, Unreadable, Illegal, Retired}
 use Rattle.match_book.proofs.Judgements.{first-contains, Contains-move}
 use Rattle.match_record.specs.RecordParts.{IsErrorText, MayBeGiven}
 use Rattle.match_record.specs.Replaying.{GoesOn, IsRightMove, DeniesOne, IsWrongError, text_at}
@@ -47,6 +47,7 @@ may-stand : {S M : Type 0} (g : Rules S M) (moves : List M) (e : List ℕ) (why 
 may-stand g moves e TimeOut is given not = tt
 may-stand g moves e ConnectionError is given not = tt
 may-stand g moves e Unreadable is given not = tt
+may-stand g moves e Retired is given not = given
 may-stand g moves e (Illegal x) is given not =
     (given.0, given.1, λ k d lt w. not (slice_index_or moves k d, Contains-get_or moves k d lt, is ∙ ap (λ y. error_text (Illegal y)) (sym w)))
 
@@ -108,6 +109,7 @@ illegal-judged : {S M : Type 0} (g : Rules S M) → IsLawful g → (moves : List
 illegal-judged g laws moves n e TimeOut is among reason may denies = first-apart (error_text TimeOut) (error_text (Illegal (g.move_text n))) (sym reason ∙ denies) refl refl
 illegal-judged g laws moves n e ConnectionError is among reason may denies = first-apart (error_text ConnectionError) (error_text (Illegal (g.move_text n))) (sym reason ∙ denies) refl refl
 illegal-judged g laws moves n e Unreadable is among reason may denies = laws.no_question n is (sym (illegal_text (codes "?") (g.move_text n) (sym reason ∙ denies)))
+illegal-judged g laws moves n e Retired is among reason may denies = may
 illegal-judged g laws moves n e (Illegal x) is among reason may denies = named-none g moves x n may.2 among (sym (illegal_text x (g.move_text n) (sym reason ∙ denies)))
 
 pub judged-not_wrong : {S M : Type 0} (g : Rules S M) → IsLawful g → (s : S) (r : ℕ) (m : M) (text e : List ℕ) → g.IsState s → r < g.roles → g.move_text m ≡ text → IsJudged g (g.legal s r) m e → ¬ (IsWrongError g (g.legal s r) text e)

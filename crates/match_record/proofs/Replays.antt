@@ -10,7 +10,7 @@ use Rattle.match_book.specs.Judgement.{IsJudged, NamesNone}
 use Rattle.match_book.specs.MatchValue.{state_after}
 use Rattle.match_book.specs.Lawful.{IsLawfulTurn, AreLawful}
 use Rattle.match_book.specs.declared.turn.Turn.{Turn}
-use Rattle.match_book.proofs.LawfulTurns.{state_after-push, AreLawful-push, turn-moves}
+use Rattle.match_book.proofs.LawfulTurns.{state_after-push, AreLawful-push, turn-moves, never-lawful}
 use Rattle.match_record.specs.Replaying.{IsWrongError, AreRightBelow, ShowsState, LeadsTo, ComesTo, IsFirstFault, turn_at, text_at}
 use Rattle.match_record.specs.Internal.ReplaySteps.{IsRightJoint, IsTurnFault}
 use Rattle.match_record.specs.declared.record_parts.RecordParts.{RecordParts}
@@ -30,21 +30,18 @@ LeadsTo-start g p = record {
 }
 
 -- one turn more
-pub LeadsTo-more : {S M : Type 0} (g : Rules S M) (p : RecordParts) (t : ℕ) (s next : S) (joint : List M) → LeadsTo g p t s → ShowsState g p t s → t < length p.moves → t < length p.errors → length (turn_at p.errors t) ≡ g.roles
+pub LeadsTo-more : {S M : Type 0} (g : Rules S M) → IsLawful g → (p : RecordParts) (t : ℕ) (s next : S) (joint : List M) → LeadsTo g p t s → ShowsState g p t s → t < length p.moves → t < length p.errors → length (turn_at p.errors t) ≡ g.roles
     → IsRightJoint g s (turn_at p.moves t) (turn_at p.errors t) joint → next ≡ g.next s joint → LeadsTo g p (t + 1) next
-LeadsTo-more {S} {M} g p t s next joint leads shown within_moves within_errors wide right is_next =
+LeadsTo-more {S} {M} g laws p t s next joint leads shown within_moves within_errors wide right is_next =
     let turn : Turn M = record { moves = joint; errors = turn_at p.errors t } in
-    let lawful : IsLawfulTurn g leads.turns turn =
-    record {
-      goes_on = subst (λ (x : S). g.terminal x ≡ false) leads.state right.goes_on.0;
-      joint = subst (λ (x : S). IsJoint g x joint) leads.state right.joint;
-      one_error = wide;
-      judged = λ r d lt. subst (λ (x : S). IsJudged g (g.legal x r) (slice_index_or joint r d) (text_at (turn_at p.errors t) r)) leads.state (right.judged r d lt);
-    } in
+    let lawful : IsLawfulTurn g 0 leads.turns turn =
+    never-lawful g laws leads.turns turn (subst (λ (x : S). g.terminal x ≡ false) leads.state right.goes_on.0) (subst (λ (x : S). IsJoint g x joint) leads.state right.joint) wide
+    (λ r d lt. subst (λ (x : S). IsJudged g (g.legal x r) (slice_index_or joint r d) (text_at (turn_at p.errors t) r)) leads.state (right.judged r d lt))
+    in
     record {
       turns = leads.turns ++ turn ∷ [];
       many = length_push leads.turns turn ∙ ap (λ n. n + 1) leads.many;
-      lawful = AreLawful-push g leads.turns turn leads.lawful lawful;
+      lawful = AreLawful-push g 0 leads.turns turn leads.lawful lawful;
       state = is_next ∙ ap (λ (x : S). g.next x joint) leads.state ∙ sym (state_after-push g leads.turns turn);
       moves = map_push (λ (u : Turn M). map g.move_text u.moves) leads.turns turn ∙ ap (λ ts. ts ++ map g.move_text joint ∷ []) leads.moves ∙ ap (λ texts. take t p.moves ++ texts ∷ []) right.texts ∙ sym (take_more p.moves t [] within_moves);
       errors = map_push (λ (u : Turn M). u.errors) leads.turns turn ∙ ap (λ ts. ts ++ turn_at p.errors t ∷ []) leads.errors ∙ sym (take_more p.errors t [] within_errors);
@@ -81,10 +78,10 @@ turn-fault g p t s WrongEnd comes fault = inl (t, s, comes, fault)
 turn-fault g p t s Memory comes fault = tt
 
 -- what follows on a state, by the texts that the record has there
-module _ {S M : Type 0} (g : Rules S M) (p : RecordParts) (t : ℕ) (s : S) (moves errors : List (List ℕ)) (leads : LeadsTo g p t s) (shown : ShowsState g p t s) (at_moves : slice_get p.moves t ≡ Some moves) (at_errors : slice_get p.errors t ≡ Some errors) where
+module _ {S M : Type 0} (g : Rules S M) (laws : IsLawful g) (p : RecordParts) (t : ℕ) (s : S) (moves errors : List (List ℕ)) (leads : LeadsTo g p t s) (shown : ShowsState g p t s) (at_moves : slice_get p.moves t ≡ Some moves) (at_errors : slice_get p.errors t ≡ Some errors) where
   pub next-leads : (next : S) (joint : List M) → length errors ≡ g.roles → IsRightJoint g s moves errors joint → next ≡ g.next s joint → LeadsTo g p (t + 1) next
   next-leads next joint wide right is_next =
-      LeadsTo-more g p t s next joint leads shown (slice_get_within p.moves t moves at_moves) (slice_get_within p.errors t errors at_errors) (subst (λ es. length es ≡ g.roles) (turn-read p.errors t errors at_errors) wide)
+      LeadsTo-more g laws p t s next joint leads shown (slice_get_within p.moves t moves at_moves) (slice_get_within p.errors t errors at_errors) (subst (λ es. length es ≡ g.roles) (turn-read p.errors t errors at_errors) wide)
       (subst (λ ms. IsRightJoint g s ms (turn_at p.errors t) joint) (turn-read p.moves t moves at_moves) (subst (λ es. IsRightJoint g s moves es joint) (turn-read p.errors t errors at_errors) right)) is_next
 
   pub next-fault : (f : VerifyFault) → IsTurnFault g s moves errors t f → IsFirstFault g p f
@@ -109,7 +106,7 @@ same-turn : {M : Type 0} (t u : Turn M) → t.moves ≡ u.moves → t.errors ≡
 same-turn t u moves errors = λ i. record { moves = moves i; errors = errors i }
 
 -- lawful turns with the same texts are the same
-same-turns : {S M : Type 0} (g : Rules S M) → IsLawful g → (xs ys : List (Turn M)) → AreLawful g xs → AreLawful g ys → length xs ≡ length ys
+same-turns : {S M : Type 0} (g : Rules S M) → IsLawful g → (xs ys : List (Turn M)) → AreLawful g 0 xs → AreLawful g 0 ys → length xs ≡ length ys
     → map (λ u. map g.move_text u.moves) xs ≡ map (λ u. map g.move_text u.moves) ys → map (λ u. u.errors) xs ≡ map (λ u. u.errors) ys → xs ≡ ys
 same-turns {S} {M} g laws xs ys here there many moves errors = same_lists xs ys many at
   where
@@ -132,13 +129,13 @@ same-turns {S} {M} g laws xs ys here there many moves errors = same_lists xs ys 
         read (u ∷ us) zero d t lt is = is
         read (u ∷ us) (suc k) d t lt is = read us k d t (omega arith) is
 
-AreLawful-take : {S M : Type 0} (g : Rules S M) (turns : List (Turn M)) (t : ℕ) → AreLawful g turns → AreLawful g (take t turns)
+AreLawful-take : {S M : Type 0} (g : Rules S M) (turns : List (Turn M)) (t : ℕ) → AreLawful g 0 turns → AreLawful g 0 (take t turns)
 AreLawful-take {S} {M} g turns t lawful k d lt =
     let inside : k < min t (length turns) = subst (λ n. k < n) (length-take t turns) lt in
     let below : k < t = omega arith in
     let within : k < length turns = omega arith in
-    subst (λ (before : List (Turn M)). IsLawfulTurn g before (slice_index_or (take t turns) k d)) (sym (take-take k t turns (omega arith)))
-    (subst (λ (u : Turn M). IsLawfulTurn g (take k turns) u) (sym (get_or-take t turns k d below)) (lawful k d within))
+    subst (λ (before : List (Turn M)). IsLawfulTurn g 0 before (slice_index_or (take t turns) k d)) (sym (take-take k t turns (omega arith)))
+    (subst (λ (u : Turn M). IsLawfulTurn g 0 (take k turns) u) (sym (get_or-take t turns k d below)) (lawful k d within))
 
 pub leads-within : {S M : Type 0} (g : Rules S M) (p : RecordParts) (t : ℕ) (s : S) → LeadsTo g p t s → t ≤ length p.moves
 leads-within {S} {M} g p t s leads =
@@ -146,7 +143,7 @@ leads-within {S} {M} g p t s leads =
     omega arith
 
 -- the turns that lead to a state of a record are the first turns of any lawful ones that it shows
-pub leads-front : {S M : Type 0} (g : Rules S M) → IsLawful g → (p : RecordParts) (t : ℕ) (s : S) (leads : LeadsTo g p t s) (turns : List (Turn M)) → AreLawful g turns
+pub leads-front : {S M : Type 0} (g : Rules S M) → IsLawful g → (p : RecordParts) (t : ℕ) (s : S) (leads : LeadsTo g p t s) (turns : List (Turn M)) → AreLawful g 0 turns
     → map (λ u. map g.move_text u.moves) turns ≡ p.moves → map (λ u. u.errors) turns ≡ p.errors → leads.turns ≡ take t turns
 leads-front {S} {M} g laws p t s leads turns lawful moves errors =
     let within : t ≤ length turns = subst (λ n. t ≤ n) (sym (ap length moves) ∙ length-map turns (λ (u : Turn M). map g.move_text u.moves)) (leads-within g p t s leads) in

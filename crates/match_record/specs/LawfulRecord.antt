@@ -20,11 +20,12 @@ pub record IsJson (text : List ℕ) (tree : Data) : Type 0 where
   pub utf8 : IsUtf8 text
   pub is_read : read text ≡ Some tree
 
--- The text is JSON whose keys hold what the record of some lawful match says. Other keys may stand beside them.
+-- The text is JSON whose keys hold what the record of some lawful match says, in which no role is retired. Other keys may stand beside them.
 pub record IsRecordOf {S M : Type 0} (g : Rules S M) (text : List ℕ) (tree : Data) (m : MatchValue M) : Type 0 where
   pub json : IsJson text tree
   pub setup : IsLawfulSetup m.setup
   pub lawful : IsLawfulMatch g m
+  pub never : m.setup.strikes ≡ 0
   pub holds : Holds tree (parts_of g m)
 
 abbrev pub IsLawfulRecord : {S M : Type 0} → Rules S M → List ℕ → Type 0
@@ -61,17 +62,17 @@ HasNoShape g text Memory = Unit {0}
 abbrev pub RecordTreeHoldsParts : {S M : Type 0} → Rules S M → Type 0
 RecordTreeHoldsParts {S} {M} g = (m : MatchValue M) → Holds (record_tree g m) (parts_of g m)
 
--- a text that is read as the record tree of a lawful match is a lawful record
+-- a text that is read as the record tree of a lawful match in which no role is retired is a lawful record
 abbrev pub RecordsAreLawful : {S M : Type 0} → Rules S M → Type 0
-RecordsAreLawful {S} {M} g = (text : List ℕ) (m : MatchValue M) → IsLawfulMatch g m → IsLawfulSetup m.setup → IsJson text (record_tree g m) → IsLawfulRecord g text
+RecordsAreLawful {S} {M} g = (text : List ℕ) (m : MatchValue M) → IsLawfulMatch g m → IsLawfulSetup m.setup → m.setup.strikes ≡ 0 → IsJson text (record_tree g m) → IsLawfulRecord g text
 
 -- a tree holds one record's parts at most, of those that have the shape
 abbrev pub HoldsOnePartsAtMost : {S M : Type 0} → Rules S M → Type 0
 HoldsOnePartsAtMost g = (tree : Data) (p q : RecordParts) → HasShape g p → HasShape g q → Holds tree p → Holds tree q → p ≡ q
 
--- the parts of a lawful match are of the shape
+-- the parts of a lawful match in which no role is retired are of the shape
 abbrev pub LawfulPartsHaveShape : {S M : Type 0} → Rules S M → Type 0
-LawfulPartsHaveShape {S} {M} g = (m : MatchValue M) → IsLawfulMatch g m → IsLawfulSetup m.setup → HasShape g (parts_of g m)
+LawfulPartsHaveShape {S} {M} g = (m : MatchValue M) → IsLawfulMatch g m → IsLawfulSetup m.setup → m.setup.strikes ≡ 0 → HasShape g (parts_of g m)
 
 -- a text that is refused for its shape is no lawful record
 abbrev pub RefusedIsUnlawful : {S M : Type 0} → Rules S M → Type 0

@@ -9,9 +9,9 @@ use Rattle.match_book.specs.Names.{is_name}
 use Rattle.match_book.specs.MatchValue.{MatchValue, state_after}
 use Rattle.match_book.specs.Phase.{phase, cause, goal_of, max_turns}
 use Rattle.match_book.specs.declared.judgement.Substitution.{Substitution}
-use Rattle.match_book.specs.declared.judgement.Substitution.TheVariants.{TimeOut, ConnectionError, Unreadable, Illegal}
+use Rattle.match_book.specs.declared.judgement.Substitution.TheVariants.{TimeOut, ConnectionError, Unreadable, Illegal, Retired}
 use Rattle.match_book.specs.declared.phase.Cause.{Cause}
-use Rattle.match_book.specs.declared.phase.Cause.TheVariants.{Asked, NoLegal, NoGoal, TooLong}
+use Rattle.match_book.specs.declared.phase.Cause.TheVariants.{Asked, NoLegal, NoGoal, TooLong, AllRetired}
 use Rattle.match_record.specs.declared.record_parts.RecordParts.{RecordParts}
 
 -- what f gives for each role of n, in the order of the roles
@@ -53,6 +53,7 @@ NamesRole roles Asked = Unit {0}
 NamesRole roles (NoLegal r) = r < roles
 NamesRole roles (NoGoal r) = r < roles
 NamesRole roles TooLong = Unit {0}
+NamesRole roles AllRetired = Unit {0}
 
 -- the reason of a substitution, whatever moves are legal
 abbrev pub MayBeGiven : Substitution → Type 0
@@ -60,6 +61,7 @@ MayBeGiven TimeOut = Unit {0}
 MayBeGiven ConnectionError = Unit {0}
 MayBeGiven Unreadable = Unit {0}
 MayBeGiven (Illegal x) = IsFoldedText x × (length x ≤ max_reading)
+MayBeGiven Retired = ⊥
 
 -- a text that may stand beside some move
 abbrev pub IsErrorText : List ℕ → Type 0

@@ -11,7 +11,7 @@ use Rattle.match_book.specs.MatchValue.{MatchValue}
 use Rattle.match_book.specs.Names.{is_name, is_clock}
 use Rattle.match_book.specs.declared.answer.Mark.{Mark}
 use Rattle.match_book.specs.declared.phase.Cause.{Cause}
-use Rattle.match_book.specs.declared.phase.Cause.TheVariants.{Asked, NoLegal, NoGoal, TooLong}
+use Rattle.match_book.specs.declared.phase.Cause.TheVariants.{Asked, NoLegal, NoGoal, TooLong, AllRetired}
 use Rattle.match_book.specs.declared.phase.Phase.{Phase}
 use Rattle.match_book.specs.declared.phase.Phase.TheVariants.{Starting, Playing, Stopping, Finished, Aborting, Aborted}
 use Rattle.match_record.specs.RecordParts.{parts_of, each_role, NamesRole, AreErrors, AreGoals, AreMoves, ArePlayers}
@@ -56,6 +56,7 @@ cause_text Asked = codes "asked"
 cause_text (NoLegal role) = codes "nolegal " ++ decimal role
 cause_text (NoGoal role) = codes "nogoal " ++ decimal role
 cause_text TooLong = codes "toolong"
+cause_text AllRetired = codes "allretired"
 
 abbrev pub cause_tree : Option Cause → Data
 cause_tree why = text_or_null (option_map cause_text why)

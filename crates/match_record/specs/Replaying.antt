@@ -8,7 +8,7 @@ use Rattle.match_book.specs.Phase.{stage, phase, cause, is_live, has_no_move}
 use Rattle.match_book.specs.Lawful.{AreLawful, IsLawfulMatch}
 use Rattle.match_book.specs.declared.judgement.Substitution.TheVariants.{Illegal as NotLegal}
 use Rattle.match_book.specs.declared.phase.Cause.{Cause}
-use Rattle.match_book.specs.declared.phase.Cause.TheVariants.{Asked, NoLegal, NoGoal, TooLong}
+use Rattle.match_book.specs.declared.phase.Cause.TheVariants.{Asked, NoLegal, NoGoal, TooLong, AllRetired}
 use Rattle.match_book.specs.declared.phase.Phase.{Phase}
 use Rattle.match_book.specs.declared.phase.Phase.TheVariants.{Starting, Playing, Stopping, Finished, Aborting, Aborted}
 use Rattle.match_book.specs.declared.turn.Turn.{Turn}
@@ -17,9 +17,9 @@ use Rattle.match_record.specs.declared.record_parts.RecordParts.{RecordParts}
 use Rattle.match_record.specs.declared.verify_fault.VerifyFault.{VerifyFault}
 use Rattle.match_record.specs.declared.verify_fault.VerifyFault.TheVariants.{NotJson, BadShape, Illegal, NotFirst, WrongState, WrongGoals, WrongEnd, Memory}
 
--- these are the parts of the record of some lawful match
+-- these are the parts of the record of some lawful match in which no role is retired: a record does not say after how many strikes one is
 abbrev pub AreLawfulParts : {S M : Type 0} → Rules S M → RecordParts → Type 0
-AreLawfulParts {S} {M} g p = (m : MatchValue M) × IsLawfulMatch g m × (parts_of g m ≡ p)
+AreLawfulParts {S} {M} g p = (m : MatchValue M) × IsLawfulMatch g m × (m.setup.strikes ≡ 0) × (parts_of g m ≡ p)
 
 -- the state is not terminal, and no role is without a legal move
 abbrev pub GoesOn : {S M : Type 0} → Rules S M → S → Type 0
@@ -62,7 +62,7 @@ ShowsState g p t s = slice_get p.states t ≡ Some (g.state_text s)
 pub record LeadsTo {S M : Type 0} (g : Rules S M) (p : RecordParts) (t : ℕ) (s : S) : Type 0 where
   pub turns : List (Turn M)
   pub many : length turns ≡ t
-  pub lawful : AreLawful g turns
+  pub lawful : AreLawful g 0 turns
   pub state : s ≡ state_after g turns
   pub moves : map (λ u. map g.move_text u.moves) turns ≡ take t p.moves
   pub errors : map (λ u. u.errors) turns ≡ take t p.errors
@@ -93,11 +93,12 @@ is_asked (Some Asked) = true
 is_asked (Some (NoLegal r)) = false
 is_asked (Some (NoGoal r)) = false
 is_asked (Some TooLong) = false
+is_asked (Some AllRetired) = false
 
 -- the match that has this record, if these are its turns
 abbrev pub match_of : {S M : Type 0} → Rules S M → RecordParts → List (Turn M) → MatchValue M
 match_of g p turns = record {
-  setup = record { id = p.id; start = p.start; play = p.play; players = p.players };
+  setup = record { id = p.id; start = p.start; play = p.play; strikes = 0; players = p.players };
   start_marks = p.start_marks;
   turns = turns;
   open_answers = blank g.roles;

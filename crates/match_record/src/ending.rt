@@ -104,7 +104,7 @@ fn agrees_with(parts: &RecordParts, settled: Stage, roles: usize) -> bool
     stage.phase(ended) == parts.phase && stage.cause() == parts.cause
 }
 
-/// Whether phase, cause and marks are those of a match with this last state.
+/// Whether phase, cause and marks are those of a match with this last state, in which no role is retired.
 pub fn is_right_end<G: Game>(
     alloc: Global,
     game: &G,
@@ -116,6 +116,6 @@ pub fn is_right_end<G: Game>(
     requires ends { length parts.now.end_marks ≡ (G.rules game.now).roles }
     ensures { IfOk result (λ b. IsEndAnswer (G.rules game.now) parts.now state.now b) }
 {
-    let settlement = settle(alloc, game, state, parts.moves.count())?;
+    let settlement = settle(alloc, game, state, parts.moves.count(), 0)?;
     Ok(agrees_with(parts, settlement.stage, game.roles()))
 }

@@ -244,8 +244,8 @@ pub fn record_json<G: Game>(alloc: Global, game: &G, held: &Match<G>) -> Result<
     ensures text { IfOk result (λ t. t ≡ record_text (G.rules game.now) held.now.value) }
     // So a reader of JSON finds the tree again.
     ensures reads_back { IfOk result (λ t. read t ≡ Some (record_tree (G.rules game.now) held.now.value)) }
-    // And `verify` refuses it for want of memory alone.
-    ensures lawful { IfOk result (IsLawfulRecord (G.rules game.now)) }
+    // And where no role is retired, whatever it does, `verify` refuses it for want of memory alone.
+    ensures lawful { IfOk result (λ t. held.now.value.setup.strikes ≡ 0 → IsLawfulRecord (G.rules game.now) t) }
 {
     // This reader says that the match is lawful.
     let _state = held.state();

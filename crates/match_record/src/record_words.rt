@@ -92,6 +92,9 @@ fn cause_of(text: &[u8], roles: usize) -> Option<Cause>
     if text == b"toolong".as_slice() {
         return Some(Cause::TooLong);
     }
+    if text == b"allretired".as_slice() {
+        return Some(Cause::AllRetired);
+    }
     if let Some(digits) = after(text, b"nolegal ") {
         let role = role_of(digits, roles)?;
         return Some(Cause::NoLegal(role));

@@ -69,6 +69,7 @@ pub fn cause_tree(alloc: Global, cause: Option<Cause>) -> Result<Value, AllocErr
         Some(Cause::NoLegal(role)) => format!(in alloc; "nolegal {role}")?,
         Some(Cause::NoGoal(role)) => format!(in alloc; "nogoal {role}")?,
         Some(Cause::TooLong) => String::from_str(alloc, "toolong")?,
+        Some(Cause::AllRetired) => String::from_str(alloc, "allretired")?,
     };
     Ok(Value::String(text))
 }

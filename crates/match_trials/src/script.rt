@@ -14,7 +14,7 @@ use std::alloc::{AllocError, Global};
 use std::process::Abort;
 use std::test::Fail;
 
-/// Plays a script on a new match of the game.
+/// Plays a script on a new match of the game, in which no role is retired.
 pub fn play_script<G: Game>(
     rt: &impl Abort,
     alloc: Global,
@@ -24,7 +24,21 @@ pub fn play_script<G: Game>(
 ) -> Result<(), Fail>
     requires { length players.now ≡ (G.rules game.now).roles }
 {
-    let mut held = Match::new(alloc, game, setup(alloc, players)?)?;
+    play_strict_script(rt, alloc, game, 0, players, script)
+}
+
+/// Plays a script on a new match of the game, in which so many substitutions in a row retire a role.
+pub fn play_strict_script<G: Game>(
+    rt: &impl Abort,
+    alloc: Global,
+    game: &G,
+    strikes: u8,
+    players: &[&str],
+    script: &str,
+) -> Result<(), Fail>
+    requires { length players.now ≡ (G.rules game.now).roles }
+{
+    let mut held = Match::new(alloc, game, setup(alloc, strikes, players)?)?;
     for line in script.lines() {
         let line = line.trim();
         if !line.is_empty() {
@@ -36,7 +50,7 @@ pub fn play_script<G: Game>(
     Ok(())
 }
 
-fn setup(alloc: Global, players: &[&str]) -> Result<Setup, AllocError>
+fn setup(alloc: Global, strikes: u8, players: &[&str]) -> Result<Setup, AllocError>
     ensures { IfOk result (λ s. length s.players ≡ length players.now) }
 {
     let mut items = Vec::new(alloc);
@@ -47,6 +61,7 @@ fn setup(alloc: Global, players: &[&str]) -> Result<Setup, AllocError>
         id: Text::from_slice(alloc, b"m")?,
         start: 1,
         play: 1,
+        strikes,
         players: Texts { items },
     })
 }
@@ -283,6 +298,7 @@ fn cause_line<G: Game>(alloc: Global, held: &Match<G>) -> Result<String, AllocEr
         Some(Cause::NoLegal(role)) => format!(in alloc; "nolegal {role}"),
         Some(Cause::NoGoal(role)) => format!(in alloc; "nogoal {role}"),
         Some(Cause::TooLong) => String::from_str(alloc, "toolong"),
+        Some(Cause::AllRetired) => String::from_str(alloc, "allretired"),
     }
 }
 

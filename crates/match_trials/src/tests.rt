@@ -1,6 +1,6 @@
 //! Worked matches.
 use crate::lone::Lone;
-use crate::script::play_script;
+use crate::script::{play_script, play_strict_script};
 use game_core::Countdown;
 use match_book::{AbortFault, AnswerFault, OwedFault};
 use std::alloc::Global;
@@ -10,6 +10,17 @@ use std::test::Fail;
 fn countdown(rt: &impl Abort, alloc: Global, size: u8, script: &str) -> Result<(), Fail> {
     let game = Countdown::new(size).ok_or("a size of 1 to 100")?;
     play_script(rt, alloc, &game, &["ann", "bob"], script)
+}
+
+fn strict_countdown(
+    rt: &impl Abort,
+    alloc: Global,
+    size: u8,
+    strikes: u8,
+    script: &str,
+) -> Result<(), Fail> {
+    let game = Countdown::new(size).ok_or("a size of 1 to 100")?;
+    play_strict_script(rt, alloc, &game, strikes, &["ann", "bob"], script)
 }
 
 /// A game of one role whose move leads from the first state to the second.
@@ -306,4 +317,102 @@ fn messages_of_faults(rt: HostRuntime) -> Result<(), Fail> {
         "the match has come to its end"
     );
     Ok(())
+}
+
+/// Red fails twice in a row and is no longer asked, the match goes on without it, and ends once blue has failed twice, too.
+#[test]
+fn retired_roles(rt: HostRuntime) -> Result<(), Fail> {
+    let script = "
+        submit 0 0 READY -> taken
+        submit 1 0 READY -> taken
+        miss 0 1 silent -> taken
+        submit 1 1 noop -> taken
+        submit 0 2 (take 1) -> taken
+        submit 1 2 (take 1) -> taken
+        next 0 -> hold 3
+        submit 0 3 (take 2) -> refused twice
+        submit 0 2 noop -> refused stale 3
+        submit 1 3 noop -> taken
+        next 1 -> owe 4 play (take 1) noop
+        query -> playing round 4 turns 3 substitutions 3
+        miss 1 4 silent -> taken
+        miss 1 5 broken -> taken
+        next 0 -> owe 6 abort
+        query -> aborting round 6 turns 5 substitutions 7
+        cause -> allretired
+        turns -> (take 1)/TO noop/ ;noop/IL (take 1) (take 1)/ ;(take 1)/RT noop/ ;noop/RT (take 1)/TO ;(take 1)/RT noop/CE ;
+        miss 0 6 silent -> taken
+        submit 1 6 DONE -> taken
+        query -> aborted round 6 turns 5 substitutions 7
+    ";
+    strict_countdown(&rt, rt.alloc(), 10, 2, script)
+}
+
+/// The end of the game comes before the abort that all roles are retired.
+#[test]
+fn retired_at_the_end(rt: HostRuntime) -> Result<(), Fail> {
+    let script = "
+        submit 0 0 READY -> taken
+        submit 1 0 READY -> taken
+        miss 0 1 silent -> taken
+        miss 1 1 silent -> taken
+        next 0 -> owe 2 stop (take 1) noop
+        cause -> none
+    ";
+    strict_countdown(&rt, rt.alloc(), 1, 1, script)
+}
+
+/// Substitutions that are not in a row retire nobody.
+#[test]
+fn strikes_in_a_row(rt: HostRuntime) -> Result<(), Fail> {
+    let script = "
+        submit 0 0 READY -> taken
+        submit 1 0 READY -> taken
+        miss 0 1 silent -> taken
+        submit 1 1 noop -> taken
+        submit 0 2 noop -> taken
+        submit 1 2 (take 1) -> taken
+        miss 0 3 silent -> taken
+        submit 1 3 noop -> taken
+        next 0 -> owe 4 play (take 1) noop
+    ";
+    strict_countdown(&rt, rt.alloc(), 10, 2, script)
+}
+
+/// With 0 strikes a role is asked however often it fails.
+#[test]
+fn no_strikes(rt: HostRuntime) -> Result<(), Fail> {
+    let script = "
+        submit 0 0 READY -> taken
+        submit 1 0 READY -> taken
+        miss 0 1 silent -> taken
+        miss 1 1 silent -> taken
+        miss 0 2 silent -> taken
+        miss 1 2 silent -> taken
+        next 0 -> owe 3 play noop (take 1)
+        next 1 -> owe 3 play noop (take 1)
+        query -> playing round 3 turns 2 substitutions 4
+    ";
+    countdown(&rt, rt.alloc(), 10, script)
+}
+
+/// 255 substitutions in a row retire a role, and 254 do not.
+#[test]
+fn retired_after_255(rt: HostRuntime) -> Result<(), Fail> {
+    let script = "
+        submit 0 0 READY -> taken
+        repeat 254 0 1 stop -> taken
+        next 0 -> owe 255 play go
+        submit 0 255 stop -> taken
+        next 0 -> owe 256 abort
+        cause -> allretired
+        query -> aborting round 256 turns 255 substitutions 255
+    ";
+    let game = Lone {
+        at_second: false,
+        returns: true,
+        ends: false,
+        has_goal: false,
+    };
+    play_strict_script(&rt, rt.alloc(), &game, 255, &["ann"], script)
 }

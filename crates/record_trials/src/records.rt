@@ -25,6 +25,7 @@ fn opened(
         id: text(alloc, "m1")?,
         start: clocks.0,
         play: clocks.1,
+        strikes: 0,
         players: Texts { items },
     };
     let held = Match::new(alloc, &game, setup)?;

@@ -1,27 +1,25 @@
 -- What a match keeps beside its value, so that no call goes over the turns.
-use Rattle.std.specs.Prelude.{◌≡◌, ℕ, zero, suc, ◌+◌, ◌<◌, Bool, if◌then◌else◌, List, Option}
+use Rattle.std.specs.Prelude.{◌≡◌, ℕ, ◌<◌, List, Option}
 use Rattle.game_core.specs.Play.{Rules}
 use Rattle.match_book.specs.Roles.{at_role}
 use Rattle.match_book.specs.MatchValue.{MatchValue, state_after, substitutions}
 use Rattle.match_book.specs.Phase.{stage, answered_in, goal_in}
 use Rattle.match_book.specs.LegalMoves.{AreLegalMoves}
 use Rattle.match_book.specs.Lawful.{IsLawfulMatch}
+use Rattle.match_book.specs.Internal.RoleStrikes.{AreStrikes, count_roles}
+use Rattle.match_book.specs.declared.retirement.RoleStrikes.{RoleStrikes}
 use Rattle.match_book.specs.declared.phase.Stage.{Stage}
 use Rattle.match_book.specs.declared.phase.Stage.TheVariants.{Playing}
 
--- at how many roles of n the test passes
-abbrev pub count_roles : ℕ → (ℕ → Bool) → ℕ
-count_roles zero p = 0
-count_roles (suc n) p = if p n then count_roles n p + 1 else count_roles n p
-
 -- The match is lawful, and these are its present state, its stage, how many roles have answered this round, its
--- substitutions, each role's legal moves while it is played, and its goals.
-pub record IsKept {S M : Type 0} (g : Rules S M) (m : MatchValue M) (s : S) (at : Stage) (answered substituted : ℕ) (legal : List (List M)) (goals : List (Option ℕ)) : Type 0 where
+-- substitutions, what is known of each role's, each role's legal moves while it is played, and its goals.
+pub record IsKept {S M : Type 0} (g : Rules S M) (m : MatchValue M) (s : S) (at : Stage) (answered substituted : ℕ) (strikes : List RoleStrikes) (legal : List (List M)) (goals : List (Option ℕ)) : Type 0 where
   pub lawful : IsLawfulMatch g m
   pub state_is : s ≡ state_after g m.turns
   pub is_state : g.IsState s
   pub stage_is : at ≡ stage g m
   pub answered_is : answered ≡ count_roles g.roles (answered_in at m)
   pub substituted_is : substituted ≡ substitutions m.turns
+  pub strikes_are : AreStrikes g.roles m.setup.strikes m.turns strikes
   pub legal_are : at ≡ Playing → AreLegalMoves g s legal
   pub goals_are : (r : ℕ) → r < g.roles → at_role goals r ≡ goal_in at g s r

@@ -20,7 +20,7 @@ opening-after_open rules d game setup = step (is_none (open_refusal rules d game
     step false = refl
 
 pub opening-after : {G S M : Type 0} (rules : G → Rules S M) (d : ManagerValue G M) (call : Call) → opening (after rules d call) ≡ opening d
-opening-after rules d (Open id game start play players) = opening-after_open rules d game (setup_of id start play players)
+opening-after rules d (Open id game start play strikes players) = opening-after_open rules d game (setup_of id start play strikes players)
 opening-after rules d (Next id role) = refl
 opening-after rules d (Submit id role round text) = refl
 opening-after rules d (Miss id role round broken) = refl

@@ -45,7 +45,7 @@ returns-in_err-state-2 g c =
     let p = c.args.parts.now in
     let shown = c.in_ok-shows_state.ensures.0 c.if-not-branch.false in
     let passed = err_from_is_err_and c.from_residual-in_err-state-2.result c.from_residual-in_err-state-2.ensures.1 in
-    rw (passed.1, passed.2) (next-fault game p c.loop-turn.turn c.loop-turn.state c.at-moves.result.now c.at-errors.result.now c.loop-turn.invariant.leads shown c.at-moves.ensures c.at-errors.ensures c.in_err-state-2.field-0.0 c.in_err-state-2.ensures)
+    rw (passed.1, passed.2) (next-fault game (g.met.G.Game.laws c.args.game.now) p c.loop-turn.turn c.loop-turn.state c.at-moves.result.now c.at-errors.result.now c.loop-turn.invariant.leads shown c.at-moves.ensures c.at-errors.ensures c.in_err-state-2.field-0.0 c.in_err-state-2.ensures)
 
 pub loop-turn-preserved : goal.loop-turn-preserved
 loop-turn-preserved g c =
@@ -56,7 +56,7 @@ loop-turn-preserved g c =
     let wide = (All-get (λ (texts : List (List ℕ)). (length texts ≡ game.roles) × All IsErrorText texts) p.errors c.loop-turn.turn c.at-errors.result.now (c.requires.keys Errors) c.at-errors.ensures).0 in
     let turn = c.in_ok-state-2.ensures in
     record {
-      leads = next-leads game p c.loop-turn.turn c.loop-turn.state c.at-moves.result.now c.at-errors.result.now c.loop-turn.invariant.leads shown c.at-moves.ensures c.at-errors.ensures c.in_ok-state-2.state turn.0 wide turn.1 turn.2;
+      leads = next-leads game laws p c.loop-turn.turn c.loop-turn.state c.at-moves.result.now c.at-errors.result.now c.loop-turn.invariant.leads shown c.at-moves.ensures c.at-errors.ensures c.in_ok-state-2.state turn.0 wide turn.1 turn.2;
       is_state = subst (λ (s : g.row.G-State.Denot). game.IsState s) (sym turn.2) (laws.next_is_state c.loop-turn.state turn.0 c.loop-turn.invariant.is_state turn.1.joint);
     }
 

@@ -1,5 +1,5 @@
 use Rattle.std.proofs.Common.{arith, ◌∙◌}
-use Rattle.match_book.proofs.KeptMatches.{answered-few, kept-open_answer, value-open_answer, last-answer}
+use Rattle.match_book.proofs.KeptMatches.{answered-few, kept-open_answer, value-open_answer, last-answer, still-answers}
 use Rattle.match_book.proofs.matches.Match.take_open_answer.Goals as goal
 
 pub overflow_add-self-inside : goal.overflow_add-self-inside
@@ -29,4 +29,13 @@ record_turn-requires-clause-last g c =
     (
     last-answer (g.G.Game.rules c.self.inside.game.value) (g.met.G.Game.laws c.self.inside.game.value) c.self.invariant playing c.args.role (rw (← c.self.view_is) at c.requires.role) c.args.judged
     (rw (← c.self.view_is) at c.requires.judged) (rw (← c.self.view_is) at c.requires.free) (omega (arith, c.self.invariant.lawful.one_open_answer, c.self.inside.open_answers.ok.0))
+    )
+
+pub record_turn-requires-clause-answers : goal.record_turn-requires-clause-answers
+record_turn-requires-clause-answers g c =
+    let playing = c.self.invariant.stage_is ∙ (rw (← c.self.view_is) at c.requires.stage) in
+    rw (← c.self.view_is)
+    (
+    still-answers (g.G.Game.rules c.self.inside.game.value) (g.met.G.Game.laws c.self.inside.game.value) c.self.invariant playing c.args.role (rw (← c.self.view_is) at c.requires.role) c.args.judged
+    (rw (← c.self.view_is) at c.requires.judged) (rw (← c.self.view_is) at c.requires.free)
     )

@@ -4,8 +4,13 @@ use Rattle.indexmap.proofs.CallerLemmas.{insert_entry-new}
 use Rattle.match_desk.specs.Open.{open_refusal}
 use Rattle.match_desk.specs.Internal.AskedSetups.{asked_setup}
 use Rattle.match_desk.proofs.OpenTests.{not_refused}
-use Rattle.match_desk.proofs.NewMatches.{index-none, one_each, value-opened, kept-opened}
+use Rattle.match_desk.proofs.NewMatches.{index-none, few-strikes, one_each, value-opened, kept-opened}
 use Rattle.match_desk.proofs.manager.Manager.open.Goals as goal
+
+pub setup-requires : goal.setup-requires
+setup-requires g c =
+    few-strikes g.G.Game.rules g.met.G.Game.laws c.self.inside.games.items c.self.inside.matches.entries c.self.invariant c.args.self.now c.self.view_is c.args.asked.now.game (asked_setup c.args.asked.now)
+    (not_refused c.open_refusal.result (open_refusal g.G.Game.rules c.args.self.now c.args.asked.now.game (asked_setup c.args.asked.now)) c.if-is_some.ensures c.open_refusal.ensures)
 
 pub new-requires : goal.new-requires
 new-requires g c =

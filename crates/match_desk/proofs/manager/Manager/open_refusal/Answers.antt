@@ -4,7 +4,7 @@ use Rattle.std.specs.List.{list_all}
 use Rattle.match_book.specs.Names.{is_name}
 use Rattle.match_desk.specs.ManagerValue.{match_of}
 use Rattle.match_desk.specs.Internal.AskedSetups.{asked_setup}
-use Rattle.match_desk.proofs.OpenTests.{refused-used, refused-no_game, refused-wrong_players, refused-bad_name, refused-bad_clock, refused-full, refused-none}
+use Rattle.match_desk.proofs.OpenTests.{refused-used, refused-no_game, refused-wrong_players, refused-bad_name, refused-bad_clock, refused-bad_strikes, refused-full, refused-none}
 use Rattle.match_desk.proofs.manager.Manager.open_refusal.Goals as goal
 
 pub returns-then-has_match : goal.returns-then-has_match
@@ -32,12 +32,17 @@ returns-then-not-are_clocks g c =
     refused-bad_clock g.G.Game.rules c.args.self.now c.args.asked.now.game (asked_setup c.args.asked.now) (c.if-not-is_name.ensures ∙ ap is_name c.as_slice.ensures)
     (c.if-has_match.ensures ∙ ap (λ x. is_some (match_of c.args.self.now x)) c.as_slice-2.ensures) c.in-Some.game.now c.in-Some.ensures (ap length (sym c.as_slice-players.ensures) ∙ (c.if-players-roles.false ∙ c.roles.ensures)) (c.if-not-are_names.ensures ∙ ap (list_all is_name) c.as_slice-players.ensures) c.if-not-are_clocks.ensures
 
+pub returns-then-not-is_strikes : goal.returns-then-not-is_strikes
+returns-then-not-is_strikes g c =
+    refused-bad_strikes g.G.Game.rules c.args.self.now c.args.asked.now.game (asked_setup c.args.asked.now) (c.if-not-is_name.ensures ∙ ap is_name c.as_slice.ensures)
+    (c.if-has_match.ensures ∙ ap (λ x. is_some (match_of c.args.self.now x)) c.as_slice-2.ensures) c.in-Some.game.now c.in-Some.ensures (ap length (sym c.as_slice-players.ensures) ∙ (c.if-players-roles.false ∙ c.roles.ensures)) (c.if-not-are_names.ensures ∙ ap (list_all is_name) c.as_slice-players.ensures) c.if-not-are_clocks.ensures c.if-not-is_strikes.ensures
+
 pub returns-then-matches-ge-MAX_MATCHES : goal.returns-then-matches-ge-MAX_MATCHES
 returns-then-matches-ge-MAX_MATCHES g c =
     refused-full g.G.Game.rules c.args.self.now c.args.asked.now.game (asked_setup c.args.asked.now) (c.if-not-is_name.ensures ∙ ap is_name c.as_slice.ensures)
-    (c.if-has_match.ensures ∙ ap (λ x. is_some (match_of c.args.self.now x)) c.as_slice-2.ensures) c.in-Some.game.now c.in-Some.ensures (ap length (sym c.as_slice-players.ensures) ∙ (c.if-players-roles.false ∙ c.roles.ensures)) (c.if-not-are_names.ensures ∙ ap (list_all is_name) c.as_slice-players.ensures) c.if-not-are_clocks.ensures (omega arith)
+    (c.if-has_match.ensures ∙ ap (λ x. is_some (match_of c.args.self.now x)) c.as_slice-2.ensures) c.in-Some.game.now c.in-Some.ensures (ap length (sym c.as_slice-players.ensures) ∙ (c.if-players-roles.false ∙ c.roles.ensures)) (c.if-not-are_names.ensures ∙ ap (list_all is_name) c.as_slice-players.ensures) c.if-not-are_clocks.ensures c.if-not-is_strikes.ensures (omega arith)
 
 pub returns : goal.returns
 returns g c =
     refused-none g.G.Game.rules c.args.self.now c.args.asked.now.game (asked_setup c.args.asked.now) (c.if-not-is_name.ensures ∙ ap is_name c.as_slice.ensures)
-    (c.if-has_match.ensures ∙ ap (λ x. is_some (match_of c.args.self.now x)) c.as_slice-2.ensures) c.in-Some.game.now c.in-Some.ensures (ap length (sym c.as_slice-players.ensures) ∙ (c.if-players-roles.false ∙ c.roles.ensures)) (c.if-not-are_names.ensures ∙ ap (list_all is_name) c.as_slice-players.ensures) c.if-not-are_clocks.ensures (omega arith)
+    (c.if-has_match.ensures ∙ ap (λ x. is_some (match_of c.args.self.now x)) c.as_slice-2.ensures) c.in-Some.game.now c.in-Some.ensures (ap length (sym c.as_slice-players.ensures) ∙ (c.if-players-roles.false ∙ c.roles.ensures)) (c.if-not-are_names.ensures ∙ ap (list_all is_name) c.as_slice-players.ensures) c.if-not-are_clocks.ensures c.if-not-is_strikes.ensures (omega arith)

@@ -1,0 +1,32 @@
+-- Which roles are retired: their moves were substituted too often in a row.
+use Rattle.std.specs.Prelude.{ℕ, zero, suc, ◌==◌, Bool, true, false, if◌then◌else◌, List, [], ◌∷◌, slice_index_or}
+use Rattle.match_book.specs.MatchValue.{MatchValue, is_error}
+use Rattle.match_book.specs.Roles.{every_role}
+use Rattle.match_book.specs.declared.turn.Turn.{Turn}
+
+-- the role's move in the turn is substituted
+abbrev pub is_struck : {M : Type 0} → ℕ → Turn M → Bool
+is_struck role t = is_error (slice_index_or t.errors role [])
+
+-- in the first k of these turns, which are there, the role's moves are substituted
+abbrev pub begin_struck : {M : Type 0} → ℕ → ℕ → List (Turn M) → Bool
+begin_struck zero role turns = true
+begin_struck (suc k) role [] = false
+begin_struck (suc k) role (t ∷ ts) = if is_struck role t then begin_struck k role ts else false
+
+-- in some k turns in a row the role's moves are substituted
+abbrev pub some_struck : {M : Type 0} → ℕ → ℕ → List (Turn M) → Bool
+some_struck k role [] = false
+some_struck k role (t ∷ ts) = if begin_struck k role (t ∷ ts) then true else some_struck k role ts
+
+-- these turns retire the role, where so many substitutions in a row do: 0 is never
+unfoldable pub retired_by : {M : Type 0} → ℕ → List (Turn M) → ℕ → Bool
+retired_by strikes turns role = if strikes == 0 then false else some_struck strikes role turns
+
+-- the role is no longer asked for moves
+abbrev pub is_retired : {M : Type 0} → MatchValue M → ℕ → Bool
+is_retired m role = retired_by m.setup.strikes m.turns role
+
+-- of so many roles all are retired
+abbrev pub are_all_retired : {M : Type 0} → ℕ → MatchValue M → Bool
+are_all_retired roles m = every_role roles (is_retired m)
