@@ -27,6 +27,7 @@ fn setup(alloc: Global, players: usize) -> Result<Setup, AllocError> {
         id: Text::from_slice(alloc, b"m")?,
         start: 1,
         play: 1,
+        strikes: 0,
         players: Texts { items },
     })
 }

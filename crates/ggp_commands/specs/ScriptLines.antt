@@ -13,7 +13,7 @@ use Rattle.match_desk.specs.declared.call.Call.TheVariants.{Open, Next, Submit, 
 use Rattle.match_desk.specs.declared.call.Reply.{Reply}
 use Rattle.match_desk.specs.declared.call.Reply.TheVariants.{Opened, Due as IsDue, Taken, Status, Aborting, Refused}
 use Rattle.match_desk.specs.declared.call.Refusal.{Refusal}
-use Rattle.match_desk.specs.declared.call.Refusal.TheVariants.{BadId, IdUsed, NoGame, WrongPlayers, BadName, BadClock, DeskFull, NoMatch, NoRole, Over as IsOver, Stale, Twice, Ended}
+use Rattle.match_desk.specs.declared.call.Refusal.TheVariants.{BadId, IdUsed, NoGame, WrongPlayers, BadName, BadClock, BadStrikes, DeskFull, NoMatch, NoRole, Over as IsOver, Stale, Twice, Ended}
 use Rattle.match_record.specs.RecordTree.{phase_text}
 use Rattle.ggp_commands.specs.Words.{words, spaced, number_of, name_of}
 
@@ -28,10 +28,16 @@ with_number word f = option_and_then f (number_of word)
 abbrev pub is_named : List ℕ → Bool
 is_named word = nat_lt 0 (length word)
 
--- ID GAME START PLAY PLAYER ..
+-- ID GAME START PLAY PLAYER .., with 0 strikes
 abbrev pub open_call : List (List ℕ) → Option Call
-open_call (id ∷ (game ∷ (start ∷ (play ∷ players)))) = with_name id (λ i. with_number game (λ g. with_number start (λ s. with_number play (λ p. if list_all is_named players then Some (Open i g s p players) else None))))
+open_call (id ∷ (game ∷ (start ∷ (play ∷ players)))) = with_name id (λ i. with_number game (λ g. with_number start (λ s. with_number play (λ p. if list_all is_named players then Some (Open i g s p 0 players) else None))))
 open_call _ = None
+
+-- ID GAME START PLAY STRIKES PLAYER ..
+abbrev pub strict_call : List (List ℕ) → Option Call
+strict_call (id ∷ (game ∷ (start ∷ (play ∷ (strikes ∷ players))))) =
+    with_name id (λ i. with_number game (λ g. with_number start (λ s. with_number play (λ p. with_number strikes (λ k. if list_all is_named players then Some (Open i g s p k players) else None)))))
+strict_call _ = None
 
 -- ID ROLE
 abbrev pub next_call : List (List ℕ) → Option Call
@@ -71,7 +77,8 @@ call_of_words (keyword ∷ rest) =
     else (if bytes_eq keyword (codes "miss") then miss_call rest
     else (if bytes_eq keyword (codes "query") then query_call rest
     else (if bytes_eq keyword (codes "abort") then abort_call rest
-    else None)))))
+    else (if bytes_eq keyword (codes "strict") then strict_call rest
+    else None))))))
 
 -- the call that a line makes: none, where it is a bad line
 abbrev pub call_of : List ℕ → Option Call
@@ -104,6 +111,7 @@ refusal_word NoGame = codes "nogame"
 refusal_word WrongPlayers = codes "wrongplayers"
 refusal_word BadName = codes "badname"
 refusal_word BadClock = codes "badclock"
+refusal_word BadStrikes = codes "badstrikes"
 refusal_word DeskFull = codes "deskfull"
 refusal_word NoMatch = codes "nomatch"
 refusal_word NoRole = codes "norole"

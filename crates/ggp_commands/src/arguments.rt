@@ -29,14 +29,16 @@ pub enum GameSource<'a> {
     Rules(&'a str),
 }
 
-/// A match between players on the network: the rules of its game, its id, its clocks in seconds, and
-/// its players in the order of the roles.
+/// A match between players on the network: the rules of its game, its id, its clocks in seconds, after
+/// how many substituted moves in a row a role is retired (0: never), and its players in the order of
+/// the roles.
 #[derive(Drop)]
 pub struct MatchPlan<'a> {
     pub rules: &'a str,
     pub id: &'a str,
     pub start: u32,
     pub play: u32,
+    pub strikes: u8,
     pub players: Vec<PlayerAddress<'a>>,
 }
 
@@ -117,6 +119,15 @@ fn run_command<'a>(alloc: Global) -> Result<Command<'a>, AllocError> {
         .arg(option(alloc, "start", "S", "The seconds for START").default_value("10"))?
         .arg(option(alloc, "play", "S", "The seconds for every other message").default_value("10"))?
         .arg(
+            option(
+                alloc,
+                "strikes",
+                "K",
+                "A role is asked no more once K of its moves in a row had to be replaced; 0 is never",
+            )
+            .default_value("0"),
+        )?
+        .arg(
             Arg::new(alloc, "players")
                 .value_name("NAME@HOST:PORT")
                 .required(true)
@@ -167,6 +178,12 @@ fn seconds(found: &ArgMatches<'_>, name: &str) -> Option<u32> {
     u32::try_from(seconds).ok()
 }
 
+/// After how many substituted moves in a row a role is retired.
+fn strikes(found: &ArgMatches<'_>) -> Option<u8> {
+    let strikes = decimal(found.get_str("strikes")?, u64::from(u8::MAX))?;
+    u8::try_from(strikes).ok()
+}
+
 fn match_plan<'a>(alloc: Global, found: &ArgMatches<'a>) -> Result<MatchPlan<'a>, ArgumentFault> {
     let mut players = Vec::new(alloc);
     for word in found.get_strs("players").ok_or(ArgumentFault::WrongUse)? {
@@ -177,6 +194,7 @@ fn match_plan<'a>(alloc: Global, found: &ArgMatches<'a>) -> Result<MatchPlan<'a>
         id: found.get_str("id").ok_or(ArgumentFault::WrongUse)?,
         start: seconds(found, "start").ok_or(ArgumentFault::WrongUse)?,
         play: seconds(found, "play").ok_or(ArgumentFault::WrongUse)?,
+        strikes: strikes(found).ok_or(ArgumentFault::WrongUse)?,
         players,
     })
 }

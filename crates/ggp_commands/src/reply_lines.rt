@@ -106,6 +106,7 @@ pub fn refusal_word(refusal: Refusal) -> &'static str
         Refusal::WrongPlayers => "wrongplayers",
         Refusal::BadName => "badname",
         Refusal::BadClock => "badclock",
+        Refusal::BadStrikes => "badstrikes",
         Refusal::DeskFull => "deskfull",
         Refusal::NoMatch => "nomatch",
         Refusal::NoRole => "norole",

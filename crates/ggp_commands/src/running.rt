@@ -42,6 +42,7 @@ fn setup_of(alloc: Global, plan: &MatchPlan<'_>) -> Result<Setup, AllocError>
     ensures players { IfOk result (λ s. length s.players ≡ vec_len plan.now.players) }
     ensures start { IfOk result (λ s. s.start ≡ plan.now.start) }
     ensures play { IfOk result (λ s. s.play ≡ plan.now.play) }
+    ensures strikes { IfOk result (λ s. s.strikes ≡ plan.now.strikes) }
 {
     let mut items = Vec::with_capacity(alloc, plan.players.len())?;
     for player in &plan.players {
@@ -51,6 +52,7 @@ fn setup_of(alloc: Global, plan: &MatchPlan<'_>) -> Result<Setup, AllocError>
         id: Text::from_slice(alloc, plan.id.as_bytes())?,
         start: plan.start,
         play: plan.play,
+        strikes: plan.strikes,
         players: Texts { items },
     })
 }

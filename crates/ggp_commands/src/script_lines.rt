@@ -2,7 +2,7 @@
 ghost use Rattle.std.specs.Prelude.{◌≡◌, ◌≢◌, ◌∷◌, IfOk, map, codes};
 ghost use Rattle.std.specs.List.{list_all};
 ghost use Rattle.ggp_commands.specs.Words.{words};
-ghost use Rattle.ggp_commands.specs.ScriptLines.{open_call, next_call, submit_call, miss_call, query_call, abort_call, call_of_words, call_of, is_named, is_broken};
+ghost use Rattle.ggp_commands.specs.ScriptLines.{open_call, next_call, submit_call, miss_call, query_call, abort_call, strict_call, call_of_words, call_of, is_named, is_broken};
 
 use crate::words::{first_word, number, words};
 use game_core::{Text, Texts};
@@ -47,6 +47,32 @@ fn open_call(alloc: Global, words: &[&[u8]]) -> Result<Option<Call>, AllocError>
         game: game as usize,
         start: start as u32,
         play: play as u32,
+        strikes: 0,
+        players: texts(alloc, players)?,
+    }))
+}
+
+fn strict_call(alloc: Global, words: &[&[u8]]) -> Result<Option<Call>, AllocError>
+    ensures { IfOk result (λ o. o ≡ strict_call (map (λ w. w.now) words.now)) }
+{
+    let [id, game, start, play, strikes, players @ ..] = words else {
+        return Ok(None);
+    };
+    let (Some(game), Some(start), Some(play)) = (number(game), number(start), number(play)) else {
+        return Ok(None);
+    };
+    let Some(strikes) = number(strikes) else {
+        return Ok(None);
+    };
+    if id.is_empty() || !are_named(players) {
+        return Ok(None);
+    }
+    Ok(Some(Call::Open {
+        id: Text::from_slice(alloc, id)?,
+        game: game as usize,
+        start: start as u32,
+        play: play as u32,
+        strikes: strikes as u32,
         players: texts(alloc, players)?,
     }))
 }
@@ -170,6 +196,8 @@ fn call_of_words(alloc: Global, keyword: &[u8], words: &[&[u8]]) -> Result<Optio
         query_call(alloc, words)
     } else if keyword == b"abort".as_slice() {
         abort_call(alloc, words)
+    } else if keyword == b"strict".as_slice() {
+        strict_call(alloc, words)
     } else {
         Ok(None)
     }

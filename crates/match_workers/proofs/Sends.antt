@@ -40,7 +40,7 @@ module _ (G S M : RattleType) (game : Ghosts G.Denot S.Denot M.Denot) (s : IsSen
               search sendable depth 20,
               (
                 search (sendable, crosses) depth 20,
-                (s, (search sendable depth 20, (search sendable depth 20, (search sendable depth 20, (Vec-send (RoleMoves.the_row M) (role_moves M m), (search (sendable, crosses) depth 20, tt)))))),
+                (s, (search sendable depth 20, (search sendable depth 20, (search sendable depth 20, (search (sendable, crosses) depth 20, (Vec-send (RoleMoves.the_row M) (role_moves M m), (search (sendable, crosses) depth 20, tt))))))),
               ),
             ),
           ),

@@ -132,6 +132,7 @@ fn open_match<G: Game, L: Ledger, R: Wait>(
         id,
         start,
         play,
+        strikes,
         players,
     } = setup;
     let call = Call::Open {
@@ -139,6 +140,7 @@ fn open_match<G: Game, L: Ledger, R: Wait>(
         game: 0,
         start,
         play,
+        strikes: u32::from(strikes),
         players,
     };
     match desk.ask(rt, line, call)? {

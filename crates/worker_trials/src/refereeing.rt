@@ -118,6 +118,7 @@ pub fn setup(
         id: Text::from_slice(alloc, id)?,
         start: clocks.0,
         play: clocks.1,
+        strikes: 0,
         players: texts(alloc, players)?,
     })
 }
