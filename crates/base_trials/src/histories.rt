@@ -93,11 +93,12 @@ fn desk_of_two_refuses_the_third_call(rt: HostRuntime) -> Result<(), Fail> {
 
 const CALLS_OF_A_LINE: u64 = 10;
 
-/// The call of this turn, 0 to 9, of a line: no two calls of a test are the same, and none is 0.
-fn call_of(line: u32, turn: u64) -> u64
-    requires { turn < CALLS_OF_A_LINE }
-{
-    line as u64 * CALLS_OF_A_LINE + turn + 1
+/// The call of this turn of a line: no two calls of a test are the same, and none is 0.
+pub(crate) fn call_of(line: u32, turn: u64) -> u64 {
+    (line as u64)
+        .wrapping_mul(MAX_ENTRIES)
+        .wrapping_add(turn)
+        .wrapping_add(1)
 }
 
 /// Makes the ten calls of a line, and gives the line back with the replies.
@@ -117,20 +118,28 @@ fn make_calls<L: Ledger, R: Wait>(
     Some((line, replies))
 }
 
-/// The entries of the line are its ten calls in order, with the replies that its thread got.
-fn check_line<R: Abort>(rt: &R, history: &[Entry<u64, u64>], number: u32, replies: &[u64]) {
-    let mut turn = 0;
-    for entry in history.iter().filter(|entry| entry.line == number) {
-        assert!(rt; turn < CALLS_OF_A_LINE);
-        assert_eq!(rt; entry.call, call_of(number, turn));
-        assert_eq!(rt; Some(entry.reply), replies.get(turn as usize).copied());
-        turn += 1;
+/// The entries of the line are its calls in order, with the replies that its thread got.
+pub(crate) fn check_line<R: Abort>(
+    rt: &R,
+    history: &[Entry<u64, u64>],
+    number: u32,
+    replies: &[u64],
+) {
+    let mut count = 0;
+    for (turn, entry) in history
+        .iter()
+        .filter(|entry| entry.line == number)
+        .enumerate()
+    {
+        assert_eq!(rt; entry.call, call_of(number, turn as u64));
+        assert_eq!(rt; Some(entry.reply), replies.get(turn).copied());
+        count = turn + 1;
     }
-    assert_eq!(rt; turn, CALLS_OF_A_LINE);
+    assert_eq!(rt; count, replies.len());
 }
 
 /// Each reply is the call before, and the object is the last call.
-fn check_replay<R: Abort>(rt: &R, closed: &Closed<Register>) {
+pub(crate) fn check_replay<R: Abort>(rt: &R, closed: &Closed<Register>) {
     let mut value = 0;
     for entry in closed.history.iter() {
         assert_eq!(rt; entry.reply, value);
@@ -179,6 +188,7 @@ fn run_four_lines<L: Ledger + Send + Sync, R: Threads + Wait + Abort + Sync>(
     assert_eq!(rt; closed.made_by_line.as_slice(), [10, 10, 10, 10].as_slice());
     check_replay(rt, &closed);
     for (number, got) in (0..4).zip(replies.iter()) {
+        assert_eq!(rt; got.len(), 10);
         check_line(rt, closed.history.as_slice(), number, got.as_slice());
     }
     Ok(())

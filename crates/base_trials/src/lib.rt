@@ -9,3 +9,5 @@ mod games;
 mod histories;
 #[cfg(test)]
 mod limits;
+#[cfg(test)]
+mod rings;

@@ -54,7 +54,7 @@ fn desk_has_four_thousand_lines(rt: HostRuntime) -> Result<(), Fail> {
 
 /// An object that wants memory at each call but 0, to whose reply it wants none.
 #[derive(Clone, Copy)]
-struct Wanting;
+pub(crate) struct Wanting;
 
 impl Object for Wanting {
     ghost use Rattle.std.specs.Prelude.{refl};
