@@ -1,3 +1,8 @@
 pub mod Histories
 pub mod ReturnedLines
 pub mod Tellings
+pub mod LineAccounts
+pub mod NewLines
+pub mod ReturnedEnds
+pub mod DeskLines
+pub mod PartTotals

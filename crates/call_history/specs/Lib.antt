@@ -1,5 +1,9 @@
 pub mod History
 pub mod Lines
+pub mod Parts
+pub mod RingLines
+pub mod Rounds
+pub mod RingClosing
 pub mod Told
 pub mod Faults
 pub mod Limits

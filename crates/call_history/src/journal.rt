@@ -89,6 +89,9 @@ impl<O: Object> Journal<O> {
         ensures full { IsErrOf result CallFault.Full ↔ (self.old.most ≤ length self.old.history) }
         ensures err { OnErr result (self.new ≡ self.old) }
 
+        // No call changes the opening.
+        ensures opening { O.opening self.new.object ≡ O.opening self.old.object }
+
         // What the type keeps.
         ensures kept { IsReplay O.reply O.after O.opening self.new.object self.new.history }
         ensures within { length self.new.history ≤ self.new.most }

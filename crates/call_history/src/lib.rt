@@ -1,10 +1,11 @@
-//! Objects that answer calls, the history of their calls, and a desk through which many threads share
-//! an object behind a lock.
+//! Objects that answer calls, the history of their calls, and desks through which many threads share
+//! an object: behind a lock, or over rings.
 //!
 //! The history that is kept replays on one thread: each kept reply is the one that the plain object
 //! gives there, and the object is what the calls leave, in their order.
 #![tactic(auto)]
 
+mod comparing;
 mod gathering;
 mod journal;
 pub mod laws;
@@ -12,6 +13,12 @@ mod line;
 mod lock;
 mod lock_wire;
 mod object;
+mod port;
+mod ring_desk;
+mod ring_line;
+mod ring_opening;
+mod ring_wire;
+mod serving;
 mod wire;
 
 pub use journal::{CallFault, Entry, Journal, MAX_ENTRIES};
@@ -19,4 +26,9 @@ pub use line::LockLine;
 pub use lock::{CloseFault, Closed, LockDesk, MAX_LINES, Unclosed, open_lock};
 pub use lock_wire::LockWire;
 pub use object::Object;
+pub use port::Port;
+pub use ring_desk::{DeskFault, RingCloseFault, RingDesk, RingUnclosed};
+pub use ring_line::{LineEnd, RingLine};
+pub use ring_opening::{MAX_ROOM, open_rings};
+pub use ring_wire::RingWire;
 pub use wire::{AskFault, Wire};

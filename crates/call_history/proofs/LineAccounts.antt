@@ -1,0 +1,81 @@
+-- What serving one line does to the account of all lines.
+use Rattle.std.proofs.Common.{◌≡◌, ℕ, ◌+◌, ◌<◌, ◌≢◌, List, [], ◌∷◌, ◌++◌, length, get_or, set, refl, sym, subst, arith, rules, ⊎_elim, true, false}
+use Rattle.std.proofs.lemmas.Grind.{common_steps}
+use Rattle.std.proofs.lemmas.Bool.Decides.{eqb_tells}
+use Rattle.std.proofs.lemmas.List.{get_or-set_other}
+use Rattle.std.proofs.Math.Dec.{eqb}
+use Rattle.call_history.specs.declared.journal.Entry.{Entry}
+use Rattle.call_history.specs.declared.port.Port.{Port}
+use Rattle.call_history.specs.Parts.{part}
+use Rattle.call_history.specs.RingLines.{SamePort, SamePorts}
+use Rattle.call_history.specs.Rounds.{Serves, IsAccount, Gains, GainsOne}
+
+pub part_other : {C R : Type 0} (i : ℕ) (h : List (Entry C R)) (e : Entry C R) → e.line ≢ i → part i (h ++ e ∷ []) ≡ part i h
+part_other i h e ne = grind (arith, common_steps)
+
+pub accounts_same : {C R : Type 0} (h : List (Entry C R)) (ps : List (Port C R)) (i : ℕ) (q : Port C R)
+    → IsAccount h ps → Serves (part i h) q → IsAccount h (set ps i q)
+accounts_same h ps i q a s = record {
+  lines = λ k d lt. grind (arith, common_steps, a.lines k d lt);
+  parts = λ j p lt. grind (arith, common_steps);
+}
+
+pub accounts_more : {C R : Type 0} (h : List (Entry C R)) (e : Entry C R) (ps : List (Port C R)) (i : ℕ) (q : Port C R)
+    → i < length ps → e.line ≡ i → IsAccount h ps → Serves (part i (h ++ e ∷ [])) q → IsAccount (h ++ e ∷ []) (set ps i q)
+accounts_more h e ps i q lt at a s = record {
+  lines = λ k d below. grind (arith, common_steps, a.lines);
+  parts = λ j p below. grind (arith, common_steps, part_other, a.parts);
+}
+
+pub same_port_trans : {C R : Type 0} (a b c : Port C R) → SamePort a b → SamePort b c → SamePort a c
+same_port_trans a b c s t = record { calls = search rules; replies = search rules }
+
+pub same_ports_set : {C R : Type 0} (ps qs : List (Port C R)) (i : ℕ) (q : Port C R)
+    → SamePorts ps qs → i < length qs → SamePort (get_or qs i q) q → SamePorts ps (set qs i q)
+same_ports_set {C} {R} ps qs i q s lt one = record {
+  count = grind (arith, common_steps, s.count);
+  each = λ j p below.
+      ⊎_elim
+      (λ (e : (eqb j i ≡ true) × (j ≡ i)).
+      let at : get_or (set qs i q) j p ≡ q = grind (arith, common_steps, e.1) in
+      let same : get_or qs i q ≡ get_or qs j p = grind (arith, common_steps, e.1) in
+      let P : Port C R → Type 0 = λ x. SamePort (get_or ps j p) x in
+      subst P (sym at) (same_port_trans _ _ _ (s.each j p below) (let Q : Port C R → Type 0 = λ x. SamePort x q in subst Q same one)))
+      (λ (n : (eqb j i ≡ false) × (j ≢ i)).
+      let at : get_or (set qs i q) j p ≡ get_or qs j p = get_or-set_other qs i j q p n.1 in
+      let P : Port C R → Type 0 = λ x. SamePort (get_or ps j p) x in
+      subst P (sym at) (s.each j p below))
+      (eqb_tells j i);
+}
+
+pub gains_none : {C R : Type 0} (h : List (Entry C R)) → Gains h h 0 0
+gains_none h = record { gained = []; behind = grind (arith, common_steps); count_is = refl; below = λ k d lt. absurd (omega arith); rising = λ i j d a b. absurd (omega arith) }
+
+pub gains_skip : {C R : Type 0} (h h' : List (Entry C R)) (i n : ℕ) → Gains h h' i n → Gains h h' (i + 1) n
+gains_skip h h' i n g = record { gained = g.gained; behind = g.behind; count_is = g.count_is; below = λ k d lt. omega (arith, g.below k d lt); rising = g.rising }
+
+pub gains_one : {C R : Type 0} (h h' h'' : List (Entry C R)) (i n : ℕ) → Gains h h' i n → GainsOne i h' h'' → Gains h h'' (i + 1) (n + 1)
+gains_one h h' h'' i n g a = record {
+  gained = g.gained ++ a.entry ∷ [];
+  behind = grind (arith, common_steps, a.behind, g.behind);
+  count_is = grind (arith, common_steps, g.count_is);
+  below = λ k d lt. grind (arith, common_steps, g.below, g.count_is, a.line_is);
+  rising = λ p q d b lt. grind (arith, common_steps, g.rising, g.below, a.line_is);
+}
+
+pub accounts_by : {C R : Type 0} (h h' : List (Entry C R)) (ps : List (Port C R)) (i : ℕ) (q : Port C R)
+    → i < length ps → GainsOne i h h' → IsAccount h ps → Serves (part i h') q → IsAccount h' (set ps i q)
+accounts_by {C} {R} h h' ps i q lt a before s =
+    let P : List (Entry C R) → Type 0 = λ x. IsAccount x (set ps i q) in
+    let s' : Serves (part i (h ++ a.entry ∷ [])) q = (let Q : List (Entry C R) → Type 0 = λ x. Serves (part i x) q in subst Q a.behind s) in
+    subst P (sym a.behind) (accounts_more h a.entry ps i q lt a.line_is before s')
+
+pub accounts_with : {C R : Type 0} (h h' : List (Entry C R)) (ps : List (Port C R)) (i : ℕ) (q : Port C R)
+    → h' ≡ h → IsAccount h ps → Serves (part i h') q → IsAccount h' (set ps i q)
+accounts_with {C} {R} h h' ps i q e before s =
+    let P : List (Entry C R) → Type 0 = λ x. IsAccount x (set ps i q) in
+    let s' : Serves (part i h) q = (let Q : List (Entry C R) → Type 0 = λ x. Serves (part i x) q in subst Q e s) in
+    subst P (sym e) (accounts_same h ps i q before s')
+
+pub gains_with : {C R : Type 0} (h h' h'' : List (Entry C R)) (i n : ℕ) → Gains h h' i n → h'' ≡ h' → Gains h h'' (i + 1) n
+gains_with {C} {R} h h' h'' i n g e = let P : List (Entry C R) → Type 0 = λ x. Gains h x (i + 1) n in subst P (sym e) (gains_skip h h' i n g)

@@ -1,0 +1,43 @@
+-- The counts of the lines add up to the history.
+use Rattle.std.proofs.Common.{◌≡◌, ℕ, ◌+◌, ◌<◌, ◌≢◌, suc, List, [], ◌∷◌, length, get_or, set, sum, refl, sym, ◌∙◌, ap, arith}
+use Rattle.std.specs.List.{All}
+use Rattle.std.proofs.lemmas.Grind.{common_steps}
+use Rattle.std.proofs.lemmas.List.{length-set}
+use Rattle.std.proofs.lemmas.List.Sums.{sum_by-set, sum_by-cons}
+use Rattle.call_history.proofs.ReturnedEnds.{get_set}
+use Rattle.call_history.specs.declared.journal.Entry.{Entry}
+use Rattle.call_history.specs.Parts.{part}
+
+sum_zero : (made : List ℕ) → ((i : ℕ) → i < length made → get_or made i 0 ≡ 0) → sum made ≡ 0
+sum_zero [] all = refl
+sum_zero (x ∷ xs) all =
+    let here : x ≡ 0 = all 0 (omega arith) in let rest = sum_zero xs (λ i below. all (suc i) (omega arith)) in omega (arith, here, rest, sum_by-cons (λ n. n) x xs)
+
+sum_set : (xs : List ℕ) (i y : ℕ) → i < length xs → sum (set xs i y) + get_or xs i 0 ≡ sum xs + y
+sum_set xs i y lt = sum_by-set (λ n. n) xs i y 0 lt
+
+get_set_at : (xs : List ℕ) (i j y : ℕ) (P : ℕ → Type 0) → i < length xs → (j ≡ i → P y) → (j ≢ i → P (get_or xs j 0)) → P (get_or (set xs i y) j 0)
+get_set_at xs i j y P lt at other = get_set P xs i j y 0 lt at other
+
+module _ {C R : Type 0} where
+  part_here : (e : Entry C R) (h : List (Entry C R)) → length (part e.line (e ∷ h)) ≡ length (part e.line h) + 1
+  part_here e h = grind (arith, common_steps)
+
+  part_there : (e : Entry C R) (h : List (Entry C R)) (i : ℕ) → i ≢ e.line → part i (e ∷ h) ≡ part i h
+  part_there e h i ne = grind (arith, common_steps)
+
+  -- where each count is the length of the line's part, they add up to the history's length
+  pub total : (h : List (Entry C R)) (made : List ℕ) → ((i : ℕ) → i < length made → get_or made i 0 ≡ length (part i h)) → All (λ e. e.line < length made) h → sum made ≡ length h
+  total [] made each lines = sum_zero made each
+  total (e ∷ h) made each lines =
+      let lt : e.line < length made = lines 0 e (omega arith) in
+      let here : get_or made e.line 0 ≡ length (part e.line h) + 1 = each e.line lt ∙ part_here e h in
+      let less = set made e.line (length (part e.line h)) in
+      let len : length less ≡ length made = length-set _ _ _ in
+      let rest : sum less ≡ length h = total h less
+      (λ i below. get_set_at made e.line i (length (part e.line h)) (λ x. x ≡ length (part i h)) lt
+      (λ at. ap (λ n. length (part n h)) (sym at))
+      (λ ne. each i (omega (arith, below, len)) ∙ ap length (part_there e h i ne)))
+      (λ k d below. let l : _ = lines (suc k) d (omega arith) in omega (arith, l, len)) in
+      let moved = sum_set made e.line (length (part e.line h)) lt in
+      omega (arith, here, rest, moved)

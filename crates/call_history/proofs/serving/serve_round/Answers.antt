@@ -1,0 +1,42 @@
+use Rattle.std.proofs.Common.{◌≡◌, ◌<◌, length, get_or, arith, ◌∙◌, subst}
+use Rattle.std.proofs.lemmas.List.{get_or_read}
+use Rattle.call_history.specs.declared.port.Port.{Port}
+use Rattle.call_history.specs.RingLines.{SamePort}
+use Rattle.call_history.specs.Rounds.{GainsOne}
+use Rattle.call_history.proofs.LineAccounts.{accounts_by, accounts_with, same_ports_set, gains_with, gains_one}
+use Rattle.call_history.proofs.serving.serve_round.Goals as goal
+use Rattle.call_history.proofs.serving.serve_round.Goals.{then-did, else-did}
+
+pub overflow_add-served : goal.overflow_add-served
+overflow_add-served g c = omega (arith, c.loop-i.invariant.few)
+
+pub loop-i-preserved : goal.loop-i-preserved
+loop-i-preserved g c =
+    let lt : c.loop-i.i < length c.loop-i.ports.items = omega (arith, c.loop-i.invariant.same.count) in
+    let one : SamePort (get_or c.loop-i.ports.items c.loop-i.i c.serve.new.port) c.serve.new.port =
+    (let at : c.index_mut-port.result.now ≡ get_or c.loop-i.ports.items c.loop-i.i c.serve.new.port = get_or_read _ _ _ lt c.index_mut-port.ensures.value c.serve.new.port in
+    let P : Port g.row.O-Call.Denot g.row.O-Reply.Denot → Type 0 = λ x. SamePort x c.serve.new.port in
+    subst P at c.in-Ok.ensures.same) in
+    let same = same_ports_set _ _ _ _ c.loop-i.invariant.same lt one in
+    elim c.if-did.branch [
+      | then-did w ↦
+          (let adds : GainsOne c.loop-i.i c.loop-i.journal.history c.serve.new.journal.history = (rw w.if-did.true at c.in-Ok.ensures.gains) in
+          rw w.served-is (record {
+            account = accounts_by _ _ _ _ _ lt adds c.loop-i.invariant.account c.in-Ok.ensures.serves;
+            same = same;
+            most = c.in-Ok.ensures.most ∙ c.loop-i.invariant.most;
+            opening = c.in-Ok.ensures.opening ∙ c.loop-i.invariant.opening;
+            few = omega (arith, c.loop-i.invariant.few);
+            gains = gains_one _ _ _ _ _ c.loop-i.invariant.gains adds;
+          }))
+      | else-did w ↦
+          (let none : c.serve.new.journal.history ≡ c.loop-i.journal.history = (rw w.if-did.false at c.in-Ok.ensures.gains) in
+          rw w.served-is (record {
+            account = accounts_with _ _ _ _ _ none c.loop-i.invariant.account c.in-Ok.ensures.serves;
+            same = same;
+            most = c.in-Ok.ensures.most ∙ c.loop-i.invariant.most;
+            opening = c.in-Ok.ensures.opening ∙ c.loop-i.invariant.opening;
+            few = omega (arith, c.loop-i.invariant.few);
+            gains = gains_with _ _ _ _ _ c.loop-i.invariant.gains none;
+          }))
+    ]

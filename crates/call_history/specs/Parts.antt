@@ -1,0 +1,14 @@
+-- The part that a line has in a history.
+use Rattle.std.specs.Prelude.{◌==◌, ℕ, List, map}
+use Rattle.std.specs.List.{filter}
+use Rattle.call_history.specs.declared.journal.Entry.{Entry}
+
+-- the entries of one line, in their order
+abbrev pub part : {C R : Type 0} → ℕ → List (Entry C R) → List (Entry C R)
+part line history = filter (λ e. e.line == line) history
+
+abbrev pub calls_of : {C R : Type 0} → List (Entry C R) → List C
+calls_of entries = map (λ e. e.call) entries
+
+abbrev pub replies_of : {C R : Type 0} → List (Entry C R) → List R
+replies_of entries = map (λ e. e.reply) entries

@@ -1,0 +1,75 @@
+-- The closing of a desk over rings.
+use Rattle.std.specs.Prelude.{◌≡◌, ℕ, ◌<◌, List, length, map, slice_index_or}
+use Rattle.std.specs.List.{All}
+use mathlib.Core.List.{IsPrefix}
+use Rattle.call_history.specs.declared.journal.Entry.{Entry}
+use Rattle.call_history.specs.declared.object.Object.{Ghosts}
+use Rattle.call_history.specs.declared.ring_line.LineEnd.{LineEnd}
+use Rattle.call_history.specs.declared.ring_desk.RingCloseFault.{RingCloseFault}
+use Rattle.call_history.specs.declared.ring_desk.RingCloseFault.TheVariants.{MissingLine, Unserved}
+use Rattle.call_history.specs.Lines.{HasAll, IsLowestMissing}
+use Rattle.call_history.specs.Parts.{part, calls_of, replies_of}
+use Rattle.call_history.specs.RingLines.{posted_calls, taken_replies, SameLine, SamePorts, AreEndsOf}
+use Rattle.call_history.specs.Rounds.{RingDeskValue}
+
+module _ {O C R : Type 0} {G : Ghosts O C R} where
+  -- the numbers of these ends, in their order
+  abbrev pub end_numbers : List (LineEnd O C R G) → List ℕ
+  end_numbers ends = map (λ e. e.line.number) ends
+
+  -- the line's part of the history has exactly the calls that it posted, in their order
+  abbrev pub IsServed : List (Entry C R) → LineEnd O C R G → Type 0
+  IsServed history end = posted_calls end.line ≡ calls_of (part end.line.number history)
+
+  -- the line posted more calls than its part has
+  abbrev pub IsUnserved : List (Entry C R) → LineEnd O C R G → Type 0
+  IsUnserved history end = length (part end.line.number history) < length (posted_calls end.line)
+
+  -- the replies that it took are, in their order, the first of those to its calls
+  abbrev pub TakesPrefix : List (Entry C R) → LineEnd O C R G → Type 0
+  TakesPrefix history end = IsPrefix (taken_replies end.line) (replies_of (part end.line.number history))
+
+  -- Of the first `count` ends, one with this number is unserved, and all of lower numbers are served.
+  pub record IsLowestUnserved (history : List (Entry C R)) (ends : List (LineEnd O C R G)) (count number : ℕ) : Type 0 where
+    pub at : ℕ
+    pub within : at < count
+    pub number_is : (e : LineEnd O C R G) → (slice_index_or ends at e).line.number ≡ number
+    pub unserved : (e : LineEnd O C R G) → IsUnserved history (slice_index_or ends at e)
+    pub lowest : (i : ℕ) (e : LineEnd O C R G) → i < count → (slice_index_or ends i e).line.number < number → IsServed history (slice_index_or ends i e)
+
+  -- What a closed desk leaves: the history and the object as they stood, and the account of each line.
+  pub record IsClosed (desk : RingDeskValue O C R) (ends : List (LineEnd O C R G)) (history : List (Entry C R)) (object : O) (made_by_line : List ℕ) : Type 0 where
+    pub history_is : history ≡ desk.journal.history
+    pub object_is : object ≡ desk.journal.object
+    -- each line has come back, and each entry is of one of them
+    pub has_all : HasAll (end_numbers ends) (length desk.ports)
+    pub lines : All (λ e. e.line < length desk.ports) history
+    -- the line's own calls
+    pub served : All (IsServed history) ends
+    pub replies : All (TakesPrefix history) ends
+    -- how many calls each made, by the lines' numbers
+    pub one_each : length made_by_line ≡ length desk.ports
+    pub made : (i : ℕ) → i < length desk.ports → slice_index_or made_by_line i 0 ≡ length (part i history)
+
+  -- why a desk was not closed
+  abbrev pub IsCauseOf : RingDeskValue O C R → List (LineEnd O C R G) → RingCloseFault → Type 0
+  IsCauseOf desk ends (MissingLine number) = IsLowestMissing (end_numbers ends) (length desk.ports) number
+  IsCauseOf desk ends (Unserved number) = HasAll (end_numbers ends) (length desk.ports) × IsLowestUnserved desk.journal.history ends (length ends) number
+
+  -- the same end, which posted and took what it had
+  pub record SameEnd (a b : LineEnd O C R G) : Type 0 where
+    pub line : SameLine a.line b.line
+    pub posted : posted_calls b.line ≡ posted_calls a.line
+    pub taken : taken_replies b.line ≡ taken_replies a.line
+
+  -- the same ends, each in its place
+  pub record SameEnds (before after : List (LineEnd O C R G)) : Type 0 where
+    pub count : length after ≡ length before
+    pub each : (i : ℕ) (e : LineEnd O C R G) → i < length before → SameEnd (slice_index_or before i e) (slice_index_or after i e)
+
+  -- What a refusal hands back: the desk and the ends, as they were.
+  pub record HandsBack (desk desk' : RingDeskValue O C R) (ends ends' : List (LineEnd O C R G)) : Type 0 where
+    pub journal : desk'.journal ≡ desk.journal
+    pub ports : SamePorts desk.ports desk'.ports
+    pub ends_are : SameEnds ends ends'
+    pub lines : AreEndsOf desk'.ports ends'

@@ -1,0 +1,50 @@
+-- A desk over rings, and what its rounds do.
+use Rattle.std.specs.Prelude.{◌≡◌, ℕ, ◌<◌, List, [], ◌∷◌, ◌++◌, length, None, IsSome, slice_index_or, option_to_list}
+use Rattle.std.specs.List.{All}
+use Rattle.rtrb.specs.Ring.{sent, received}
+use Rattle.call_history.specs.declared.journal.Entry.{Entry}
+use Rattle.call_history.specs.declared.port.Port.{Port}
+use Rattle.call_history.specs.History.{Recorded}
+use Rattle.call_history.specs.Parts.{part, calls_of, replies_of}
+
+-- a desk over rings, as contracts see it: its journal, and its ends of the rings, by the numbers of the lines
+pub record RingDeskValue (S C R : Type 0) : Type 0 where
+  pub journal : Recorded S C R
+  pub ports : List (Port C R)
+
+-- What the desk received of a line are the calls of the line's part of the history, and then the call that it keeps, if it keeps one.
+-- What it sent are the replies of that part.
+pub record Serves {C R : Type 0} (served : List (Entry C R)) (port : Port C R) : Type 0 where
+  pub calls : received port.calls ≡ calls_of served ++ option_to_list port.kept
+  pub replies : sent port.replies ≡ replies_of served
+
+-- The desk's account of its lines, whenever no round runs: each entry is of one of them, and each line was served by its part.
+pub record IsAccount {C R : Type 0} (history : List (Entry C R)) (ports : List (Port C R)) : Type 0 where
+  pub lines : All (λ e. e.line < length ports) history
+  pub parts : (i : ℕ) (p : Port C R) → i < length ports → Serves (part i history) (slice_index_or ports i p)
+
+-- nothing came from the line, and nothing went to it
+pub record IsUnused {C R : Type 0} (port : Port C R) : Type 0 where
+  pub calls : received port.calls ≡ []
+  pub kept : port.kept ≡ None
+  pub replies : sent port.replies ≡ []
+
+-- The history gained so many entries, of rising numbers of lines, each below this bound.
+pub record Gains {C R : Type 0} (before after : List (Entry C R)) (bound count : ℕ) : Type 0 where
+  pub gained : List (Entry C R)
+  pub behind : after ≡ before ++ gained
+  pub count_is : length gained ≡ count
+  pub below : All (λ e. e.line < bound) gained
+  pub rising : (i j : ℕ) (d : Entry C R) → i < j → j < length gained → (slice_index_or gained i d).line < (slice_index_or gained j d).line
+
+-- The history gained one entry, of this line.
+pub record GainsOne {C R : Type 0} (line : ℕ) (before after : List (Entry C R)) : Type 0 where
+  pub entry : Entry C R
+  pub behind : after ≡ before ++ entry ∷ []
+  pub line_is : entry.line ≡ line
+
+-- A round stopped at this line, whose call the desk keeps; where the history was the cause, it is full.
+pub record StopsAt {S C R : Type 0} (line : ℕ) (for_full : Type 0) (desk : RingDeskValue S C R) : Type 0 where
+  pub within : line < length desk.ports
+  pub kept : (p : Port C R) → IsSome (slice_index_or desk.ports line p).kept
+  pub is_full : for_full → length desk.journal.history ≡ desk.journal.most

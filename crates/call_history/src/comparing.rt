@@ -1,0 +1,90 @@
+//! The lines of a desk over rings that come back: whether all that they posted was served.
+ghost use Rattle.std.specs.Prelude.{◌≡◌, ◌<◌, ◌≤◌, ℕ, slice_index_or, length, MatchBool, MatchOption, min};
+ghost use Rattle.std.specs.List.{All};
+ghost use Rattle.call_history.specs.Parts.{part};
+ghost use Rattle.call_history.specs.RingLines.{IsPortOf, SamePort, SamePorts, AreEndsOf};
+ghost use Rattle.call_history.specs.Rounds.{Serves, IsAccount};
+ghost use Rattle.call_history.specs.RingClosing.{IsServed, IsUnserved, TakesPrefix, SameEnd, SameEnds, IsLowestUnserved};
+
+use crate::journal::Journal;
+use crate::object::Object;
+use crate::port::Port;
+use crate::ring_line::LineEnd;
+
+/// Compares the two ends of each ring of a line, now in one thread: whether no call waits. The journal is not read: the clauses
+/// speak of its history.
+fn compare<O: Object>(
+    journal: &Journal<O>,
+    port: &mut Port<O::Call, O::Reply>,
+    end: &mut LineEnd<O>,
+) -> bool
+    requires rings { IsPortOf port.old end.old.line }
+    requires serves { Serves (part end.old.line.number journal.now.history) port.old }
+    ensures port { SamePort port.old port.new }
+    ensures serves { Serves (part end.old.line.number journal.now.history) port.new }
+    ensures end { SameEnd end.old end.new }
+    ensures calls { MatchBool result (IsServed journal.now.history end.new) (IsUnserved journal.now.history end.new) }
+    ensures replies { TakesPrefix journal.now.history end.new }
+{
+    let waiting = port.calls.slots_beside(&mut end.line.calls);
+    end.line.replies.slots_beside(&mut port.replies);
+    waiting == 0 && port.kept.is_none()
+}
+
+/// The lower of the lowest number so far and this one.
+fn lower(lowest: Option<u32>, number: u32) -> u32
+    ensures { MatchOption lowest (result ≡ number) (λ n. result ≡ min n number) }
+{
+    match lowest {
+        Some(n) => n.min(number),
+        None => number,
+    }
+}
+
+/// Compares all ends with the desk's: the lowest number of a line that posted more than its part of the history has.
+pub(crate) fn lowest_unserved<O: Object>(
+    journal: &Journal<O>,
+    ports: &mut Vec<Port<O::Call, O::Reply>>,
+    ends: &mut Vec<LineEnd<O>>,
+) -> Option<u32>
+    requires account { IsAccount journal.now.history ports.old.items }
+    requires lines { AreEndsOf ports.old.items ends.old.items }
+    ensures account { IsAccount journal.now.history ports.new.items }
+    ensures ports { SamePorts ports.old.items ports.new.items }
+    ensures ends { SameEnds ends.old.items ends.new.items }
+    ensures lines { AreEndsOf ports.new.items ends.new.items }
+    ensures replies { All (TakesPrefix journal.now.history) ends.new.items }
+    ensures calls { MatchOption result
+        (All (IsServed journal.now.history) ends.new.items)
+        (λ number. IsLowestUnserved journal.now.history ends.new.items (length ends.new.items) number) }
+{
+    let mut lowest = None;
+    for k in 0..ends.len() {
+        let end = &mut ends[k];
+        let number = end.line.number();
+        let port = &mut ports[number as usize];
+        let is_served = compare(journal, port, end);
+        if !is_served {
+            lowest = Some(lower(lowest, number));
+        }
+    }
+    lowest
+}
+
+/// Notes for each number how many calls its line made. The journal is not read: the clauses speak of its history.
+pub(crate) fn note_made<O: Object>(
+    journal: &Journal<O>,
+    made_by_line: &mut Vec<u64>,
+    ends: &Vec<LineEnd<O>>,
+)
+    requires served { All (IsServed journal.now.history) ends.now.items }
+    requires numbers { All (λ e. e.line.number < length made_by_line.old.items) ends.now.items }
+    ensures count { length made_by_line.new.items ≡ length made_by_line.old.items }
+    ensures made { (k : ℕ) (e : _) → k < length ends.now.items
+        → slice_index_or made_by_line.new.items (slice_index_or ends.now.items k e).line.number 0
+        ≡ length (part (slice_index_or ends.now.items k e).line.number journal.now.history) }
+{
+    for end in ends {
+        made_by_line[end.line.number() as usize] = end.line.posted();
+    }
+}

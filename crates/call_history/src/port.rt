@@ -1,0 +1,10 @@
+//! The desk's side of a line over rings.
+use rtrb::{Consumer, Producer};
+
+/// The desk's ends of the two rings of a line, and the call that it keeps: one that came and could not be made yet.
+#[derive(Drop)]
+pub struct Port<C, R> {
+    pub(crate) calls: Consumer<C>,
+    pub(crate) replies: Producer<R>,
+    pub(crate) kept: Option<C>,
+}

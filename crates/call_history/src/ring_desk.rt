@@ -1,0 +1,167 @@
+//! A desk that serves its lines over rings.
+use crate::comparing::{lowest_unserved, note_made};
+use crate::gathering::lowest_missing;
+use crate::journal::{CallFault, Journal};
+use crate::lock::Closed;
+use crate::object::Object;
+use crate::port::Port;
+use crate::ring_line::LineEnd;
+use crate::serving::serve_round;
+use std::marker::Model;
+use thiserror::Error;
+
+/// An object with its history, for callers that each hold a line: what they post is served in rounds, by the thread that holds
+/// the desk.
+///
+/// Contracts see the journal, and the desk's ends of the rings.
+#[derive(Drop)]
+pub struct RingDesk<O: Object> {
+    journal: Journal<O>,
+    ports: Vec<Port<O::Call, O::Reply>>,
+    // A place for each line in both, taken at the opening, so that `close` takes no memory.
+    found: Vec<bool>,
+    made_by_line: Vec<u64>,
+}
+
+impl<O: Object> Model for RingDesk<O> {
+    ghost use Rattle.std.specs.Prelude.{◌≡◌, ◌≤◌, length};
+    ghost use Rattle.call_history.specs.Limits.{max_lines};
+    ghost use Rattle.call_history.specs.Rounds.{RingDeskValue, IsAccount};
+
+    ghost Value = { RingDeskValue O O.Call O.Reply };
+
+    ghost view = { λ d. record { journal = d.journal; ports = d.ports.items } };
+
+    ghost invariant = { λ d. IsAccount d.journal.history d.ports.items
+        × (length d.found.items ≡ length d.ports.items)
+        × (length d.made_by_line.items ≡ length d.ports.items)
+        × (length d.ports.items ≤ max_lines) };
+}
+
+/// Why a round stopped: at this line, whose call is kept for the next round. The calls that were served before it stand.
+#[derive(Clone, Copy, Debug, PartialEq, Eq, Error)]
+#[error("line {line}: {cause}")]
+pub struct DeskFault {
+    pub line: u32,
+    pub cause: CallFault,
+    pub served: u64,
+}
+
+/// Why a desk over rings was not closed.
+#[derive(Clone, Copy, Debug, PartialEq, Eq, Error)]
+pub enum RingCloseFault {
+    /// The lowest number of which no end was handed in.
+    #[error("line {0} is missing")]
+    MissingLine(u32),
+    /// The lowest number of a line of which a call waits, or is kept.
+    #[error("line {0} is not served")]
+    Unserved(u32),
+}
+
+/// A desk that was not closed, still open, with the ends that were handed in.
+#[derive(Drop)]
+pub struct RingUnclosed<O: Object> {
+    pub desk: RingDesk<O>,
+    pub ends: Vec<LineEnd<O>>,
+    pub cause: RingCloseFault,
+}
+
+impl<O: Object> RingDesk<O> {
+    ghost use Rattle.std.specs.Prelude.{◌≡◌, ◌≤◌, [], IfOk, IfErr, MatchResult, length, sum};
+    ghost use Rattle.std.specs.List.{All};
+    ghost use Rattle.call_history.specs.Limits.{max_lines};
+    ghost use Rattle.call_history.specs.History.{IsReplay};
+    ghost use Rattle.call_history.specs.RingLines.{SamePorts, AreEndsOf};
+    ghost use Rattle.call_history.specs.Rounds.{IsAccount, IsUnused, Gains, StopsAt};
+    ghost use Rattle.call_history.specs.RingClosing.{IsClosed, IsCauseOf, HandsBack};
+    ghost use Rattle.call_history.specs.declared.journal.CallFault.TheVariants.{Full};
+
+    pub(crate) fn new(
+        journal: Journal<O>,
+        ports: Vec<Port<O::Call, O::Reply>>,
+        found: Vec<bool>,
+        made_by_line: Vec<u64>,
+    ) -> RingDesk<O>
+        requires history { journal.history ≡ [] }
+        requires unused { All IsUnused ports.items }
+        requires lines { length ports.items ≤ max_lines }
+        requires found { length found.items ≡ length ports.items }
+        requires made_by_line { length made_by_line.items ≡ length ports.items }
+        ensures journal { result.journal ≡ journal }
+        ensures ports { result.ports ≡ ports.items }
+    {
+        RingDesk {
+            journal,
+            ports,
+            found,
+            made_by_line,
+        }
+    }
+
+    /// The journal. What the rings carried of each line is told by the line's part of its history.
+    pub fn journal(&self) -> &Journal<O>
+        ensures journal { result.now ≡ self.now.journal }
+
+        // What the type keeps, whenever no round runs.
+        ensures account { IsAccount self.now.journal.history self.now.ports }
+    {
+        &self.journal
+    }
+
+    /// Visits the lines by their numbers, and serves at most one call of each: it answers how many it served. A line that has no
+    /// room for a reply is passed over.
+    ///
+    /// A call that can't be made stops the round. The desk keeps it, and the next round tries it in its line's place, before that
+    /// line's later calls.
+    pub fn round(&mut self) -> Result<u64, DeskFault>
+        ensures lines { SamePorts self.old.ports self.new.ports }
+        ensures most { self.new.journal.most ≡ self.old.journal.most }
+        ensures opening { O.opening self.new.journal.object ≡ O.opening self.old.journal.object }
+        ensures gains { MatchResult result
+            (λ served. Gains self.old.journal.history self.new.journal.history (length self.old.ports) served)
+            (λ fault. Gains self.old.journal.history self.new.journal.history fault.line fault.served) }
+        ensures fault { IfErr result (λ fault. StopsAt fault.line (fault.cause ≡ Full) self.new) }
+    {
+        serve_round(&mut self.journal, &mut self.ports)
+    }
+
+    /// Closes the desk, where the ends of all its lines are handed in and all that they posted was served; else they and the desk
+    /// come back. It takes no memory.
+    pub fn close(self, ends: Vec<LineEnd<O>>) -> Result<Closed<O>, RingUnclosed<O>>
+        requires lines { AreEndsOf self.ports ends.items }
+
+        // Each line's own calls.
+        ensures closed { IfOk result (λ c. IsClosed self ends.items c.history.items c.object c.made_by_line.items) }
+
+        // The history replays on one thread.
+        ensures replay { IfOk result (λ c. IsReplay O.reply O.after O.opening c.object c.history.items) }
+        ensures counted { IfOk result (λ c. sum c.made_by_line.items ≡ length c.history.items) }
+
+        ensures cause { IfErr result (λ u. IsCauseOf u.desk u.ends.items u.cause) }
+        ensures back { IfErr result (λ u. HandsBack self u.desk ends.items u.ends.items) }
+    {
+        let mut desk = self;
+        let mut ends = ends;
+        if let Some(number) = lowest_missing(ends.as_slice(), desk.found.as_mut_slice()) {
+            let cause = RingCloseFault::MissingLine(number);
+            return Err(RingUnclosed { desk, ends, cause });
+        }
+        if let Some(number) = lowest_unserved(&desk.journal, &mut desk.ports, &mut ends) {
+            let cause = RingCloseFault::Unserved(number);
+            return Err(RingUnclosed { desk, ends, cause });
+        }
+        let RingDesk {
+            journal,
+            ports: _,
+            found: _,
+            mut made_by_line,
+        } = desk;
+        note_made(&journal, &mut made_by_line, &ends);
+        let (object, history) = journal.into_parts();
+        Ok(Closed {
+            history,
+            object,
+            made_by_line,
+        })
+    }
+}

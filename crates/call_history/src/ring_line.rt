@@ -1,0 +1,143 @@
+//! The lines of a desk over rings.
+ghost use Rattle.std.specs.Prelude.{◌≡◌, length};
+ghost use Rattle.rtrb.specs.Ring.{sent, received};
+
+use crate::gathering::Numbered;
+use crate::object::Object;
+use rtrb::{Consumer, Producer, PushError};
+
+/// One line of a desk: a caller's ends of two rings, of which one takes its calls to the desk and the other brings the replies.
+/// It can be sent to a thread of its own, and never waits.
+#[derive(Drop)]
+pub struct RingLine<O: Object> {
+    number: u32,
+    pub(crate) calls: Producer<O::Call>,
+    pub(crate) replies: Consumer<O::Reply>,
+    posted: u64,
+    taken: u64,
+    ghost posted_is: { posted ≡ length (sent calls) },
+    ghost taken_is: { taken ≡ length (received replies) },
+}
+
+/// What is left of a line that posts no more. The desk is closed with it.
+#[derive(Drop)]
+pub struct LineEnd<O: Object> {
+    pub(crate) line: RingLine<O>,
+}
+
+impl<O: Object> RingLine<O> {
+    ghost use Rattle.std.specs.Prelude.{◌≡◌, ◌∷◌, ◌++◌, [], ◌<◌, ◌-◌, ◌^◌, length, OnOk, IsOk, IsSome, IfErr, IfSome, IfNone};
+    ghost use Rattle.rtrb.specs.Ring.{sent, received, known_items, known_free};
+    ghost use Rattle.call_history.specs.RingLines.{posted_calls, taken_replies, SameLine};
+
+    pub(crate) fn new(
+        number: u32,
+        calls: Producer<O::Call>,
+        replies: Consumer<O::Reply>,
+    ) -> RingLine<O>
+        requires unused { (sent calls ≡ []) × (received replies ≡ []) }
+        ensures number { result.number ≡ number }
+        ensures rings { (result.calls ≡ calls) × (result.replies ≡ replies) }
+    {
+        RingLine {
+            number,
+            calls,
+            replies,
+            posted: 0,
+            taken: 0,
+        }
+    }
+
+    /// The line's number. The lines of a desk are numbered from 0.
+    pub fn number(&self) -> u32
+        ensures { result ≡ self.now.number }
+    {
+        self.number
+    }
+
+    /// How many calls it posted.
+    pub fn posted(&self) -> u64
+        ensures { result ≡ length (posted_calls self.now) }
+    {
+        self.posted
+    }
+
+    /// How many replies it took.
+    pub fn taken(&self) -> u64
+        ensures { result ≡ length (taken_replies self.now) }
+    {
+        self.taken
+    }
+
+    /// Posts a call. It is handed back where its ring has no free slot, or where the line has posted 2^64 - 1 calls.
+    pub fn post(&mut self, call: O::Call) -> Result<(), O::Call>
+        ensures line { SameLine self.old self.new }
+        ensures taken { taken_replies self.new ≡ taken_replies self.old }
+        ensures ok { OnOk result (posted_calls self.new ≡ posted_calls self.old ++ call ∷ []) }
+        ensures back { IfErr result (λ c. (c ≡ call) × (posted_calls self.new ≡ posted_calls self.old)) }
+        ensures room { 0 < known_free self.old.calls → length (posted_calls self.old) < 2 ^ 64 - 1 → IsOk result }
+    {
+        if self.posted == u64::MAX {
+            return Err(call);
+        }
+        match self.calls.push(call) {
+            Ok(()) => {
+                self.posted += 1;
+                Ok(())
+            }
+            Err(PushError::Full(back)) => Err(back),
+        }
+    }
+
+    /// Takes the next reply, where one has come; none after 2^64 - 1 replies.
+    pub fn take(&mut self) -> Option<O::Reply>
+        ensures line { SameLine self.old self.new }
+        ensures posted { posted_calls self.new ≡ posted_calls self.old }
+        ensures some { IfSome result (λ r. taken_replies self.new ≡ taken_replies self.old ++ r ∷ []) }
+        ensures none { IfNone result (taken_replies self.new ≡ taken_replies self.old) }
+        ensures known { 0 < length (known_items self.old.replies) → length (taken_replies self.old) < 2 ^ 64 - 1 → IsSome result }
+    {
+        if self.taken == u64::MAX {
+            return None;
+        }
+        match self.replies.pop() {
+            Ok(reply) => {
+                self.taken += 1;
+                Some(reply)
+            }
+            Err(_) => None,
+        }
+    }
+
+    /// Ends the posting.
+    pub fn finish(self) -> LineEnd<O>
+        ensures { result.line ≡ self }
+    {
+        LineEnd { line: self }
+    }
+}
+
+impl<O: Object> LineEnd<O> {
+    ghost use Rattle.std.specs.Prelude.{◌≡◌, ◌∷◌, ◌++◌, [], ◌<◌, ◌-◌, ◌^◌, length, IfSome, IfNone, IsSome};
+    ghost use Rattle.rtrb.specs.Ring.{known_items};
+    ghost use Rattle.call_history.specs.RingLines.{posted_calls, taken_replies, SameLine};
+
+    /// Takes the next reply, where one has come; none after 2^64 - 1 replies.
+    pub fn take(&mut self) -> Option<O::Reply>
+        ensures line { SameLine self.old.line self.new.line }
+        ensures posted { posted_calls self.new.line ≡ posted_calls self.old.line }
+        ensures some { IfSome result (λ r. taken_replies self.new.line ≡ taken_replies self.old.line ++ r ∷ []) }
+        ensures none { IfNone result (taken_replies self.new.line ≡ taken_replies self.old.line) }
+        ensures known { 0 < length (known_items self.old.line.replies) → length (taken_replies self.old.line) < 2 ^ 64 - 1 → IsSome result }
+    {
+        self.line.take()
+    }
+}
+
+impl<O: Object> Numbered for LineEnd<O> {
+    ghost number = { λ end. end.line.number };
+
+    fn number(&self) -> u32 {
+        self.line.number()
+    }
+}

@@ -1,0 +1,122 @@
+//! A wire over rings.
+ghost use Rattle.std.specs.Prelude.{◌≡◌, ◌⊎◌, ◌∷◌, ◌++◌, ◌≤◌, [], IfOk, IfErr, IfSome, IfNone, OnOk, OnErr, IsErr, IsTrue, IsFalse};
+ghost use Rattle.call_history.specs.RingLines.{posted_calls, taken_replies, SameLine};
+
+use crate::object::Object;
+use crate::ring_line::RingLine;
+use crate::wire::{AskFault, Wire};
+use std::thread;
+
+/// A line of a desk over rings, with so many tries for each call.
+#[derive(Drop)]
+pub struct RingWire<O: Object> {
+    line: RingLine<O>,
+    turns: u64,
+    has_stalled: bool,
+}
+
+impl<O: Object> RingWire<O> {
+    /// A wire that makes the line's calls. Each try to post or to take is a turn; a call that got no reply in so many turns
+    /// stalls the wire.
+    pub fn new(line: RingLine<O>, turns: u64) -> RingWire<O>
+        ensures line { result.line ≡ line }
+        ensures turns { result.turns ≡ turns }
+        ensures going { IsFalse result.has_stalled }
+    {
+        RingWire {
+            line,
+            turns,
+            has_stalled: false,
+        }
+    }
+
+    /// Gives the line back.
+    pub fn end(self) -> RingLine<O>
+        ensures { result ≡ self.line }
+    {
+        self.line
+    }
+}
+
+impl<O: Object> Wire for RingWire<O> {
+    ghost use Rattle.std.specs.Prelude.{Some};
+    ghost use Rattle.std.proofs.Common.{rules};
+
+    type Call = O::Call;
+
+    type Reply = O::Reply;
+
+    ghost calls = { λ w. Some (posted_calls w.line) };
+
+    ghost replies = { λ w. Some (taken_replies w.line) };
+
+    ghost same_line = { λ v w. SameLine v.line w.line };
+
+    /// Posts the call and takes one reply: on a line that had taken as many replies as it posted calls, the reply to this call.
+    /// Where none comes in its turns it stalls, and from then on it does nothing more; a call that was posted stays posted.
+    fn ask(&mut self, call: O::Call) -> Result<O::Reply, AskFault>
+        ensures line { SameLine self.old.line self.new.line }
+        ensures turns { self.new.turns ≡ self.old.turns }
+        ensures call { OnOk result (posted_calls self.new.line ≡ posted_calls self.old.line ++ call ∷ []) }
+        ensures reply { IfOk result (λ r. taken_replies self.new.line ≡ taken_replies self.old.line ++ r ∷ []) }
+        ensures maybe_call { OnErr result ((posted_calls self.new.line ≡ posted_calls self.old.line)
+            ⊎ (posted_calls self.new.line ≡ posted_calls self.old.line ++ call ∷ [])) }
+        ensures no_reply { OnErr result (taken_replies self.new.line ≡ taken_replies self.old.line) }
+
+        ensures fault { IfErr result (λ fault. (fault ≡ AskFault.Stalled) × IsTrue self.new.has_stalled) }
+        ensures going { OnOk result (IsFalse self.new.has_stalled) }
+        ensures stays { IsTrue self.old.has_stalled → IsErr result × (self.new ≡ self.old) }
+    {
+        if self.has_stalled {
+            return Err(AskFault::Stalled);
+        }
+        // Till the reply is there.
+        self.has_stalled = true;
+        let Some(left) = post_within(&mut self.line, call, self.turns) else {
+            return Err(AskFault::Stalled);
+        };
+        let Some(reply) = take_within(&mut self.line, left) else {
+            return Err(AskFault::Stalled);
+        };
+        self.has_stalled = false;
+        Ok(reply)
+    }
+
+    ghost same_line_refl = { λ w. Prim.search rules };
+
+    ghost same_line_trans = { λ a b c ab bc. Prim.search rules };
+}
+
+/// Tries to post a call in so many turns, and answers how many are left after the one that did.
+fn post_within<O: Object>(line: &mut RingLine<O>, call: O::Call, turns: u64) -> Option<u64>
+    ensures line { SameLine line.old line.new }
+    ensures taken { taken_replies line.new ≡ taken_replies line.old }
+    ensures some { IfSome result (λ left. (left ≤ turns) × (posted_calls line.new ≡ posted_calls line.old ++ call ∷ [])) }
+    ensures none { IfNone result (posted_calls line.new ≡ posted_calls line.old) }
+{
+    let mut call = call;
+    for tried in 0..turns {
+        match line.post(call) {
+            Ok(()) => return Some(turns - tried - 1),
+            Err(back) => call = back,
+        }
+        thread::yield_now();
+    }
+    None
+}
+
+/// Tries to take a reply in so many turns.
+fn take_within<O: Object>(line: &mut RingLine<O>, turns: u64) -> Option<O::Reply>
+    ensures line { SameLine line.old line.new }
+    ensures posted { posted_calls line.new ≡ posted_calls line.old }
+    ensures some { IfSome result (λ r. taken_replies line.new ≡ taken_replies line.old ++ r ∷ []) }
+    ensures none { IfNone result (taken_replies line.new ≡ taken_replies line.old) }
+{
+    for _ in 0..turns {
+        if let Some(reply) = line.take() {
+            return Some(reply);
+        }
+        thread::yield_now();
+    }
+    None
+}
