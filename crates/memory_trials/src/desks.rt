@@ -18,7 +18,7 @@ pub fn manager(alloc: Global) -> Result<Manager<Countdown>, AllocError> {
 
 /// The calls of a desk, each by what it is called with.
 #[derive(Clone, Copy)]
-enum Asked {
+pub enum Asked {
     Open,
     Next(usize),
     Submit(usize, u64, &'static str),
@@ -39,7 +39,7 @@ impl Asked {
         }
     }
 
-    fn call(self, alloc: Global) -> Result<Call, AllocError> {
+    pub fn call(self, alloc: Global) -> Result<Call, AllocError> {
         let id = text(alloc, "m1")?;
         Ok(match self {
             Asked::Open => Call::Open { id, game: 0, start: 10, play: 5, players: players(alloc)? },
@@ -70,7 +70,7 @@ const CALLS: [Asked; 14] = [
     Asked::Query,
 ];
 
-fn show_reply(page: &mut String, reply: &Reply) -> Result<(), AllocError> {
+pub fn show_reply(page: &mut String, reply: &Reply) -> Result<(), AllocError> {
     match reply {
         Reply::Opened => page.push_str(" opened"),
         Reply::Due(due) => show_due(page, due),
@@ -92,7 +92,7 @@ fn show_reply(page: &mut String, reply: &Reply) -> Result<(), AllocError> {
 }
 
 /// Shows what the desk replies to the calls that change nothing.
-fn show_desk(alloc: Global, page: &mut String, desk: &Manager<Countdown>) -> Result<(), AllocError> {
+pub fn show_desk(alloc: Global, page: &mut String, desk: &Manager<Countdown>) -> Result<(), AllocError> {
     write!(page, "matches {}", desk.matches())?;
     for asked in [Asked::Query, Asked::Next(0), Asked::Next(1)] {
         show_reply(page, &desk.answer(alloc, &asked.call(alloc)?)?)?;

@@ -12,6 +12,7 @@ mod expressions;
 mod matches;
 mod messages;
 mod pages;
+mod rounds;
 mod rules;
 mod trial;
 
@@ -24,7 +25,7 @@ use trial::Trials;
 const DIGITS: usize = 20;
 
 /// How many allocations are made at the end, to see whether one is still refused.
-const LAST_ALLOCATIONS: u64 = 5_000;
+const LAST_ALLOCATIONS: u64 = 6_000;
 
 /// The number on standard input: none is 0.
 fn given_number(rt: &HostRuntime) -> io::Result<u64> {
@@ -56,10 +57,11 @@ fn main(rt: HostRuntime) -> io::Result<()> {
     rules::try_all(&trials)?;
     matches::try_all(&trials)?;
     desks::try_all(&trials)?;
+    rounds::try_all(&trials)?;
     messages::try_all(&trials)?;
     let late = allocate(alloc, LAST_ALLOCATIONS);
     match (early, late) {
-        (0, 0) => eprintln!(rt; "no allocation was refused"),
+        (0, 0) => eprintln!(rt; "an allocation was refused in the calls, or none"),
         (0, _) => eprintln!(rt; "an allocation was refused after the calls"),
         (_, _) => eprintln!(rt; "an allocation was refused before the calls"),
     }
