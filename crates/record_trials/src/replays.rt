@@ -581,6 +581,7 @@ fn cause(alloc: Global, cause: Option<Cause>) -> Result<String, AllocError> {
         Some(Cause::NoLegal(role)) => format!(in alloc; "\"nolegal {role}\""),
         Some(Cause::NoGoal(role)) => format!(in alloc; "\"nogoal {role}\""),
         Some(Cause::TooLong) => String::from_str(alloc, "\"toolong\""),
+        Some(Cause::AllRetired) => String::from_str(alloc, "\"allretired\""),
     }
 }
 
