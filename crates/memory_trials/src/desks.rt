@@ -42,10 +42,27 @@ impl Asked {
     pub fn call(self, alloc: Global) -> Result<Call, AllocError> {
         let id = text(alloc, "m1")?;
         Ok(match self {
-            Asked::Open => Call::Open { id, game: 0, start: 10, play: 5, players: players(alloc)? },
+            Asked::Open => Call::Open {
+                id,
+                game: 0,
+                start: 10,
+                play: 5,
+                strikes: 2,
+                players: players(alloc)?,
+            },
             Asked::Next(role) => Call::Next { id, role },
-            Asked::Submit(role, round, said) => Call::Submit { id, role, round, text: text(alloc, said)? },
-            Asked::Miss(role, round) => Call::Miss { id, role, round, broken: true },
+            Asked::Submit(role, round, said) => Call::Submit {
+                id,
+                role,
+                round,
+                text: text(alloc, said)?,
+            },
+            Asked::Miss(role, round) => Call::Miss {
+                id,
+                role,
+                round,
+                broken: true,
+            },
             Asked::Query => Call::Query { id },
             Asked::Abort => Call::Abort { id },
         })
@@ -84,7 +101,11 @@ pub fn show_reply(page: &mut String, reply: &Reply) -> Result<(), AllocError> {
                 Phase::Aborting => "aborting",
                 Phase::Aborted => "aborted",
             };
-            write!(page, " {phase} {} {} {}", status.round, status.turns, status.substitutions)
+            write!(
+                page,
+                " {phase} {} {} {}",
+                status.round, status.turns, status.substitutions
+            )
         }
         Reply::Aborting => page.push_str(" aborting"),
         Reply::Refused(refusal) => write!(page, " {refusal}"),
@@ -92,7 +113,11 @@ pub fn show_reply(page: &mut String, reply: &Reply) -> Result<(), AllocError> {
 }
 
 /// Shows what the desk replies to the calls that change nothing.
-pub fn show_desk(alloc: Global, page: &mut String, desk: &Manager<Countdown>) -> Result<(), AllocError> {
+pub fn show_desk(
+    alloc: Global,
+    page: &mut String,
+    desk: &Manager<Countdown>,
+) -> Result<(), AllocError> {
     write!(page, "matches {}", desk.matches())?;
     for asked in [Asked::Query, Asked::Next(0), Asked::Next(1)] {
         show_reply(page, &desk.answer(alloc, &asked.call(alloc)?)?)?;
@@ -198,14 +223,34 @@ pub fn try_all(trials: &Trials<'_>) -> io::Result<()> {
     let mut desk = made(|| manager(alloc))?;
     for asked in CALLS {
         let call = made(|| asked.call(alloc))?;
-        trials.attempt(asked.name(), &mut Answering { desk: &desk, call, given: None })?;
+        trials.attempt(
+            asked.name(),
+            &mut Answering {
+                desk: &desk,
+                call,
+                given: None,
+            },
+        )?;
         let call = made(|| asked.call(alloc))?;
-        trials.attempt(asked.name(), &mut Applying { desk: &mut desk, call })?;
+        trials.attempt(
+            asked.name(),
+            &mut Applying {
+                desk: &mut desk,
+                call,
+            },
+        )?;
     }
     let mut journal = Journal::new(alloc, made(|| manager(alloc))?, MOST);
     for asked in CALLS {
         let call = made(|| asked.call(alloc))?;
-        trials.attempt("kept call", &mut Keeping { journal: &mut journal, call, given: None })?;
+        trials.attempt(
+            "kept call",
+            &mut Keeping {
+                journal: &mut journal,
+                call,
+                given: None,
+            },
+        )?;
     }
     Ok(())
 }

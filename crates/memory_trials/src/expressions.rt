@@ -106,9 +106,27 @@ fn expression(alloc: Global) -> Result<Expr, AllocError> {
 
 pub fn try_all(trials: &Trials<'_>) -> io::Result<()> {
     let alloc = trials.alloc();
-    trials.attempt("read_all", &mut ReadingAll { text: TEXT, given: None })?;
-    trials.attempt("read_all, an open list", &mut ReadingAll { text: "(a (b)", given: None })?;
-    trials.attempt("read_one", &mut ReadingOne { text: "(a (B c) d)", given: None })?;
+    trials.attempt(
+        "read_all",
+        &mut ReadingAll {
+            text: TEXT,
+            given: None,
+        },
+    )?;
+    trials.attempt(
+        "read_all, an open list",
+        &mut ReadingAll {
+            text: "(a (b)",
+            given: None,
+        },
+    )?;
+    trials.attempt(
+        "read_one",
+        &mut ReadingOne {
+            text: "(a (B c) d)",
+            given: None,
+        },
+    )?;
     let expr = made(|| expression(alloc))?;
     trials.attempt("print", &mut Printing { expr, given: None })?;
     let expr = made(|| expression(alloc))?;

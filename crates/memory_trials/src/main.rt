@@ -32,8 +32,14 @@ fn given_number(rt: &HostRuntime) -> io::Result<u64> {
     let mut digits = [0; DIGITS];
     let count = rt.stdin().read(&mut digits)?;
     let mut number = 0u64;
-    for digit in digits.iter().take(count).filter(|digit| digit.is_ascii_digit()) {
-        number = number.saturating_mul(10).saturating_add((digit - b'0') as u64);
+    for digit in digits
+        .iter()
+        .take(count)
+        .filter(|digit| digit.is_ascii_digit())
+    {
+        number = number
+            .saturating_mul(10)
+            .saturating_add((digit - b'0') as u64);
     }
     Ok(number)
 }

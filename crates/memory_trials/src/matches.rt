@@ -4,7 +4,9 @@ ghost use Rattle.std.specs.Prelude.{◌≡◌, IfOk};
 use crate::pages::{show_bytes, show_text, show_texts};
 use crate::trial::{Trial, Trials, made};
 use game_core::{Countdown, Text, Texts};
-use match_book::{Answer, AnswerFault, Due, Match, Owed, OwedFault, Setup, are_clocks, are_names, is_name};
+use match_book::{
+    Answer, AnswerFault, Due, Match, Owed, OwedFault, Setup, are_clocks, are_names, is_name,
+};
 use match_record::{VerifyFault, record_json, verify};
 use std::alloc::{AllocError, Global};
 use std::io;
@@ -30,6 +32,7 @@ fn setup(alloc: Global) -> Result<Setup, AllocError>
         id: text(alloc, "m1")?,
         start: 10,
         play: 5,
+        strikes: 0,
         players: Texts { items },
     })
 }
@@ -150,7 +153,10 @@ impl Trial for Answering {
             said => Answer::Text(text(alloc, said)?),
         };
         let board = &mut self.board;
-        match board.held.answer(alloc, &board.game, self.role, self.round, answer) {
+        match board
+            .held
+            .answer(alloc, &board.game, self.role, self.round, answer)
+        {
             Err(AnswerFault::Memory) => Err(AllocError),
             given => {
                 self.given = Some(given);
@@ -256,7 +262,10 @@ pub fn try_all(trials: &Trials<'_>) -> io::Result<()> {
         trial.said = said;
         trials.attempt("answer", &mut trial)?;
     }
-    let mut recording = Recording { board: trial.board, given: None };
+    let mut recording = Recording {
+        board: trial.board,
+        given: None,
+    };
     trials.attempt("record_json", &mut recording)?;
     let record = made(|| recording.board.record(alloc))?;
     trials.attempt("verify", &mut Verifying::of(record))?;

@@ -5,7 +5,10 @@ use crate::rules::{COUNTDOWN_RULES, sentences};
 use crate::trial::{Trial, Trials, made};
 use game_core::{Counted, Text, Texts};
 use match_book::Owed;
-use match_wire::{Brief, Info, Message, MessageFault, WireFault, exchange, give_reply, message, read_info, read_message, take_request};
+use match_wire::{
+    Brief, Info, Message, MessageFault, WireFault, exchange, give_reply, message, read_info,
+    read_message, take_request,
+};
 use std::alloc::{AllocError, Global};
 use std::io;
 use std::io::{Read, Write};
@@ -23,7 +26,11 @@ struct Paper {
 
 impl Paper {
     fn with(input: &'static [u8]) -> Paper {
-        Paper { input, written: [0; MOST_WRITTEN], length: 0 }
+        Paper {
+            input,
+            written: [0; MOST_WRITTEN],
+            length: 0,
+        }
     }
 
     fn text(&self) -> &[u8] {
@@ -110,7 +117,17 @@ impl Trial for Reading {
             Some(Err(fault)) => write!(page, "{fault}"),
             Some(Ok(Message::Info)) => page.push_str("info"),
             Some(Ok(Message::Abort { id })) => show_text(page, id),
-            Some(Ok(Message::Start { id, role, rules, start, play })) => {
+            Some(
+                Ok(
+                    Message::Start {
+                        id,
+                        role,
+                        rules,
+                        start,
+                        play,
+                    },
+                ),
+            ) => {
                 show_text(page, id)?;
                 write!(page, " {start} {play} ")?;
                 show_expression(alloc, page, role)?;
@@ -215,7 +232,14 @@ fn try_messages(trials: &Trials<'_>) -> io::Result<()> {
             })
         })?;
         let brief = made(|| brief(alloc))?;
-        trials.attempt(name, &mut Writing { brief, owed, given: None })?;
+        trials.attempt(
+            name,
+            &mut Writing {
+                brief,
+                owed,
+                given: None,
+            },
+        )?;
     }
     for text in [
         "(START m1 Red ((role red) (<= terminal (true over))) 10 5)",
@@ -236,7 +260,14 @@ pub fn try_all(trials: &Trials<'_>) -> io::Result<()> {
         ("take_request", Part::TakeRequest, REQUEST),
         ("give_reply", Part::GiveReply, b"".as_slice()),
     ] {
-        trials.attempt(name, &mut Carrying { part, input, given: None })?;
+        trials.attempt(
+            name,
+            &mut Carrying {
+                part,
+                input,
+                given: None,
+            },
+        )?;
     }
     Ok(())
 }

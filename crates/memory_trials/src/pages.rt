@@ -8,7 +8,11 @@ pub fn show_expression(alloc: Global, page: &mut String, expr: &Expr) -> Result<
     show_text(page, &print(alloc, expr)?)
 }
 
-pub fn show_expressions(alloc: Global, page: &mut String, exprs: &[Expr]) -> Result<(), AllocError> {
+pub fn show_expressions(
+    alloc: Global,
+    page: &mut String,
+    exprs: &[Expr],
+) -> Result<(), AllocError> {
     for expr in exprs {
         show_expression(alloc, page, expr)?;
         page.push(' ')?;

@@ -11,11 +11,14 @@ use std::alloc::{AllocError, Global};
 use std::io;
 
 type Desk = RingDesk<Manager<Countdown>>;
+
 type Line = RingLine<Manager<Countdown>>;
 
 /// The most entries of the history, the lines, and the room of a ring.
 const MOST: u64 = 20;
+
 const LINES: u32 = 2;
+
 const ROOM: u64 = 2;
 
 fn open(alloc: Global) -> Result<(Desk, Vec<Line>), AllocError> {
@@ -113,7 +116,13 @@ pub fn try_all(trials: &Trials<'_>) -> io::Result<()> {
         }
     }
     for _ in 0..3 {
-        trials.attempt("round", &mut Serving { desk: &mut desk, given: None })?;
+        trials.attempt(
+            "round",
+            &mut Serving {
+                desk: &mut desk,
+                given: None,
+            },
+        )?;
         trials.attempt("take", &mut Taking { reply: line.take() })?;
     }
     Ok(())

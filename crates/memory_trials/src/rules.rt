@@ -4,6 +4,7 @@ use crate::trial::{Trial, Trials, made};
 use game_core::{Countdown, Game, Joint, PlayFault, Take, Text, play_list};
 use ground_rules::{GroundGame, LoadFault, load};
 use kif_text::{Expr, read_all};
+use packed_rules::{PackedGame, pack};
 use std::alloc::{AllocError, Global};
 use std::io;
 
@@ -73,11 +74,52 @@ fn show_game<G: Game>(alloc: Global, page: &mut String, game: &G) -> Result<(), 
     Ok(())
 }
 
+/// A game that is packed. Where memory is refused for it, the game comes back.
+#[derive(Drop)]
+struct Packing {
+    game: Option<GroundGame>,
+    given: Option<PackedGame>,
+}
+
+impl Trial for Packing {
+    fn call(&mut self, alloc: Global) -> Result<(), AllocError> {
+        let Some(game) = self.game.take() else {
+            return Ok(());
+        };
+        match pack(alloc, game) {
+            Ok(packed) => {
+                self.given = Some(packed);
+                Ok(())
+            }
+            Err((game, refused)) => {
+                self.game = Some(game);
+                Err(refused)
+            }
+        }
+    }
+
+    fn show(&self, alloc: Global, page: &mut String) -> Result<(), AllocError> {
+        match (&self.game, &self.given) {
+            (Some(game), _) => show_game(alloc, page, game),
+            (None, Some(game)) => show_game(alloc, page, game),
+            (None, None) => page.push_str("no game"),
+        }
+    }
+}
+
+fn countdown_game(alloc: Global) -> Result<GroundGame, AllocError> {
+    load(alloc, &sentences(alloc, COUNTDOWN_RULES)?).map_err(|_| AllocError)
+}
+
 /// The joint moves of a whole countdown.
 fn countdown_moves(alloc: Global) -> Result<Vec<Joint<Take>>, AllocError> {
     let mut turns = Vec::with_capacity(alloc, 2)?;
-    turns.push(Joint { moves: Vec::from_slice(alloc, &[Take::One, Take::Noop])? })?;
-    turns.push(Joint { moves: Vec::from_slice(alloc, &[Take::Noop, Take::Two])? })?;
+    turns.push(Joint {
+        moves: Vec::from_slice(alloc, &[Take::One, Take::Noop])?,
+    })?;
+    turns.push(Joint {
+        moves: Vec::from_slice(alloc, &[Take::Noop, Take::Two])?,
+    })?;
     Ok(turns)
 }
 
@@ -109,11 +151,29 @@ impl Trial for Playing {
 
 pub fn try_all(trials: &Trials<'_>) -> io::Result<()> {
     let alloc = trials.alloc();
-    for (name, rules) in [("load", COUNTDOWN_RULES), ("load, a cycle", "(role a) (<= p q) (<= q p)")] {
+    for (name, rules) in [
+        ("load", COUNTDOWN_RULES),
+        ("load, a cycle", "(role a) (<= p q) (<= q p)"),
+    ] {
         let sentences = made(|| sentences(alloc, rules))?;
-        trials.attempt(name, &mut Loading { sentences, given: None })?;
+        trials.attempt(
+            name,
+            &mut Loading {
+                sentences,
+                given: None,
+            },
+        )?;
     }
+    let game = Some(made(|| countdown_game(alloc))?);
+    trials.attempt("pack", &mut Packing { game, given: None })?;
     let turns = made(|| countdown_moves(alloc))?;
     let game = Countdown::new(3).unwrap();
-    trials.attempt("play_list", &mut Playing { game, turns, given: None })
+    trials.attempt(
+        "play_list",
+        &mut Playing {
+            game,
+            turns,
+            given: None,
+        },
+    )
 }
