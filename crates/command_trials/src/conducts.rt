@@ -1,6 +1,6 @@
 //! What players do, what the record of their match shows of it, and how long the match waits.
 use crate::outcomes::{Wanted, expect_outcome, outcome_with};
-use crate::simulated::{Conduct, Door, Simulated, Step, Taking, World};
+use crate::simulated::{Conduct, Conducts, Door, Simulated, Step, Taking, World};
 use ggp_commands::{PlayerAddress, Reach, Signal, SocketPlayer, Sockets, contact};
 use match_workers::Player;
 use std::alloc::{AllocError, Global};
@@ -625,40 +625,64 @@ where
 
 const ROWS: [&[Row]; 5] = [&CONNECTING, &TAKING, &TIMING, &HTTP, &ANSWERS];
 
-fn all_conducts(alloc: Global) -> Result<Vec<Conduct>, AllocError> {
-    let mut conducts = Vec::new(alloc);
-    for rows in ROWS {
-        for (_, way, _) in rows {
-            conducts.push(way.conduct())?;
+/// All the rows, one table after the other.
+#[derive(Clone, Copy)]
+struct AllRows;
+
+impl Conducts for AllRows {
+    fn conduct(&self, number: usize) -> Option<Conduct> {
+        let mut number = number;
+        for rows in ROWS {
+            match rows.get(number) {
+                Some((_, way, _)) => return Some(way.conduct()),
+                None => number = number.saturating_sub(rows.len()),
+            }
         }
+        None
     }
-    Ok(conducts)
 }
 
-/// A player of the network in memory.
-type PlayerInMemory<'a> = SocketPlayer<'a, Simulated<'a, HostRuntime>>;
-
-#[test]
-fn records_show_what_players_do(rt: HostRuntime) -> Result<(), Fail> {
-    let alloc = rt.alloc();
-    let (world, signal, conducts) = (World::new(), Signal::new(), all_conducts(alloc)?);
-    let network = Simulated {
-        host: &rt,
-        world: &world,
-        conducts: &conducts,
-    };
-    let reach = Sockets {
-        rt: &network,
-        signal: &signal,
-    };
+/// Tries each player in turn.
+fn expect_all<R, P, S, N>(
+    rt: &R,
+    reach: &S,
+    network: &N,
+    alloc: Global,
+    world: &World,
+) -> Result<(), Fail>
+where
+    R: Net + Clock + Threads + Wait + Abort + Sync,
+    P: Player + Drop + Send,
+    S: Reach<P>,
+    N: Net + Clock,
+{
     let mut tried = 0usize;
     for rows in ROWS {
         for (does, _, met) in rows {
             world.turn_to(tried);
             tried = tried.saturating_add(1);
-            expect_contact(&rt, &network, alloc, &world, (does, *met))?;
-            expect_match::<_, PlayerInMemory<'_>, _>(&rt, &reach, alloc, &world, (does, *met))?;
+            expect_contact(rt, network, alloc, world, (does, *met))?;
+            expect_match::<R, P, S>(rt, reach, alloc, world, (does, *met))?;
         }
     }
     Ok(())
+}
+
+/// A player of the network in memory.
+type PlayerInMemory<'a> = SocketPlayer<'a, Simulated<'a, HostRuntime, AllRows>>;
+
+#[test]
+fn records_show_what_players_do(rt: HostRuntime) -> Result<(), Fail> {
+    let alloc = rt.alloc();
+    let (world, signal) = (World::new(), Signal::new());
+    let network = Simulated {
+        host: &rt,
+        world: &world,
+        conducts: AllRows,
+    };
+    let reach = Sockets {
+        rt: &network,
+        signal: &signal,
+    };
+    expect_all::<_, PlayerInMemory<'_>, _, _>(&rt, &reach, &network, alloc, &world)
 }

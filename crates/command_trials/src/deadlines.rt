@@ -54,6 +54,7 @@ fn play_with_a_dripping_player<R, P, S>(
     rt: &R,
     reach: &S,
     alloc: Global,
+    options: &[&str],
 ) -> Result<(Outcome, [Duration; 3]), Fail>
 where
     R: Net<Listener = TcpListener, Stream = TcpStream> + Clock + Threads + Wait + Sync,
@@ -63,19 +64,12 @@ where
     let (red, ann) = listen(rt, alloc, "ann")?;
     let (blue, bob) = listen(rt, alloc, "bob")?;
     let (red, blue) = (&red, &blue);
-    let words = [
-        "run",
-        "--rules",
-        RULES,
-        "--id",
-        "m",
-        "--start",
-        "1",
-        "--play",
-        "1",
-        ann.as_str(),
-        bob.as_str(),
-    ];
+    let mut words = Vec::new(alloc);
+    for option in options {
+        words.push(*option)?;
+    }
+    words.push(ann.as_str())?;
+    words.push(bob.as_str())?;
     let words = words.as_slice();
     let ((times, dripped), outcome) = thread::join(
         rt,
@@ -99,11 +93,15 @@ fn dripping_players_are_late(rt: HostRuntime) -> Result<(), Fail> {
         rt: &rt,
         signal: &signal,
     };
+    let options = [
+        "run", "--rules", RULES, "--id", "m", "--start", "1", "--play", "1",
+    ];
     let began = Instant::now(&rt)?;
     let (outcome, times) = play_with_a_dripping_player::<_, HostPlayer<'_>, _>(
         &rt,
         &reach,
         rt.alloc(),
+        &options,
     )?;
     let taken = began.elapsed(&rt)?;
     expect_outcome(&rt, &outcome, Wanted::output(RECORD));

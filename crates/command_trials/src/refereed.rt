@@ -1,4 +1,6 @@
 //! Matches that are refereed between players of the network in memory, or between players that fail.
+ghost use Rattle.std.specs.Prelude.{◌<◌};
+
 use crate::simulated::{Conduct, Door, Simulated, Step, Taking, World};
 use game_core::{Countdown, Text, Texts};
 use ggp_commands::{PlayerAddress, Reach, Signal, SocketPlayer, Sockets, answer_of};
@@ -147,13 +149,13 @@ fn counting_game(alloc: Global, roles: usize) -> Result<GroundGame, Fail> {
 }
 
 /// A player that answers at once.
-const PROMPT: &[Conduct] = &[Conduct {
+const PROMPT: Conduct = Conduct {
     doors: &[Door::Opens(0)],
     taking: Taking::After(0),
     steps: &[Step::Gives(0, b"HTTP/1.0 200 OK\r\nContent-Length: 2\r\n\r\ngo")],
-}];
+};
 
-type PlayerInMemory<'a> = SocketPlayer<'a, Simulated<'a, HostRuntime>>;
+type PlayerInMemory<'a> = SocketPlayer<'a, Simulated<'a, HostRuntime, Conduct>>;
 
 fn players_of<P: Drop, S: Reach<P>>(
     alloc: Global,

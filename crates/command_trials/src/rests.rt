@@ -16,11 +16,11 @@ const ANN: PlayerAddress<'_> = PlayerAddress {
 };
 
 /// A player that is not there: a message to it is over at once.
-const GONE: &[Conduct] = &[Conduct {
+const GONE: Conduct = Conduct {
     doors: &[Door::Fails(ErrorKind::ConnectionRefused)],
     taking: Taking::After(0),
     steps: &[],
-}];
+};
 
 /// For how many milliseconds nothing has happened: after that a rest takes ten seconds, where nothing ends it.
 const LONG: u64 = 1_000_000;

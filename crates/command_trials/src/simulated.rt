@@ -103,24 +103,36 @@ impl World {
     }
 }
 
-/// A runtime whose network and clock are in memory.
-#[derive(Drop)]
-pub struct Simulated<'a, H> {
-    pub host: &'a H,
-    pub world: &'a World,
-    pub conducts: &'a [Conduct],
+/// The conducts that are tried, by their numbers.
+pub trait Conducts {
+    fn conduct(&self, number: usize) -> Option<Conduct>;
 }
 
-impl<H> Simulated<'_, H> {
-    fn conduct(&self) -> Option<Conduct> {
-        let tried = self.world.tried.load(Ordering::SeqCst) as usize;
-        self.conducts.get(tried).copied()
+/// One conduct, at all times.
+impl Conducts for Conduct {
+    fn conduct(&self, _number: usize) -> Option<Conduct> {
+        Some(*self)
     }
 }
 
-impl<H: Wait> Wait for Simulated<'_, H> {}
+/// A runtime whose network and clock are in memory.
+#[derive(Drop)]
+pub struct Simulated<'a, H, T> {
+    pub host: &'a H,
+    pub world: &'a World,
+    pub conducts: T,
+}
 
-impl<H> Clock for Simulated<'_, H> {
+impl<H, T: Conducts> Simulated<'_, H, T> {
+    fn conduct(&self) -> Option<Conduct> {
+        let tried = self.world.tried.load(Ordering::SeqCst) as usize;
+        self.conducts.conduct(tried)
+    }
+}
+
+impl<H: Wait, T> Wait for Simulated<'_, H, T> {}
+
+impl<H, T> Clock for Simulated<'_, H, T> {
     fn monotonic(&self) -> io::Result<Duration> {
         Ok(Duration::from_millis(self.world.passed()))
     }
@@ -142,7 +154,7 @@ fn door_number(address: IpAddr) -> Option<usize> {
     }
 }
 
-impl<'a, H> Net for Simulated<'a, H> {
+impl<'a, H, T: Conducts> Net for Simulated<'a, H, T> {
     type Stream = PlayerStream<'a>;
 
     type Listener = NoListener<'a>;
