@@ -642,30 +642,51 @@ impl Conducts for AllRows {
     }
 }
 
-/// Tries each player in turn.
-fn expect_all<R, P, S, N>(
-    rt: &R,
-    reach: &S,
+/// Sends each player in turn a message.
+fn expect_contacts<N: Net + Clock>(
+    rt: &impl Abort,
     network: &N,
     alloc: Global,
     world: &World,
-) -> Result<(), Fail>
-where
-    R: Net + Clock + Threads + Wait + Abort + Sync,
-    P: Player + Drop + Send,
-    S: Reach<P>,
-    N: Net + Clock,
-{
+) -> Result<(), Fail> {
     let mut tried = 0usize;
     for rows in ROWS {
         for (does, _, met) in rows {
             world.turn_to(tried);
             tried = tried.saturating_add(1);
             expect_contact(rt, network, alloc, world, (does, *met))?;
+        }
+    }
+    Ok(())
+}
+
+/// Plays a match with each player in turn.
+fn expect_matches<R, P, S>(rt: &R, reach: &S, alloc: Global, world: &World) -> Result<(), Fail>
+where
+    R: Net + Clock + Threads + Wait + Abort + Sync,
+    P: Player + Drop + Send,
+    S: Reach<P>,
+{
+    let mut tried = 0usize;
+    for rows in ROWS {
+        for (does, _, met) in rows {
+            world.turn_to(tried);
+            tried = tried.saturating_add(1);
             expect_match::<R, P, S>(rt, reach, alloc, world, (does, *met))?;
         }
     }
     Ok(())
+}
+
+#[test]
+fn faults_are_told_in_words(rt: HostRuntime) -> Result<(), Fail> {
+    let world = World::new();
+    let network = Simulated {
+        host: &rt,
+        world: &world,
+        conducts: AllRows,
+    };
+    expect_contacts(&rt, &network, rt.alloc(), &world)
 }
 
 /// A player of the network in memory.
@@ -673,7 +694,6 @@ type PlayerInMemory<'a> = SocketPlayer<'a, Simulated<'a, HostRuntime, AllRows>>;
 
 #[test]
 fn records_show_what_players_do(rt: HostRuntime) -> Result<(), Fail> {
-    let alloc = rt.alloc();
     let (world, signal) = (World::new(), Signal::new());
     let network = Simulated {
         host: &rt,
@@ -684,5 +704,5 @@ fn records_show_what_players_do(rt: HostRuntime) -> Result<(), Fail> {
         rt: &network,
         signal: &signal,
     };
-    expect_all::<_, PlayerInMemory<'_>, _, _>(&rt, &reach, &network, alloc, &world)
+    expect_matches::<_, PlayerInMemory<'_>, _>(&rt, &reach, rt.alloc(), &world)
 }
