@@ -133,9 +133,9 @@ fn expect_late<N: Net + Clock>(
     Ok(began.elapsed(net)?)
 }
 
-/// Whether that was a second, and not several.
+/// Whether that was about a second: the computer may be busy.
 fn is_a_second(taken: Duration) -> bool {
-    taken >= Duration::from_millis(990) && taken < Duration::from_secs(2)
+    taken >= Duration::from_millis(990) && taken < Duration::from_secs(4)
 }
 
 /// More than the system takes in advance for a connection that nobody reads.
