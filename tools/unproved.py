@@ -1,53 +1,69 @@
-"""Programs that are compiled and not yet proved, as `rt try` does, which keeps none: each is copied while it runs."""
+"""Programs that are compiled and not proved yet, as `rt try` does. It keeps none, so each is copied while it runs."""
 import glob
 import os
 import shutil
 import subprocess
+import sys
 import tempfile
 import time
 
-from crates import TOP
+from crates import TOP, spell
 
 PATIENCE = 600
-LOADER = "ld-linux"
+LAST_LINES = 20
 
 
-def command_running(folder):
-    """Returns the words that run a compiled program below the folder, if one runs."""
+def running_below(folder):
+    """Returns the compiled program below the folder, if it runs."""
     for file in glob.glob("/proc/[0-9]*/cmdline"):
         try:
             with open(file, encoding="utf-8", errors="replace") as it:
                 words = it.read().split("\0")
         except OSError:
             continue
-        for at, word in enumerate(words):
-            if word.startswith(f"{folder}/") and os.path.basename(word) == "program" and LOADER in words[0]:
-                return words[: at + 1]
+        for word in words:
+            if word.startswith(f"{folder}/") and os.path.basename(word) == "program":
+                return word
     return None
 
 
-def run_unproved(crate, flags, given, kept):
-    """Compiles a program crate with these flags of `rt try`, runs it on what it is given, for so long that it can be copied, and
-    copies it to `kept`. Returns the words that run the copy, or None."""
-    with tempfile.TemporaryDirectory(prefix="unproved-") as room:
-        with open(f"{room}/given", "w", encoding="utf-8") as it:
+def wait_for_program(folder, compiling, who):
+    """Waits until the compiled program runs, and shows the seconds on a terminal. Returns its file, or None."""
+    began, found = time.monotonic(), None
+    while compiling.poll() is None and time.monotonic() - began < PATIENCE and not found:
+        if sys.stderr.isatty():
+            print(f"\r{who}: compiling, {spell(time.monotonic() - began)} ", end="", file=sys.stderr, flush=True)
+        time.sleep(0.2)
+        found = running_below(folder)
+    if sys.stderr.isatty():
+        print("\r\033[K", end="", file=sys.stderr)
+    return found
+
+
+def compile_unproved(crate, kept, flags=(), arguments=(), given=b""):
+    """Compiles a program crate with these flags of `rt try`, and copies it to `kept` while it runs with these arguments, on what it
+    is given: it has to run for a second or more. Returns whether it was compiled; if not, it prints the last lines of `rt try`."""
+    room_of = os.path.dirname(kept)
+    os.makedirs(room_of, exist_ok=True)
+    with tempfile.TemporaryDirectory(prefix="unproved-", dir=room_of) as room:
+        with open(f"{room}/given", "wb") as it:
             it.write(given)
-        call, began, words = ["rt", "try", "--steps", "1", *flags], time.monotonic(), None
+        call = ["rt", "try", "--steps", "1", *flags, "--", *arguments]
         with open(f"{room}/given", "rb") as stdin, open(f"{room}/log", "w+", errors="replace") as log:
             how = {"cwd": f"{TOP}/crates/{crate}", "env": {**os.environ, "TMPDIR": room}, "stdin": stdin}
             compiling = subprocess.Popen(call, **how, stdout=log, stderr=log)
             try:
-                while compiling.poll() is None and time.monotonic() - began < PATIENCE and not words:
-                    time.sleep(0.2)
-                    words = command_running(room)
-                if words:
-                    shutil.copyfile(words[-1], kept)
-                    os.chmod(kept, 0o755)
+                found = wait_for_program(room, compiling, crate)
+                if found:
+                    shutil.copyfile(found, f"{room}/kept")
             finally:
                 compiling.terminate()
                 compiling.wait()
-            if not words:
+            if not found:
                 log.seek(0)
-                print(*log.read().splitlines()[-20:], sep="\n", flush=True)
-                return None
-        return [*words[:-1], kept]
+                print(*log.read().splitlines()[-LAST_LINES:], sep="\n", file=sys.stderr)
+                print(f"{crate}: not compiled; the lines above are the last that `rt try` printed", file=sys.stderr)
+                return False
+        os.chmod(f"{room}/kept", 0o755)
+        os.replace(f"{room}/kept", kept)
+    return True
