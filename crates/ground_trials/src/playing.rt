@@ -1,6 +1,7 @@
 //! Games of descriptions, played.
 ghost use Rattle.std.specs.Prelude.{◌<◌, All, IfOk};
 
+use crate::forms::packed;
 use crate::loading::load_text;
 use game_core::{Game, Joint, Text, play_list};
 use std::alloc::Global;
@@ -86,14 +87,14 @@ fn joined(alloc: Global, texts: &[Text]) -> Result<String, Fail> {
     Ok(line)
 }
 
-fn state_line<G: Game>(alloc: Global, game: &G, state: &G::State) -> Result<String, Fail>
+pub fn state_line<G: Game>(alloc: Global, game: &G, state: &G::State) -> Result<String, Fail>
     requires { (G.rules game.now).IsState state.now }
 {
     let texts = game.state_text(alloc, state)?;
     joined(alloc, &texts)
 }
 
-fn legal_line<G: Game>(
+pub fn legal_line<G: Game>(
     alloc: Global,
     game: &G,
     state: &G::State,
@@ -135,7 +136,7 @@ fn legal_move<G: Game>(
 }
 
 /// The joint move with these texts, a semicolon between them.
-fn joint_move<G: Game>(
+pub fn joint_move<G: Game>(
     rt: &impl Abort,
     alloc: Global,
     game: &G,
@@ -154,14 +155,14 @@ fn joint_move<G: Game>(
     Ok(Joint { moves })
 }
 
-fn begin<G: Game>(alloc: Global, game: &G) -> Result<G::State, Fail>
+pub fn begin<G: Game>(alloc: Global, game: &G) -> Result<G::State, Fail>
     ensures { IfOk result (λ s. (G.rules game.now).IsState s) }
 {
     let state = game.initial(alloc)?;
     Ok(state)
 }
 
-fn replay<G: Game>(alloc: Global, game: &G, turns: &[Joint<G::Move>]) -> Result<G::State, Fail>
+pub fn replay<G: Game>(alloc: Global, game: &G, turns: &[Joint<G::Move>]) -> Result<G::State, Fail>
     requires { All (λ joint. All (λ m. (G.rules game.now).IsMove m) joint) turns.now }
     ensures { IfOk result (λ s. (G.rules game.now).IsState s) }
 {
@@ -182,6 +183,55 @@ fn play<G: Game>(rt: &impl Abort, alloc: Global, game: &G, turns: &str) -> Resul
         }
     }
     Ok(state)
+}
+
+/// Asserts that the turns lead to this state.
+fn shows<G: Game>(
+    rt: &impl Abort,
+    alloc: Global,
+    game: &G,
+    turns: &str,
+    state: &str,
+) -> Result<(), Fail> {
+    let reached = play(rt, alloc, game, turns)?;
+    let line = state_line(alloc, game, &reached)?;
+    assert_eq!(rt; line.as_str(), state);
+    Ok(())
+}
+
+/// Asserts that the state that the turns lead to is an end or none, and has this goal of the role.
+fn ends_with<G: Game>(
+    rt: &impl Abort,
+    alloc: Global,
+    game: &G,
+    turns: &str,
+    role: usize,
+    ends: bool,
+    goal: Option<u8>,
+) -> Result<(), Fail> {
+    let reached = play(rt, alloc, game, turns)?;
+    assert!(rt; role < game.roles());
+    let ended = game.terminal(alloc, &reached)?;
+    assert_eq!(rt; ended, ends);
+    let value = game.goal(alloc, &reached, role)?;
+    assert_eq!(rt; value, goal);
+    Ok(())
+}
+
+/// Asserts that the role has these moves in the state that the turns lead to.
+fn has_moves<G: Game>(
+    rt: &impl Abort,
+    alloc: Global,
+    game: &G,
+    turns: &str,
+    role: usize,
+    moves: &str,
+) -> Result<(), Fail> {
+    let reached = play(rt, alloc, game, turns)?;
+    assert!(rt; role < game.roles());
+    let line = legal_line(alloc, game, &reached, role)?;
+    assert_eq!(rt; line.as_str(), moves);
+    Ok(())
 }
 
 #[test]
@@ -209,8 +259,8 @@ fn turns_lead_to_states(rt: HostRuntime) -> Result<(), Fail> {
         (BUTTONS, "a/b/c/a/b/a", "p;q;r"),
     ] {
         let game = load_text(alloc, description)??;
-        let reached = play(&rt, alloc, &game, turns)?;
-        assert_eq!(rt; state_line(alloc, &game, &reached)?.as_str(), state);
+        shows(&rt, alloc, &game, turns, state)?;
+        shows(&rt, alloc, &packed(alloc, game)?, turns, state)?;
     }
     Ok(())
 }
@@ -254,10 +304,8 @@ fn states_have_ends_and_goals(rt: HostRuntime) -> Result<(), Fail> {
         ),
     ] {
         let game = load_text(alloc, description)??;
-        let reached = play(&rt, alloc, &game, turns)?;
-        assert!(rt; role < game.roles());
-        assert_eq!(rt; game.terminal(alloc, &reached)?, ends);
-        assert_eq!(rt; game.goal(alloc, &reached, role)?, goal);
+        ends_with(&rt, alloc, &game, turns, role, ends, goal)?;
+        ends_with(&rt, alloc, &packed(alloc, game)?, turns, role, ends, goal)?;
     }
     Ok(())
 }
@@ -297,9 +345,8 @@ fn roles_have_legal_moves(rt: HostRuntime) -> Result<(), Fail> {
         ),
     ] {
         let game = load_text(alloc, description)??;
-        let reached = play(&rt, alloc, &game, turns)?;
-        assert!(rt; role < game.roles());
-        assert_eq!(rt; legal_line(alloc, &game, &reached, role)?.as_str(), moves);
+        has_moves(&rt, alloc, &game, turns, role, moves)?;
+        has_moves(&rt, alloc, &packed(alloc, game)?, turns, role, moves)?;
     }
     Ok(())
 }
@@ -337,13 +384,9 @@ fn literals_are_true_or_false(rt: HostRuntime) -> Result<(), Fail> {
             "(role a) (init s) (legal a go) (legal a stay) fact (<= (next hit) {body}) (<= later (not soon)) (<= soon never)"
         )?;
         let game = load_text(alloc, text.as_str())??;
-        let reached = play(&rt, alloc, &game, "go")?;
         let state = if holds { "hit" } else { "" };
-        assert_eq!(rt;
-            state_line(alloc, &game, &reached)?.as_str(),
-            state,
-            "for {body}"
-        );
+        shows(&rt, alloc, &game, "go", state)?;
+        shows(&rt, alloc, &packed(alloc, game)?, "go", state)?;
     }
     Ok(())
 }
