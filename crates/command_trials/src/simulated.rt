@@ -3,8 +3,10 @@ ghost use Rattle.std.specs.Prelude.{◌≤◌, length};
 
 use std::io;
 use std::io::{ErrorKind, Read, Write};
-use std::net::{IpAddr, Ipv4Addr, Ipv6Addr, Net, OpenListener, OpenStream, SocketAddr};
-use std::os::fd::{AsRawFd, RawFd};
+use std::net::{IpAddr, Ipv4Addr, Ipv6Addr, Net, OpenListener, OpenStream, SocketAddr, UdpSocket};
+use std::os::fd::{AsRawFd, OwnedFd, RawFd};
+use std::os::unix::net as unix;
+use std::os::unix::net::UnixStream;
 use std::sync::Wait;
 use std::sync::atomic::{AtomicU64, Ordering};
 use std::time::{Clock, Duration};
@@ -206,6 +208,23 @@ impl<'a, H, T: Conducts> Net for Simulated<'a, H, T> {
             }
         }
         Ok(doors.min(found.len()))
+    }
+
+    // The trait answers these four so by itself, but its own bodies can't be proved for a type that borrows.
+    fn bind_udp(&self, _addr: SocketAddr) -> io::Result<UdpSocket> {
+        Err(io::Error::from(ErrorKind::Unsupported))
+    }
+
+    fn connect_unix(&self, _addr: &unix::SocketAddr) -> io::Result<UnixStream> {
+        Err(io::Error::from(ErrorKind::Unsupported))
+    }
+
+    fn unix_pair(&self) -> io::Result<(UnixStream, UnixStream)> {
+        Err(io::Error::from(ErrorKind::Unsupported))
+    }
+
+    fn unix_socket(&self) -> io::Result<OwnedFd> {
+        Err(io::Error::from(ErrorKind::Unsupported))
     }
 }
 

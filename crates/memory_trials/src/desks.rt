@@ -1,4 +1,7 @@
 //! The desk: its manager, each of the six calls on it, and the history that keeps them.
+ghost use Rattle.std.specs.Prelude.{◌≡◌, IfOk};
+ghost use Rattle.match_desk.specs.ManagerValue.{opening};
+
 use crate::matches::{players, show_due, text};
 use crate::trial::{Trial, Trials, made};
 use call_history::{CallFault, Journal, Object};
@@ -11,9 +14,15 @@ use std::io;
 /// The most entries of the histories of these trials.
 const MOST: u64 = 20;
 
-pub fn manager(alloc: Global) -> Result<Manager<Countdown>, AllocError> {
+pub fn manager(alloc: Global) -> Result<Manager<Countdown>, AllocError>
+    ensures { IfOk result (λ m. opening m ≡ m) }
+{
     let games = vec![in alloc; Countdown::new(3).unwrap()]?;
     Manager::new(alloc, games)
+}
+
+fn journal(alloc: Global) -> Result<Journal<Manager<Countdown>>, AllocError> {
+    Ok(Journal::new(alloc, manager(alloc)?, MOST))
 }
 
 /// The calls of a desk, each by what it is called with.
@@ -240,7 +249,7 @@ pub fn try_all(trials: &Trials<'_>) -> io::Result<()> {
             },
         )?;
     }
-    let mut journal = Journal::new(alloc, made(|| manager(alloc))?, MOST);
+    let mut journal = made(|| journal(alloc))?;
     for asked in CALLS {
         let call = made(|| asked.call(alloc))?;
         trials.attempt(

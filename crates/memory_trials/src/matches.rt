@@ -1,5 +1,5 @@
 //! Matches: a new one, its answers, what is due, its record, and the check of a record.
-ghost use Rattle.std.specs.Prelude.{◌≡◌, IfOk};
+ghost use Rattle.std.specs.Prelude.{◌≡◌, IfOk, length};
 
 use crate::pages::{show_bytes, show_text, show_texts};
 use crate::trial::{Trial, Trials, made};
@@ -46,7 +46,8 @@ struct Board {
 
 impl Model for Board {
     ghost use Rattle.std.specs.Prelude.{◌≡◌};
-    ghost use Rattle.game_core.specs.declared.countdown.{Countdown, Take};
+    ghost use Rattle.game_core.specs.declared.countdown.Countdown.{Countdown};
+    ghost use Rattle.game_core.specs.declared.countdown.Take.{Take};
     ghost use Rattle.match_book.specs.MatchValue.{GameMatch};
 
     ghost Value = { GameMatch Countdown Take };

@@ -1,7 +1,4 @@
 //! A desk over rings: its opening, and rounds in which a call wants memory.
-ghost use Rattle.std.specs.Prelude.{◌≡◌, IfOk};
-ghost use Rattle.match_desk.specs.ManagerValue.{opening};
-
 use crate::desks::{Asked, manager, show_desk, show_reply};
 use crate::trial::{Trial, Trials, made};
 use call_history::{CallFault, DeskFault, RingDesk, RingLine, open_rings};

@@ -54,7 +54,9 @@ impl Trials<'_> {
 }
 
 /// What is made for a trial: where memory is refused for it, it is made once more.
-pub fn made<T>(mut make: impl FnMut() -> Result<T, AllocError>) -> Result<T, AllocError> {
+pub fn made<T, F: Fn() -> Result<T, AllocError>>(make: F) -> Result<T, AllocError>
+    requires { F.IsAlwaysCallable make }
+{
     match make() {
         Ok(value) => Ok(value),
         Err(_) => make(),
