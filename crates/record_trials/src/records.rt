@@ -2,7 +2,7 @@
 ghost use Rattle.std.specs.Prelude.{◌≡◌, IfOk};
 
 use game_core::{Countdown, Text, Texts};
-use match_book::{Answer, Match, Setup, are_names, is_clock, is_name};
+use match_book::{Answer, Match, Setup, are_names, is_clock, is_name, is_strikes};
 use match_record::record_json;
 use std::alloc::{AllocError, Global};
 use std::test::Fail;
@@ -84,6 +84,9 @@ fn record(alloc: Global, game: &Countdown, held: &Match<Countdown>) -> Result<Te
     }
     if !is_clock(setup.start) || !is_clock(setup.play) {
         return Ok(text(alloc, "bad clock")?);
+    }
+    if !is_strikes(u32::from(setup.strikes)) {
+        return Ok(text(alloc, "bad strikes")?);
     }
     Ok(record_json(alloc, game, held)?)
 }
