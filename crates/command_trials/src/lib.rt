@@ -24,8 +24,6 @@ mod refereed;
 #[cfg(test)]
 mod rests;
 #[cfg(test)]
-mod retired;
-#[cfg(test)]
 mod scripts;
 #[cfg(test)]
 mod simulated;
