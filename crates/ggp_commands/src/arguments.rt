@@ -118,15 +118,13 @@ fn run_command<'a>(alloc: Global) -> Result<Command<'a>, AllocError> {
         .arg(option(alloc, "id", "ID", "The match's id").required(true))?
         .arg(option(alloc, "start", "S", "The seconds for START").default_value("10"))?
         .arg(option(alloc, "play", "S", "The seconds for every other message").default_value("10"))?
-        .arg(
-            option(
-                alloc,
-                "strikes",
-                "K",
-                "A role is asked no more once K of its moves in a row had to be replaced; 0 is never",
-            )
-            .default_value("0"),
-        )?
+        .arg(option(
+            alloc,
+            "strikes",
+            "K",
+            "A role is asked no more once K of its moves in a row had to be replaced; 0 is never",
+        )
+        .default_value("0"))?
         .arg(
             Arg::new(alloc, "players")
                 .value_name("NAME@HOST:PORT")
