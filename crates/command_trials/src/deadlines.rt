@@ -1,6 +1,6 @@
 //! Players over loopback that take longer than they have.
 use crate::network::{HostPlayer, answer, bound, listen};
-use crate::outcomes::{Outcome, Wanted, expect_outcome, outcome_with};
+use crate::outcomes::{Outcome, Wanted, expect_outcome, outcome_with, with_players};
 use ggp_commands::{ContactFault, PlayerAddress, Reach, Signal, Sockets, contact};
 use match_workers::Player;
 use std::alloc::Global;
@@ -64,12 +64,7 @@ where
     let (red, ann) = listen(rt, alloc, "ann")?;
     let (blue, bob) = listen(rt, alloc, "bob")?;
     let (red, blue) = (&red, &blue);
-    let mut words = Vec::new(alloc);
-    for option in options {
-        words.push(*option)?;
-    }
-    words.push(ann.as_str())?;
-    words.push(bob.as_str())?;
+    let words = with_players(alloc, options, &[ann.as_str(), bob.as_str()])?;
     let words = words.as_slice();
     let ((times, dripped), outcome) = thread::join(
         rt,

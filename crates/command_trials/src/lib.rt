@@ -24,6 +24,8 @@ mod refereed;
 #[cfg(test)]
 mod rests;
 #[cfg(test)]
+mod retired;
+#[cfg(test)]
 mod scripts;
 #[cfg(test)]
 mod simulated;

@@ -55,6 +55,22 @@ pub fn strings(alloc: Global, words: &[&str]) -> Result<Vec<String>, AllocError>
     Ok(all)
 }
 
+/// The words of a command: its options, and behind them the players that it names.
+pub fn with_players<'a>(
+    alloc: Global,
+    options: &[&'a str],
+    players: &[&'a str],
+) -> Result<Vec<&'a str>, AllocError> {
+    let mut words = Vec::new(alloc);
+    for word in options {
+        words.push(*word)?;
+    }
+    for word in players {
+        words.push(*word)?;
+    }
+    Ok(words)
+}
+
 /// A player that never answers.
 #[derive(Drop)]
 pub struct SilentPlayer;

@@ -2,3 +2,4 @@ pub mod Lone
 pub mod LoneLaws
 pub mod Crowd
 pub mod CrowdLaws
+pub mod StrictMatches
