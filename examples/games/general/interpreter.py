@@ -138,26 +138,21 @@ class Look:
             yield values
             return
         literal, rest = with_values(body[0], values), body[1:]
-        if name_of(literal) in ("not", "distinct") and not is_ground(literal):
-            yield from self.all_values((*rest, literal), values)
-            return
-        for each in self.values_of(literal, values):
-            yield from self.all_values(rest, each)
-
-    def values_of(self, literal, values):
         match literal:
-            case ("not", inner):
-                if not any(True for _ in self.values_of(inner, values)):
-                    yield values
-            case ("distinct", one, other):
-                if one != other:
-                    yield values
             case ("or", *inners):
                 for inner in inners:
-                    yield from self.all_values((inner,), values)
+                    yield from self.all_values((inner, *rest), values)
+            case ("not", _) | ("distinct", _, _) if not is_ground(literal):
+                yield from self.all_values((*rest, literal), values)
+            case ("not", inner):
+                if not any(True for _ in self.all_values((inner,), {})):
+                    yield from self.all_values(rest, values)
+            case ("distinct", one, other):
+                if one != other:
+                    yield from self.all_values(rest, values)
             case _:
                 for answer in self.answers(literal):
-                    yield fitted(literal, answer, values)
+                    yield from self.all_values(rest, fitted(literal, answer, values))
 
     def holds(self, sentence):
         return bool(self.answers(sentence))
