@@ -4,23 +4,27 @@ PREFIX := /usr/local
 PROGRAM := bin/ggp_manager
 EDITED := $(if $(filter edits,$(firstword $(MAKECMDGOALS))),$(wordlist 2,$(words $(MAKECMDGOALS)),$(MAKECMDGOALS)))
 
-.PHONY: help demo match build install check edits test $(EDITED)
+.PHONY: help demo match games build install check edits test $(EDITED)
 
 help:
 	@echo 'make demo            a match of Countdown through the program, line by line'
 	@echo 'make match           a match over HTTP between two players on this computer, and its record'
+	@echo 'make games           a match over HTTP of each game of examples/games/general, instantiated by gringo'
 	@echo 'make build           proves the program and leaves it at $(PROGRAM)'
 	@echo 'make install         puts the proved program into $(PREFIX)/bin (PREFIX=DIR: into DIR/bin)'
 	@echo 'make check           proves every crate; what has not changed is not proved again'
 	@echo 'make edits [NAME..]  tries the wrong edits of the crates (all, or those named): the prover must refuse each'
 	@echo 'make test            the gate: every proof from nothing, wrong edits, the tests, the programs'
 
-# The program that `demo` and `match` run is the proved one where it is up to date, else one that is not proved yet.
+# The program that `demo`, `match` and `games` run is the proved one where it is up to date, else one that is not proved yet.
 demo:
 	@program=$$(tools/program) && examples/side-by-side examples/games/countdown.script "$$program" desk --countdown 3
 
 match:
 	@program=$$(tools/program) && examples/play-a-match "$$program" examples/games/tictactoe.kif
+
+games:
+	@program=$$(tools/program) && tools/games "$$program"
 
 build:
 	@tools/prove build
