@@ -1,6 +1,6 @@
 -- Lists of which something is known at each place.
 use Rattle.std.proofs.Common.{◌≡◌, ℕ, zero, suc, ◌+◌, ◌<◌, List, [], ◌∷◌, ◌++◌, Some, length, map, drop, All, refl, subst, sym, ap, ◌∙◌, arith}
-use Rattle.std.specs.Prelude.{slice_get}
+use Rattle.std.specs.Prelude.{slice_get, slice_index_or}
 use Rattle.std.proofs.lemmas.Option.{slice_get_within, get_or_from_slice_get}
 
 abbrev pub EachAt : {A : Type 0} → (ℕ → A → Type 0) → List A → Type 0
@@ -47,3 +47,11 @@ All-map_at Q f (x ∷ xs) each (suc k) d lt = All-map_at Q f xs (λ n a is. each
 
 pub all_at : {A : Type 0} (Q : A → Type 0) (xs : List A) (k : ℕ) (x : A) → All Q xs → slice_get xs k ≡ Some x → Q x
 all_at Q xs k x all is = subst Q (get_or_from_slice_get xs k x x is) (all k x (slice_get_within xs k x is))
+
+-- what stands behind the first of a list stands one place later in the list
+pub behind_first_at : {A : Type 0} (all rest : List A) → rest ≡ drop 1 all → (k : ℕ) (x : A) → slice_get rest k ≡ Some x → (k + 1 < length all) × (slice_index_or all (k + 1) x ≡ x)
+behind_first_at {A} all rest is k x at = at_behind all k x (subst (λ xs. slice_get xs k ≡ Some x) is at)
+  where
+    at_behind : (xs : List A) (n : ℕ) (y : A) → slice_get (drop 1 xs) n ≡ Some y → (n + 1 < length xs) × (slice_index_or xs (n + 1) y ≡ y)
+    at_behind [] n y found = absurd cc
+    at_behind (z ∷ zs) n y found = (omega (arith, slice_get_within zs n y found), (let next : suc n ≡ n + 1 = omega arith in subst (λ m. slice_index_or (z ∷ zs) m y ≡ y) next (get_or_from_slice_get zs n y y found)))

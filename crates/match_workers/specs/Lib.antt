@@ -4,5 +4,6 @@ pub mod Events
 pub mod AttendFaults
 pub mod Steps
 pub mod Attending
+pub mod LineParts
 pub mod Ends
 pub mod Internal

@@ -1,29 +1,36 @@
 //! A whole match between players.
-ghost use Rattle.std.specs.Prelude.{◌≡◌, ◌+◌, ◌++◌, map, All, IfOk, OnOk, length, slice_index, vec_len};
+ghost use Rattle.std.specs.Prelude.{◌≡◌, ◌∷◌, ◌++◌, [], ◌+◌, ◌<◌, map, IfOk, OnOk, length, vec_len};
+ghost use Rattle.call_history.specs.RingLines.{posted_calls, taken_replies, SameLine, SamePorts, AreEndsOf as AreDeskEnds, IsLineOf, IsNewLine};
 ghost use Rattle.match_desk.specs.Headline.{HasHeadline};
+ghost use Rattle.match_desk.specs.ManagerValue.{opening};
+ghost use Rattle.match_desk.specs.declared.call.Reply.TheVariants.{Opened as IsOpened};
 ghost use Rattle.match_wire.specs.declared.brief.Brief.{Brief as Told};
 ghost use Rattle.match_workers.specs.Briefs.{AreRoleNames, IsBriefOf};
 ghost use Rattle.match_workers.specs.Ends.{AreEndsOf};
-ghost use Rattle.match_workers.specs.Internal.DeskLines.{IsSeatLine, HasOpened};
+ghost use Rattle.match_workers.specs.LineParts.{open_call, OpensMatch, AreRoleLines, AreCounts};
+ghost use Rattle.match_workers.specs.Internal.LeftLines.{AreSeatLines, HasFinished, AreLeftLines};
 
 use crate::attend_fault::AttendFault;
+use crate::finishing::{Finished, ROOM, close_match, finish_all, finish_line};
+use crate::holder::{DeskHolder, ask_own};
 use crate::player::Player;
-use crate::seat::Attended;
 use crate::seats::{Attendance, attend_all, seat_players};
 use call_history::{
-    CallFault, Closed, LockDesk, LockLine, LockWire, MAX_ENTRIES, Object, open_lock,
+    AskFault, CallFault, Closed, DeskFault, LineEnd, MAX_ENTRIES, Object, RingDesk, RingLine,
+    RingWire, open_rings,
 };
 use game_core::{Game, Text, Texts};
 use kif_text::Expr;
 use match_book::Setup;
-use match_desk::{Call, Manager, Refusal, Reply, close_desk};
+use match_desk::{Call, Manager, Refusal, Reply};
 use match_wire::Brief;
 use std::alloc::{AllocError, AllocFailed, Global};
-use std::marker::Brand;
 use std::sync::Wait;
-use std::sync::ledger::{Blank, Ledger};
 use std::thread::Threads;
 use thiserror::Error;
+
+/// How many calls a worker's wire tries to post, or replies to take, before it gives up.
+const TURNS: u64 = 1_000_000_000;
 
 /// Why a match was not refereed to a closed desk.
 #[derive(Clone, Copy, Debug, PartialEq, Eq, Error)]
@@ -54,9 +61,19 @@ impl<T: Drop> From<AllocFailed<T>> for RefereeFault {
     }
 }
 
-impl From<CallFault> for RefereeFault {
-    fn from(fault: CallFault) -> RefereeFault {
+impl From<AskFault> for RefereeFault {
+    fn from(fault: AskFault) -> RefereeFault {
         match fault {
+            AskFault::Full => RefereeFault::Full,
+            AskFault::Memory => RefereeFault::Memory,
+            AskFault::Stalled => RefereeFault::Unclosed,
+        }
+    }
+}
+
+impl From<DeskFault> for RefereeFault {
+    fn from(fault: DeskFault) -> RefereeFault {
+        match fault.cause {
             CallFault::Full => RefereeFault::Full,
             CallFault::Memory => RefereeFault::Memory,
         }
@@ -81,10 +98,11 @@ struct Plan<P> {
     tries: u64,
 }
 
-/// What attending the roles of a match leaves: the lines of its desk, and how attending each role ended.
+/// A match that is over: its desk, the ends of all lines, and how attending each role ended.
 #[derive(Drop)]
-struct Returned<L: Ledger> {
-    lines: Vec<LockLine<L>>,
+struct Played<O: Object> {
+    desk: RingDesk<O>,
+    lines: Vec<LineEnd<O>>,
     ends: Vec<Result<u64, AttendFault>>,
 }
 
@@ -118,15 +136,38 @@ fn brief_of<G: Game>(
     })
 }
 
+/// A desk of this one game, with a line for the calling thread, which holds the desk, and one for each role.
+fn open_desk<G: Game + Drop>(
+    alloc: Global,
+    game: G,
+) -> Result<(DeskHolder<Manager<G>>, Vec<RingLine<Manager<G>>>), AllocError>
+    ensures games { IfOk result (λ opened. opened.0.desk.journal.object.games ≡ game ∷ []) }
+    ensures desk { IfOk result (λ opened. length opened.0.desk.ports ≡ (G.rules game).roles + 1) }
+    ensures first { IfOk result (λ opened. IsNewLine opened.0.desk.ports 0 opened.0.line) }
+    ensures seats { IfOk result (λ opened. AreSeatLines opened.0.desk.ports opened.1.items) }
+    ensures one_each { IfOk result (λ opened. length opened.1.items ≡ (G.rules game).roles) }
+{
+    let line_count = game.roles() as u32 + 1;
+    let mut games = Vec::new(alloc);
+    games.push(game)?;
+    let manager = Manager::new(alloc, games)?;
+    let Ok((desk, mut lines)) = open_rings(alloc, manager, MAX_ENTRIES, line_count, ROOM) else {
+        return Err(AllocError);
+    };
+    let line = lines.remove(0);
+    Ok((DeskHolder { desk, line }, lines))
+}
+
 /// Opens the match, which is of the desk's one game.
-fn open_match<G: Game, L: Ledger, R: Wait>(
-    rt: &R,
-    desk: &LockDesk<Manager<G>, L>,
-    line: &mut LockLine<L>,
+fn open_match<G: Game + Drop>(
+    holder: &mut DeskHolder<Manager<G>>,
     setup: Setup,
 ) -> Result<(), RefereeFault>
-    ensures number { line.new.number ≡ line.old.number }
-    ensures made { OnOk result (line.new.made ≡ line.old.made + 1) }
+    ensures line { SameLine holder.old.line holder.new.line }
+    ensures ports { SamePorts holder.old.desk.ports holder.new.desk.ports }
+    ensures games { holder.new.desk.journal.object.games ≡ holder.old.desk.journal.object.games }
+    ensures call { OnOk result (posted_calls holder.new.line ≡ posted_calls holder.old.line ++ open_call setup ∷ []) }
+    ensures reply { OnOk result (taken_replies holder.new.line ≡ taken_replies holder.old.line ++ IsOpened ∷ []) }
 {
     let Setup {
         id,
@@ -143,130 +184,70 @@ fn open_match<G: Game, L: Ledger, R: Wait>(
         strikes: u32::from(strikes),
         players,
     };
-    match desk.ask(rt, line, call)? {
+    match ask_own(holder, call)? {
+        Reply::Opened => Ok(()),
         Reply::Refused(refusal) => Err(RefereeFault::Refused(refusal)),
-        _ => Ok(()),
+        _ => Err(RefereeFault::Unclosed),
     }
 }
 
 /// A wire over each line of a desk.
-fn wires_over<'a, O: Object, L: Ledger, R: Wait>(
-    rt: &'a R,
+fn wires_over<O: Object + Drop>(
     alloc: Global,
-    desk: &'a LockDesk<O, L>,
-    lines: Vec<LockLine<L>>,
-) -> Result<Vec<LockWire<'a, O, L, R>>, AllocError>
-    ensures { IfOk result (λ wires. wires.items ≡ lines.items) }
+    lines: Vec<RingLine<O>>,
+) -> Result<Vec<RingWire<O>>, AllocError>
+    ensures { IfOk result (λ wires. map (λ w. w.line) wires.items ≡ lines.items) }
 {
     let mut wires = Vec::with_capacity(alloc, lines.len())?;
     for line in lines {
-        wires.push(LockWire::new(rt, desk, line))?;
+        wires.push(RingWire::new(line, TURNS))?;
     }
     Ok(wires)
 }
 
-/// The lines and the ends that seats left, put behind those that are there.
-fn collect<O: Object, L: Ledger, R: Wait>(
-    attended: Vec<Attended<LockWire<'_, O, L, R>>>,
-    lines: &mut Vec<LockLine<L>>,
-    ends: &mut Vec<Result<u64, AttendFault>>,
-) -> Result<(), AllocError>
-    ensures lines { OnOk result (lines.new.items ≡ lines.old.items ++ map (λ a. a.wire) attended.entry.items) }
-    ensures ends { OnOk result (ends.new.items ≡ ends.old.items ++ map (λ a. a.end) attended.entry.items) }
-{
-    for Attended { wire, end } in attended {
-        lines.push(wire.end())?;
-        ends.push(end)?;
-    }
-    Ok(())
-}
-
-/// Attends the roles of a match: each over its line of the desk, beside the first, over which the match was opened.
-// A function of its own: that a manager may go to other threads is shown here, apart from all else.
-fn attend_match<G, L, P, R>(
+/// Attends the roles of a match, each over its line of the desk, while the calling thread serves the desk. Then no line posts any more.
+fn attend_match<G, P, R>(
     rt: &R,
     alloc: Global,
-    desk: &LockDesk<Manager<G>, L>,
-    first: LockLine<L>,
-    others: Vec<LockLine<L>>,
+    holder: DeskHolder<Manager<G>>,
+    others: Vec<RingLine<Manager<G>>>,
     plan: Plan<P>,
-) -> Result<Returned<L>, AllocError>
+) -> Result<Played<Manager<G>>, AllocError>
 where
     G: Game + Drop + Send,
     G::State: Send,
     G::Move: Send,
-    L: Ledger + Send + Sync,
     P: Player + Drop + Send,
     R: Threads + Wait + Sync,
-    requires first { HasOpened first }
-    requires others { All IsSeatLine others.items }
-    requires one_each { length others.items ≡ length plan.brief.roles }
-    ensures opened { IfOk result (λ r. All HasOpened r.lines.items) }
-    ensures ends { IfOk result (λ r. AreEndsOf P.handed plan.brief plan.tries plan.players.items r.ends.items) }
+    requires first { IsLineOf holder.desk.ports holder.line }
+    requires seats { AreSeatLines holder.desk.ports others.items }
+    requires roles { length others.items ≡ length plan.brief.roles }
+    requires ports { length holder.desk.ports ≡ length others.items + 1 }
+    ensures ports { IfOk result (λ played. SamePorts holder.desk.ports played.desk.ports) }
+    ensures games { IfOk result (λ played. played.desk.journal.object.games ≡ holder.desk.journal.object.games) }
+    ensures lines { IfOk result (λ played. AreDeskEnds played.desk.ports played.lines.items) }
+    ensures first { IfOk result (λ played. HasFinished holder.line played.lines.items) }
+    ensures ends { IfOk result (λ played. AreLeftLines P.handed plan.brief plan.tries plan.players.items played.lines.items played.ends.items) }
 {
     let Plan {
         brief,
         players,
         tries,
     } = plan;
-    let count = others.len();
-    let mut lines = Vec::with_capacity(alloc, count + 1)?;
-    let mut ends = Vec::with_capacity(alloc, count)?;
-    let wires = wires_over(rt, alloc, desk, others)?;
+    let wires = wires_over(alloc, others)?;
     let seats = seat_players(alloc, &brief, wires, players)?;
-    let first = LockWire::new(rt, desk, first);
-    let Attendance { first, attended } = attend_all(rt, alloc, first, seats, tries)?;
-    lines.push(first.end())?;
-    collect(attended, &mut lines, &mut ends)?;
-    Ok(Returned { lines, ends })
-}
-
-/// Referees a match on a desk of this ledger.
-fn referee_on<G, L, P, R>(
-    rt: &R,
-    alloc: Global,
-    blank: Blank,
-    game: G,
-    setup: Setup,
-    plan: Plan<P>,
-) -> Result<Refereed<G>, RefereeFault>
-where
-    G: Game + Drop + Send,
-    G::State: Send,
-    G::Move: Send,
-    L: Ledger + Send + Sync,
-    P: Player + Drop + Send,
-    R: Threads + Wait + Sync,
-    requires name { blank.name ≡ L.name }
-    requires parts { blank.parts ≡ L.parts }
-    requires one_each { blank.parts ≡ (G.rules game).roles + 1 }
-    requires roles { length plan.brief.roles ≡ (G.rules game).roles }
-    ensures headline { IfOk result (λ r. HasHeadline G.rules ((G.rules game).roles + 1) r.closed.object r.closed.history.items r.closed.made_by_line.items) }
-    ensures opened { IfOk result (λ r. slice_index r.closed.made_by_line.items 0 ≡ 1) }
-    ensures ends { IfOk result (λ r. AreEndsOf P.handed plan.brief plan.tries plan.players.items r.ends.items) }
-{
-    let line_count = game.roles() as u32 + 1;
-    let mut games = Vec::new(alloc);
-    games.push(game)?;
-    let manager = Manager::new(alloc, games)?;
-    let opened = open_lock::<Manager<G>, L>(alloc, blank, manager, MAX_ENTRIES, line_count);
-    let Ok((desk, mut lines)) = opened else {
-        return Err(RefereeFault::Memory);
-    };
-    let mut first = lines.remove(0);
-    open_match(rt, &desk, &mut first, setup)?;
-    let Returned { lines, ends } = attend_match(rt, alloc, &desk, first, lines, plan)?;
-    match close_desk(desk, lines) {
-        Ok(closed) => Ok(Refereed { closed, ends }),
-        Err(_) => Err(RefereeFault::Unclosed),
-    }
+    let Attendance { holder, attended } = attend_all(rt, alloc, holder, seats, tries)?;
+    let DeskHolder { desk, line } = holder;
+    let Finished { mut lines, ends } = finish_all(alloc, attended)?;
+    lines.push(finish_line(line))?;
+    Ok(Played { desk, lines, ends })
 }
 
 /// Referees a match of the game between these players, one for each name in the setup, to its end.
 ///
 /// A desk of this one game is opened, with a line for the calling thread and one for each role. The calling thread opens the
-/// match, and each role is attended in a thread of its own, for so many tries at most, with these rules in START. Then the desk
-/// is closed. What it leaves is known as of any closed desk of matches: the history, replayed call by call on a manager of one
+/// match, and each role is attended in a thread of its own, for so many tries at most, with these rules in START, while the calling
+/// thread serves the desk. Then the desk is closed. What it leaves is known as of any closed desk of matches: the history, replayed call by call on a manager of one
 /// thread from the games without a match, gives every kept reply and the manager as it stands, and holds as many calls as the
 /// lines made; each match is lawful, its recorded moves were legal, and the history took exactly one answer for each of them, of
 /// which the move and its error are the judgement. Of each player it is known what it was told, and how attending it ended.
@@ -288,10 +269,17 @@ where
     requires { vec_len players ≡ length setup.players }
 
     ensures headline { IfOk result (λ r. HasHeadline G.rules ((G.rules game).roles + 1) r.closed.object r.closed.history.items r.closed.made_by_line.items) }
-    ensures opened { IfOk result (λ r. slice_index r.closed.made_by_line.items 0 ≡ 1) }
 
-    // Each player was told of this match, and attended as the role at its place.
-    ensures ends { IfOk result (λ r. (told : Told) × IsBriefOf (G.rules game) setup rules.items told × AreEndsOf P.handed told tries players.items r.ends.items) }
+    // The history begins at the game handed in without a match, and its first line opened the match with the setup handed in.
+    ensures game { IfOk result (λ r. opening r.closed.object ≡ record { games = game ∷ []; matches = [] }) }
+    ensures first_line { IfOk result (λ r. OpensMatch setup r.closed.history.items) }
+
+    // Each other line is a role's, and made that role's calls alone.
+    ensures role_lines { IfOk result (λ r. AreRoleLines setup.id (length r.ends.items) r.closed.history.items) }
+    ensures counts { IfOk result (λ r. AreCounts r.closed.history.items r.closed.made_by_line.items) }
+
+    // Each player was told of this match, and attended as the role at its place, over the role's line.
+    ensures ends { IfOk result (λ r. (told : Told) × IsBriefOf (G.rules game) setup rules.items told × AreEndsOf P.handed told tries players.items r.closed.history.items r.ends.items) }
 {
     let brief = brief_of(alloc, &game, &setup, rules)?;
     let plan = Plan {
@@ -299,6 +287,9 @@ where
         players,
         tries,
     };
-    let blank = Blank::new(game.roles() as u64 + 1);
-    referee_on::<G, Brand, P, R>(rt, alloc, blank, game, setup, plan)
+    let (mut holder, others) = open_desk(alloc, game)?;
+    open_match(&mut holder, setup)?;
+    let Played { desk, lines, ends } = attend_match(rt, alloc, holder, others, plan)?;
+    let closed = close_match(desk, lines)?;
+    Ok(Refereed { closed, ends })
 }

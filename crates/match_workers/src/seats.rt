@@ -1,27 +1,30 @@
 //! Roles of matches, each attended over a wire of its own in a thread of its own.
 ghost use Rattle.std.specs.Prelude.{◌≡◌, ◌<◌, ℕ, [], Some, length, slice_get, IfOk};
+ghost use Rattle.call_history.specs.RingLines.{SamePorts};
 ghost use Rattle.match_workers.specs.Internal.Seats.{AreSeatsOf, IsLeftBy, AreLeftBy};
 ghost use Rattle.match_workers.specs.Internal.Promises.{IsKept};
 ghost use denote.Param.Send.{IsSend, IsSync};
 
 use crate::attend_fault::AttendFault;
 use crate::attending::attend;
+use crate::holder::{DeskHolder, ask_own, serve_until};
 use crate::player::Player;
 use crate::seat::{Attended, Seat};
-use call_history::Wire;
+use call_history::{Object, Wire};
 use match_book::Due;
 use match_desk::{Call, Reply};
 use match_wire::Brief;
 use std::alloc::{AllocError, Global};
 use std::snapshot::Snapshot;
 use std::sync::Wait;
+use std::sync::atomic::{AtomicU64, Ordering};
 use std::thread;
 use std::thread::{Promise, PromisedHandle, Threads};
 
-/// What seats leave that were all attended: each in its place, beside the wire that was not a role's.
+/// What seats leave that were all attended, each in its place, beside the desk that served them.
 #[derive(Drop)]
-pub struct Attendance<W> {
-    pub first: W,
+pub struct Attendance<O: Object, W> {
+    pub holder: DeskHolder<O>,
     pub attended: Vec<Attended<W>>,
 }
 
@@ -77,7 +80,7 @@ pub fn seat_players<'a, P: Drop, W: Drop>(
     Ok(seats)
 }
 
-/// Attends a role over its wire.
+/// Attends a role over its wire, and then counts itself as ended.
 fn attend_seat<P: Player + Drop, W: Wire<Call = Call, Reply = Reply>>(
     alloc: Global,
     brief: &Brief,
@@ -85,6 +88,7 @@ fn attend_seat<P: Player + Drop, W: Wire<Call = Call, Reply = Reply>>(
     player: P,
     wire: W,
     tries: u64,
+    ended: &AtomicU64,
 ) -> Attended<W>
     requires { role < length brief.now.roles }
     ensures { IsLeftBy W.Wire P.Player brief.now role tries player wire result }
@@ -92,6 +96,7 @@ fn attend_seat<P: Player + Drop, W: Wire<Call = Call, Reply = Reply>>(
     let mut player = player;
     let mut wire = wire;
     let end = attend(alloc, &mut wire, &mut player, brief, role, tries);
+    ended.fetch_add(1, Ordering::SeqCst);
     Attended { wire, end }
 }
 
@@ -114,26 +119,29 @@ fn roles_of<'a, P, W>(
 
 /// Aborts the matches of these roles, and misses the roles' answers: so the matches end, and with them the work of those who
 /// attend their other roles.
-fn abort_without<W: Wire<Call = Call, Reply = Reply>>(
+fn abort_without<O: Object<Call = Call, Reply = Reply>>(
     alloc: Global,
-    wire: &mut W,
+    holder: &mut DeskHolder<O>,
     roles: &[Unattended<'_>],
 ) -> Result<(), AttendFault> {
     for unattended in roles {
         let Unattended { brief, role } = *unattended;
         let id = brief.id.copy(alloc)?;
-        wire.ask(Call::Abort { id })?;
+        ask_own(holder, Call::Abort { id })?;
         let id = brief.id.copy(alloc)?;
-        let reply = wire.ask(Call::Next { id, role })?;
+        let reply = ask_own(holder, Call::Next { id, role })?;
         if let Reply::Due(Due::Owe { round, .. }) = reply {
             let id = brief.id.copy(alloc)?;
             let broken = true;
-            wire.ask(Call::Miss {
-                id,
-                role,
-                round,
-                broken,
-            })?;
+            ask_own(
+                holder,
+                Call::Miss {
+                    id,
+                    role,
+                    round,
+                    broken,
+                },
+            )?;
         }
     }
     Ok(())
@@ -156,32 +164,41 @@ fn join_seats<'a, P: Player, W: Wire<Call = Call, Reply = Reply> + Drop, R: Thre
     Ok(attended)
 }
 
-/// Attends each seat in a thread of its own, for so many tries at most. What the seats leave stands in their order.
+/// Attends each seat in a thread of its own, for so many tries at most, while the calling thread serves the desk. What the seats
+/// leave stands in their order.
 ///
-/// Where a thread can't be made no further one starts, and the matches of the seats that are left are aborted over the first
-/// wire: a match waits for all its roles. Once those that run have ended, the answer is want of memory.
-pub fn attend_all<W, P, R>(
+/// Where a thread can't be made no further one starts, and the matches of the seats that are left are aborted over the holder's
+/// line: a match waits for all its roles. Once those that run have ended, the answer is want of memory.
+pub fn attend_all<O, W, P, R>(
     rt: &R,
     alloc: Global,
-    first: W,
+    holder: DeskHolder<O>,
     seats: Vec<Seat<'_, P, W>>,
     tries: u64,
-) -> Result<Attendance<W>, AllocError>
+) -> Result<Attendance<O, W>, AllocError>
 where
+    O: Object<Call = Call, Reply = Reply> + Drop,
     W: Wire<Call = Call, Reply = Reply> + Drop + Send,
     P: Player + Drop + Send,
     R: Threads + Wait + Sync,
-    ensures first { IfOk result (λ a. a.first ≡ first) }
+    ensures line { IfOk result (λ a. a.holder.line ≡ holder.line) }
+    ensures ports { IfOk result (λ a. SamePorts holder.desk.ports a.holder.desk.ports) }
+    ensures opening { IfOk result (λ a. O.opening a.holder.desk.journal.object ≡ O.opening holder.desk.journal.object) }
     ensures left { IfOk result (λ a. AreLeftBy W.Wire P.Player tries seats.entry.items a.attended.items) }
 {
+    let count = AtomicU64::new(0);
+    let ended = &count;
     thread::scope(
         thread::scope_env(),
         rt,
-        move |scope| -> Result<Attendance<W>, AllocError>
+        move |scope| -> Result<Attendance<O, W>, AllocError>
             requires sent { IsSend W.row × IsSend P.row }
-            ensures first { IfOk result (λ a. a.first ≡ first) }
+            ensures line { IfOk result (λ a. a.holder.line ≡ holder.line) }
+            ensures ports { IfOk result (λ a. SamePorts holder.desk.ports a.holder.desk.ports) }
+            ensures opening { IfOk result (λ a. O.opening a.holder.desk.journal.object ≡ O.opening holder.desk.journal.object) }
             ensures left { IfOk result (λ a. AreLeftBy W.Wire P.Player tries seats.entry.items a.attended.items) }
         {
+            let mut holder = holder;
             let count = seats.len();
             let roles = roles_of(alloc, seats.as_slice())?;
             let mut handles = Vec::with_capacity(alloc, count)?;
@@ -203,7 +220,7 @@ where
                 let work = move || -> Attended<W>
                     requires { role < length brief.now.roles }
                     ensures { IsLeftBy W.Wire P.Player brief.entry.now role tries player wire result }
-                { attend_seat(alloc, brief, role, player, wire, tries) };
+                { attend_seat(alloc, brief, role, player, wire, tries, ended) };
                 let Ok(handle) = scope.spawn_with(promise, work) else {
                     break;
                 };
@@ -211,15 +228,16 @@ where
             }
             let started = handles.len();
             if started < count {
-                let mut first = first;
-                let _ = abort_without(alloc, &mut first, &roles[started..]);
+                let _ = abort_without(alloc, &mut holder, &roles[started..]);
+                serve_until(rt, &mut holder.desk, ended, started as u64);
                 for handle in handles {
                     let _ = handle.join(rt);
                 }
                 return Err(AllocError);
             }
+            serve_until(rt, &mut holder.desk, ended, started as u64);
             let attended = join_seats(rt, handles, attended)?;
-            Ok(Attendance { first, attended })
+            Ok(Attendance { holder, attended })
         },
     )
 }

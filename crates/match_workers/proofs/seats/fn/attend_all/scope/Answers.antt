@@ -44,7 +44,9 @@ returns g c =
     let given = c.into_iter-seat-iterator.ensures.into_iter_gives in
     let joined = c.in_ok-attended-2.ensures in
     record {
-      first = refl;
+      line = refl;
+      ports = c.serve_until-2.ensures.ports;
+      opening = c.serve_until-2.ensures.opening;
       left = record {
         one_each = omega (arith, joined.one_each, was.left, given.1, c.len-started.ensures, c.loop-seat.handles.ok.0, c.if-started-count.false, c.len-count.ensures, c.captures.seats.ok.0);
         each = λ k left is.

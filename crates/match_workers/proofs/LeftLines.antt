@@ -1,0 +1,156 @@
+-- The lines of a match's desk, as its workers leave them.
+use Rattle.std.proofs.Common.{◌≡◌, ℕ, ◌+◌, ◌<◌, List, [], ◌∷◌, ◌++◌, length, map, Option, Some, option_map, Result, refl, ap, sym, subst, ◌∙◌, arith, rules, get_or, length-append}
+use Rattle.std.specs.Prelude.{slice_get, Contains}
+use Rattle.std.proofs.lemmas.List.{length-map}
+use Rattle.std.proofs.lemmas.Option.{slice_get-map, slice_get_within, slice_get-get_or, get_or_from_slice_get}
+use Rattle.call_history.specs.declared.object.Object.{Ghosts}
+use Rattle.call_history.specs.declared.port.Port.{Port}
+use Rattle.call_history.specs.declared.ring_line.RingLine.{RingLine}
+use Rattle.call_history.specs.declared.ring_line.LineEnd.{LineEnd}
+use Rattle.call_history.specs.declared.ring_wire.RingWire.{RingWire}
+use Rattle.call_history.specs.declared.wire.Wire as Wire
+use Rattle.call_history.specs.RingLines.{posted_calls, taken_replies, SameLine, SamePorts, IsLineOf, AreEndsOf, IsNewLine}
+use Rattle.call_history.proofs.DeskLines.{line_of_new, line_of_same}
+use Rattle.call_history.proofs.ReturnedEnds.{port_of_same}
+use Rattle.call_history.proofs.NewLines.{before_last, at_last}
+use Rattle.match_desk.specs.declared.call.Call.{Call}
+use Rattle.match_desk.specs.declared.call.Reply.{Reply}
+use Rattle.match_wire.specs.declared.brief.Brief.{Brief}
+use Rattle.match_workers.specs.declared.attend_fault.AttendFault.{AttendFault}
+use Rattle.match_workers.specs.declared.player.Player as Player
+use Rattle.match_workers.specs.declared.seat.Attended.{Attended}
+use Rattle.match_workers.specs.declared.seat.Seat.{Seat}
+use Rattle.match_workers.specs.LineParts.{line_of}
+use Rattle.match_workers.specs.Internal.LeftLines.{AreSeatLines, IsFinishedOf, HasFinished, AreFinishedOf, IsLeftLine, AreLeftLines}
+use Rattle.match_workers.specs.Internal.Seats.{AreSeatsOf, AreLeftBy}
+use Rattle.match_workers.proofs.Places.{map_at}
+use Rattle.match_workers.proofs.SeatEnds.{same_ended}
+use Rattle.match_workers.proofs.Tellings.{same_telling}
+
+-- one of a list is one of a longer list
+pub contains_before : {X : Type 0} (xs ys : List X) (last x : X) → ys ≡ xs ++ last ∷ [] → Contains xs x → Contains ys x
+contains_before {X} xs ys last x is (k, within, at) =
+    subst (λ zs. Contains zs x) (sym is) (k, omega (arith, within, length-append xs (last ∷ [])), before_last xs last k x within ∙ at)
+
+pub contains_last : {X : Type 0} (xs ys : List X) (last : X) → ys ≡ xs ++ last ∷ [] → Contains ys last
+contains_last {X} xs ys last is = subst (λ zs. Contains zs last) (sym is) (length xs, omega (arith, length-append xs (last ∷ [])), at_last xs last (length xs) last refl)
+
+-- what stands at a place
+pub place_of : {X : Type 0} (xs : List X) (k : ℕ) → k < length xs → (x : X) × (slice_get xs k ≡ Some x)
+place_of [] k within = absurd (omega arith)
+place_of (x ∷ xs) k within = (get_or (x ∷ xs) k x, slice_get-get_or (x ∷ xs) k x within)
+
+pub same_at : {X : Type 0} (xs : List X) (k : ℕ) (x y : X) → slice_get xs k ≡ Some x → slice_get xs k ≡ Some y → x ≡ y
+same_at xs k x y one other = sym (get_or_from_slice_get xs k x x one) ∙ get_or_from_slice_get xs k y x other
+
+pub contains_at : {X : Type 0} (xs : List X) (k : ℕ) (x : X) → slice_get xs k ≡ Some x → Contains xs x
+contains_at xs k x is = (k, slice_get_within xs k x is, get_or_from_slice_get xs k x x is)
+
+module _ {O : Type 0} {G : Ghosts O Call Reply} {P : Type 0} (w : Wire.Ghosts (RingWire O Call Reply G) Call Reply) (p : Player.Ghosts P)
+    (calls : (x : RingWire O Call Reply G) → w.calls x ≡ Some (posted_calls x.line))
+    (replies : (x : RingWire O Call Reply G) → w.replies x ≡ Some (taken_replies x.line))
+    (on_line : (x y : RingWire O Call Reply G) → w.same_line x y → SameLine x.line y.line)
+    (brief : Brief) (tries : ℕ) (players : List P)
+    (wires : List (RingWire O Call Reply G)) (seats : List (Seat P (RingWire O Call Reply G))) (attended : List (Attended (RingWire O Call Reply G)))
+    (others : List (RingLine O Call Reply G)) (lines : List (LineEnd O Call Reply G))
+    (seated : AreSeatsOf brief players wires seats) (left : AreLeftBy w p tries seats attended)
+    (on : map (λ (x : RingWire O Call Reply G). x.line) wires ≡ others)
+    (finished : AreFinishedOf (map (λ (a : Attended (RingWire O Call Reply G)). a.wire.line) attended) lines)
+    (ports : List (Port Call Reply)) (new : AreSeatLines ports others) where
+  -- a worker's wire, and the end of its line
+  record IsKept (k : ℕ) (end : LineEnd O Call Reply G) (a : Attended (RingWire O Call Reply G)) : Type 0 where
+    pub wire : RingWire O Call Reply G
+    pub is_wire : slice_get wires k ≡ Some wire
+    pub is_new : IsNewLine ports (line_of k) wire.line
+    pub line : SameLine wire.line a.wire.line
+    pub of_line : IsFinishedOf a.wire.line end
+
+  kept_at : (k : ℕ) (end : LineEnd O Call Reply G) (a : Attended (RingWire O Call Reply G)) → slice_get lines k ≡ Some end → slice_get attended k ≡ Some a → IsKept k end a
+  kept_at k end a at is =
+      let here = left.each k a is in
+      let sits = seated.each k here.seat here.is_seat in
+      let wire = here.seat.wire in
+      let found = finished.each k end at in
+      let whose = map_at (λ (x : Attended (RingWire O Call Reply G)). x.wire.line) attended k found.0 found.1 in
+      let same : a ≡ whose.0 = same_at attended k a whose.0 is whose.1 in
+      let line : found.0 ≡ a.wire.line = sym whose.2 ∙ sym (ap (λ (x : Attended (RingWire O Call Reply G)). x.wire.line) same) in
+      record {
+        wire = wire;
+        is_wire = sits.wire_is;
+        is_new = new k wire.line (subst (λ ls. slice_get ls k ≡ Some wire.line) on (slice_get-map (λ (x : RingWire O Call Reply G). x.line) wires k ∙ ap (λ o. option_map (λ (x : RingWire O Call Reply G). x.line) o) sits.wire_is));
+        line = on_line wire a.wire here.left_by.line;
+        of_line = subst (λ l. IsFinishedOf l end) line found.2;
+      }
+
+  -- as many lines as workers
+  line_count : length lines ≡ length attended
+  line_count = finished.one_each ∙ length-map attended (λ (a : Attended (RingWire O Call Reply G)). a.wire.line)
+
+  worker_at : (k : ℕ) (end : LineEnd O Call Reply G) → slice_get lines k ≡ Some end → (a : Attended (RingWire O Call Reply G)) × (slice_get attended k ≡ Some a)
+  worker_at k end at = place_of attended k (omega (arith, slice_get_within lines k end at, line_count))
+
+  same_line_trans : (a b c : RingLine O Call Reply G) → SameLine a b → SameLine b c → SameLine a c
+  same_line_trans a b c one other = search rules
+
+  -- each line is one of the desk
+  pub desk_line : (ports' : List (Port Call Reply)) → SamePorts ports ports' → length ports ≡ length others + 1 → (k : ℕ) (end : LineEnd O Call Reply G) → slice_get lines k ≡ Some end → IsLineOf ports' end.line
+  desk_line ports' same count k end at =
+      let worker = worker_at k end at in
+      let kept = kept_at k end worker.0 at worker.1 in
+      let within = slice_get_within wires k kept.wire kept.is_wire in
+      let below : line_of k < length ports = omega (arith, within, count, ap length on, length-map wires (λ (x : RingWire O Call Reply G). x.line)) in
+      line_of_same ports ports' kept.wire.line end.line same (same_line_trans kept.wire.line worker.0.wire.line end.line kept.line kept.of_line.same)
+      (line_of_new ports (line_of k) kept.wire.line below kept.is_new)
+
+  pub desk_ends : (ports' : List (Port Call Reply)) → SamePorts ports ports' → length ports ≡ length others + 1 → AreEndsOf ports' lines
+  desk_ends ports' same count k end within = desk_line ports' same count k (get_or lines k end) (slice_get-get_or lines k end within)
+
+  -- each end of a worker is told with its line
+  left_line : (all : List (LineEnd O Call Reply G)) → ((end : LineEnd O Call Reply G) → Contains lines end → Contains all end) → (role : ℕ) (end : Result ℕ AttendFault)
+      → slice_get (map (λ (a : Attended (RingWire O Call Reply G)). a.end) attended) role ≡ Some end
+      → (line : LineEnd O Call Reply G) × Contains all line × IsLeftLine p.handed brief tries players role line end
+  left_line all among role end is =
+      let found = map_at (λ (a : Attended (RingWire O Call Reply G)). a.end) attended role end is in
+      let a = found.0 in
+      let at = place_of lines role (omega (arith, slice_get_within attended role a found.1, line_count)) in
+      let kept = kept_at role at.0 a at.1 found.1 in
+      let here = left.each role a found.1 in
+      let seat = here.seat in
+      let sits = seated.each role seat here.is_seat in
+      let wire : seat.wire ≡ kept.wire = same_at wires role seat.wire kept.wire sits.wire_is kept.is_wire in
+      let before : w.calls seat.wire ≡ Some [] = ap (λ x. w.calls x) wire ∙ calls kept.wire ∙ ap Some kept.is_new.posted in
+      let untaken : w.replies seat.wire ≡ Some [] = ap (λ x. w.replies x) wire ∙ replies kept.wire ∙ ap Some kept.is_new.taken in
+      let after : w.calls a.wire ≡ Some (posted_calls at.0.line) = calls a.wire ∙ ap Some (sym kept.of_line.posted) in (
+        at.0,
+        among at.0 (contains_at lines role at.0 at.1),
+        record {
+          number = kept.of_line.same.0 ∙ kept.line.0 ∙ kept.is_new.number_is;
+          player = seat.player;
+          is_player = sits.player_is;
+          left = here.left_by.player_left;
+          replies = taken_replies a.wire.line;
+          are_first = kept.of_line.taken;
+          ended = same_ended _ _ _ _ _ _ _ _ _ _ _ sits.brief_is sits.role_is (same_telling _ _ _ _ _ _ before untaken refl) (same_telling _ _ _ _ _ _ after (replies a.wire) refl) found.2 here.left_by.ended;
+        },
+      )
+
+  pub left_lines : length others ≡ length brief.roles → (all : List (LineEnd O Call Reply G)) → ((end : LineEnd O Call Reply G) → Contains lines end → Contains all end) → (ends : List (Result ℕ AttendFault))
+      → ends ≡ map (λ (a : Attended (RingWire O Call Reply G)). a.end) attended → AreLeftLines p.handed brief tries players all ends
+  left_lines count all among ends is = record {
+    one_each = λ as_many. ap length is ∙ length-map attended (λ (a : Attended (RingWire O Call Reply G)). a.end) ∙ left.one_each
+        ∙ seated.one_each as_many (sym (length-map wires (λ (x : RingWire O Call Reply G). x.line)) ∙ ap length on ∙ count);
+    each = λ role end at. left_line all among role end (subst (λ es. slice_get es role ≡ Some end) is at);
+  }
+
+-- new lines stay new, whatever the desk serves
+module _ {O C R : Type 0} {G : Ghosts O C R} where
+  pub seats_of_ports : (ports ports' : List (Port C R)) (others : List (RingLine O C R G)) → SamePorts ports ports' → length ports ≡ length others + 1 → AreSeatLines ports others → AreSeatLines ports' others
+  seats_of_ports ports ports' others same count new role line at =
+      let was = new role line at in
+      let below : line_of role < length ports = omega (arith, slice_get_within others role line at, count) in
+      record {
+        number_is = was.number_is;
+        rings = λ p. port_of_same (get_or ports (line_of role) p) (get_or ports' (line_of role) p) line line (was.rings p) (same.each (line_of role) p below) (search rules);
+        posted = was.posted;
+        taken = was.taken;
+      }

@@ -1,0 +1,104 @@
+-- What the closed desk's history has of each line.
+use Rattle.std.proofs.Common.{◌≡◌, ◌==◌, ℕ, ◌+◌, ◌<◌, true, List, [], ◌∷◌, ◌++◌, length, map, All, Option, Some, Result, IsOk, refl, ap, sym, subst, ◌∙◌, arith, append_assoc, append-nil, length-append, get_or}
+use Rattle.std.specs.Prelude.{slice_get, Contains}
+use Rattle.std.specs.List.{filter}
+use Rattle.std.proofs.lemmas.List.{length-map}
+use Rattle.std.proofs.lemmas.List.Elements.{All-contains, All-head, filter_passes}
+use Rattle.std.proofs.lemmas.Grind.{common_steps}
+use mathlib.Core.List.{IsPrefix}
+use Rattle.call_history.specs.declared.journal.Entry.{Entry}
+use Rattle.call_history.specs.declared.object.Object.{Ghosts}
+use Rattle.call_history.specs.declared.ring_line.RingLine.{RingLine}
+use Rattle.call_history.specs.declared.ring_line.LineEnd.{LineEnd}
+use Rattle.call_history.specs.Parts.{part, calls_of, replies_of}
+use Rattle.call_history.specs.RingLines.{posted_calls, taken_replies}
+use Rattle.call_history.specs.RingClosing.{IsServed, TakesPrefix}
+use Rattle.match_book.specs.declared.setup.Setup.{Setup}
+use Rattle.match_desk.specs.declared.call.Call.{Call}
+use Rattle.match_desk.specs.declared.call.Reply.{Reply}
+use Rattle.match_desk.specs.declared.call.Reply.TheVariants.{Opened}
+use Rattle.match_wire.specs.declared.brief.Brief.{Brief}
+use Rattle.match_workers.specs.declared.attend_fault.AttendFault.{AttendFault}
+use Rattle.match_workers.specs.Handing.{Handed}
+use Rattle.match_workers.specs.Events.{telling}
+use Rattle.match_workers.specs.Ends.{HasEnded, IsEndOf, AreEndsOf}
+use Rattle.match_workers.specs.LineParts.{open_call, OpensMatch, line_of, IsRoleCall, AreRoleLines}
+use Rattle.match_workers.specs.Internal.LeftLines.{IsFinishedOf, HasFinished, IsLeftLine, AreLeftLines}
+use Rattle.match_workers.proofs.LeftLines.{place_of}
+use Rattle.match_workers.proofs.RoleCalls.{role_calls, all_replies}
+
+pub prefix_trans : {X : Type 0} (xs ys zs : List X) → IsPrefix xs ys → IsPrefix ys zs → IsPrefix xs zs
+prefix_trans xs ys zs (more, one) (still, other) = (more ++ still, sym (append_assoc xs more still) ∙ ap (λ l. l ++ still) one ∙ other)
+
+-- a front that is as long is the whole
+pub whole_prefix : {X : Type 0} (xs ys : List X) → IsPrefix xs ys → length xs ≡ length ys → xs ≡ ys
+whole_prefix xs ys ([], is) long = sym (append-nil xs) ∙ is
+whole_prefix xs ys (x ∷ more, is) long = absurd (omega (arith, ap length is, length-append xs (x ∷ more), long))
+
+-- one entry whose call and first reply are known
+one_entry : (entries : List (Entry Call Reply)) (call : Call) (reply : Reply) → All (λ e. e.line ≡ 0) entries → call ∷ [] ≡ calls_of entries → IsPrefix (reply ∷ []) (replies_of entries)
+    → entries ≡ record { line = 0; call = call; reply = reply } ∷ []
+one_entry [] call reply on calls replies = absurd cc
+one_entry (e ∷ f ∷ more) call reply on calls replies = absurd cc
+one_entry (e ∷ []) call reply on calls (more, replies) =
+    let line : e.line ≡ 0 = All-head (λ (x : Entry Call Reply). x.line ≡ 0) e [] on in
+    let is_call : e.call ≡ call = cc in
+    let is_reply : e.reply ≡ reply = cc in
+    ap (λ l. record { line = l; call = e.call; reply = e.reply } ∷ []) line ∙ ap (λ x. record { line = 0; call = x; reply = e.reply } ∷ []) is_call
+    ∙ ap (λ x. record { line = 0; call = call; reply = x } ∷ []) is_reply
+
+line_is : (e : Entry Call Reply) (line : ℕ) → (e.line == line) ≡ true → e.line ≡ line
+line_is e line is = grind (arith, common_steps, is)
+
+part_lines : (line : ℕ) (history : List (Entry Call Reply)) → All (λ e. e.line ≡ line) (part line history)
+part_lines line history = λ k d within. line_is (get_or (part line history) k d) line (filter_passes (λ (e : Entry Call Reply). e.line == line) history k d within)
+
+module _ {O : Type 0} {G : Ghosts O Call Reply} where
+  -- the line that opened the match
+  pub opens_match : (setup : Setup) (history : List (Entry Call Reply)) (opened : RingLine O Call Reply G) (lines : List (LineEnd O Call Reply G))
+      → opened.number ≡ 0 → posted_calls opened ≡ open_call setup ∷ [] → taken_replies opened ≡ Opened ∷ [] → HasFinished opened lines
+      → All (IsServed history) lines → All (TakesPrefix history) lines → OpensMatch setup history
+  opens_match setup history opened lines number posted taken (end, among, finished) served replies =
+      let zeroth : end.line.number ≡ 0 = finished.same.0 ∙ number in
+      let calls : posted_calls end.line ≡ calls_of (part end.line.number history) = All-contains (IsServed history) lines end served among in
+      let first : IsPrefix (taken_replies end.line) (replies_of (part end.line.number history)) = All-contains (TakesPrefix history) lines end replies among in
+      let reply : IsPrefix (Opened ∷ []) (replies_of (part 0 history)) =
+      prefix_trans (Opened ∷ []) (taken_replies end.line) (replies_of (part 0 history)) (subst (λ l. IsPrefix l (taken_replies end.line)) taken finished.taken) (subst (λ n. IsPrefix (taken_replies end.line) (replies_of (part n history))) zeroth first) in
+      one_entry (part 0 history) (open_call setup) Opened (part_lines 0 history) (sym posted ∙ sym finished.posted ∙ calls ∙ ap (λ n. calls_of (part n history)) zeroth) reply
+
+  module _ {P : Type 0} (handed : P → Option (List Handed)) (brief : Brief) (tries : ℕ) (players : List P) (history : List (Entry Call Reply)) (lines : List (LineEnd O Call Reply G)) (ends : List (Result ℕ AttendFault))
+      (left : AreLeftLines handed brief tries players lines ends) (served : All (IsServed history) lines) (replies : All (TakesPrefix history) lines) where
+    calls_at : (role : ℕ) (end : Result ℕ AttendFault) (line : LineEnd O Call Reply G) → Contains lines line → IsLeftLine handed brief tries players role line end → posted_calls line.line ≡ calls_of (part (line_of role) history)
+    calls_at role end line among it = All-contains (IsServed history) lines line served among ∙ ap (λ n. calls_of (part n history)) it.number
+
+    replies_at : (role : ℕ) (end : Result ℕ AttendFault) (line : LineEnd O Call Reply G) → Contains lines line → (it : IsLeftLine handed brief tries players role line end) → IsPrefix it.replies (replies_of (part (line_of role) history))
+    replies_at role end line among it =
+        prefix_trans it.replies (taken_replies line.line) (replies_of (part (line_of role) history)) it.are_first
+        (subst (λ n. IsPrefix (taken_replies line.line) (replies_of (part n history))) it.number (All-contains (TakesPrefix history) lines line replies among))
+
+    end_at : (role : ℕ) (end : Result ℕ AttendFault) (line : LineEnd O Call Reply G) → Contains lines line → (it : IsLeftLine handed brief tries players role line end) → IsEndOf handed brief tries role it.player (part (line_of role) history) end
+    end_at role end line among it =
+        let entries = part (line_of role) history in
+        let calls = calls_at role end line among it in
+        let first = replies_at role end line among it in
+        record {
+          left = it.left;
+          replies = it.replies;
+          are_first = first;
+          are_all = λ ok. whole_prefix it.replies (replies_of entries) first
+              (omega (arith, all_replies brief role tries (posted_calls line.line) it.replies _ _ end ok it.ended, ap length calls, length-map entries (λ (e : Entry Call Reply). e.call), length-map entries (λ (e : Entry Call Reply). e.reply)));
+          ended = subst (λ cs. HasEnded brief role tries (telling (Some []) (Some []) (handed it.player)) (record { calls = Some cs; replies = Some it.replies; messages = handed it.left }) end) calls it.ended;
+        }
+
+    pub ends_of : AreEndsOf handed brief tries players history ends
+    ends_of = record {
+      one_each = left.one_each;
+      each = λ role end at. let found = left.each role end at in (found.2.player, found.2.is_player, end_at role end found.0 found.1 found.2);
+    }
+
+    pub role_lines : (id : List ℕ) → brief.id ≡ id → AreRoleLines id (length ends) history
+    role_lines id same role below =
+        let place = place_of ends role below in
+        let found = left.each role place.0 place.1 in
+        let calls = role_calls brief role tries (posted_calls found.0.line) _ _ _ _ place.0 found.2.ended in
+        subst (λ i. All (IsRoleCall i role) (calls_of (part (line_of role) history))) same (subst (All (IsRoleCall brief.id role)) (calls_at role place.0 found.0 found.1 found.2) calls)

@@ -1,0 +1,14 @@
+use Rattle.std.proofs.Common.{◌≡◌, ◌+◌, ◌++◌, map, length, drop}
+use Rattle.std.specs.Vec.Iter.{into_iter_items, into_iter_len}
+use Rattle.match_workers.specs.Internal.LeftLines.{IsFinishedAt}
+use Rattle.match_workers.proofs.Places.{EachAt}
+use Rattle.match_workers.proofs.finishing.finish_all.Given as goal
+
+-- what is still to come, behind what has come
+abbrev pub invariant-loop-wire : goal.invariant-loop-wire
+invariant-loop-wire g l = record {
+  rest : into_iter_items l.wire-iterator ≡ drop (length l.lines.items) l.fn.attended.items;
+  left : into_iter_len l.wire-iterator + length l.lines.items ≡ length l.fn.attended.items;
+  each : EachAt (IsFinishedAt (map (λ a. a.wire.line) l.fn.attended.items)) l.lines.items;
+  ends : l.ends.items ++ map (λ a. a.end) (into_iter_items l.wire-iterator) ≡ map (λ a. a.end) l.fn.attended.items;
+}

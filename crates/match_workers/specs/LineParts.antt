@@ -1,0 +1,36 @@
+-- What the lines of a match's desk said: the first opened the match, and each other asked and answered for one role.
+use Rattle.std.specs.Prelude.{◌≡◌, ℕ, ◌+◌, ◌<◌, List, [], ◌∷◌, All, length, slice_index_or}
+use Rattle.call_history.specs.declared.journal.Entry.{Entry}
+use Rattle.call_history.specs.Parts.{part, calls_of}
+use Rattle.match_book.specs.declared.setup.Setup.{Setup}
+use Rattle.match_desk.specs.declared.call.Call.{Call}
+use Rattle.match_desk.specs.declared.call.Call.TheVariants.{Open, Next, Submit, Miss}
+use Rattle.match_desk.specs.declared.call.Reply.{Reply}
+use Rattle.match_desk.specs.declared.call.Reply.TheVariants.{Opened}
+
+-- the call that opens a match of the desk's first game with this setup
+abbrev pub open_call : Setup → Call
+open_call setup = Open setup.id 0 setup.start setup.play setup.strikes setup.players
+
+-- the first line made this one call, which opened the match
+abbrev pub OpensMatch : Setup → List (Entry Call Reply) → Type 0
+OpensMatch setup history = part 0 history ≡ record { line = 0; call = open_call setup; reply = Opened } ∷ []
+
+-- the line of a role: the first is no role's
+abbrev pub line_of : ℕ → ℕ
+line_of role = role + 1
+
+-- it asks what is due to this role of the match with this id, or gives the role's answer back
+abbrev pub IsRoleCall : List ℕ → ℕ → Call → Type 0
+IsRoleCall id role (Next match asked) = (match ≡ id) × (asked ≡ role)
+IsRoleCall id role (Submit match answering round text) = (match ≡ id) × (answering ≡ role)
+IsRoleCall id role (Miss match answering round broken) = (match ≡ id) × (answering ≡ role)
+IsRoleCall id role _ = ⊥
+
+-- over the line of each role went that role's calls alone
+abbrev pub AreRoleLines : List ℕ → ℕ → List (Entry Call Reply) → Type 0
+AreRoleLines id roles history = (role : ℕ) → role < roles → All (IsRoleCall id role) (calls_of (part (line_of role) history))
+
+-- how many entries each line has
+abbrev pub AreCounts : List (Entry Call Reply) → List ℕ → Type 0
+AreCounts history made_by_line = (line : ℕ) → line < length made_by_line → slice_index_or made_by_line line 0 ≡ length (part line history)

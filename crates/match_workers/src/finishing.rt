@@ -1,0 +1,87 @@
+//! The end of a match's desk: its lines are finished, and it is closed.
+ghost use Rattle.std.specs.Prelude.{◌≡◌, IfOk, OnOk, length, map, All};
+ghost use Rattle.call_history.specs.RingLines.{SamePorts, AreEndsOf};
+ghost use Rattle.call_history.specs.RingClosing.{IsServed, TakesPrefix};
+ghost use Rattle.match_desk.specs.Headline.{HasHeadline};
+ghost use Rattle.match_workers.specs.Internal.LeftLines.{IsFinishedOf, AreFinishedOf};
+ghost use Rattle.match_workers.specs.LineParts.{AreCounts};
+
+use crate::attend_fault::AttendFault;
+use crate::refereeing::RefereeFault;
+use crate::seat::Attended;
+use call_history::{Closed, DeskFault, LineEnd, Object, RingDesk, RingLine, RingWire};
+use game_core::Game;
+use match_desk::Manager;
+use std::alloc::{AllocError, Global};
+
+/// How many calls, and how many replies, of a line may wait.
+pub const ROOM: u64 = 2;
+
+/// The lines of roles that were attended, and how attending each role ended, both in the order of the roles.
+#[derive(Drop)]
+pub struct Finished<O: Object> {
+    pub lines: Vec<LineEnd<O>>,
+    pub ends: Vec<Result<u64, AttendFault>>,
+}
+
+/// Ends the posting of a line, and takes what it still holds.
+pub fn finish_line<O: Object>(line: RingLine<O>) -> LineEnd<O>
+    ensures { IsFinishedOf line result }
+{
+    let mut end = line.finish();
+    for _ in 0..ROOM {
+        end.take();
+    }
+    end
+}
+
+/// Finishes the lines of roles that were attended.
+pub fn finish_all<O: Object + Drop>(
+    alloc: Global,
+    attended: Vec<Attended<RingWire<O>>>,
+) -> Result<Finished<O>, AllocError>
+    ensures lines { IfOk result (λ finished. AreFinishedOf (map (λ a. a.wire.line) attended.items) finished.lines.items) }
+    ensures ends { IfOk result (λ finished. finished.ends.items ≡ map (λ a. a.end) attended.items) }
+{
+    let count = attended.len();
+    let mut lines = Vec::with_capacity(alloc, count + 1)?;
+    let mut ends = Vec::with_capacity(alloc, count)?;
+    for Attended { wire, end } in attended {
+        lines.push(finish_line(wire.end()))?;
+        ends.push(end)?;
+    }
+    Ok(Finished { lines, ends })
+}
+
+/// Serves what still waits.
+fn serve_rest<O: Object>(desk: &mut RingDesk<O>) -> Result<(), DeskFault>
+    ensures ports { SamePorts desk.old.ports desk.new.ports }
+    ensures opening { O.opening desk.new.journal.object ≡ O.opening desk.old.journal.object }
+{
+    for _ in 0..u64::MAX {
+        if desk.round()? == 0 {
+            break;
+        }
+    }
+    Ok(())
+}
+
+/// Serves what still waits on the desk of a match, and closes it.
+pub fn close_match<G: Game + Drop>(
+    desk: RingDesk<Manager<G>>,
+    lines: Vec<LineEnd<Manager<G>>>,
+) -> Result<Closed<Manager<G>>, RefereeFault>
+    requires lines { AreEndsOf desk.ports lines.items }
+    ensures headline { IfOk result (λ c. HasHeadline G.rules (length desk.ports) c.object c.history.items c.made_by_line.items) }
+    ensures games { IfOk result (λ c. c.object.games ≡ desk.journal.object.games) }
+    ensures served { IfOk result (λ c. All (IsServed c.history.items) lines.items) }
+    ensures replies { IfOk result (λ c. All (TakesPrefix c.history.items) lines.items) }
+    ensures made { IfOk result (λ c. AreCounts c.history.items c.made_by_line.items) }
+{
+    let mut desk = desk;
+    serve_rest(&mut desk)?;
+    match desk.close(lines) {
+        Ok(closed) => Ok(closed),
+        Err(_) => Err(RefereeFault::Unclosed),
+    }
+}
