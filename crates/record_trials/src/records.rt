@@ -103,7 +103,7 @@ fn countdown_three(rt: HostRuntime) -> Result<(), Fail> {
     ];
     play(alloc, &game, &mut held, rounds.as_slice())?;
     let wanted =
-        "{\"cause\":null,\"endMarks\":[\"\",\"\"],\"errors\":[[\"\",\"\"],[\"\",\"\"]],\"goalValues\":[0,100],\"matchId\":\"m1\",\"moves\":[[\"(take 1)\",\"noop\"],[\"noop\",\"(take 2)\"]],\"phase\":\"finished\",\"playClock\":5,\"players\":[\"ann\",\"bob\"],\"roles\":[\"red\",\"blue\"],\"startClock\":10,\"startMarks\":[\"\",\"\"],\"states\":[[\"(heap 3)\",\"(turn red)\"],[\"(heap 2)\",\"(turn blue)\"],[\"(heap 0)\",\"(turn red)\"]]}";
+        "{\"cause\":null,\"endMarks\":[\"\",\"\"],\"errors\":[[\"\",\"\"],[\"\",\"\"]],\"goalValues\":[0,100],\"matchId\":\"m1\",\"moves\":[[\"(take 1)\",\"noop\"],[\"noop\",\"(take 2)\"]],\"phase\":\"finished\",\"playClock\":5,\"players\":[\"ann\",\"bob\"],\"roles\":[\"red\",\"blue\"],\"startClock\":10,\"startMarks\":[\"\",\"\"],\"states\":[[\"(heap 3)\",\"(turn red)\"],[\"(heap 2)\",\"(turn blue)\"],[\"(heap 0)\",\"(turn red)\"]],\"strikes\":0,\"version\":2}";
     assert_eq!(rt; record(alloc, &game, &held)?.as_slice(), wanted.as_bytes());
     Ok(())
 }
@@ -122,7 +122,7 @@ fn judged_answers(rt: HostRuntime) -> Result<(), Fail> {
     // The answer of the open turn is not in the record.
     answer(alloc, &game, &mut held, 0, 4, "-")?;
     let wanted =
-        "{\"cause\":null,\"endMarks\":[null,null],\"errors\":[[\"IL (take 3)\",\"\"],[\"TO\",\"IL ?\"],[\"IL noop\",\"CE\"]],\"goalValues\":[],\"matchId\":\"m1\",\"moves\":[[\"(take 1)\",\"noop\"],[\"noop\",\"(take 1)\"],[\"(take 1)\",\"noop\"]],\"phase\":\"playing\",\"playClock\":1,\"players\":[\"ann\",\"bob\"],\"roles\":[\"red\",\"blue\"],\"startClock\":1,\"startMarks\":[\"\",\"TO\"],\"states\":[[\"(heap 10)\",\"(turn red)\"],[\"(heap 9)\",\"(turn blue)\"],[\"(heap 8)\",\"(turn red)\"],[\"(heap 7)\",\"(turn blue)\"]]}";
+        "{\"cause\":null,\"endMarks\":[null,null],\"errors\":[[\"IL (take 3)\",\"\"],[\"TO\",\"IL ?\"],[\"IL noop\",\"CE\"]],\"goalValues\":[],\"matchId\":\"m1\",\"moves\":[[\"(take 1)\",\"noop\"],[\"noop\",\"(take 1)\"],[\"(take 1)\",\"noop\"]],\"phase\":\"playing\",\"playClock\":1,\"players\":[\"ann\",\"bob\"],\"roles\":[\"red\",\"blue\"],\"startClock\":1,\"startMarks\":[\"\",\"TO\"],\"states\":[[\"(heap 10)\",\"(turn red)\"],[\"(heap 9)\",\"(turn blue)\"],[\"(heap 8)\",\"(turn red)\"],[\"(heap 7)\",\"(turn blue)\"]],\"strikes\":0,\"version\":2}";
     assert_eq!(rt; record(alloc, &game, &held)?.as_slice(), wanted.as_bytes());
     Ok(())
 }
@@ -136,7 +136,7 @@ fn asked_abort(rt: HostRuntime) -> Result<(), Fail> {
     held.abort()?;
     play(alloc, &game, &mut held, &[("ok", "-")])?;
     let wanted =
-        "{\"cause\":\"asked\",\"endMarks\":[\"\",\"TO\"],\"errors\":[],\"goalValues\":[],\"matchId\":\"m1\",\"moves\":[],\"phase\":\"aborted\",\"playClock\":1,\"players\":[\"ann\",\"bob\"],\"roles\":[\"red\",\"blue\"],\"startClock\":1,\"startMarks\":[\"\",\"\"],\"states\":[[\"(heap 3)\",\"(turn red)\"]]}";
+        "{\"cause\":\"asked\",\"endMarks\":[\"\",\"TO\"],\"errors\":[],\"goalValues\":[],\"matchId\":\"m1\",\"moves\":[],\"phase\":\"aborted\",\"playClock\":1,\"players\":[\"ann\",\"bob\"],\"roles\":[\"red\",\"blue\"],\"startClock\":1,\"startMarks\":[\"\",\"\"],\"states\":[[\"(heap 3)\",\"(turn red)\"]],\"strikes\":0,\"version\":2}";
     assert_eq!(rt; record(alloc, &game, &held)?.as_slice(), wanted.as_bytes());
     Ok(())
 }
@@ -148,7 +148,7 @@ fn abort_before_start(rt: HostRuntime) -> Result<(), Fail> {
     answer(alloc, &game, &mut held, 1, 0, "!")?;
     held.abort()?;
     let wanted =
-        "{\"cause\":\"asked\",\"endMarks\":[null,null],\"errors\":[],\"goalValues\":[],\"matchId\":\"m1\",\"moves\":[],\"phase\":\"aborting\",\"playClock\":1,\"players\":[\"ann\",\"bob\"],\"roles\":[\"red\",\"blue\"],\"startClock\":1,\"startMarks\":[null,\"CE\"],\"states\":[[\"(heap 3)\",\"(turn red)\"]]}";
+        "{\"cause\":\"asked\",\"endMarks\":[null,null],\"errors\":[],\"goalValues\":[],\"matchId\":\"m1\",\"moves\":[],\"phase\":\"aborting\",\"playClock\":1,\"players\":[\"ann\",\"bob\"],\"roles\":[\"red\",\"blue\"],\"startClock\":1,\"startMarks\":[null,\"CE\"],\"states\":[[\"(heap 3)\",\"(turn red)\"]],\"strikes\":0,\"version\":2}";
     assert_eq!(rt; record(alloc, &game, &held)?.as_slice(), wanted.as_bytes());
     Ok(())
 }
