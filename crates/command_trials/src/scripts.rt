@@ -312,7 +312,7 @@ pub fn endless_output(alloc: Global) -> Result<Vec<u8>, AllocError> {
         output.extend_from_slice(text)?;
         push_repeated(&mut output, piece, between, count)?;
     }
-    output.extend_from_slice(b"]}\n")?;
+    output.extend_from_slice(b"],\"strikes\":0,\"version\":2}\n")?;
     Ok(output)
 }
 

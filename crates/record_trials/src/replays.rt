@@ -616,15 +616,13 @@ fn record(alloc: Global, shown: &Shown, version: &str) -> Result<String, AllocEr
         "\"matchId\":\"m1\",\"moves\":{moves},\"phase\":\"{phase}\",\"playClock\":5,"
     )?.as_str())?;
     text.push_str("\"players\":[\"ann\",\"bob\"],\"roles\":[\"red\",\"blue\"],\"startClock\":10,")?;
-    text.push_str(format!(in alloc; "\"startMarks\":{starts},\"states\":{states}{version}}}")?.as_str())?;
+    text.push_str(format!(in alloc;
+        "\"startMarks\":{starts},\"states\":{states}{version}}}"
+    )?.as_str())?;
     Ok(text)
 }
 
-fn answer(
-    alloc: Global,
-    shown: &Shown,
-    version: &str,
-) -> Result<Result<(), VerifyFault>, Fail> {
+fn answer(alloc: Global, shown: &Shown, version: &str) -> Result<Result<(), VerifyFault>, Fail> {
     let game = Countdown::new(3).ok_or("no such game")?;
     let text = record(alloc, shown, version)?;
     Ok(verify(alloc, &game, text.as_bytes()))

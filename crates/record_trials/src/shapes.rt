@@ -83,7 +83,10 @@ fn a_whole_match_is_lawful(rt: HostRuntime) -> Result<(), Fail> {
     assert_eq!(rt; checked(alloc, text.as_bytes())?, Ok(()));
     for keys in VERSIONS {
         // A further key, and keys in another order.
-        assert_eq!(rt; checked_with(alloc, keys, Key::Cause, Some("null"))?, Ok(()));
+        assert_eq!(rt;
+            checked_with(alloc, keys, Key::Cause, Some("null"))?,
+            Ok(())
+        );
         // The last of equal keys counts.
         assert_eq!(rt;
             checked_with(alloc, keys, Key::Cause, Some(r#"7,"cause":null"#))?,
@@ -211,7 +214,11 @@ fn every_key_is_asked_for(rt: HostRuntime) -> Result<(), Fail> {
             let fault = Err(VerifyFault::BadShape(*key));
             // A record without its version is of the first.
             let missing = if *key == Key::Version { Ok(()) } else { fault };
-            assert_eq!(rt; checked_with(alloc, keys, *key, None)?, missing, "without {key:?}");
+            assert_eq!(rt;
+                checked_with(alloc, keys, *key, None)?,
+                missing,
+                "without {key:?}"
+            );
             for other in ["true", "{}", "-1", "50.0", "\"no such\"", "[7]", "[[null]]"] {
                 assert_eq!(rt;
                     checked_with(alloc, keys, *key, Some(other))?,
@@ -228,19 +235,32 @@ fn every_key_is_asked_for(rt: HostRuntime) -> Result<(), Fail> {
 fn strikes_count_in_the_second_version(rt: HostRuntime) -> Result<(), Fail> {
     let alloc = rt.alloc();
     for strikes in ["0", "1", "255"] {
-        assert_eq!(rt; checked_with(alloc, 15, Key::Strikes, Some(strikes))?, Ok(()));
+        assert_eq!(rt;
+            checked_with(alloc, 15, Key::Strikes, Some(strikes))?,
+            Ok(())
+        );
     }
     for strikes in ["256", "-0", "0.0", "1e0", "null", "18446744073709551616"] {
         let wrong = Err(VerifyFault::BadShape(Key::Strikes));
-        assert_eq!(rt; checked_with(alloc, 15, Key::Strikes, Some(strikes))?, wrong, "{strikes}");
+        assert_eq!(rt;
+            checked_with(alloc, 15, Key::Strikes, Some(strikes))?,
+            wrong,
+            "{strikes}"
+        );
         // The first version has none, whatever stands there.
         for version in [r#"7,"version":1"#, r#"null,"version":1"#] {
             let mut more = String::from_str(alloc, strikes)?;
             more.push_str(r#","strikes":"#)?;
             more.push_str(version)?;
-            assert_eq!(rt; checked_with(alloc, 14, Key::Strikes, Some(more.as_str()))?, Ok(()));
+            assert_eq!(rt;
+                checked_with(alloc, 14, Key::Strikes, Some(more.as_str()))?,
+                Ok(())
+            );
         }
-        assert_eq!(rt; checked_with(alloc, 14, Key::Strikes, Some(strikes))?, Ok(()));
+        assert_eq!(rt;
+            checked_with(alloc, 14, Key::Strikes, Some(strikes))?,
+            Ok(())
+        );
     }
     Ok(())
 }
@@ -249,15 +269,26 @@ fn strikes_count_in_the_second_version(rt: HostRuntime) -> Result<(), Fail> {
 fn versions_are_one_and_two(rt: HostRuntime) -> Result<(), Fail> {
     let alloc = rt.alloc();
     for version in ["1", "2"] {
-        assert_eq!(rt; checked_with(alloc, 15, Key::Version, Some(version))?, Ok(()));
+        assert_eq!(rt;
+            checked_with(alloc, 15, Key::Version, Some(version))?,
+            Ok(())
+        );
     }
     let wrong = Err(VerifyFault::BadShape(Key::Version));
     for version in ["0", "3", "-1", "1.0", "2e0", "\"2\"", "null", "258"] {
-        assert_eq!(rt; checked_with(alloc, 15, Key::Version, Some(version))?, wrong, "{version}");
+        assert_eq!(rt;
+            checked_with(alloc, 15, Key::Version, Some(version))?,
+            wrong,
+            "{version}"
+        );
         // Strikes are not looked at where the version is none.
         let mut both = String::from_str(alloc, r#"256,"version":"#)?;
         both.push_str(version)?;
-        assert_eq!(rt; checked_with(alloc, 14, Key::Strikes, Some(both.as_str()))?, wrong, "{version}");
+        assert_eq!(rt;
+            checked_with(alloc, 14, Key::Strikes, Some(both.as_str()))?,
+            wrong,
+            "{version}"
+        );
     }
     // Of two faults that of strikes comes first.
     let both = r#"256,"errors":7,"version":2"#;
