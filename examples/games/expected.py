@@ -193,6 +193,8 @@ class Match:
             "startClock": self.start,
             "startMarks": [self.marks["start"].get(role) for role in roles],
             "states": [sorted(map(text_of, state)) for state in self.states],
+            "strikes": 0,
+            "version": 2,
         }
 
 

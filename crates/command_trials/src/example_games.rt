@@ -66,7 +66,7 @@ owe 7 stop (a)
 taken
 over
 status finished round 7 turns 6 substitutions 0
-{"cause":null,"endMarks":[""],"errors":[[""],[""],[""],[""],[""],[""]],"goalValues":[100],"matchId":"m1","moves":[["a"],["b"],["c"],["a"],["b"],["a"]],"phase":"finished","playClock":5,"players":["robbie"],"roles":["robot"],"startClock":10,"startMarks":[""],"states":[["(step 1)"],["(step 2)","p"],["(step 3)","q"],["(step 4)","r"],["(step 5)","p","r"],["(step 6)","q","r"],["(step 7)","p","q","r"]]}
+{"cause":null,"endMarks":[""],"errors":[[""],[""],[""],[""],[""],[""]],"goalValues":[100],"matchId":"m1","moves":[["a"],["b"],["c"],["a"],["b"],["a"]],"phase":"finished","playClock":5,"players":["robbie"],"roles":["robot"],"startClock":10,"startMarks":[""],"states":[["(step 1)"],["(step 2)","p"],["(step 3)","q"],["(step 4)","r"],["(step 5)","p","r"],["(step 6)","q","r"],["(step 7)","p","q","r"]],"strikes":0,"version":2}
 "#;
 
 pub const COUNTDOWN_RULES: &str = r#"(role red) (role blue)
@@ -128,7 +128,7 @@ taken
 taken
 over
 status finished round 3 turns 2 substitutions 0
-{"cause":null,"endMarks":["",""],"errors":[["",""],["",""]],"goalValues":[0,100],"matchId":"m1","moves":[["(take 1)","noop"],["noop","(take 2)"]],"phase":"finished","playClock":5,"players":["ann","bob"],"roles":["red","blue"],"startClock":10,"startMarks":["",""],"states":[["(heap 3)","(turn red)"],["(heap 2)","(turn blue)"],["(heap 0)","(turn red)"]]}
+{"cause":null,"endMarks":["",""],"errors":[["",""],["",""]],"goalValues":[0,100],"matchId":"m1","moves":[["(take 1)","noop"],["noop","(take 2)"]],"phase":"finished","playClock":5,"players":["ann","bob"],"roles":["red","blue"],"startClock":10,"startMarks":["",""],"states":[["(heap 3)","(turn red)"],["(heap 2)","(turn blue)"],["(heap 0)","(turn red)"]],"strikes":0,"version":2}
 "#;
 
 pub const ROSHAMBO_RULES: &str = r#"; Rock, paper, scissors: three rounds, both players at once.
@@ -223,7 +223,7 @@ taken
 taken
 over
 status finished round 4 turns 3 substitutions 2
-{"cause":null,"endMarks":["",""],"errors":[["",""],["",""],["IL lizard","TO"]],"goalValues":[100,0],"matchId":"m1","moves":[["rock","scissors"],["paper","paper"],["rock","rock"]],"phase":"finished","playClock":5,"players":["ann","bob"],"roles":["left","right"],"startClock":10,"startMarks":["",""],"states":[["(round 1)","(score left 0)","(score right 0)"],["(round 2)","(score left 1)","(score right 0)"],["(round 3)","(score left 1)","(score right 0)"],["(round over)","(score left 1)","(score right 0)"]]}
+{"cause":null,"endMarks":["",""],"errors":[["",""],["",""],["IL lizard","TO"]],"goalValues":[100,0],"matchId":"m1","moves":[["rock","scissors"],["paper","paper"],["rock","rock"]],"phase":"finished","playClock":5,"players":["ann","bob"],"roles":["left","right"],"startClock":10,"startMarks":["",""],"states":[["(round 1)","(score left 0)","(score right 0)"],["(round 2)","(score left 1)","(score right 0)"],["(round 3)","(score left 1)","(score right 0)"],["(round over)","(score left 1)","(score right 0)"]],"strikes":0,"version":2}
 "#;
 
 pub const TICTACTOE_RULES: &str = r#"; Tic-tac-toe, written by tictactoe.py.
@@ -380,5 +380,5 @@ taken
 taken
 over
 status finished round 6 turns 5 substitutions 1
-{"cause":null,"endMarks":["","CE"],"errors":[["",""],["",""],["",""],["","IL (mark 1 3)"],["",""]],"goalValues":[100,0],"matchId":"m1","moves":[["(mark 2 2)","noop"],["noop","(mark 1 1)"],["(mark 1 3)","noop"],["noop","(mark 1 2)"],["(mark 3 1)","noop"]],"phase":"finished","playClock":5,"players":["ann","bob"],"roles":["xplayer","oplayer"],"startClock":10,"startMarks":["",""],"states":[["(cell 1 1 b)","(cell 1 2 b)","(cell 1 3 b)","(cell 2 1 b)","(cell 2 2 b)","(cell 2 3 b)","(cell 3 1 b)","(cell 3 2 b)","(cell 3 3 b)","(control xplayer)"],["(cell 1 1 b)","(cell 1 2 b)","(cell 1 3 b)","(cell 2 1 b)","(cell 2 2 x)","(cell 2 3 b)","(cell 3 1 b)","(cell 3 2 b)","(cell 3 3 b)","(control oplayer)"],["(cell 1 1 o)","(cell 1 2 b)","(cell 1 3 b)","(cell 2 1 b)","(cell 2 2 x)","(cell 2 3 b)","(cell 3 1 b)","(cell 3 2 b)","(cell 3 3 b)","(control xplayer)"],["(cell 1 1 o)","(cell 1 2 b)","(cell 1 3 x)","(cell 2 1 b)","(cell 2 2 x)","(cell 2 3 b)","(cell 3 1 b)","(cell 3 2 b)","(cell 3 3 b)","(control oplayer)"],["(cell 1 1 o)","(cell 1 2 o)","(cell 1 3 x)","(cell 2 1 b)","(cell 2 2 x)","(cell 2 3 b)","(cell 3 1 b)","(cell 3 2 b)","(cell 3 3 b)","(control xplayer)"],["(cell 1 1 o)","(cell 1 2 o)","(cell 1 3 x)","(cell 2 1 b)","(cell 2 2 x)","(cell 2 3 b)","(cell 3 1 x)","(cell 3 2 b)","(cell 3 3 b)","(control oplayer)"]]}
+{"cause":null,"endMarks":["","CE"],"errors":[["",""],["",""],["",""],["","IL (mark 1 3)"],["",""]],"goalValues":[100,0],"matchId":"m1","moves":[["(mark 2 2)","noop"],["noop","(mark 1 1)"],["(mark 1 3)","noop"],["noop","(mark 1 2)"],["(mark 3 1)","noop"]],"phase":"finished","playClock":5,"players":["ann","bob"],"roles":["xplayer","oplayer"],"startClock":10,"startMarks":["",""],"states":[["(cell 1 1 b)","(cell 1 2 b)","(cell 1 3 b)","(cell 2 1 b)","(cell 2 2 b)","(cell 2 3 b)","(cell 3 1 b)","(cell 3 2 b)","(cell 3 3 b)","(control xplayer)"],["(cell 1 1 b)","(cell 1 2 b)","(cell 1 3 b)","(cell 2 1 b)","(cell 2 2 x)","(cell 2 3 b)","(cell 3 1 b)","(cell 3 2 b)","(cell 3 3 b)","(control oplayer)"],["(cell 1 1 o)","(cell 1 2 b)","(cell 1 3 b)","(cell 2 1 b)","(cell 2 2 x)","(cell 2 3 b)","(cell 3 1 b)","(cell 3 2 b)","(cell 3 3 b)","(control xplayer)"],["(cell 1 1 o)","(cell 1 2 b)","(cell 1 3 x)","(cell 2 1 b)","(cell 2 2 x)","(cell 2 3 b)","(cell 3 1 b)","(cell 3 2 b)","(cell 3 3 b)","(control oplayer)"],["(cell 1 1 o)","(cell 1 2 o)","(cell 1 3 x)","(cell 2 1 b)","(cell 2 2 x)","(cell 2 3 b)","(cell 3 1 b)","(cell 3 2 b)","(cell 3 3 b)","(control xplayer)"],["(cell 1 1 o)","(cell 1 2 o)","(cell 1 3 x)","(cell 2 1 b)","(cell 2 2 x)","(cell 2 3 b)","(cell 3 1 x)","(cell 3 2 b)","(cell 3 3 b)","(control oplayer)"]],"strikes":0,"version":2}
 "#;

@@ -206,7 +206,7 @@ where
 }
 
 const COUNTDOWN_RECORD: &[u8] =
-    br#"{"cause":null,"endMarks":["",""],"errors":[["",""],["",""]],"goalValues":[0,100],"matchId":"m1","moves":[["(take 1)","noop"],["noop","(take 2)"]],"phase":"finished","playClock":10,"players":["ann","bob"],"roles":["red","blue"],"startClock":10,"startMarks":["",""],"states":[["(heap 3)","(turn red)"],["(heap 2)","(turn blue)"],["(heap 0)","(turn red)"]]}
+    br#"{"cause":null,"endMarks":["",""],"errors":[["",""],["",""]],"goalValues":[0,100],"matchId":"m1","moves":[["(take 1)","noop"],["noop","(take 2)"]],"phase":"finished","playClock":10,"players":["ann","bob"],"roles":["red","blue"],"startClock":10,"startMarks":["",""],"states":[["(heap 3)","(turn red)"],["(heap 2)","(turn blue)"],["(heap 0)","(turn red)"]],"strikes":0,"version":2}
 "#;
 
 #[test]
@@ -245,7 +245,7 @@ const ONE_TURN_RULES: &str = "(ROLE red) (role blue) (init s) (legal red (go 1))
 (<= (next t) (does red (go 1))) (<= terminal (true t)) (goal red 100) (goal blue 0)";
 
 const ONE_TURN_RECORD: &[u8] =
-    br#"{"cause":null,"endMarks":["",""],"errors":[["",""]],"goalValues":[100,0],"matchId":"M1","moves":[["(go 1)","wait"]],"phase":"finished","playClock":5,"players":["ann","bob"],"roles":["red","blue"],"startClock":7,"startMarks":["",""],"states":[["s"],["t"]]}
+    br#"{"cause":null,"endMarks":["",""],"errors":[["",""]],"goalValues":[100,0],"matchId":"M1","moves":[["(go 1)","wait"]],"phase":"finished","playClock":5,"players":["ann","bob"],"roles":["red","blue"],"startClock":7,"startMarks":["",""],"states":[["s"],["t"]],"strikes":0,"version":2}
 "#;
 
 /// What red is sent of that match, and answers.
@@ -302,7 +302,7 @@ const STUCK_RULES: &str =
     "(role solo) (init s) (<= (legal solo go) (true t)) (<= terminal (true t))";
 
 const STUCK_RECORD: &[u8] =
-    br#"{"cause":"nolegal 0","endMarks":[""],"errors":[],"goalValues":[],"matchId":"m1","moves":[],"phase":"aborted","playClock":5,"players":["ann"],"roles":["solo"],"startClock":7,"startMarks":[""],"states":[["s"]]}
+    br#"{"cause":"nolegal 0","endMarks":[""],"errors":[],"goalValues":[],"matchId":"m1","moves":[],"phase":"aborted","playClock":5,"players":["ann"],"roles":["solo"],"startClock":7,"startMarks":[""],"states":[["s"]],"strikes":0,"version":2}
 "#;
 
 #[test]
@@ -392,7 +392,7 @@ fn rules_are_read_before_the_match_is_opened(rt: HostRuntime) -> Result<(), Allo
 
 /// The record of a match in which each answer of blue leaves this mark, and each of its moves this error.
 const FAILING_RECORD: &str =
-    r#"{"cause":null,"endMarks":["","MARK"],"errors":[["","ERROR"],["","ERROR"],["","ERROR"]],"goalValues":[100,0],"matchId":"m1","moves":[["(take 1)","noop"],["noop","(take 1)"],["(take 1)","noop"]],"phase":"finished","playClock":1,"players":["ann","bob"],"roles":["red","blue"],"startClock":1,"startMarks":["","MARK"],"states":[["(heap 3)","(turn red)"],["(heap 2)","(turn blue)"],["(heap 1)","(turn red)"],["(heap 0)","(turn blue)"]]}
+    r#"{"cause":null,"endMarks":["","MARK"],"errors":[["","ERROR"],["","ERROR"],["","ERROR"]],"goalValues":[100,0],"matchId":"m1","moves":[["(take 1)","noop"],["noop","(take 1)"],["(take 1)","noop"]],"phase":"finished","playClock":1,"players":["ann","bob"],"roles":["red","blue"],"startClock":1,"startMarks":["","MARK"],"states":[["(heap 3)","(turn red)"],["(heap 2)","(turn blue)"],["(heap 1)","(turn red)"],["(heap 0)","(turn blue)"]],"strikes":0,"version":2}
 "#;
 
 fn failing_record(alloc: Global, mark: &str, error: &str) -> Result<String, AllocError> {

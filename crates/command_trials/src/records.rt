@@ -100,7 +100,7 @@ fn texts_that_are_no_records_are_refused(rt: HostRuntime) -> Result<(), AllocErr
 }
 
 /// What a text of the printed record is changed to, and what `verify` then says.
-const CHANGES: [(&str, &str, &[u8]); 6] = [
+const CHANGES: [(&str, &str, &[u8]); 10] = [
     (
         r#"["(heap 2)","(turn blue)"]"#,
         r#"["(heap 1)","(turn blue)"]"#,
@@ -116,7 +116,27 @@ const CHANGES: [(&str, &str, &[u8]); 6] = [
         r#"["",""],["","TO"]]"#,
         b"ggp_manager: not lawful: notfirst 1 1\n",
     ),
+    (
+        r#"["",""],["",""]]"#,
+        r#"["",""],["","RT"]]"#,
+        b"ggp_manager: not lawful: notfirst 1 1\n",
+    ),
+    (
+        r#"["",""],["",""]]"#,
+        r#"["",""],["RT",""]]"#,
+        b"ggp_manager: not lawful: retired 1 0\n",
+    ),
     ("[0,100]", "[100,0]", b"ggp_manager: not lawful: goals\n"),
+    (
+        r#""strikes":0"#,
+        r#""strikes":256"#,
+        b"ggp_manager: not lawful: shape strikes\n",
+    ),
+    (
+        r#""version":2"#,
+        r#""version":3"#,
+        b"ggp_manager: not lawful: shape version\n",
+    ),
     (
         r#""finished""#,
         r#""stopping""#,

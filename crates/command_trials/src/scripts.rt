@@ -34,7 +34,7 @@ taken
 taken
 owe 3 play (noop (take 1))
 status playing round 3 turns 2 substitutions 1
-{"cause":null,"endMarks":[null,null],"errors":[["",""],["","IL ?"]],"goalValues":[],"matchId":"m","moves":[["(take 2)","noop"],["noop","(take 1)"]],"phase":"playing","playClock":1,"players":["ann","bob"],"roles":["red","blue"],"startClock":1,"startMarks":["",""],"states":[["(heap 10)","(turn red)"],["(heap 8)","(turn blue)"],["(heap 7)","(turn red)"]]}
+{"cause":null,"endMarks":[null,null],"errors":[["",""],["","IL ?"]],"goalValues":[],"matchId":"m","moves":[["(take 2)","noop"],["noop","(take 1)"]],"phase":"playing","playClock":1,"players":["ann","bob"],"roles":["red","blue"],"startClock":1,"startMarks":["",""],"states":[["(heap 10)","(turn red)"],["(heap 8)","(turn blue)"],["(heap 7)","(turn red)"]],"strikes":0,"version":2}
 "#;
 
 /// Answers that are illegal, unreadable or missing.
@@ -60,7 +60,7 @@ taken
 taken
 taken
 status playing round 4 turns 3 substitutions 5
-{"cause":null,"endMarks":[null,null],"errors":[["IL (take 3)",""],["TO","IL ?"],["IL noop","CE"]],"goalValues":[],"matchId":"m","moves":[["(take 1)","noop"],["noop","(take 1)"],["(take 1)","noop"]],"phase":"playing","playClock":1,"players":["ann","bob"],"roles":["red","blue"],"startClock":1,"startMarks":["",""],"states":[["(heap 10)","(turn red)"],["(heap 9)","(turn blue)"],["(heap 8)","(turn red)"],["(heap 7)","(turn blue)"]]}
+{"cause":null,"endMarks":[null,null],"errors":[["IL (take 3)",""],["TO","IL ?"],["IL noop","CE"]],"goalValues":[],"matchId":"m","moves":[["(take 1)","noop"],["noop","(take 1)"],["(take 1)","noop"]],"phase":"playing","playClock":1,"players":["ann","bob"],"roles":["red","blue"],"startClock":1,"startMarks":["",""],"states":[["(heap 10)","(turn red)"],["(heap 9)","(turn blue)"],["(heap 8)","(turn red)"],["(heap 7)","(turn blue)"]],"strikes":0,"version":2}
 "#;
 
 /// Aborts before the players are ready, and two matches.
@@ -78,8 +78,8 @@ aborting
 owe 1 abort
 refused stale 1
 taken
-{"cause":"asked","endMarks":[null,null],"errors":[],"goalValues":[],"matchId":"m","moves":[],"phase":"aborting","playClock":1,"players":["ann","bob"],"roles":["red","blue"],"startClock":1,"startMarks":[null,null],"states":[["(heap 3)","(turn red)"]]}
-{"cause":null,"endMarks":[null,null],"errors":[],"goalValues":[],"matchId":"n","moves":[],"phase":"starting","playClock":3,"players":["cy","dee"],"roles":["red","blue"],"startClock":2,"startMarks":[null,"TO"],"states":[["(heap 3)","(turn red)"]]}
+{"cause":"asked","endMarks":[null,null],"errors":[],"goalValues":[],"matchId":"m","moves":[],"phase":"aborting","playClock":1,"players":["ann","bob"],"roles":["red","blue"],"startClock":1,"startMarks":[null,null],"states":[["(heap 3)","(turn red)"]],"strikes":0,"version":2}
+{"cause":null,"endMarks":[null,null],"errors":[],"goalValues":[],"matchId":"n","moves":[],"phase":"starting","playClock":3,"players":["cy","dee"],"roles":["red","blue"],"startClock":2,"startMarks":[null,"TO"],"states":[["(heap 3)","(turn red)"]],"strikes":0,"version":2}
 "#;
 
 /// Calls that are refused, and an asked abort.
@@ -131,7 +131,7 @@ refused norole
 over
 refused over
 status aborted round 2 turns 0 substitutions 0
-{"cause":"asked","endMarks":["","CE"],"errors":[],"goalValues":[],"matchId":"m","moves":[],"phase":"aborted","playClock":1,"players":["ann","bob"],"roles":["red","blue"],"startClock":1,"startMarks":["",""],"states":[["(heap 3)","(turn red)"]]}
+{"cause":"asked","endMarks":["","CE"],"errors":[],"goalValues":[],"matchId":"m","moves":[],"phase":"aborted","playClock":1,"players":["ann","bob"],"roles":["red","blue"],"startClock":1,"startMarks":["",""],"states":[["(heap 3)","(turn red)"]],"strikes":0,"version":2}
 "#;
 
 /// Games of Countdown, each with a script and what is written for it.
@@ -206,7 +206,7 @@ taken
 owe 2 abort
 taken
 status aborted round 2 turns 1 substitutions 0
-{"cause":"nolegal 0","endMarks":[""],"errors":[[""]],"goalValues":[],"matchId":"m","moves":[["go"]],"phase":"aborted","playClock":1,"players":["ann"],"roles":["a"],"startClock":1,"startMarks":[""],"states":[["s"],["u"]]}
+{"cause":"nolegal 0","endMarks":[""],"errors":[[""]],"goalValues":[],"matchId":"m","moves":[["go"]],"phase":"aborted","playClock":1,"players":["ann"],"roles":["a"],"startClock":1,"startMarks":[""],"states":[["s"],["u"]],"strikes":0,"version":2}
 "#;
 
 pub const NO_GOAL_OUTPUT: &[u8] = br#"opened
@@ -215,7 +215,7 @@ taken
 owe 2 abort
 taken
 status aborted round 2 turns 1 substitutions 0
-{"cause":"nogoal 0","endMarks":[""],"errors":[[""]],"goalValues":[],"matchId":"m","moves":[["go"]],"phase":"aborted","playClock":1,"players":["ann"],"roles":["a"],"startClock":1,"startMarks":[""],"states":[["s"],["end"]]}
+{"cause":"nogoal 0","endMarks":[""],"errors":[[""]],"goalValues":[],"matchId":"m","moves":[["go"]],"phase":"aborted","playClock":1,"players":["ann"],"roles":["a"],"startClock":1,"startMarks":[""],"states":[["s"],["end"]],"strikes":0,"version":2}
 "#;
 
 /// A game that has ended before its first turn.
@@ -234,7 +234,7 @@ taken
 owe 1 stop NIL
 taken
 status finished round 1 turns 0 substitutions 0
-{"cause":null,"endMarks":[""],"errors":[],"goalValues":[50],"matchId":"t","moves":[],"phase":"finished","playClock":1,"players":["ann"],"roles":["solo"],"startClock":1,"startMarks":[""],"states":[["done"]]}
+{"cause":null,"endMarks":[""],"errors":[],"goalValues":[50],"matchId":"t","moves":[],"phase":"finished","playClock":1,"players":["ann"],"roles":["solo"],"startClock":1,"startMarks":[""],"states":[["done"]],"strikes":0,"version":2}
 "#;
 
 #[test]
@@ -312,7 +312,7 @@ pub fn endless_output(alloc: Global) -> Result<Vec<u8>, AllocError> {
         output.extend_from_slice(text)?;
         push_repeated(&mut output, piece, between, count)?;
     }
-    output.extend_from_slice(b"]}\n")?;
+    output.extend_from_slice(b"],\"strikes\":0,\"version\":2}\n")?;
     Ok(output)
 }
 

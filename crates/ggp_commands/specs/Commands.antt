@@ -10,13 +10,13 @@ use Rattle.ggp_commands.specs.Games.{DescribesNone}
 use Rattle.ggp_commands.specs.declared.fault.Fault.{Fault}
 use Rattle.ggp_commands.specs.declared.fault.Fault.TheVariants.{Memory, BadDescription, Refused, MatchNotEnded}
 
--- the text is the record of this desk's first match, which is over; where no role was to be retired, it is a lawful record of that match's game
+-- the text is the record of this desk's first match, which is over; it is a lawful record of that match's game
 pub record IsEndedRecord {G S M : Type 0} (rules : G → Rules S M) (d : ManagerValue G M) (text : List ℕ) : Type 0 where
   pub held : GameMatch G M
   pub is_first : option_and_then (game_match d) (slice_get d.matches 0) ≡ Some held
   pub over : is_over (rules held.game) held.value ≡ true
   pub is_record : text ≡ record_text (rules held.game) held.value
-  pub lawful : held.value.setup.strikes ≡ 0 → IsLawfulRecord (rules held.game) text
+  pub lawful : IsLawfulRecord (rules held.game) text
 
 -- this desk has no first match, or one that is not over
 abbrev pub HasNoEndedMatch : {G S M : Type 0} → (G → Rules S M) → ManagerValue G M → Type 0

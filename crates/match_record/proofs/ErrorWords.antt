@@ -10,7 +10,7 @@ use Rattle.match_book.specs.AnswerReading.{max_reading}
 use Rattle.match_book.specs.Marks.{mark_text}
 use Rattle.match_book.specs.declared.answer.Mark.{Mark}
 use Rattle.match_book.specs.declared.answer.Mark.TheVariants.{Clear, TimeOut, ConnectionError}
-use Rattle.match_book.specs.Judgement.{error_text, unreadable_text, illegal_prefix}
+use Rattle.match_book.specs.Judgement.{error_text, unreadable_text, retired_text, illegal_prefix}
 use Rattle.match_book.specs.declared.judgement.Substitution.{Substitution}
 use Rattle.match_book.specs.declared.judgement.Substitution.TheVariants.{TimeOut as ForTimeOut, ConnectionError as ForConnectionError, Unreadable, Illegal, Retired}
 use Rattle.match_record.specs.RecordParts.{IsErrorText, MayBeGiven}
@@ -25,6 +25,9 @@ mark_is_error text (Some ConnectionError) shown is = let same : text ≡ error_t
 pub question_is_error : (text : List ℕ) → text ≡ unreadable_text → IsErrorText text
 question_is_error text is = inr (Unreadable, is, tt)
 
+pub retired_is_error : (text : List ℕ) → text ≡ retired_text → IsErrorText text
+retired_is_error text is = inr (Retired, is, tt)
+
 -- the text that an error names as what was answered
 pub record Names (text x : List ℕ) : Type 0 where
   pub named : text ≡ illegal_prefix ++ x
@@ -38,17 +41,17 @@ no_mark : (text : List ℕ) (o : Option Mark) (m : Mark) → Shows mark_text Any
 no_mark text None m shown is same = shown m (ap Some same) tt
 no_mark text (Some x) m shown is same = cc
 
-named_why : (text : List ℕ) (o : Option Mark) → Shows mark_text AnyShape (Some text) o → is_some o ≡ false → text ≢ unreadable_text → (why : Substitution) → text ≡ error_text why → MayBeGiven why → (x : List ℕ) × Names text x
-named_why text o shown is other ForTimeOut same may = absurd (no_mark text o TimeOut shown is same)
-named_why text o shown is other ForConnectionError same may = absurd (no_mark text o ConnectionError shown is same)
-named_why text o shown is other Unreadable same may = absurd (other same)
-named_why text o shown is other Retired same may = absurd may
-named_why text o shown is other (Illegal x) same may = (x, record { named = same; is_folded = may.0; short = may.1 })
+named_why : (text : List ℕ) (o : Option Mark) → Shows mark_text AnyShape (Some text) o → is_some o ≡ false → text ≢ unreadable_text → text ≢ retired_text → (why : Substitution) → text ≡ error_text why → MayBeGiven why → (x : List ℕ) × Names text x
+named_why text o shown is other active ForTimeOut same may = absurd (no_mark text o TimeOut shown is same)
+named_why text o shown is other active ForConnectionError same may = absurd (no_mark text o ConnectionError shown is same)
+named_why text o shown is other active Unreadable same may = absurd (other same)
+named_why text o shown is other active Retired same may = absurd (active same)
+named_why text o shown is other active (Illegal x) same may = (x, record { named = same; is_folded = may.0; short = may.1 })
 
--- an error that is neither a mark nor that of an unreadable answer names what was answered
-pub names_something : (text : List ℕ) (o : Option Mark) → Shows mark_text AnyShape (Some text) o → is_some o ≡ false → text ≢ unreadable_text → IsErrorText text → (x : List ℕ) × Names text x
-names_something text o shown is other (inl empty) = absurd (no_mark text o Clear shown is empty)
-names_something text o shown is other (inr (why, same, may)) = named_why text o shown is other why same may
+-- an error that is neither a mark nor that of an unreadable answer or a retired role names what was answered
+pub names_something : (text : List ℕ) (o : Option Mark) → Shows mark_text AnyShape (Some text) o → is_some o ≡ false → text ≢ unreadable_text → text ≢ retired_text → IsErrorText text → (x : List ℕ) × Names text x
+names_something text o shown is other active (inl empty) = absurd (no_mark text o Clear shown is empty)
+names_something text o shown is other active (inr (why, same, may)) = named_why text o shown is other active why same may
 
 -- ---- folded texts
 

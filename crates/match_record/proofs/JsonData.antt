@@ -6,8 +6,7 @@ use Rattle.serde_json.specs.Data.{unsigned, negative, float, Data, null, boolean
 use Rattle.serde_json.specs.Find.{as_str, as_array}
 use Rattle.serde_json.specs.View.{view, items_of, items_view}
 use Rattle.serde_json.specs.declared.value.Value.{Value}
-use Rattle.match_record.specs.Internal.JsonValues.{as_whole}
-use Rattle.match_record.specs.RecordTree.{text_lists_tree, list_tree, texts_tree}
+use Rattle.match_record.specs.RecordTree.{as_whole, text_lists_tree, list_tree, texts_tree}
 use Rattle.match_record.specs.Internal.Shown.{Shows}
 
 -- ---- one value

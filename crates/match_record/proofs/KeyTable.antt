@@ -11,10 +11,11 @@ use Rattle.match_record.specs.Internal.KeyReading.{HoldsForEach, SayTheSame, key
 use Rattle.match_record.specs.Internal.Shown.{Shows}
 use Rattle.match_record.specs.LawfulRecord.{IsShaped, IsFirstWithout, IsJson, HasNoShape}
 use Rattle.match_record.specs.RecordParts.{prefixes}
-use Rattle.match_record.specs.RecordTree.{row_of, keys, key_text, key_tree, members_at}
+use Rattle.match_record.specs.RecordTree.{row_of, keys, key_text, key_tree, found_at, version_of, members_at}
 use Rattle.match_record.specs.declared.record_parts.Key.{Key}
-use Rattle.match_record.specs.declared.record_parts.Key.TheVariants.{Cause as AtCause, EndMarks, Errors, GoalValues, MatchId, Moves, Phase as AtPhase, PlayClock, Players, Roles, StartClock, StartMarks, States}
+use Rattle.match_record.specs.declared.record_parts.Key.TheVariants.{Cause as AtCause, EndMarks, Errors, GoalValues, MatchId, Moves, Phase as AtPhase, PlayClock, Players, Roles, StartClock, StartMarks, States, Strikes, Version as AtVersion}
 use Rattle.match_record.specs.declared.record_parts.RecordParts.{RecordParts}
+use Rattle.match_record.specs.declared.record_parts.Version.{Version}
 use Rattle.match_record.specs.declared.verify_fault.VerifyFault.{VerifyFault}
 use Rattle.match_record.specs.declared.verify_fault.VerifyFault.TheVariants.{BadShape, Memory}
 use Rattle.match_record.proofs.RecordParts.{prefixes_get}
@@ -35,6 +36,8 @@ each_key P held Roles = held.1.1.1.1.1.1.1.1.1.0
 each_key P held StartClock = held.1.1.1.1.1.1.1.1.1.1.0
 each_key P held StartMarks = held.1.1.1.1.1.1.1.1.1.1.1.0
 each_key P held States = held.1.1.1.1.1.1.1.1.1.1.1.1.0
+each_key P held Strikes = held.1.1.1.1.1.1.1.1.1.1.1.1.1.0
+each_key P held AtVersion = held.1.1.1.1.1.1.1.1.1.1.1.1.1.1.0
 
 -- one thing at each key
 pub each_same : (A : Key → Type 0) (f : (key : Key) → A key) (ks : List Key) → HoldsForEach (λ key. f key ≡ f key) ks
@@ -71,28 +74,34 @@ before_at i d below =
 pub by_roles : {A : Type 0} (written : A → Data) (Fits : ℕ → A → Type 0) (found : Option Data) (read : Option A) {n m : ℕ} → n ≡ m → Shows written (Fits n) found read → Shows written (Fits m) found read
 by_roles written Fits found read same shows = subst (λ k. Shows written (Fits k) found read) same shows
 
+-- what counts as found there is what counts so in the tree
+counted : {S M : Type 0} (g : Rules S M) (tree : Data) (version : Option Version) (found : Option Data) (key : Key) → version ≡ version_of tree → found ≡ get (key_text key) tree → (row_of key).counts version found ≡ found_at tree key
+counted g tree version found key of is = ap (λ v. (row_of key).counts v found) of ∙ ap ((row_of key).counts (version_of tree)) is
+
 -- The key at the place i is read: nothing before it has changed.
-pub read_more : {S M : Type 0} (g : Rules S M) (tree : Data) (found : Option Data) (p q : RecordParts) (i : ℕ) (d : Key) (b : Bool) → i < length keys → found ≡ get (key_text (get_or keys i d)) tree → IsReadInto g (get_or keys i d) found q b
+pub read_more : {S M : Type 0} (g : Rules S M) (tree : Data) (version : Option Version) (found : Option Data) (p q : RecordParts) (i : ℕ) (d : Key) (b : Bool) → i < length keys → version ≡ version_of tree → found ≡ get (key_text (get_or keys i d)) tree
+    → IsReadInto g (get_or keys i d) version found q b
     → b ≡ true → SayTheSame (keys_before (get_or keys i d) keys) p q → HoldsForEach (IsReadAt g tree p) (take i keys) → HoldsForEach (IsReadAt g tree q) (take (i + 1) keys)
-read_more g tree found p q i d false below is none right kept held = absurd cc
-read_more g tree found p q i d true below is read right kept held =
+read_more g tree version found p q i d false below of is none right kept held = absurd cc
+read_more g tree version found p q i d true below of is read right kept held =
     let same : SayTheSame (take i keys) p q = subst (λ (ks : List Key). SayTheSame ks p q) (before_at i d below) kept in
     let earlier : HoldsForEach (IsReadAt g tree q) (take i keys) = each_and (IsReadAt g tree p) (λ k. (row_of k).said p ≡ (row_of k).said q) (IsReadAt g tree q) moved (take i keys) held same in
-    subst (HoldsForEach (IsReadAt g tree q)) (sym (take_more keys i d below)) (each_more (IsReadAt g tree q) (take i keys) (get_or keys i d) earlier (sym is ∙ read.0, read.1))
+    subst (HoldsForEach (IsReadAt g tree q)) (sym (take_more keys i d below)) (each_more (IsReadAt g tree q) (take i keys) (get_or keys i d) earlier (sym (counted g tree version found (get_or keys i d) of is) ∙ read.0, read.1))
   where
     moved : (k : Key) → IsReadAt g tree p k → (row_of k).said p ≡ (row_of k).said q → IsReadAt g tree q k
-    moved k there same = subst (λ (x : (row_of k).Value). (get (key_text k) tree ≡ Some ((row_of k).written x)) × (row_of k).IsOfShape g x) same there
+    moved k there same = subst (λ (x : (row_of k).Value). (found_at tree k ≡ Some ((row_of k).written x)) × (row_of k).IsOfShape g x) same there
 
 -- Nothing of its shape was found at the key at the place i, and all keys before it are of theirs.
-pub not_read : {S M : Type 0} (g : Rules S M) (tree : Data) (found : Option Data) (p q : RecordParts) (i : ℕ) (d : Key) (b : Bool) → i < length keys → found ≡ get (key_text (get_or keys i d)) tree → IsReadInto g (get_or keys i d) found q b
+pub not_read : {S M : Type 0} (g : Rules S M) (tree : Data) (version : Option Version) (found : Option Data) (p q : RecordParts) (i : ℕ) (d : Key) (b : Bool) → i < length keys → version ≡ version_of tree → found ≡ get (key_text (get_or keys i d)) tree
+    → IsReadInto g (get_or keys i d) version found q b
     → b ≡ false → HoldsForEach (IsReadAt g tree p) (take i keys) → IsFirstWithout (IsShaped g tree) keys (get_or keys i d)
-not_read g tree found p q i d true below is read wrong held = absurd cc
-not_read g tree found p q i d false below is none wrong held = (
+not_read g tree version found p q i d true below of is read wrong held = absurd cc
+not_read g tree version found p q i d false below of is none wrong held = (
   take i keys,
   drop (i + 1) keys,
   sym (take-append-drop (i + 1) keys) ∙ ap (λ ks. ks ++ drop (i + 1) keys) (take_more keys i d below) ∙ append_assoc (take i keys) (get_or keys i d ∷ []) (drop (i + 1) keys),
   all_of (IsReadAt g tree p) (IsShaped g tree) (λ k there. ((row_of k).said p, there.0, there.1)) (take i keys) held,
-  λ (x, there, fits). none x (is ∙ there) fits,
+  λ (x, there, fits). none x (counted g tree version found (get_or keys i d) of is ∙ there) fits,
 )
 
 -- why the reading ends at a key

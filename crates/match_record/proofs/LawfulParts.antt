@@ -4,10 +4,10 @@ use Rattle.std.proofs.lemmas.List.{length-map}
 use Rattle.std.specs.Prelude.{All, IfSome, slice_index_or, is_none, option_to_list}
 use Rattle.std.specs.Option.{option_or}
 use Rattle.std.proofs.lemmas.List.Elements.{All-from_get_or, All-map, All-append}
-use Rattle.serde_json.specs.Data.{Data}
-use Rattle.serde_json.specs.Find.{get_member}
+use Rattle.serde_json.specs.Data.{Data, object}
 use Rattle.game_core.specs.Play.{Rules, IsLawful, max_goal}
-use Rattle.match_book.specs.Judgement.{IsJudged, MayStand}
+use Rattle.match_book.specs.Judgement.{IsJudged, IsPart, MayStand}
+use Rattle.match_book.specs.Retirement.{are_all_retired, retired_by}
 use Rattle.match_book.specs.Lawful.{IsLawfulTurn, IsLawfulMatch, AreLawful}
 use Rattle.match_book.specs.Names.{IsLawfulSetup}
 use Rattle.match_book.specs.MatchValue.{MatchValue, state_after}
@@ -19,16 +19,16 @@ use Rattle.match_book.specs.declared.phase.Cause.TheVariants.{Asked, TooLong}
 use Rattle.match_book.specs.declared.phase.Stage.{Stage}
 use Rattle.match_book.specs.declared.phase.Stage.TheVariants.{Starting, Playing, Stopping, Aborting}
 use Rattle.match_book.specs.declared.turn.Turn.{Turn}
-use Rattle.match_book.specs.Retirement.{are_all_retired}
-use Rattle.match_book.proofs.LawfulTurns.{state_after-is_state, never-judged}
+use Rattle.match_book.proofs.LawfulTurns.{state_after-is_state}
 use Rattle.match_book.proofs.RoleTests.{lowest_role-none}
 use Rattle.match_record.specs.LawfulRecord.{RecordTreeHoldsParts, RecordsAreLawful, LawfulPartsHaveShape}
 use Rattle.match_record.specs.Internal.KeyReading.{HoldsForEach}
-use Rattle.match_record.specs.RecordParts.{parts_of, IsErrorText, MayBeGiven, NamesRole, AreErrors, AreGoals, prefixes, goals_from}
-use Rattle.match_record.specs.RecordTree.{key_text, key_tree, keys, members_at, IsShapedAt, record_tree}
+use Rattle.match_record.specs.RecordParts.{parts_of, parts_in, IsErrorText, MayBeGiven, NamesRole, AreErrors, AreGoals, prefixes, goals_from}
+use Rattle.match_record.specs.RecordTree.{key_tree, keys, found_at, members_at, IsShapedAt, record_tree}
 use Rattle.match_record.specs.declared.record_parts.Key.{Key}
-use Rattle.match_record.specs.declared.record_parts.Key.TheVariants.{Cause as AtCause, EndMarks, Errors, GoalValues, MatchId, Moves, Phase as AtPhase, PlayClock, Players, Roles, StartClock, StartMarks, States}
-use Rattle.match_record.specs.declared.record_parts.RecordParts.{RecordParts}
+use Rattle.match_record.specs.declared.record_parts.Key.TheVariants.{Cause as AtCause, EndMarks, Errors, GoalValues, MatchId, Moves, Phase as AtPhase, PlayClock, Players, Roles, StartClock, StartMarks, States, Strikes, Version as AtVersion}
+use Rattle.match_record.specs.declared.record_parts.Version.{Version}
+use Rattle.match_record.specs.declared.record_parts.Version.TheVariants.{Second}
 use Rattle.match_record.proofs.KeyTable.{each_key, each_same}
 use Rattle.match_record.proofs.RecordParts.{length_prefixes}
 
@@ -138,59 +138,65 @@ given g moves TimeOut may = tt
 given g moves ConnectionError may = tt
 given g moves Unreadable may = tt
 given g moves (Illegal x) may = (may.0, may.1)
-given g moves Retired may = may
+given g moves Retired may = absurd may
 
 judged_error : {S M : Type 0} (g : Rules S M) (moves : List M) (m : M) (e : List ℕ) → IsJudged g moves m e → IsErrorText e
 judged_error g moves m e (there, inl empty) = inl empty
 judged_error g moves m e (there, inr (first, (why, same, may))) = inr (why, same, given g moves why may)
 
-turn_errors : {S M : Type 0} (g : Rules S M) (before : List (Turn M)) (t : Turn M) → IsLawfulTurn g 0 before t → All IsErrorText t.errors
-turn_errors g before t lawful =
+part_error : {S M : Type 0} (g : Rules S M) (retired : Bool) (moves : List M) (m : M) (e : List ℕ) → IsPart g retired moves m e → IsErrorText e
+part_error g true moves m e (first, says) = inr (Retired, says, tt)
+part_error g false moves m e judged = judged_error g moves m e judged
+
+turn_errors : {S M : Type 0} (g : Rules S M) (strikes : ℕ) (before : List (Turn M)) (t : Turn M) → IsLawfulTurn g strikes before t → All IsErrorText t.errors
+turn_errors g strikes before t lawful =
     All-from_get_or IsErrorText t.errors []
     (λ r below.
     let within : r < g.roles = omega (arith, lawful.one_error) in
-    judged_error g (g.legal (state_after g before) r) _ (get_or t.errors r []) (never-judged g before t lawful r (some_member t.moves r (omega (arith, lawful.joint.width, lawful.one_error))) within))
+    part_error g (retired_by strikes before r) (g.legal (state_after g before) r) _ (get_or t.errors r []) (lawful.judged r (some_member t.moves r (omega (arith, lawful.joint.width, lawful.one_error))) within))
 
-turns_errors : {S M : Type 0} (g : Rules S M) (turns : List (Turn M)) → AreLawful g 0 turns → AreErrors g.roles (map (λ t. t.errors) turns)
-turns_errors g turns lawful =
+turns_errors : {S M : Type 0} (g : Rules S M) (strikes : ℕ) (turns : List (Turn M)) → AreLawful g strikes turns → AreErrors g.roles (map (λ t. t.errors) turns)
+turns_errors g strikes turns lawful =
     All-map (λ texts. (length texts ≡ g.roles) × All IsErrorText texts) (λ t. t.errors) turns
-    (λ k d below. let turn = lawful k d below in (turn.one_error, turn_errors g _ (slice_index_or turns k d) turn))
+    (λ k d below. let turn = lawful k d below in (turn.one_error, turn_errors g strikes _ (slice_index_or turns k d) turn))
 
-turns_moves : {S M : Type 0} (g : Rules S M) (turns : List (Turn M)) → AreLawful g 0 turns → All (λ texts. length texts ≡ g.roles) (map (λ t. map g.move_text t.moves) turns)
-turns_moves g turns lawful = All-map (λ texts. length texts ≡ g.roles) (λ t. map g.move_text t.moves) turns (λ k d below. length-map (slice_index_or turns k d).moves g.move_text ∙ (lawful k d below).joint.width)
+turns_moves : {S M : Type 0} (g : Rules S M) (strikes : ℕ) (turns : List (Turn M)) → AreLawful g strikes turns → All (λ texts. length texts ≡ g.roles) (map (λ t. map g.move_text t.moves) turns)
+turns_moves g strikes turns lawful = All-map (λ texts. length texts ≡ g.roles) (λ t. map g.move_text t.moves) turns (λ k d below. length-map (slice_index_or turns k d).moves g.move_text ∙ (lawful k d below).joint.width)
 
 -- ---- the whole
 
-shaped_at : {S M : Type 0} (g : Rules S M) → IsLawful g → (m : MatchValue M) → IsLawfulMatch g m → IsLawfulSetup m.setup → m.setup.strikes ≡ 0 → (key : Key) → IsShapedAt g key (parts_of g m)
-shaped_at g laws m lawful setup never AtCause = cause_names g m
-shaped_at g laws m lawful setup never EndMarks = lawful.one_end_mark
-shaped_at g laws m lawful setup never Errors = turns_errors g m.turns (subst (λ (k : ℕ). AreLawful g k m.turns) never lawful.turns)
-shaped_at g laws m lawful setup never GoalValues = goals_shape g laws (state_after g m.turns) (state_after-is_state g laws m.turns lawful.turns) (stage g m) (stage_stopping g m)
-shaped_at g laws m lawful setup never MatchId = setup.id
-shaped_at g laws m lawful setup never Moves = (turns_moves g m.turns (subst (λ (k : ℕ). AreLawful g k m.turns) never lawful.turns), subst (λ (n : ℕ). n ≤ max_turns) (sym (length-map m.turns (λ t. map g.move_text t.moves))) lawful.few_turns)
-shaped_at g laws m lawful setup never AtPhase = tt
-shaped_at g laws m lawful setup never PlayClock = setup.play
-shaped_at g laws m lawful setup never Players = (lawful.one_player, setup.players)
-shaped_at g laws m lawful setup never Roles = refl
-shaped_at g laws m lawful setup never StartClock = setup.start
-shaped_at g laws m lawful setup never StartMarks = lawful.one_start_mark
-shaped_at g laws m lawful setup never States = tt
+shaped_at : {S M : Type 0} (g : Rules S M) → IsLawful g → (m : MatchValue M) → IsLawfulMatch g m → IsLawfulSetup m.setup → (version : Version) (key : Key) → IsShapedAt g key (parts_in g version m)
+shaped_at g laws m lawful setup version AtCause = cause_names g m
+shaped_at g laws m lawful setup version EndMarks = lawful.one_end_mark
+shaped_at g laws m lawful setup version Errors = turns_errors g m.setup.strikes m.turns lawful.turns
+shaped_at g laws m lawful setup version GoalValues = goals_shape g laws (state_after g m.turns) (state_after-is_state g laws m.turns lawful.turns) (stage g m) (stage_stopping g m)
+shaped_at g laws m lawful setup version MatchId = setup.id
+shaped_at g laws m lawful setup version Moves = (turns_moves g m.setup.strikes m.turns lawful.turns, subst (λ (n : ℕ). n ≤ max_turns) (sym (length-map m.turns (λ t. map g.move_text t.moves))) lawful.few_turns)
+shaped_at g laws m lawful setup version AtPhase = tt
+shaped_at g laws m lawful setup version PlayClock = setup.play
+shaped_at g laws m lawful setup version Players = (lawful.one_player, setup.players)
+shaped_at g laws m lawful setup version Roles = refl
+shaped_at g laws m lawful setup version StartClock = setup.start
+shaped_at g laws m lawful setup version StartMarks = lawful.one_start_mark
+shaped_at g laws m lawful setup version States = tt
+shaped_at g laws m lawful setup version Strikes = setup.strikes
+shaped_at g laws m lawful setup version AtVersion = tt
 
 pub lawful_parts_have_shape : {S M : Type 0} (g : Rules S M) → IsLawful g → LawfulPartsHaveShape g
-lawful_parts_have_shape g laws m lawful setup never = record {
-  keys = shaped_at g laws m lawful setup never;
+lawful_parts_have_shape g laws m version lawful setup = record {
+  keys = shaped_at g laws m lawful setup version;
   as_many_errors = length-map m.turns (λ t. t.errors) ∙ sym (length-map m.turns (λ t. map g.move_text t.moves));
   one_state_more =
       length-map (prefixes m.turns) (λ front. g.state_text (state_after g front)) ∙ length_prefixes m.turns
       ∙ ap suc (sym (length-map m.turns (λ t. map g.move_text t.moves)));
 }
 
-members_hold : (p : RecordParts) → HoldsForEach (λ key. get_member (key_text key) (members_at keys p) ≡ Some (key_tree key p)) keys
-members_hold p = each_same (λ _. Option Data) (λ key. Some (key_tree key p)) keys
+members_hold : {S M : Type 0} (g : Rules S M) (m : MatchValue M) → HoldsForEach (λ key. found_at (object (members_at keys (parts_of g m))) key ≡ Some (key_tree key (parts_of g m))) keys
+members_hold g m = each_same (λ _. Option Data) (λ key. Some (key_tree key (parts_of g m))) keys
 
 pub record_tree_holds_parts : {S M : Type 0} (g : Rules S M) → RecordTreeHoldsParts g
 unfolding record_tree
-record_tree_holds_parts g m = each_key (λ key. get_member (key_text key) (members_at keys (parts_of g m)) ≡ Some (key_tree key (parts_of g m))) (members_hold (parts_of g m))
+record_tree_holds_parts g m = each_key (λ key. found_at (object (members_at keys (parts_of g m))) key ≡ Some (key_tree key (parts_of g m))) (members_hold g m)
 
 pub records_are_lawful : {S M : Type 0} (g : Rules S M) → RecordsAreLawful g
-records_are_lawful g text m lawful setup never json = (record_tree g m, m, record { json = json; setup = setup; lawful = lawful; never = never; holds = record_tree_holds_parts g m })
+records_are_lawful g text m lawful setup json = (record_tree g m, m, record { json = json; setup = setup; lawful = lawful; version = Second; holds = record_tree_holds_parts g m })

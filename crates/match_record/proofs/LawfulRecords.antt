@@ -7,28 +7,28 @@ use Rattle.std.proofs.lemmas.Bool.Decides.{nat_tests}
 use Rattle.std.proofs.lemmas.Option.{slice_get-map}
 use Rattle.game_core.specs.Play.{Rules, IsJoint, IsLawful}
 use Rattle.match_book.specs.Roles.{every_role, lowest_role}
-use Rattle.match_book.specs.Judgement.{IsJudged, NamesNone}
+use Rattle.match_book.specs.Judgement.{IsPart, NamesNone}
+use Rattle.match_book.specs.Retirement.{are_all_retired, is_retired, retired_by}
 use Rattle.match_book.specs.MatchValue.{MatchValue, state_after}
 use Rattle.match_book.specs.Phase.{stage, phase_in, answered_in, has_no_move, max_turns}
 use Rattle.match_book.specs.Lawful.{IsLawfulTurn, AreLawful, IsLawfulMatch}
 use Rattle.match_book.specs.declared.phase.Stage.{Stage}
 use Rattle.match_book.specs.declared.phase.Stage.TheVariants.{Playing}
 use Rattle.match_book.specs.declared.turn.Turn.{Turn}
-use Rattle.match_book.proofs.RoleTests.{every_role-but, lowest_role-more}
-use Rattle.match_book.proofs.Stages.{playing-live, answered_in-retired}
-use Rattle.match_book.proofs.StruckTurns.{retired_by-never}
+use Rattle.match_book.proofs.RoleTests.{every_role-same, lowest_role-more}
+use Rattle.match_book.proofs.Stages.{playing-live, playing-settled, settled-playing, answered_in-retired}
 use Rattle.match_book.proofs.LawfulMatches.{none_blank}
-use Rattle.match_book.proofs.LawfulTurns.{state_after-is_state, never-judged}
-use Rattle.match_record.specs.RecordParts.{prefixes, parts_of}
+use Rattle.match_book.proofs.LawfulTurns.{state_after-is_state}
+use Rattle.match_record.specs.RecordParts.{prefixes, parts_of, parts_in}
 use Rattle.match_record.specs.RecordTree.{HasShape}
-use Rattle.match_record.specs.Replaying.{AreLawfulParts, IsWrongError, ShowsState, LeadsTo, ComesTo, IsReplayed, AreGoalsIn, IsRightEnd, IsFirstFault, match_of, turn_at, text_at}
+use Rattle.match_record.specs.Replaying.{AreLawfulParts, IsWrongError, IsWrongRetired, ShowsState, LeadsTo, ComesTo, IsReplayed, AreGoalsIn, IsRightEnd, IsFirstFault, match_of, retired_in, turn_at, text_at}
 use Rattle.match_record.specs.Internal.ReplaySteps.{IsRightJoint, has_ended}
 use Rattle.match_record.specs.declared.record_parts.Key.TheVariants.{Players, Roles, StartMarks, EndMarks, Moves}
 use Rattle.match_record.specs.declared.record_parts.RecordParts.{RecordParts}
 use Rattle.match_record.specs.declared.verify_fault.VerifyFault.{VerifyFault}
-use Rattle.match_record.specs.declared.verify_fault.VerifyFault.TheVariants.{NotJson, BadShape, Illegal, NotFirst, WrongState, WrongGoals, WrongEnd, Memory}
+use Rattle.match_record.specs.declared.verify_fault.VerifyFault.TheVariants.{NotJson, BadShape, Illegal, NotFirst, WrongRetired, WrongState, WrongGoals, WrongEnd, Memory}
 use Rattle.match_record.proofs.RecordParts.{length_prefixes, prefixes_get}
-use Rattle.match_record.proofs.RecordedMoves.{element-at, judged-not_wrong}
+use Rattle.match_record.proofs.RecordedMoves.{element-at, part-not_wrong, part-not_unfit}
 use Rattle.match_record.proofs.RecordEnds.{goals-shown, lawful-right_end, lawful-goals}
 use Rattle.match_record.proofs.Replays.{leads-within, leads-front}
 
@@ -71,8 +71,10 @@ module _ {S M : Type 0} (g : Rules S M) (laws : IsLawful g) (p : RecordParts) (s
         judged = λ r j lt e. absurd (none_blank g.roles r j e);
         answers_in_play = λ _. refl;
         round_is_open = λ e.
-            let free : answered_in Playing n 0 ≡ false = answered_in-retired n g.roles 0 refl ∙ retired_by-never played.leads.turns 0 in
-            subst (λ (at : Stage). every_role g.roles (answered_in at n) ≡ false) (sym (playing-live (stage g n) e)) (every_role-but g.roles 0 (answered_in Playing n) laws.some_role free);
+            let playing : stage g n ≡ Playing = playing-live (stage g n) e in
+            let not_all : are_all_retired g.roles n ≡ false = (settled-playing g (length n.turns) (are_all_retired g.roles n) (state_after g n.turns) (playing-settled g n playing).1).3 in
+            let none : every_role g.roles (answered_in Playing n) ≡ false = every_role-same g.roles (is_retired n) (answered_in Playing n) (λ k lt. answered_in-retired n g.roles k refl) ∙ not_all in
+            subst (λ (at : Stage). every_role g.roles (answered_in at n) ≡ false) (sym playing) none;
         ends_at_end = right.ends_at_end;
         asked_when_live = right.asked_when_live;
       }
@@ -97,7 +99,7 @@ module _ {S M : Type 0} (g : Rules S M) (laws : IsLawful g) (p : RecordParts) (s
       goals-shown g (state_after g played.leads.turns) (stage g n) (has_ended g.roles p) p.goals
       (subst (λ (x : S). AreGoalsIn g (phase_in (stage g n) (has_ended g.roles p)) x p.goals) played.leads.state (subst (λ ph. AreGoalsIn g ph s p.goals) (sym right.phase_is) goals))
 
-  made-shows : parts_of g (match_of g p played.leads.turns) ≡ p
+  made-shows : parts_in g p.version (match_of g p played.leads.turns) ≡ p
   made-shows = λ i. record {
     cause = right.cause_is i;
     end_marks = p.end_marks;
@@ -112,11 +114,13 @@ module _ {S M : Type 0} (g : Rules S M) (laws : IsLawful g) (p : RecordParts) (s
     start = p.start;
     start_marks = p.start_marks;
     states = states-same i;
+    strikes = p.strikes;
+    version = p.version;
   }
 
   -- a record without a fault is that of a lawful match
   pub record-lawful : AreLawfulParts g p
-  record-lawful = (match_of g p played.leads.turns, made-lawful, refl, made-shows)
+  record-lawful = (match_of g p played.leads.turns, made-lawful, made-shows)
 
 -- ---- the record of a lawful match has no fault
 
@@ -131,9 +135,9 @@ some-move (x ∷ xs) m among = longer (length xs)
     longer : (n : ℕ) → (suc n == 0) ≡ false
     longer n = grind (arith, nat_tests)
 
-module _ {S M : Type 0} (g : Rules S M) (laws : IsLawful g) (p : RecordParts) (m : MatchValue M) (lawful : IsLawfulMatch g m) (never : m.setup.strikes ≡ 0) (shows : parts_of g m ≡ p) where
-  turns-lawful : AreLawful g 0 m.turns
-  turns-lawful = subst (λ (k : ℕ). AreLawful g k m.turns) never lawful.turns
+module _ {S M : Type 0} (g : Rules S M) (laws : IsLawful g) (p : RecordParts) (m : MatchValue M) (lawful : IsLawfulMatch g m) (shows : parts_in g p.version m ≡ p) where
+  turns-lawful : AreLawful g p.strikes m.turns
+  turns-lawful = subst (λ (k : ℕ). AreLawful g k m.turns) (ap (λ (q : RecordParts). q.strikes) shows) lawful.turns
 
   moves-same : map (λ u. map g.move_text u.moves) m.turns ≡ p.moves
   moves-same = ap (λ (q : RecordParts). q.moves) shows
@@ -159,12 +163,13 @@ module _ {S M : Type 0} (g : Rules S M) (laws : IsLawful g) (p : RecordParts) (m
       ap (λ (q : RecordParts). slice_get q.states t) (sym shows) ∙ front-get (λ (ts : List (Turn M)). g.state_text (state_after g ts)) m.turns t le ∙ ap (λ (x : S). Some (g.state_text x)) (sym (state-is t s leads))
 
   -- the turn that follows
-  next-turn : (t : ℕ) (s : S) → ComesTo g p t s → (u : Turn M) × IsRightJoint g s (turn_at p.moves t) (turn_at p.errors t) u.moves
+  next-turn : (t : ℕ) (s : S) (comes : ComesTo g p t s) → (u : Turn M) × IsRightJoint g (retired_in p comes) s (turn_at p.moves t) (turn_at p.errors t) u.moves
   next-turn t s comes =
       let lt : t < length m.turns = omega (arith, comes.follows, as-many) in
       let u = element-at m.turns t lt in
       let at = state-is t s comes.leads in
-      let turn : IsLawfulTurn g 0 (take t m.turns) u.0 = subst (λ (x : Turn M). IsLawfulTurn g 0 (take t m.turns) x) u.1 (turns-lawful t u.0 lt) in
+      let front_is = front t s comes.leads in
+      let turn : IsLawfulTurn g p.strikes (take t m.turns) u.0 = subst (λ (x : Turn M). IsLawfulTurn g p.strikes (take t m.turns) x) u.1 (turns-lawful t u.0 lt) in
       let joint : IsJoint g s u.0.moves = subst (λ (x : S). IsJoint g x u.0.moves) (sym at) turn.joint in
       let texts : map g.move_text u.0.moves ≡ turn_at p.moves t =
       ap (λ (x : Turn M). map g.move_text x.moves) (sym u.1) ∙ sym (get_or-map (λ (x : Turn M). map g.move_text x.moves) m.turns t u.0 [] lt) ∙ ap (λ ts. turn_at ts t) moves-same in
@@ -179,12 +184,14 @@ module _ {S M : Type 0} (g : Rules S M) (laws : IsLawful g) (p : RecordParts) (m
                 let inside : r < length u.0.moves = omega (arith, wide) in
                 let d = element-at u.0.moves r inside in
                 some-move (g.legal s r) (slice_index_or u.0.moves r d.0) (joint.legal r d.0 below)),
+            subst (λ (ts : List (Turn M)). every_role g.roles (retired_by p.strikes ts) ≡ false) (sym front_is) turn.some_answer,
           );
           joint = joint;
           texts = texts;
-          judged = λ r d below.
-              subst (λ (es : List (List ℕ)). IsJudged g (g.legal s r) (slice_index_or u.0.moves r d) (text_at es r)) errors
-              (subst (λ (x : S). IsJudged g (g.legal x r) (slice_index_or u.0.moves r d) (text_at u.0.errors r)) (sym at) (never-judged g (take t m.turns) u.0 turn r d below));
+          parts = λ r d below.
+              subst (λ (ts : List (Turn M)). IsPart g (retired_by p.strikes ts r) (g.legal s r) (slice_index_or u.0.moves r d) (text_at (turn_at p.errors t) r)) (sym front_is)
+              (subst (λ (es : List (List ℕ)). IsPart g (retired_by p.strikes (take t m.turns) r) (g.legal s r) (slice_index_or u.0.moves r d) (text_at es r)) errors
+              (subst (λ (x : S). IsPart g (retired_by p.strikes (take t m.turns) r) (g.legal x r) (slice_index_or u.0.moves r d) (text_at u.0.errors r)) (sym at) (turn.judged r d below)));
         },
       )
 
@@ -204,16 +211,26 @@ module _ {S M : Type 0} (g : Rules S M) (laws : IsLawful g) (p : RecordParts) (m
       read (x ∷ xs) zero d t lt is = is
       read (x ∷ xs) (suc k) d t lt is = read xs k d t (omega arith) is
 
-  no-wrong_error : (t : ℕ) (s : S) → ComesTo g p t s → (r : ℕ) → r < g.roles → ¬ (IsWrongError g (g.legal s r) (text_at (turn_at p.moves t) r) (text_at (turn_at p.errors t) r))
-  no-wrong_error t s comes r within wrong =
+  -- the move of a role in it
+  next-part : (t : ℕ) (s : S) (comes : ComesTo g p t s) (r : ℕ) → r < g.roles → (m : M) × (g.move_text m ≡ text_at (turn_at p.moves t) r) × IsPart g (retired_in p comes r) (g.legal s r) m (text_at (turn_at p.errors t) r)
+  next-part t s comes r within =
       let u = next-turn t s comes in
       let right = u.1 in
       let wide = right.joint.width in
       let inside : r < length u.0.moves = omega (arith, wide) in
       let d = element-at u.0.moves r inside in
       let text : g.move_text d.0 ≡ text_at (turn_at p.moves t) r = ap g.move_text (sym d.1) ∙ sym (get_or-map g.move_text u.0.moves r d.0 [] inside) ∙ ap (λ ts. text_at ts r) right.texts in
-      let judged : IsJudged g (g.legal s r) d.0 (text_at (turn_at p.errors t) r) = subst (λ (x : M). IsJudged g (g.legal s r) x (text_at (turn_at p.errors t) r)) d.1 (right.judged r d.0 within) in
-      judged-not_wrong g laws s r d.0 (text_at (turn_at p.moves t) r) (text_at (turn_at p.errors t) r) (is-state t s comes.leads) within text judged wrong
+      (d.0, text, subst (λ (x : M). IsPart g (retired_in p comes r) (g.legal s r) x (text_at (turn_at p.errors t) r)) d.1 (right.parts r d.0 within))
+
+  no-wrong_error : (t : ℕ) (s : S) → ComesTo g p t s → (r : ℕ) → r < g.roles → ¬ (IsWrongError g (g.legal s r) (text_at (turn_at p.moves t) r) (text_at (turn_at p.errors t) r))
+  no-wrong_error t s comes r within wrong =
+      let move = next-part t s comes r within in
+      part-not_wrong g laws s r (retired_in p comes r) move.0 (text_at (turn_at p.moves t) r) (text_at (turn_at p.errors t) r) (is-state t s comes.leads) within move.1 move.2 wrong
+
+  no-wrong_retired : (t : ℕ) (s : S) (comes : ComesTo g p t s) (r : ℕ) → r < g.roles → ¬ (IsWrongRetired g (retired_in p comes r) (g.legal s r) (text_at (turn_at p.moves t) r) (text_at (turn_at p.errors t) r))
+  no-wrong_retired t s comes r within wrong =
+      let move = next-part t s comes r within in
+      part-not_unfit g (retired_in p comes r) (g.legal s r) move.0 (text_at (turn_at p.moves t) r) (text_at (turn_at p.errors t) r) move.2 wrong
 
   all-turns : (s : S) (leads : LeadsTo g p (length p.moves) s) → leads.turns ≡ m.turns
   all-turns s leads = front (length p.moves) s leads ∙ take_all (length p.moves) m.turns (omega (arith, as-many))
@@ -224,11 +241,12 @@ module _ {S M : Type 0} (g : Rules S M) (laws : IsLawful g) (p : RecordParts) (m
   no-fault (WrongState t) other fault = fault.2 (shown t fault.0 fault.1)
   no-fault (Illegal t r) other fault = no-illegal t fault.0 fault.1 r fault.2.within fault.3
   no-fault (NotFirst t r) other fault = no-wrong_error t fault.0 fault.1 r fault.2.within fault.3
-  no-fault WrongGoals other fault = fault.2 (lawful-goals g m lawful p shows never fault.0 (fault.1.leads.state ∙ ap (state_after g) (all-turns fault.0 fault.1.leads)))
+  no-fault (WrongRetired t r) other fault = no-wrong_retired t fault.0 fault.1 r fault.2.within fault.3
+  no-fault WrongGoals other fault = fault.2 (lawful-goals g m lawful p shows fault.0 (fault.1.leads.state ∙ ap (state_after g) (all-turns fault.0 fault.1.leads)))
   no-fault WrongEnd other (inl early) = early.3 (next-turn early.0 early.1 early.2).1.goes_on
-  no-fault WrongEnd other (inr late) = late.3 (subst (λ (ts : List (Turn M)). IsRightEnd g p ts) (sym (all-turns late.0 late.1.leads)) (lawful-right_end g m lawful p shows never))
+  no-fault WrongEnd other (inr late) = late.3 (subst (λ (ts : List (Turn M)). IsRightEnd g p ts) (sym (all-turns late.0 late.1.leads)) (lawful-right_end g m lawful p shows))
   no-fault Memory other fault = other refl
 
 -- a record with a fault is that of no lawful match
 pub fault-not_lawful : {S M : Type 0} (g : Rules S M) → IsLawful g → (p : RecordParts) (f : VerifyFault) → IsFirstFault g p f → f ≢ Memory → ¬ (AreLawfulParts g p)
-fault-not_lawful g laws p f fault other record' = no-fault g laws p record'.0 record'.1 record'.2 record'.3 f other fault
+fault-not_lawful g laws p f fault other record' = no-fault g laws p record'.0 record'.1 record'.2 f other fault

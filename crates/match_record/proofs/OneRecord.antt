@@ -15,12 +15,14 @@ use Rattle.match_book.specs.declared.phase.Cause.TheVariants.{Asked, NoLegal, No
 use Rattle.match_book.specs.declared.phase.Phase.{Phase}
 use Rattle.match_book.specs.declared.phase.Phase.TheVariants.{Starting, Playing, Stopping, Finished, Aborting, Aborted}
 use Rattle.match_record.specs.LawfulRecord.{IsJson, IsRecordOf, HasWrongLength, IsMisshapen, HoldsOnePartsAtMost, RefusedIsUnlawful}
-use Rattle.match_record.specs.RecordParts.{parts_of, NamesRole}
-use Rattle.match_record.specs.RecordTree.{row_of, key_tree, Holds, HasShape, cause_tree, cause_text, phase_text, phase_tree, mark_tree, marks_tree, whole_tree}
+use Rattle.match_record.specs.RecordParts.{parts_in, NamesRole}
+use Rattle.match_record.specs.RecordTree.{row_of, key_tree, Holds, HasShape, cause_tree, cause_text, phase_text, phase_tree, mark_tree, marks_tree, version_tree, whole_tree}
 use Rattle.match_record.specs.declared.record_parts.Key.{Key}
-use Rattle.match_record.specs.declared.record_parts.Key.TheVariants.{Cause as AtCause, EndMarks, Errors, GoalValues, MatchId, Moves, Phase as AtPhase, PlayClock, Players, Roles, StartClock, StartMarks, States}
+use Rattle.match_record.specs.declared.record_parts.Key.TheVariants.{Cause as AtCause, EndMarks, Errors, GoalValues, MatchId, Moves, Phase as AtPhase, PlayClock, Players, Roles, StartClock, StartMarks, States, Strikes, Version as AtVersion}
 use Rattle.match_record.specs.declared.record_parts.RecordParts.{RecordParts}
-use Rattle.match_record.specs.declared.verify_fault.VerifyFault.TheVariants.{NotJson, BadShape, Illegal as IllegalMove, NotFirst, WrongState, WrongGoals, WrongEnd, Memory}
+use Rattle.match_record.specs.declared.record_parts.Version.{Version}
+use Rattle.match_record.specs.declared.record_parts.Version.TheVariants.{First, Second}
+use Rattle.match_record.specs.declared.verify_fault.VerifyFault.TheVariants.{NotJson, BadShape, Illegal as IllegalMove, NotFirst, WrongRetired, WrongState, WrongGoals, WrongEnd, Memory}
 use Rattle.match_record.proofs.JsonData.{list_injective, string_injective, texts_injective, text_lists_injective}
 use Rattle.match_record.proofs.LawfulParts.{lawful_parts_have_shape}
 
@@ -114,6 +116,12 @@ cause_same n few (Some a) (Some b) named other is = ap Some (cause_text_same n f
 number_same : (a b : ℕ) → whole_tree a ≡ whole_tree b → a ≡ b
 number_same a b is = cc
 
+version_same : (v w : Version) → version_tree v ≡ version_tree w → v ≡ w
+version_same First First is = refl
+version_same First Second is = absurd (omega (arith, number_same 1 2 is))
+version_same Second First is = absurd (omega (arith, number_same 2 1 is))
+version_same Second Second is = refl
+
 -- a key's values of its shape differ where they are written
 value_same : {S M : Type 0} (g : Rules S M) → g.roles ≤ max_roles → (key : Key) (x y : (row_of key).Value) → (row_of key).IsOfShape g x → (row_of key).IsOfShape g y → (row_of key).written x ≡ (row_of key).written y → x ≡ y
 value_same g few AtCause x y fits also is = cause_same g.roles few x y fits also is
@@ -129,6 +137,8 @@ value_same g few Roles x y fits also is = texts_injective x y is
 value_same g few StartClock x y fits also is = number_same x y is
 value_same g few StartMarks x y fits also is = marks_same x y is
 value_same g few States x y fits also is = text_lists_injective x y is
+value_same g few Strikes x y fits also is = number_same x y is
+value_same g few AtVersion x y fits also is = version_same x y is
 
 same_parts : (p q : RecordParts) → ((key : Key) → (row_of key).said p ≡ (row_of key).said q) → p ≡ q
 same_parts p q same = λ i. record {
@@ -145,6 +155,8 @@ same_parts p q same = λ i. record {
   start = same StartClock i;
   start_marks = same StartMarks i;
   states = same States i;
+  strikes = same Strikes i;
+  version = same AtVersion i;
 }
 
 -- both trees stand at the key
@@ -167,10 +179,10 @@ right_lengths g tree p q key held also shape (inr states) =
 
 not_misshapen : {S M : Type 0} (g : Rules S M) → IsLawful g → (text : List ℕ) (tree : Data) (m : MatchValue M) (key : Key) → IsRecordOf g text tree m → IsMisshapen g tree key → ⊥
 not_misshapen g laws text tree m key record_of (inl (before, after, split, shaped, unshaped)) =
-    let shape = lawful_parts_have_shape g laws m record_of.lawful record_of.setup record_of.never in
-    unshaped ((row_of key).said (parts_of g m), record_of.holds key, shape.keys key)
+    let shape = lawful_parts_have_shape g laws m record_of.version record_of.lawful record_of.setup in
+    unshaped ((row_of key).said (parts_in g record_of.version m), record_of.holds key, shape.keys key)
 not_misshapen g laws text tree m key record_of (inr (p, held, shaped, wrong)) =
-    right_lengths g tree p (parts_of g m) key held record_of.holds (lawful_parts_have_shape g laws m record_of.lawful record_of.setup record_of.never) wrong
+    right_lengths g tree p (parts_in g record_of.version m) key held record_of.holds (lawful_parts_have_shape g laws m record_of.version record_of.lawful record_of.setup) wrong
 
 pub same_read : (text : List ℕ) (tree other : Data) → IsJson text tree → IsJson text other → tree ≡ other
 same_read text tree other is also = let same : Some tree ≡ Some other = sym is.is_read ∙ also.is_read in cc
@@ -182,6 +194,7 @@ refused_is_unlawful g laws text (BadShape key) other (found, json, misshapen) (t
     not_misshapen g laws text tree m key record_of (subst (λ (d : Data). IsMisshapen g d key) same misshapen)
 refused_is_unlawful g laws text (IllegalMove turn role) other refuses found = refuses
 refused_is_unlawful g laws text (NotFirst turn role) other refuses found = refuses
+refused_is_unlawful g laws text (WrongRetired turn role) other refuses found = refuses
 refused_is_unlawful g laws text (WrongState turn) other refuses found = refuses
 refused_is_unlawful g laws text WrongGoals other refuses found = refuses
 refused_is_unlawful g laws text WrongEnd other refuses found = refuses

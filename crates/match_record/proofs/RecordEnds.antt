@@ -1,12 +1,11 @@
 -- The end of a record: goals, phase, cause and marks.
 use Rattle.std.proofs.Common.{◌≡◌, ℕ, zero, suc, ◌<◌, ◌≤◌, Bool, true, false, Option, Some, None, List, [], ◌∷◌, ◌++◌, length, take, refl, sym, ap, ap₂, ◌∙◌, subst, arith, inl, inr, add-one}
 use Rattle.std.proofs.Math.Nat.{eq-or-lt_of_le}
-use Rattle.std.specs.Prelude.{slice_index_or, slice_get, option_to_list, is_none, if◌then◌else◌, nat_le, IsTrue, ◌↔◌}
+use Rattle.std.specs.Prelude.{slice_index_or, slice_get, option_to_list, is_none, if◌then◌else◌, nat_le, IsTrue, ◌↔◌, ◌==◌}
 use Rattle.std.proofs.lemmas.List.{length_push, nil_from_length, take_all}
 use Rattle.std.proofs.lemmas.Option.{slice_get-get_or}
-use Rattle.game_core.specs.Play.{Rules, IsLawful}
+use Rattle.game_core.specs.Play.{Rules}
 use Rattle.match_book.specs.Retirement.{are_all_retired}
-use Rattle.match_book.proofs.StruckTurns.{all_retired-never}
 use Rattle.match_book.specs.Roles.{every_role, lowest_role, is_there}
 use Rattle.match_book.specs.MatchValue.{MatchValue, state_after}
 use Rattle.match_book.specs.Phase.{stage, settled, after_the_end, before_the_end, phase, phase_in, cause, cause_in, goal_in, goal_of, is_live, max_turns, has_no_goal, has_no_move}
@@ -17,9 +16,9 @@ use Rattle.match_book.specs.declared.phase.Stage.TheVariants.{Starting, Playing,
 use Rattle.match_book.specs.declared.turn.Turn.{Turn}
 use Rattle.match_book.proofs.RoleTests.{lowest_role-none}
 use Rattle.match_book.proofs.Stages.{stage-by}
-use Rattle.match_record.specs.RecordParts.{parts_of, goals_from}
+use Rattle.match_record.specs.RecordParts.{parts_in, goals_from}
 use Rattle.match_record.specs.Replaying.{AreGoalsOf, AreGoalsIn, IsRightEnd, match_of, is_asked}
-use Rattle.match_record.specs.Internal.ReplaySteps.{stage_by, has_started, has_ended, AgreesWith, IsEndAnswer}
+use Rattle.match_record.specs.Internal.ReplaySteps.{stage_by, has_started, has_ended, AgreesWith, AreRetired, IsEndAnswer}
 use Rattle.match_record.specs.declared.record_parts.RecordParts.{RecordParts}
 use Rattle.match_record.proofs.RecordParts.{take-next}
 
@@ -114,19 +113,19 @@ stopping-settled g m e = step m.abort_asked (every_role g.roles (is_there m.star
 
 -- ---- the stage of a match with these turns
 
-module _ {S M : Type 0} (g : Rules S M) (laws : IsLawful g) (p : RecordParts) (turns : List (Turn M)) (s : S) (many : length turns ≡ length p.moves) (at : s ≡ state_after g turns) where
-  settles : settled g (length turns) (are_all_retired g.roles (match_of g p turns)) (state_after g turns) ≡ settled g (length p.moves) false s
-  settles = ap₂ (λ n (out : Bool). settled g n out (state_after g turns)) many (all_retired-never g.roles turns laws.some_role) ∙ ap (settled g (length p.moves) false) (sym at)
+module _ {S M : Type 0} (g : Rules S M) (p : RecordParts) (turns : List (Turn M)) (s : S) (retired : ℕ) (many : length turns ≡ length p.moves) (at : s ≡ state_after g turns) (out : AreRetired g p turns retired) where
+  settles : settled g (length turns) (are_all_retired g.roles (match_of g p turns)) (state_after g turns) ≡ settled g (length p.moves) (retired == g.roles) s
+  settles = ap₂ (λ n (all : Bool). settled g n all (state_after g turns)) many out ∙ ap (settled g (length p.moves) (retired == g.roles)) (sym at)
 
-  stage-is : stage g (match_of g p turns) ≡ stage_by (is_asked p.cause) (has_started g.roles p) (settled g (length p.moves) false s)
+  stage-is : stage g (match_of g p turns) ≡ stage_by (is_asked p.cause) (has_started g.roles p) (settled g (length p.moves) (retired == g.roles) s)
   unfolding stage
   stage-is = ap (stage_by (is_asked p.cause) (has_started g.roles p)) settles
 
-  unasked-is : stage g (record (match_of g p turns) { abort_asked = false }) ≡ stage_by false (has_started g.roles p) (settled g (length p.moves) false s)
+  unasked-is : stage g (record (match_of g p turns) { abort_asked = false }) ≡ stage_by false (has_started g.roles p) (settled g (length p.moves) (retired == g.roles) s)
   unfolding stage
   unasked-is = ap (stage_by false (has_started g.roles p)) settles
 
-  pub right-from_agrees : AgreesWith g.roles p (settled g (length p.moves) false s) → IsRightEnd g p turns
+  pub right-from_agrees : AgreesWith g.roles p (settled g (length p.moves) (retired == g.roles) s) → IsRightEnd g p turns
   right-from_agrees agrees = record {
     phase_is = ap (λ (x : Stage). phase_in x (has_ended g.roles p)) stage-is ∙ agrees.phase_is;
     cause_is = ap cause_in stage-is ∙ agrees.cause_is;
@@ -135,7 +134,7 @@ module _ {S M : Type 0} (g : Rules S M) (laws : IsLawful g) (p : RecordParts) (t
     asked_when_live = λ e. ap is_live unasked-is ∙ agrees.asked_when_live e;
   }
 
-  pub agrees-from_right : IsRightEnd g p turns → AgreesWith g.roles p (settled g (length p.moves) false s)
+  pub agrees-from_right : IsRightEnd g p turns → AgreesWith g.roles p (settled g (length p.moves) (retired == g.roles) s)
   agrees-from_right right = record {
     phase_is = ap (λ (x : Stage). phase_in x (has_ended g.roles p)) (sym stage-is) ∙ right.phase_is;
     cause_is = ap cause_in (sym stage-is) ∙ right.cause_is;
@@ -144,10 +143,11 @@ module _ {S M : Type 0} (g : Rules S M) (laws : IsLawful g) (p : RecordParts) (t
     asked_when_live = λ e. ap is_live (sym unasked-is) ∙ right.asked_when_live e;
   }
 
-pub end-answer : {S M : Type 0} (g : Rules S M) → IsLawful g → (p : RecordParts) (s : S) (roles : ℕ) (at : Stage) (right : Bool) → roles ≡ g.roles → at ≡ settled g (length p.moves) false s → IsTrue right ↔ AgreesWith roles p at → IsEndAnswer g p s right
-end-answer {S} {M} g laws p s roles at right same_roles same_stage agrees turns many is = (
-  λ yes. right-from_agrees g laws p turns s many is (subst (λ n. AgreesWith n p (settled g (length p.moves) false s)) same_roles (subst (λ (x : Stage). AgreesWith roles p x) same_stage (agrees.0 yes))),
-  λ end. agrees.1 (subst (λ (x : Stage). AgreesWith roles p x) (sym same_stage) (subst (λ n. AgreesWith n p (settled g (length p.moves) false s)) (sym same_roles) (agrees-from_right g laws p turns s many is end))),
+pub end-answer : {S M : Type 0} (g : Rules S M) (p : RecordParts) (s : S) (retired roles : ℕ) (at : Stage) (right : Bool) → roles ≡ g.roles → at ≡ settled g (length p.moves) (retired == g.roles) s → IsTrue right ↔ AgreesWith roles p at
+    → IsEndAnswer g p s retired right
+end-answer {S} {M} g p s retired roles at right same_roles same_stage agrees turns many is out = (
+  λ yes. right-from_agrees g p turns s retired many is out (subst (λ n. AgreesWith n p (settled g (length p.moves) (retired == g.roles) s)) same_roles (subst (λ (x : Stage). AgreesWith roles p x) same_stage (agrees.0 yes))),
+  λ end. agrees.1 (subst (λ (x : Stage). AgreesWith roles p x) (sym same_stage) (subst (λ n. AgreesWith n p (settled g (length p.moves) (retired == g.roles) s)) (sym same_roles) (agrees-from_right g p turns s retired many is out end))),
 )
 
 -- ---- the end of a lawful match is right
@@ -174,7 +174,7 @@ asked-is g m = step m.abort_asked (every_role g.roles (is_there m.start_marks)) 
     step false true rest other = other
     step false false rest other = refl
 
-module _ {S M : Type 0} (g : Rules S M) (m : MatchValue M) (lawful : IsLawfulMatch g m) (p : RecordParts) (shows : parts_of g m ≡ p) (never : m.setup.strikes ≡ 0) where
+module _ {S M : Type 0} (g : Rules S M) (m : MatchValue M) (lawful : IsLawfulMatch g m) (p : RecordParts) (shows : parts_in g p.version m ≡ p) where
   starts-same : p.start_marks ≡ m.start_marks
   starts-same = sym (ap (λ (q : RecordParts). q.start_marks) shows)
 
@@ -189,7 +189,7 @@ module _ {S M : Type 0} (g : Rules S M) (m : MatchValue M) (lawful : IsLawfulMat
     id = sym (ap (λ (q : RecordParts). q.id) shows) i;
     start = sym (ap (λ (q : RecordParts). q.start) shows) i;
     play = sym (ap (λ (q : RecordParts). q.play) shows) i;
-    strikes = sym never i;
+    strikes = sym (ap (λ (q : RecordParts). q.strikes) shows) i;
     players = sym (ap (λ (q : RecordParts). q.players) shows) i;
   }
 

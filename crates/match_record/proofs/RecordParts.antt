@@ -19,7 +19,7 @@ use Rattle.match_book.specs.declared.turn.Turn.{Turn}
 use Rattle.match_record.specs.RecordParts.{each_role, goals_from, parts_of, prefixes}
 use Rattle.match_record.specs.RecordTree.{list_tree, texts_tree, text_lists_tree, text_or_null, cause_text, mark_tree, whole_tree, key_tree, keys, members_at, record_tree}
 use Rattle.match_record.specs.declared.record_parts.Key.{Key}
-use Rattle.match_record.specs.declared.record_parts.Key.TheVariants.{Cause as AtCause, EndMarks, Errors, GoalValues, MatchId, Moves, Phase as AtPhase, PlayClock, Players, Roles, StartClock, StartMarks, States}
+use Rattle.match_record.specs.declared.record_parts.Key.TheVariants.{Cause as AtCause, EndMarks, Errors, GoalValues, MatchId, Moves, Phase as AtPhase, PlayClock, Players, Roles, StartClock, StartMarks, States, Strikes, Version as AtVersion}
 use Rattle.match_record.specs.declared.record_parts.RecordParts.{RecordParts}
 
 -- ---- one role more
@@ -200,6 +200,8 @@ key_has_none Roles p = texts_have_none p.roles
 key_has_none StartClock p = refl
 key_has_none StartMarks p = marks_have_none p.start_marks
 key_has_none States p = lists_have_none p.states
+key_has_none Strikes p = refl
+key_has_none AtVersion p = refl
 
 members_have_none : (ks : List Key) (p : RecordParts) → members_have_float (members_at ks p) ≡ false
 members_have_none [] p = refl
@@ -245,6 +247,8 @@ key_is_shallow Roles p = omega (arith, texts_are_flat p.roles)
 key_is_shallow StartClock p = omega arith
 key_is_shallow StartMarks p = omega (arith, marks_are_flat p.start_marks)
 key_is_shallow States p = omega (arith, lists_are_shallow p.states)
+key_is_shallow Strikes p = omega arith
+key_is_shallow AtVersion p = omega arith
 
 members_are_shallow : (ks : List Key) (p : RecordParts) → members_depth (members_at ks p) ≤ 2
 members_are_shallow [] p = omega arith

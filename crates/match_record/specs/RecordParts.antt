@@ -13,6 +13,8 @@ use Rattle.match_book.specs.declared.judgement.Substitution.TheVariants.{TimeOut
 use Rattle.match_book.specs.declared.phase.Cause.{Cause}
 use Rattle.match_book.specs.declared.phase.Cause.TheVariants.{Asked, NoLegal, NoGoal, TooLong, AllRetired}
 use Rattle.match_record.specs.declared.record_parts.RecordParts.{RecordParts}
+use Rattle.match_record.specs.declared.record_parts.Version.{Version}
+use Rattle.match_record.specs.declared.record_parts.Version.TheVariants.{Second}
 
 -- what f gives for each role of n, in the order of the roles
 abbrev pub each_role : {A : Type 0} → ℕ → (ℕ → A) → List A
@@ -29,7 +31,7 @@ abbrev pub goals_from : ℕ → (ℕ → Option ℕ) → List ℕ
 goals_from zero goal = []
 goals_from (suc n) goal = goals_from n goal ++ option_to_list (goal n)
 
--- What the record of a match says. Its states are the one before the first turn and the one after each turn.
+-- What the record of a match says, in the newest version. Its states are the one before the first turn and the one after each turn.
 abbrev pub parts_of : {S M : Type 0} → Rules S M → MatchValue M → RecordParts
 parts_of g m = record {
   cause = cause g m;
@@ -45,7 +47,13 @@ parts_of g m = record {
   start = m.setup.start;
   start_marks = m.start_marks;
   states = map (λ front. g.state_text (state_after g front)) (prefixes m.turns);
+  strikes = m.setup.strikes;
+  version = Second;
 }
+
+-- what a record of this version says of the match
+abbrev pub parts_in : {S M : Type 0} → Rules S M → Version → MatchValue M → RecordParts
+parts_in g version m = record (parts_of g m) { version = version }
 
 -- a cause names a role of the game, or none
 abbrev pub NamesRole : ℕ → Cause → Type 0
@@ -55,13 +63,13 @@ NamesRole roles (NoGoal r) = r < roles
 NamesRole roles TooLong = Unit {0}
 NamesRole roles AllRetired = Unit {0}
 
--- the reason of a substitution, whatever moves are legal
+-- the reason of a substitution, whatever moves are legal and whoever is retired
 abbrev pub MayBeGiven : Substitution → Type 0
 MayBeGiven TimeOut = Unit {0}
 MayBeGiven ConnectionError = Unit {0}
 MayBeGiven Unreadable = Unit {0}
 MayBeGiven (Illegal x) = IsFoldedText x × (length x ≤ max_reading)
-MayBeGiven Retired = ⊥
+MayBeGiven Retired = Unit {0}
 
 -- a text that may stand beside some move
 abbrev pub IsErrorText : List ℕ → Type 0

@@ -104,18 +104,19 @@ fn agrees_with(parts: &RecordParts, settled: Stage, roles: usize) -> bool
     stage.phase(ended) == parts.phase && stage.cause() == parts.cause
 }
 
-/// Whether phase, cause and marks are those of a match with this last state, in which no role is retired.
+/// Whether phase, cause and marks are those of a match with this last state, in which so many roles are retired.
 pub fn is_right_end<G: Game>(
     alloc: Global,
     game: &G,
     state: &G::State,
+    retired: usize,
     parts: &RecordParts,
 ) -> Result<bool, AllocError>
     requires state { (G.rules game.now).IsState state.now }
     requires starts { length parts.now.start_marks ≡ (G.rules game.now).roles }
     requires ends { length parts.now.end_marks ≡ (G.rules game.now).roles }
-    ensures { IfOk result (λ b. IsEndAnswer (G.rules game.now) parts.now state.now b) }
+    ensures { IfOk result (λ b. IsEndAnswer (G.rules game.now) parts.now state.now retired b) }
 {
-    let settlement = settle(alloc, game, state, parts.moves.count(), 0)?;
+    let settlement = settle(alloc, game, state, parts.moves.count(), retired)?;
     Ok(agrees_with(parts, settlement.stage, game.roles()))
 }

@@ -7,7 +7,7 @@ ghost use Rattle.match_record.specs.RecordParts.{IsErrorText};
 use crate::record_words::{after, mark_of};
 use game_core::{Text, Texts};
 use kif_text::{KifFault, fold, print, read_one};
-use match_book::{ILLEGAL_PREFIX, MAX_READING, UNREADABLE};
+use match_book::{ILLEGAL_PREFIX, MAX_READING, RETIRED, UNREADABLE};
 use std::alloc::{AllocError, Global};
 
 /// Whether a text may be what an answer is read as: the canonical text of an expression without capitals, and no
@@ -38,6 +38,9 @@ fn is_error_text(alloc: Global, text: &[u8]) -> Result<bool, AllocError>
         return Ok(true);
     }
     if text == UNREADABLE {
+        return Ok(true);
+    }
+    if text == RETIRED {
         return Ok(true);
     }
     match after(text, ILLEGAL_PREFIX) {

@@ -3,8 +3,8 @@ ghost use Rattle.std.specs.Prelude.{◌≡◌, IfOk, IsTrue, is_some, map, optio
 ghost use Rattle.serde_json.specs.Data.{Data, string};
 ghost use Rattle.serde_json.specs.Find.{as_array, as_null, as_str};
 ghost use Rattle.serde_json.specs.View.{items_view};
-ghost use Rattle.match_record.specs.Internal.JsonValues.{as_whole, data_in};
-ghost use Rattle.match_record.specs.RecordTree.{list_tree, text_lists_tree, texts_tree};
+ghost use Rattle.match_record.specs.Internal.JsonValues.{data_in};
+ghost use Rattle.match_record.specs.RecordTree.{as_whole, list_tree, text_lists_tree, texts_tree};
 ghost use Rattle.match_record.specs.Internal.Shown.{AnyShape, Shows};
 
 use crate::record_parts::TextLists;

@@ -9,12 +9,12 @@ pub fn record_tree_holds_parts<G: Game>(game: &G)
     ensures { RecordTreeHoldsParts (G.rules game.now) }
 {}
 
-/// A text that is read as the record tree of a lawful match with 0 strikes is a lawful record.
+/// A text that is read as the record tree of a lawful match is a lawful record.
 pub fn records_are_lawful<G: Game>(game: &G)
     ensures { RecordsAreLawful (G.rules game.now) }
 {}
 
-/// What a lawful match with 0 strikes says has the shape that is asked of a record.
+/// What a record of a lawful match says, in either version, has the shape that is asked of it.
 pub fn lawful_parts_have_shape<G: Game>(game: &G)
     ensures { LawfulPartsHaveShape (G.rules game.now) }
 {}

@@ -1,6 +1,6 @@
 //! The record of a match, and its check.
 //!
-//! `record_json` writes the record of a match: one JSON object of thirteen keys, which holds the recorded
+//! `record_json` writes the record of a match: one JSON object of fifteen keys, which holds the recorded
 //! turns alone. `verify` checks a text against a game: it passes exactly where the text is the record of some
 //! lawful match, and else the first test that fails is named. The turns are replayed by the rules, and no state
 //! of the record is trusted. `laws` says what holds of records, whatever the match.

@@ -8,7 +8,7 @@ ghost use Rattle.match_record.specs.LawfulRecord.{IsLawfulRecord};
 ghost use Rattle.match_record.specs.RecordParts.{each_role, parts_of};
 ghost use Rattle.match_record.specs.RecordTree.{goal_values_tree, key_tree, marks_tree, record_text, record_tree, text_lists_tree, texts_tree, whole_tree};
 
-use crate::record_parts::Key;
+use crate::record_parts::{Key, Version};
 use crate::trees::{cause_tree, phase_text, text_or_null, text_tree, texts_tree};
 use game_core::{Game, Text};
 use match_book::Match;
@@ -218,6 +218,8 @@ fn value_at<G: Game>(
         Key::StartClock => Ok(Value::from(setup.start)),
         Key::StartMarks => start_marks(alloc, game, held),
         Key::States => states(alloc, game, held),
+        Key::Strikes => Ok(Value::from(setup.strikes)),
+        Key::Version => Ok(Value::from(Version::Second.number())),
     }
 }
 
@@ -236,16 +238,16 @@ fn record_tree<G: Game>(alloc: Global, game: &G, held: &Match<G>) -> Result<Valu
     Ok(Value::Object(members))
 }
 
-/// The record of a match as JSON text: one object without white space, whose keys stand in byte order.
-/// It holds the recorded turns alone, and nothing of the turn that is open.
+/// The record of a match as JSON text, in the second version: one object without white space, whose keys stand
+/// in byte order. It holds the recorded turns alone, and nothing of the turn that is open.
 pub fn record_json<G: Game>(alloc: Global, game: &G, held: &Match<G>) -> Result<Text, AllocError>
     requires game { held.now.game ≡ game.now }
     requires setup { IsLawfulSetup held.now.value.setup }
     ensures text { IfOk result (λ t. t ≡ record_text (G.rules game.now) held.now.value) }
     // So a reader of JSON finds the tree again.
     ensures reads_back { IfOk result (λ t. read t ≡ Some (record_tree (G.rules game.now) held.now.value)) }
-    // And where no role is retired, whatever it does, `verify` refuses it for want of memory alone.
-    ensures lawful { IfOk result (λ t. held.now.value.setup.strikes ≡ 0 → IsLawfulRecord (G.rules game.now) t) }
+    // And `verify` refuses it for want of memory alone.
+    ensures lawful { IfOk result (λ t. IsLawfulRecord (G.rules game.now) t) }
 {
     // This reader says that the match is lawful.
     let _state = held.state();

@@ -22,13 +22,15 @@ pub enum Key {
     StartClock,
     StartMarks,
     States,
+    Strikes,
+    Version,
 }
 
 impl Key {
     ghost use Rattle.match_record.specs.RecordTree.{key_text};
 
     /// All keys, in the order in which they are written and tested.
-    pub(crate) const ALL: [Key; 13] = [
+    pub(crate) const ALL: [Key; 15] = [
         Key::Cause,
         Key::EndMarks,
         Key::Errors,
@@ -42,6 +44,8 @@ impl Key {
         Key::StartClock,
         Key::StartMarks,
         Key::States,
+        Key::Strikes,
+        Key::Version,
     ];
 
     /// The key as it stands in the text.
@@ -62,6 +66,28 @@ impl Key {
             Key::StartClock => "startClock",
             Key::StartMarks => "startMarks",
             Key::States => "states",
+            Key::Strikes => "strikes",
+            Key::Version => "version",
+        }
+    }
+}
+
+/// The version of a record. One of the first does not say the strikes, which are 0.
+#[derive(Clone, Copy, Debug, PartialEq, Eq)]
+pub enum Version {
+    First,
+    Second,
+}
+
+impl Version {
+    ghost use Rattle.match_record.specs.RecordTree.{version_number};
+
+    pub fn number(self) -> u8
+        ensures { result ≡ version_number self }
+    {
+        match self {
+            Version::First => 1,
+            Version::Second => 2,
         }
     }
 }
@@ -185,6 +211,8 @@ pub struct RecordParts {
     pub start: u32,
     pub start_marks: Marks,
     pub states: TextLists,
+    pub strikes: u8,
+    pub version: Version,
 }
 
 impl RecordParts {
@@ -210,6 +238,8 @@ impl RecordParts {
             start: 0,
             start_marks: Marks::new(alloc),
             states: TextLists::new(alloc),
+            strikes: 0,
+            version: Version::First,
         }
     }
 }

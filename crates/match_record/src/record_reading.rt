@@ -3,23 +3,24 @@ ghost use Rattle.std.specs.Prelude.{◌≡◌, ◌≤◌, ◌<◌, ◌^◌, ◌=
 ghost use Rattle.serde_json.specs.Data.{Data, string};
 ghost use Rattle.serde_json.specs.View.{view};
 ghost use Rattle.game_core.specs.Play.{max_goal};
-ghost use Rattle.match_book.specs.Names.{is_clock, is_name};
+ghost use Rattle.match_book.specs.Names.{is_clock, is_name, is_strikes};
 ghost use Rattle.match_record.specs.Internal.JsonValues.{data_in};
 ghost use Rattle.match_record.specs.Internal.KeyReading.{IsReadInto, SayTheSame, keys_before};
-ghost use Rattle.match_record.specs.Internal.Shown.{Shows};
+ghost use Rattle.match_record.specs.Internal.Shown.{AnyShape, Shows};
 ghost use Rattle.match_record.specs.LawfulRecord.{HasNoShape, IsFirstWithout, IsJson, IsShaped};
 ghost use Rattle.match_record.specs.RecordParts.{AreErrors, AreGoals, AreMoves, ArePlayers, each_role};
-ghost use Rattle.match_record.specs.RecordTree.{HasShape, Holds, IsShapedAt, goal_values_tree, keys, marks_tree, text_lists_tree, texts_tree, whole_tree};
+ghost use Rattle.match_record.specs.RecordTree.{HasShape, Holds, IsShapedAt, goal_values_tree, keys, marks_tree, since_second, text_lists_tree, texts_tree, unless_there, version_of, version_said, version_tree, whole_tree};
 ghost use Rattle.match_record.specs.declared.record_parts.Key.{Key};
+ghost use Rattle.match_record.specs.declared.record_parts.Version.TheVariants.{First};
 ghost use Rattle.match_record.specs.declared.verify_fault.VerifyFault.TheVariants.{BadShape, Memory, NotJson};
 
 use crate::error_texts::are_errors;
 use crate::json_values::{FromJson, bytes_in, members_in, whole_in};
-use crate::record_parts::{Goals, Key, Marks, RecordParts, TextLists};
+use crate::record_parts::{Goals, Key, Marks, RecordParts, TextLists, Version};
 use crate::record_words::{cause_in, mark_in, phase_in};
 use crate::verify_fault::VerifyFault;
 use game_core::{Game, Text, Texts};
-use match_book::{MAX_CLOCK, MAX_TURNS, are_names, is_clock, is_name};
+use match_book::{MAX_CLOCK, MAX_STRIKES, MAX_TURNS, are_names, is_clock, is_name};
 use serde_json::Value;
 use std::alloc::{AllocError, Global};
 
@@ -105,6 +106,36 @@ fn clock_in(found: Option<&Value>) -> Option<u32>
     let seconds = seconds as u32;
     if is_clock(seconds) {
         Some(seconds)
+    } else {
+        None
+    }
+}
+
+/// The version of a record by what stands at its key: without the key it is the first.
+fn version_in(found: Option<&Value>) -> Option<Version>
+    ensures said { result ≡ version_said (data_in found.entry) }
+    ensures shown { Shows version_tree AnyShape (unless_there (version_tree First) result (data_in found.entry)) result }
+{
+    if found.is_none() {
+        return Some(Version::First);
+    }
+    match whole_in(found)? {
+        1 => Some(Version::First),
+        2 => Some(Version::Second),
+        _ => None,
+    }
+}
+
+/// A lawful number of strikes. In a record of another version than the second it is 0, whatever stands there.
+fn strikes_in(version: Option<Version>, found: Option<&Value>) -> Option<u8>
+    ensures { Shows whole_tree (λ strikes. is_strikes strikes ≡ true) (since_second (whole_tree 0) version (data_in found.entry)) result }
+{
+    if version != Some(Version::Second) {
+        return Some(0);
+    }
+    let strikes = whole_in(found)?;
+    if strikes <= u64::from(MAX_STRIKES) {
+        Some(strikes as u8)
     } else {
         None
     }
@@ -229,15 +260,16 @@ fn keep<T: Drop>(part: &mut T, read: Option<T>) -> bool
     }
 }
 
-/// Reads what was found at a key, if it is of the key's shape, and says whether it is.
+/// Reads what was found at a key in a record of this version, if it is of the key's shape, and says whether it is.
 fn read_into<G: Game>(
     alloc: Global,
     game: &G,
     key: Key,
+    version: Option<Version>,
     found: Option<&Value>,
     parts: &mut RecordParts,
 ) -> Result<bool, AllocError>
-    ensures read { IfOk result (IsReadInto (G.rules game.now) key (data_in found.entry) parts.new) }
+    ensures read { IfOk result (IsReadInto (G.rules game.now) key version (data_in found.entry) parts.new) }
     ensures kept { OnOk result (SayTheSame (keys_before key keys) parts.old parts.new) }
 {
     let roles = game.roles();
@@ -255,6 +287,8 @@ fn read_into<G: Game>(
         Key::StartClock => keep(&mut parts.start, clock_in(found)),
         Key::StartMarks => keep(&mut parts.start_marks, marks_in(alloc, found, roles)?),
         Key::States => keep(&mut parts.states, TextLists::value_in(alloc, found)?),
+        Key::Strikes => keep(&mut parts.strikes, strikes_in(version, found)),
+        Key::Version => keep(&mut parts.version, version_in(found)),
     })
 }
 
@@ -263,10 +297,11 @@ fn parts_in<G: Game>(alloc: Global, game: &G, tree: &Value) -> Result<RecordPart
     ensures ok { IfOk result (λ p. Holds (view tree.now) p × ((key : Key) → IsShapedAt (G.rules game.now) key p)) }
     ensures err { IfErr result (λ fault. (fault ≡ Memory) ⊎ ((key : Key) × (fault ≡ BadShape key) × IsFirstWithout (IsShaped (G.rules game.now) (view tree.now)) keys key)) }
 {
+    let version = version_in(tree.get(Key::Version.text()));
     let mut parts = RecordParts::new(alloc);
     for key in Key::ALL {
         let found = tree.get(key.text());
-        if !read_into(alloc, game, key, found, &mut parts)? {
+        if !read_into(alloc, game, key, version, found, &mut parts)? {
             return Err(VerifyFault::BadShape(key));
         }
     }

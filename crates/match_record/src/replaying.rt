@@ -10,6 +10,7 @@ use crate::record_parts::RecordParts;
 use crate::recorded_turn::replay_turn;
 use crate::verify_fault::VerifyFault;
 use game_core::{Game, Text};
+use match_book::{all_unstruck, count_retired, strikes_after};
 use std::alloc::{AllocError, Global};
 
 fn are_same(texts: &[Text], others: &[Text]) -> bool
@@ -42,16 +43,17 @@ fn shows_state<G: Game>(
     Ok(are_same(played.as_slice(), parts.states.at(turns)))
 }
 
-/// The last state of the record, or the first fault of its states and turns.
+/// The last state of the record and how many roles are retired then, or the first fault of its states and turns.
 fn replay_turns<G: Game>(
     alloc: Global,
     game: &G,
     parts: &RecordParts,
-) -> Result<G::State, VerifyFault>
+) -> Result<(G::State, usize), VerifyFault>
     requires { HasShape (G.rules game.now) parts.now }
     ensures { IsReplayAnswer (G.rules game.now) parts.now result }
 {
     let mut state = game.initial(alloc)?;
+    let mut strikes = all_unstruck(alloc, game.roles())?;
     let turns = parts.moves.count();
     for turn in 0..turns {
         if !shows_state(alloc, game, parts, turn, &state)? {
@@ -59,12 +61,13 @@ fn replay_turns<G: Game>(
         }
         let moves = parts.moves.at(turn);
         let errors = parts.errors.at(turn);
-        state = replay_turn(alloc, game, &state, turn, moves, errors)?;
+        state = replay_turn(alloc, game, &state, strikes.as_slice(), turn, moves, errors)?;
+        strikes = strikes_after(alloc, parts.strikes, strikes.as_slice(), errors)?;
     }
     if !shows_state(alloc, game, parts, turns, &state)? {
         return Err(VerifyFault::WrongState(turns));
     }
-    Ok(state)
+    Ok((state, count_retired(strikes.as_slice())))
 }
 
 /// Whether a lawful match of the game has this record, which is of the right shape: the turns in their order,
@@ -79,12 +82,12 @@ pub fn replay_record<G: Game>(
     ensures not_lawful { IfErr result (λ fault. fault ≢ Memory → ¬ (AreLawfulParts (G.rules game.now) parts.now)) }
     ensures first { IfErr result (λ fault. IsFirstFault (G.rules game.now) parts.now fault) }
 {
-    let state = replay_turns(alloc, game, parts)?;
+    let (state, retired) = replay_turns(alloc, game, parts)?;
     let goals = parts.goals.as_slice();
     if !are_goals_in(alloc, game, parts.phase, &state, goals)? {
         return Err(VerifyFault::WrongGoals);
     }
-    if !is_right_end(alloc, game, &state, parts)? {
+    if !is_right_end(alloc, game, &state, retired, parts)? {
         return Err(VerifyFault::WrongEnd);
     }
     Ok(())

@@ -25,13 +25,17 @@ pub enum VerifyFault {
     /// that is legal.
     #[error("notfirst {0} {1}")]
     NotFirst(usize, usize),
+    /// In this turn the error beside the role's move says that the role is retired, and the turns before do not
+    /// retire it; or they do, and the error does not say so.
+    #[error("retired {0} {1}")]
+    WrongRetired(usize, usize),
     /// The state after as many turns is another.
     #[error("state {0}")]
     WrongState(usize),
     /// The goals are not those of the last state.
     #[error("goals")]
     WrongGoals,
-    /// A turn follows though the game can't go on; or phase, cause, marks and last state don't agree.
+    /// A turn follows though the game can't go on or all roles are retired; or phase, cause, marks and last state don't agree.
     #[error("end")]
     WrongEnd,
     /// Want of memory.

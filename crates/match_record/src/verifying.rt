@@ -10,7 +10,7 @@ use crate::verify_fault::VerifyFault;
 use game_core::Game;
 use std::alloc::Global;
 
-/// Checks a record against the game. `Ok` means that some lawful match of this game with 0 strikes has this record: each
+/// Checks a record against the game. `Ok` means that some lawful match of this game has this record: each
 /// recorded move was legal, each state is the one that the moves lead to, and the goals are the game's.
 /// It does not mean that the recorded answers were ever sent. Further keys of the object are passed over.
 pub fn verify<G: Game>(alloc: Global, game: &G, text: &[u8]) -> Result<(), VerifyFault>

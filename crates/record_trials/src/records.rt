@@ -3,7 +3,7 @@ ghost use Rattle.std.specs.Prelude.{◌≡◌, IfOk};
 
 use game_core::{Countdown, Text, Texts};
 use match_book::{Answer, Match, Setup, are_names, is_clock, is_name, is_strikes};
-use match_record::record_json;
+use match_record::{record_json, verify};
 use std::alloc::{AllocError, Global};
 use std::test::Fail;
 
@@ -11,11 +11,23 @@ fn text(alloc: Global, text: &str) -> Result<Text, AllocError> {
     Text::from_slice(alloc, text.as_bytes())
 }
 
-/// A match of the countdown from this number, opened by ann and bob.
+/// A match of the countdown from this number, opened by ann and bob, in which no role is retired.
 fn opened(
     alloc: Global,
     from: u8,
     clocks: (u32, u32),
+) -> Result<(Countdown, Match<Countdown>), Fail>
+    ensures { IfOk result (λ o. o.1.game ≡ o.0) }
+{
+    strictly_opened(alloc, from, clocks, 0)
+}
+
+/// The same, where so many substitutions in a row retire a role.
+fn strictly_opened(
+    alloc: Global,
+    from: u8,
+    clocks: (u32, u32),
+    strikes: u8,
 ) -> Result<(Countdown, Match<Countdown>), Fail>
     ensures { IfOk result (λ o. o.1.game ≡ o.0) }
 {
@@ -25,7 +37,7 @@ fn opened(
         id: text(alloc, "m1")?,
         start: clocks.0,
         play: clocks.1,
-        strikes: 0,
+        strikes,
         players: Texts { items },
     };
     let held = Match::new(alloc, &game, setup)?;
@@ -103,7 +115,7 @@ fn countdown_three(rt: HostRuntime) -> Result<(), Fail> {
     ];
     play(alloc, &game, &mut held, rounds.as_slice())?;
     let wanted =
-        "{\"cause\":null,\"endMarks\":[\"\",\"\"],\"errors\":[[\"\",\"\"],[\"\",\"\"]],\"goalValues\":[0,100],\"matchId\":\"m1\",\"moves\":[[\"(take 1)\",\"noop\"],[\"noop\",\"(take 2)\"]],\"phase\":\"finished\",\"playClock\":5,\"players\":[\"ann\",\"bob\"],\"roles\":[\"red\",\"blue\"],\"startClock\":10,\"startMarks\":[\"\",\"\"],\"states\":[[\"(heap 3)\",\"(turn red)\"],[\"(heap 2)\",\"(turn blue)\"],[\"(heap 0)\",\"(turn red)\"]]}";
+        "{\"cause\":null,\"endMarks\":[\"\",\"\"],\"errors\":[[\"\",\"\"],[\"\",\"\"]],\"goalValues\":[0,100],\"matchId\":\"m1\",\"moves\":[[\"(take 1)\",\"noop\"],[\"noop\",\"(take 2)\"]],\"phase\":\"finished\",\"playClock\":5,\"players\":[\"ann\",\"bob\"],\"roles\":[\"red\",\"blue\"],\"startClock\":10,\"startMarks\":[\"\",\"\"],\"states\":[[\"(heap 3)\",\"(turn red)\"],[\"(heap 2)\",\"(turn blue)\"],[\"(heap 0)\",\"(turn red)\"]],\"strikes\":0,\"version\":2}";
     assert_eq!(rt; record(alloc, &game, &held)?.as_slice(), wanted.as_bytes());
     Ok(())
 }
@@ -122,7 +134,7 @@ fn judged_answers(rt: HostRuntime) -> Result<(), Fail> {
     // The answer of the open turn is not in the record.
     answer(alloc, &game, &mut held, 0, 4, "-")?;
     let wanted =
-        "{\"cause\":null,\"endMarks\":[null,null],\"errors\":[[\"IL (take 3)\",\"\"],[\"TO\",\"IL ?\"],[\"IL noop\",\"CE\"]],\"goalValues\":[],\"matchId\":\"m1\",\"moves\":[[\"(take 1)\",\"noop\"],[\"noop\",\"(take 1)\"],[\"(take 1)\",\"noop\"]],\"phase\":\"playing\",\"playClock\":1,\"players\":[\"ann\",\"bob\"],\"roles\":[\"red\",\"blue\"],\"startClock\":1,\"startMarks\":[\"\",\"TO\"],\"states\":[[\"(heap 10)\",\"(turn red)\"],[\"(heap 9)\",\"(turn blue)\"],[\"(heap 8)\",\"(turn red)\"],[\"(heap 7)\",\"(turn blue)\"]]}";
+        "{\"cause\":null,\"endMarks\":[null,null],\"errors\":[[\"IL (take 3)\",\"\"],[\"TO\",\"IL ?\"],[\"IL noop\",\"CE\"]],\"goalValues\":[],\"matchId\":\"m1\",\"moves\":[[\"(take 1)\",\"noop\"],[\"noop\",\"(take 1)\"],[\"(take 1)\",\"noop\"]],\"phase\":\"playing\",\"playClock\":1,\"players\":[\"ann\",\"bob\"],\"roles\":[\"red\",\"blue\"],\"startClock\":1,\"startMarks\":[\"\",\"TO\"],\"states\":[[\"(heap 10)\",\"(turn red)\"],[\"(heap 9)\",\"(turn blue)\"],[\"(heap 8)\",\"(turn red)\"],[\"(heap 7)\",\"(turn blue)\"]],\"strikes\":0,\"version\":2}";
     assert_eq!(rt; record(alloc, &game, &held)?.as_slice(), wanted.as_bytes());
     Ok(())
 }
@@ -136,7 +148,7 @@ fn asked_abort(rt: HostRuntime) -> Result<(), Fail> {
     held.abort()?;
     play(alloc, &game, &mut held, &[("ok", "-")])?;
     let wanted =
-        "{\"cause\":\"asked\",\"endMarks\":[\"\",\"TO\"],\"errors\":[],\"goalValues\":[],\"matchId\":\"m1\",\"moves\":[],\"phase\":\"aborted\",\"playClock\":1,\"players\":[\"ann\",\"bob\"],\"roles\":[\"red\",\"blue\"],\"startClock\":1,\"startMarks\":[\"\",\"\"],\"states\":[[\"(heap 3)\",\"(turn red)\"]]}";
+        "{\"cause\":\"asked\",\"endMarks\":[\"\",\"TO\"],\"errors\":[],\"goalValues\":[],\"matchId\":\"m1\",\"moves\":[],\"phase\":\"aborted\",\"playClock\":1,\"players\":[\"ann\",\"bob\"],\"roles\":[\"red\",\"blue\"],\"startClock\":1,\"startMarks\":[\"\",\"\"],\"states\":[[\"(heap 3)\",\"(turn red)\"]],\"strikes\":0,\"version\":2}";
     assert_eq!(rt; record(alloc, &game, &held)?.as_slice(), wanted.as_bytes());
     Ok(())
 }
@@ -148,7 +160,25 @@ fn abort_before_start(rt: HostRuntime) -> Result<(), Fail> {
     answer(alloc, &game, &mut held, 1, 0, "!")?;
     held.abort()?;
     let wanted =
-        "{\"cause\":\"asked\",\"endMarks\":[null,null],\"errors\":[],\"goalValues\":[],\"matchId\":\"m1\",\"moves\":[],\"phase\":\"aborting\",\"playClock\":1,\"players\":[\"ann\",\"bob\"],\"roles\":[\"red\",\"blue\"],\"startClock\":1,\"startMarks\":[null,\"CE\"],\"states\":[[\"(heap 3)\",\"(turn red)\"]]}";
+        "{\"cause\":\"asked\",\"endMarks\":[null,null],\"errors\":[],\"goalValues\":[],\"matchId\":\"m1\",\"moves\":[],\"phase\":\"aborting\",\"playClock\":1,\"players\":[\"ann\",\"bob\"],\"roles\":[\"red\",\"blue\"],\"startClock\":1,\"startMarks\":[null,\"CE\"],\"states\":[[\"(heap 3)\",\"(turn red)\"]],\"strikes\":0,\"version\":2}";
     assert_eq!(rt; record(alloc, &game, &held)?.as_slice(), wanted.as_bytes());
+    Ok(())
+}
+
+#[test]
+fn retired_roles(rt: HostRuntime) -> Result<(), Fail> {
+    let alloc = rt.alloc();
+    let (game, mut held) = strictly_opened(alloc, 10, (1, 1), 2)?;
+    let rounds = [("READY", "READY"), ("-", "noop"), ("(take 1)", "(take 1)")];
+    play(alloc, &game, &mut held, rounds.as_slice())?;
+    // Red is retired, and blue answers alone.
+    for (round, said) in [(3, "noop"), (4, "-"), (5, "!")] {
+        answer(alloc, &game, &mut held, 1, round, said)?;
+    }
+    let wanted =
+        "{\"cause\":\"allretired\",\"endMarks\":[null,null],\"errors\":[[\"TO\",\"\"],[\"IL (take 1)\",\"\"],[\"RT\",\"\"],[\"RT\",\"TO\"],[\"RT\",\"CE\"]],\"goalValues\":[],\"matchId\":\"m1\",\"moves\":[[\"(take 1)\",\"noop\"],[\"noop\",\"(take 1)\"],[\"(take 1)\",\"noop\"],[\"noop\",\"(take 1)\"],[\"(take 1)\",\"noop\"]],\"phase\":\"aborting\",\"playClock\":1,\"players\":[\"ann\",\"bob\"],\"roles\":[\"red\",\"blue\"],\"startClock\":1,\"startMarks\":[\"\",\"\"],\"states\":[[\"(heap 10)\",\"(turn red)\"],[\"(heap 9)\",\"(turn blue)\"],[\"(heap 8)\",\"(turn red)\"],[\"(heap 7)\",\"(turn blue)\"],[\"(heap 6)\",\"(turn red)\"],[\"(heap 5)\",\"(turn blue)\"]],\"strikes\":2,\"version\":2}";
+    let written = record(alloc, &game, &held)?;
+    assert_eq!(rt; written.as_slice(), wanted.as_bytes());
+    assert_eq!(rt; verify(alloc, &game, written.as_slice()), Ok(()));
     Ok(())
 }

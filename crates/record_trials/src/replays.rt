@@ -596,8 +596,11 @@ fn phase(phase: Phase) -> &'static str {
     }
 }
 
-/// The record as its text.
-fn record(alloc: Global, shown: &Shown) -> Result<String, AllocError> {
+/// What stands behind the states in the first version, and in the second.
+const VERSIONS: [&str; 2] = ["", r#","strikes":0,"version":2"#];
+
+/// The record as its text, in this version.
+fn record(alloc: Global, shown: &Shown, version: &str) -> Result<String, AllocError> {
     let cause = cause(alloc, shown.cause)?;
     let ends = marks(alloc, &shown.end_marks)?;
     let errors = lists(alloc, shown.errors)?;
@@ -613,39 +616,48 @@ fn record(alloc: Global, shown: &Shown) -> Result<String, AllocError> {
         "\"matchId\":\"m1\",\"moves\":{moves},\"phase\":\"{phase}\",\"playClock\":5,"
     )?.as_str())?;
     text.push_str("\"players\":[\"ann\",\"bob\"],\"roles\":[\"red\",\"blue\"],\"startClock\":10,")?;
-    text.push_str(format!(in alloc; "\"startMarks\":{starts},\"states\":{states}}}")?.as_str())?;
+    text.push_str(format!(in alloc;
+        "\"startMarks\":{starts},\"states\":{states}{version}}}"
+    )?.as_str())?;
     Ok(text)
 }
 
-fn answer(alloc: Global, shown: &Shown) -> Result<Result<(), VerifyFault>, Fail> {
+fn answer(alloc: Global, shown: &Shown, version: &str) -> Result<Result<(), VerifyFault>, Fail> {
     let game = Countdown::new(3).ok_or("no such game")?;
-    let text = record(alloc, shown)?;
+    let text = record(alloc, shown, version)?;
     Ok(verify(alloc, &game, text.as_bytes()))
 }
 
 #[test]
 fn records_of_lawful_matches(rt: HostRuntime) -> Result<(), Fail> {
-    for errors in &SUBSTITUTED {
-        assert_eq!(rt; answer(rt.alloc(), &Shown { errors, ..FINISHED })?, Ok(()));
-    }
-    for shown in &LAWFUL {
-        assert_eq!(rt; answer(rt.alloc(), shown)?, Ok(()));
+    for version in VERSIONS {
+        for errors in &SUBSTITUTED {
+            let shown = Shown { errors, ..FINISHED };
+            assert_eq!(rt; answer(rt.alloc(), &shown, version)?, Ok(()));
+        }
+        for shown in &LAWFUL {
+            assert_eq!(rt; answer(rt.alloc(), shown, version)?, Ok(()));
+        }
     }
     Ok(())
 }
 
 #[test]
 fn records_with_a_wrong_turn(rt: HostRuntime) -> Result<(), Fail> {
-    for (shown, fault) in &WRONG_TURNS {
-        assert_eq!(rt; answer(rt.alloc(), shown)?, Err(*fault));
+    for version in VERSIONS {
+        for (shown, fault) in &WRONG_TURNS {
+            assert_eq!(rt; answer(rt.alloc(), shown, version)?, Err(*fault));
+        }
     }
     Ok(())
 }
 
 #[test]
 fn records_with_a_wrong_end(rt: HostRuntime) -> Result<(), Fail> {
-    for (shown, fault) in &WRONG_ENDS {
-        assert_eq!(rt; answer(rt.alloc(), shown)?, Err(*fault));
+    for version in VERSIONS {
+        for (shown, fault) in &WRONG_ENDS {
+            assert_eq!(rt; answer(rt.alloc(), shown, version)?, Err(*fault));
+        }
     }
     Ok(())
 }

@@ -1,11 +1,11 @@
-//! Records as texts, and the first test that each of them fails.
+//! Records of both versions as texts, and the first test that each of them fails.
 use game_core::Countdown;
 use match_record::{Key, VerifyFault, verify};
 use std::alloc::{AllocError, Global};
 use std::test::Fail;
 
-/// The record of a whole match of Countdown with a heap of three, key by key.
-const RECORD: [(Key, &str); 13] = [
+/// The record of a whole match of Countdown with a heap of three, key by key, in the second version.
+const RECORD: [(Key, &str); 15] = [
     (Key::Cause, "null"),
     (Key::EndMarks, r#"["",""]"#),
     (Key::Errors, r#"[["",""],["",""]]"#),
@@ -22,12 +22,22 @@ const RECORD: [(Key, &str); 13] = [
         Key::States,
         r#"[["(heap 3)","(turn red)"],["(heap 2)","(turn blue)"],["(heap 0)","(turn red)"]]"#,
     ),
+    (Key::Strikes, "0"),
+    (Key::Version, "2"),
 ];
 
-/// The record with this at the key, or without the key.
-fn record_with(alloc: Global, changed: Key, value: Option<&str>) -> Result<String, AllocError> {
+/// How many of these keys a record of the first version has, and one of the second.
+const VERSIONS: [usize; 2] = [13, 15];
+
+/// The record of so many keys with this at the key, or without the key.
+fn record_with(
+    alloc: Global,
+    keys: usize,
+    changed: Key,
+    value: Option<&str>,
+) -> Result<String, AllocError> {
     let mut text = String::from_str(alloc, r#"{"further":1"#)?;
-    for (key, lawful) in &RECORD {
+    for (key, lawful) in RECORD.iter().take(keys) {
         let shown = if *key == changed {
             value
         } else {
@@ -49,12 +59,14 @@ fn checked(alloc: Global, text: &[u8]) -> Result<Result<(), VerifyFault>, Fail> 
     Ok(verify(alloc, &game, text))
 }
 
+/// What is said of the record of so many keys with this at the key, or without the key.
 fn checked_with(
     alloc: Global,
+    keys: usize,
     key: Key,
     value: Option<&str>,
 ) -> Result<Result<(), VerifyFault>, Fail> {
-    checked(alloc, record_with(alloc, key, value)?.as_bytes())
+    checked(alloc, record_with(alloc, keys, key, value)?.as_bytes())
 }
 
 #[test]
@@ -69,13 +81,18 @@ fn a_whole_match_is_lawful(rt: HostRuntime) -> Result<(), Fail> {
         "\n"
     );
     assert_eq!(rt; checked(alloc, text.as_bytes())?, Ok(()));
-    // A further key, and keys in another order.
-    assert_eq!(rt; checked_with(alloc, Key::Cause, Some("null"))?, Ok(()));
-    // The last of equal keys counts.
-    assert_eq!(rt;
-        checked_with(alloc, Key::Cause, Some(r#"7,"cause":null"#))?,
-        Ok(())
-    );
+    for keys in VERSIONS {
+        // A further key, and keys in another order.
+        assert_eq!(rt;
+            checked_with(alloc, keys, Key::Cause, Some("null"))?,
+            Ok(())
+        );
+        // The last of equal keys counts.
+        assert_eq!(rt;
+            checked_with(alloc, keys, Key::Cause, Some(r#"7,"cause":null"#))?,
+            Ok(())
+        );
+    }
     Ok(())
 }
 
@@ -123,12 +140,14 @@ fn the_first_test_that_fails_is_named(rt: HostRuntime) -> Result<(), Fail> {
             VerifyFault::BadShape(Key::States),
         ),
     ];
-    for (key, value, fault) in &table {
-        assert_eq!(rt;
-            checked_with(alloc, *key, Some(*value))?,
-            Err(*fault),
-            "{value}"
-        );
+    for keys in VERSIONS {
+        for (key, value, fault) in &table {
+            assert_eq!(rt;
+                checked_with(alloc, keys, *key, Some(*value))?,
+                Err(*fault),
+                "{value} among {keys}"
+            );
+        }
     }
     Ok(())
 }
@@ -166,7 +185,7 @@ fn record_of_depth(alloc: Global, depth: usize) -> Result<String, AllocError> {
     for _ in 1..depth {
         cause.push(']')?;
     }
-    record_with(alloc, Key::Cause, Some(cause.as_str()))
+    record_with(alloc, RECORD.len(), Key::Cause, Some(cause.as_str()))
 }
 
 #[test]
@@ -190,17 +209,91 @@ fn every_key_is_asked_for(rt: HostRuntime) -> Result<(), Fail> {
             "{text}"
         );
     }
-    for (key, _) in &RECORD {
-        let fault = Err(VerifyFault::BadShape(*key));
-        assert_eq!(rt; checked_with(alloc, *key, None)?, fault, "without {key:?}");
-        for other in ["true", "{}", "-1", "50.0", "\"no such\"", "[7]", "[[null]]"] {
+    for keys in VERSIONS {
+        for (key, _) in RECORD.iter().take(keys) {
+            let fault = Err(VerifyFault::BadShape(*key));
+            // A record without its version is of the first.
+            let missing = if *key == Key::Version { Ok(()) } else { fault };
             assert_eq!(rt;
-                checked_with(alloc, *key, Some(other))?,
-                fault,
-                "{key:?} as {other}"
+                checked_with(alloc, keys, *key, None)?,
+                missing,
+                "without {key:?}"
             );
+            for other in ["true", "{}", "-1", "50.0", "\"no such\"", "[7]", "[[null]]"] {
+                assert_eq!(rt;
+                    checked_with(alloc, keys, *key, Some(other))?,
+                    fault,
+                    "{key:?} as {other} among {keys}"
+                );
+            }
         }
     }
+    Ok(())
+}
+
+#[test]
+fn strikes_count_in_the_second_version(rt: HostRuntime) -> Result<(), Fail> {
+    let alloc = rt.alloc();
+    for strikes in ["0", "1", "255"] {
+        assert_eq!(rt;
+            checked_with(alloc, 15, Key::Strikes, Some(strikes))?,
+            Ok(())
+        );
+    }
+    for strikes in ["256", "-0", "0.0", "1e0", "null", "18446744073709551616"] {
+        let wrong = Err(VerifyFault::BadShape(Key::Strikes));
+        assert_eq!(rt;
+            checked_with(alloc, 15, Key::Strikes, Some(strikes))?,
+            wrong,
+            "{strikes}"
+        );
+        // The first version has none, whatever stands there.
+        for version in [r#"7,"version":1"#, r#"null,"version":1"#] {
+            let mut more = String::from_str(alloc, strikes)?;
+            more.push_str(r#","strikes":"#)?;
+            more.push_str(version)?;
+            assert_eq!(rt;
+                checked_with(alloc, 14, Key::Strikes, Some(more.as_str()))?,
+                Ok(())
+            );
+        }
+        assert_eq!(rt;
+            checked_with(alloc, 14, Key::Strikes, Some(strikes))?,
+            Ok(())
+        );
+    }
+    Ok(())
+}
+
+#[test]
+fn versions_are_one_and_two(rt: HostRuntime) -> Result<(), Fail> {
+    let alloc = rt.alloc();
+    for version in ["1", "2"] {
+        assert_eq!(rt;
+            checked_with(alloc, 15, Key::Version, Some(version))?,
+            Ok(())
+        );
+    }
+    let wrong = Err(VerifyFault::BadShape(Key::Version));
+    for version in ["0", "3", "-1", "1.0", "2e0", "\"2\"", "null", "258"] {
+        assert_eq!(rt;
+            checked_with(alloc, 15, Key::Version, Some(version))?,
+            wrong,
+            "{version}"
+        );
+        // Strikes are not looked at where the version is none.
+        let mut both = String::from_str(alloc, r#"256,"version":"#)?;
+        both.push_str(version)?;
+        assert_eq!(rt;
+            checked_with(alloc, 14, Key::Strikes, Some(both.as_str()))?,
+            wrong,
+            "{version}"
+        );
+    }
+    // Of two faults that of strikes comes first.
+    let both = r#"256,"errors":7,"version":2"#;
+    let first = Err(VerifyFault::BadShape(Key::Errors));
+    assert_eq!(rt; checked_with(alloc, 14, Key::Strikes, Some(both))?, first);
     Ok(())
 }
 
@@ -244,29 +337,36 @@ fn values_of_another_shape(rt: HostRuntime) -> Result<(), Fail> {
         (Key::StartMarks, r#"["",0]"#),
         (Key::States, r#"["(heap 3)"]"#),
     ];
-    for (key, value) in &table {
-        assert_eq!(rt;
-            checked_with(alloc, *key, Some(*value))?,
-            Err(VerifyFault::BadShape(*key)),
-            "{key:?} as {value}"
-        );
+    for keys in VERSIONS {
+        for (key, value) in &table {
+            assert_eq!(rt;
+                checked_with(alloc, keys, *key, Some(*value))?,
+                Err(VerifyFault::BadShape(*key)),
+                "{key:?} as {value}"
+            );
+        }
     }
     Ok(())
 }
 
-/// The record with this error beside the first move of red, which is the first legal one.
-fn checked_error(alloc: Global, error: &str) -> Result<Result<(), VerifyFault>, Fail> {
+/// The record of so many keys with this error beside the first move of red, which is the first legal one.
+fn checked_error(alloc: Global, keys: usize, error: &str) -> Result<Result<(), VerifyFault>, Fail> {
     let mut errors = String::from_str(alloc, "[[\"")?;
     errors.push_str(error)?;
     errors.push_str("\",\"\"],[\"\",\"\"]]")?;
-    checked_with(alloc, Key::Errors, Some(errors.as_str()))
+    checked_with(alloc, keys, Key::Errors, Some(errors.as_str()))
 }
 
 #[test]
 fn errors_have_these_shapes(rt: HostRuntime) -> Result<(), Fail> {
     let alloc = rt.alloc();
-    for error in ["", "TO", "CE", "IL ?", "IL (take 3)", "IL x", "IL ()"] {
-        assert_eq!(rt; checked_error(alloc, error)?, Ok(()), "{error}");
+    for keys in VERSIONS {
+        for error in ["", "TO", "CE", "IL ?", "IL (take 3)", "IL x", "IL ()"] {
+            assert_eq!(rt; checked_error(alloc, keys, error)?, Ok(()), "{error}");
+        }
+        // The shape is right, but red is not retired.
+        let retired = Err(VerifyFault::WrongRetired(0, 0));
+        assert_eq!(rt; checked_error(alloc, keys, "RT")?, retired);
     }
     let fault = Err(VerifyFault::BadShape(Key::Errors));
     for error in [
@@ -280,17 +380,21 @@ fn errors_have_these_shapes(rt: HostRuntime) -> Result<(), Fail> {
         "IL (take 3) ",
         "IL (take",
         "IL ;x",
-        "RT",
+        "rt",
+        "RT ",
+        "RTT",
     ] {
-        assert_eq!(rt; checked_error(alloc, error)?, fault, "{error}");
+        for keys in VERSIONS {
+            assert_eq!(rt; checked_error(alloc, keys, error)?, fault, "{error}");
+        }
     }
     let mut longest = String::from_str(alloc, "IL ")?;
     for _ in 0..8192 {
         longest.push('x')?;
     }
-    assert_eq!(rt; checked_error(alloc, longest.as_str())?, Ok(()));
+    assert_eq!(rt; checked_error(alloc, 15, longest.as_str())?, Ok(()));
     longest.push('x')?;
-    assert_eq!(rt; checked_error(alloc, longest.as_str())?, fault);
+    assert_eq!(rt; checked_error(alloc, 15, longest.as_str())?, fault);
     Ok(())
 }
 
@@ -304,12 +408,12 @@ fn moves_of_too_many_turns(rt: HostRuntime) -> Result<(), Fail> {
     let mut more = turns.clone()?;
     turns.push_str("]")?;
     assert_eq!(rt;
-        checked_with(alloc, Key::Moves, Some(turns.as_str()))?,
+        checked_with(alloc, 15, Key::Moves, Some(turns.as_str()))?,
         Err(VerifyFault::BadShape(Key::Errors))
     );
     more.push_str(",[\"\",\"\"]]")?;
     assert_eq!(rt;
-        checked_with(alloc, Key::Moves, Some(more.as_str()))?,
+        checked_with(alloc, 15, Key::Moves, Some(more.as_str()))?,
         Err(VerifyFault::BadShape(Key::Moves))
     );
     Ok(())

@@ -1,15 +1,10 @@
 -- What is found in JSON.
-use Rattle.std.specs.Prelude.{ℕ, Option, option_and_then, option_map}
+use Rattle.std.specs.Prelude.{Option, option_map}
 use Rattle.std.specs.Borrow.{Bor}
 use Rattle.serde_json.specs.Data.{Data}
-use Rattle.serde_json.specs.Find.{as_number, as_u64}
 use Rattle.serde_json.specs.View.{view}
 use Rattle.serde_json.specs.declared.value.Value.{Value}
 
 -- the data of the value that was found, if any was
 abbrev pub data_in : Option (Bor Value) → Option Data
 data_in found = option_map (λ v. view v.now) found
-
--- the number that is written as a whole number without a sign
-abbrev pub as_whole : Data → Option ℕ
-as_whole d = option_and_then as_u64 (as_number d)

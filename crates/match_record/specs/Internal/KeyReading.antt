@@ -2,16 +2,16 @@
 use Rattle.std.specs.Prelude.{◌≡◌, Bool, List, [], ◌∷◌, Option, Some, None, if◌then◌else◌}
 use Rattle.std.specs.Str.{bytes_eq}
 use Rattle.serde_json.specs.Data.{Data}
-use Rattle.serde_json.specs.Find.{get}
 use Rattle.game_core.specs.Play.{Rules}
 use Rattle.match_record.specs.Internal.Shown.{Shows}
-use Rattle.match_record.specs.RecordTree.{row_of, key_text, key_tree, IsShapedAt}
+use Rattle.match_record.specs.RecordTree.{row_of, key_text, key_tree, found_at, IsShapedAt}
 use Rattle.match_record.specs.declared.record_parts.Key.{Key}
 use Rattle.match_record.specs.declared.record_parts.RecordParts.{RecordParts}
+use Rattle.match_record.specs.declared.record_parts.Version.{Version}
 
--- Whether a value of the key's shape was found. If so, the parts say it.
-abbrev pub IsReadInto : {S M : Type 0} → Rules S M → Key → Option Data → RecordParts → Bool → Type 0
-IsReadInto g key found p read = Shows (row_of key).written ((row_of key).IsOfShape g) found (if read then Some ((row_of key).said p) else None)
+-- Whether a value of the key's shape counts as found, in a record of this version. If so, the parts say it.
+abbrev pub IsReadInto : {S M : Type 0} → Rules S M → Key → Option Version → Option Data → RecordParts → Bool → Type 0
+IsReadInto g key version found p read = Shows (row_of key).written ((row_of key).IsOfShape g) ((row_of key).counts version found) (if read then Some ((row_of key).said p) else None)
 
 -- it holds of each key of the list
 abbrev pub HoldsForEach : (Key → Type 0) → List Key → Type 0
@@ -29,4 +29,4 @@ keys_before key (k ∷ ks) = if bytes_eq (key_text k) (key_text key) then [] els
 
 -- at the key the tree holds what these parts say, and that is of the key's shape
 abbrev pub IsReadAt : {S M : Type 0} → Rules S M → Data → RecordParts → Key → Type 0
-IsReadAt g tree p key = (get (key_text key) tree ≡ Some (key_tree key p)) × IsShapedAt g key p
+IsReadAt g tree p key = (found_at tree key ≡ Some (key_tree key p)) × IsShapedAt g key p

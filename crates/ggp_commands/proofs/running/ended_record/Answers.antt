@@ -23,5 +23,5 @@ returns-in_ok-record_json-in-Finished-clause-ended g c =
       is_first = is_held;
       over = over;
       is_record = subst (λ x. text ≡ record_text (rules-of x) held.value) same c.in_ok-record_json-in-Finished.ensures.text;
-      lawful = subst (λ x. held.value.setup.strikes ≡ 0 → IsLawfulRecord (rules-of x) text) same c.in_ok-record_json-in-Finished.ensures.lawful;
+      lawful = subst (λ x. IsLawfulRecord (rules-of x) text) same c.in_ok-record_json-in-Finished.ensures.lawful;
     }

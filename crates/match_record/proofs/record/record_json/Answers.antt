@@ -24,8 +24,7 @@ returns-clause-reads_back g c =
 pub returns-clause-lawful : goal.returns-clause-lawful
 returns-clause-lawful g c =
     let lawful = subst (λ game. IsLawfulMatch (g.G.Game.rules game) c.args.held.now.value) c.requires.game c.state-state.ensures.lawful in
-    λ never.
-    records_are_lawful (g.G.Game.rules c.args.game.now) c.from_string.result c.args.held.now.value lawful c.requires.setup never
+    records_are_lawful (g.G.Game.rules c.args.game.now) c.from_string.result c.args.held.now.value lawful c.requires.setup
     (record {
       utf8 = subst IsUtf8 (sym c.from_string.ensures) (IsUtf8-string_bytes c.in_ok-to_string.field-0);
       is_read = returns-clause-reads_back g c;

@@ -51,3 +51,9 @@ returns-in-StartMarks g c = rw c.in-StartMarks.is c.start_marks.ensures
 
 pub returns-in-States : goal.returns-in-States
 returns-in-States g c = rw c.in-States.is c.states.ensures
+
+pub returns-in-Strikes : goal.returns-in-Strikes
+returns-in-Strikes g c = rw (c.in-Strikes.is, sym c.setup-setup.ensures) c.from-in-Strikes.ensures
+
+pub returns-in-Version : goal.returns-in-Version
+returns-in-Version g c = rw (c.in-Version.is, sym c.number.ensures) c.from-in-Version.ensures

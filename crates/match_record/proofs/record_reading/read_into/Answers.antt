@@ -1,9 +1,18 @@
-use Rattle.std.proofs.Common.{◌≡◌, length, sym}
+use Rattle.std.proofs.Common.{◌≡◌, Option, length, sym}
 use Rattle.std.specs.Prelude.{IfSome}
 use Rattle.match_record.specs.RecordParts.{NamesRole, AreErrors, AreGoals, AreMoves, ArePlayers}
-use Rattle.match_record.specs.RecordTree.{cause_tree, marks_tree, text_lists_tree, goal_values_tree, texts_tree}
+use Rattle.match_record.specs.RecordTree.{cause_tree, marks_tree, text_lists_tree, goal_values_tree, texts_tree, unless_there, version_tree}
+use Rattle.serde_json.specs.Data.{Data}
+use Rattle.match_record.specs.Internal.JsonValues.{data_in}
+use Rattle.match_record.specs.Internal.Shown.{AnyShape, Shows}
+use Rattle.match_record.specs.declared.record_parts.Version.{Version}
+use Rattle.match_record.specs.declared.record_parts.Version.TheVariants.{First}
 use Rattle.match_record.proofs.KeyTable.{by_roles}
 use Rattle.match_record.proofs.record_reading.read_into.Goals as goal
+
+-- the key is found alike in each version
+any_version : (version other : Option Version) (found : Option Data) (read : Option Version) → Shows version_tree AnyShape (unless_there (version_tree First) other found) read → Shows version_tree AnyShape (unless_there (version_tree First) version found) read
+any_version version other found read shown = shown
 
 pub returns-in-Cause-clause-read : goal.returns-in-Cause-clause-read
 returns-in-Cause-clause-read g c = rw (c.in-Cause.is, sym c.keep.ensures) (by_roles cause_tree (λ n why. IfSome why (NamesRole n)) _ _ c.roles-roles.ensures c.cause_in.ensures)
@@ -43,3 +52,9 @@ returns-in_ok-marks_in-in-StartMarks-clause-read g c = rw (c.in-StartMarks.is, s
 
 pub returns-in_ok-value_in-in-States-clause-read : goal.returns-in_ok-value_in-in-States-clause-read
 returns-in_ok-value_in-in-States-clause-read g c = rw (c.in-States.is, sym c.keep-in-States.ensures) c.in_ok-value_in-in-States.ensures
+
+pub returns-in-Strikes-clause-read : goal.returns-in-Strikes-clause-read
+returns-in-Strikes-clause-read g c = rw (c.in-Strikes.is, sym c.keep-in-Strikes.ensures) c.strikes_in.ensures
+
+pub returns-in-Version-clause-read : goal.returns-in-Version-clause-read
+returns-in-Version-clause-read g c = rw (c.in-Version.is, sym c.keep-in-Version.ensures) (any_version c.args.version c.version_in.result (data_in c.args.found) c.version_in.result c.version_in.ensures.shown)

@@ -34,7 +34,7 @@ returns-then-not-branch-2-clause-first g c =
       played,
       goals,
       λ end.
-          let yes = (c.in_ok-is_right_end.ensures played.leads.turns played.leads.many played.leads.state).1 end in
+          let yes = (c.in_ok-is_right_end.ensures played.leads.turns played.leads.many played.leads.state c.in_ok-state.ensures.1).1 end in
           let no = c.if-not-branch-2.true in
           absurd cc,
     )
@@ -51,7 +51,7 @@ returns-then-not-branch-2-clause-not_lawful g c =
       played,
       goals,
       λ end.
-          let yes = (c.in_ok-is_right_end.ensures played.leads.turns played.leads.many played.leads.state).1 end in
+          let yes = (c.in_ok-is_right_end.ensures played.leads.turns played.leads.many played.leads.state c.in_ok-state.ensures.1).1 end in
           let no = c.if-not-branch-2.true in
           absurd cc,
     ) in
@@ -63,5 +63,5 @@ returns-clause-lawful g c =
     let p = c.args.parts.now in
     let played : IsReplayed game p c.in_ok-state.state = c.in_ok-state.ensures.0 in
     let goals : AreGoalsIn game p.phase c.in_ok-state.state p.goals = search rules in
-    let right = (c.in_ok-is_right_end.ensures played.leads.turns played.leads.many played.leads.state).0 c.if-not-branch-2.false in
+    let right = (c.in_ok-is_right_end.ensures played.leads.turns played.leads.many played.leads.state c.in_ok-state.ensures.1).0 c.if-not-branch-2.false in
     record-lawful game (g.met.G.Game.laws c.args.game.now) p c.requires c.in_ok-state.state played goals right
