@@ -23,7 +23,7 @@ const MESSAGES: usize = 12;
 
 /// With two strikes blue is asked for two moves, and not for ten.
 const RECORD: &[u8] =
-    br#"{"cause":null,"endMarks":["","TO"],"errors":[["","TO"],["","TO"],["","RT"],["","RT"],["","RT"],["","RT"],["","RT"],["","RT"],["","RT"],["","RT"]],"goalValues":[100,0],"matchId":"m","moves":[["go","wait"],["go","wait"],["go","wait"],["go","wait"],["go","wait"],["go","wait"],["go","wait"],["go","wait"],["go","wait"],["go","wait"]],"phase":"finished","playClock":1,"players":["ann","bob"],"roles":["red","blue"],"startClock":1,"startMarks":["","TO"],"states":[["0"],["1"],["2"],["3"],["4"],["5"],["6"],["7"],["8"],["9"],["10"]]}
+    br#"{"cause":null,"endMarks":["","TO"],"errors":[["","TO"],["","TO"],["","RT"],["","RT"],["","RT"],["","RT"],["","RT"],["","RT"],["","RT"],["","RT"]],"goalValues":[100,0],"matchId":"m","moves":[["go","wait"],["go","wait"],["go","wait"],["go","wait"],["go","wait"],["go","wait"],["go","wait"],["go","wait"],["go","wait"],["go","wait"]],"phase":"finished","playClock":1,"players":["ann","bob"],"roles":["red","blue"],"startClock":1,"startMarks":["","TO"],"states":[["0"],["1"],["2"],["3"],["4"],["5"],["6"],["7"],["8"],["9"],["10"]],"strikes":2,"version":2}
 "#;
 
 /// Answers all messages of the match at once.
