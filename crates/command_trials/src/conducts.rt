@@ -550,7 +550,7 @@ const SOLO_RULES: &str = "(role solo) (init s) (legal solo go) (legal solo stay)
 
 /// The record of a match of it, in which each answer leaves the mark, and the move the error.
 const SOLO_RECORD: &str =
-    r#"{"cause":null,"endMarks":["MARK"],"errors":[["ERROR"]],"goalValues":[100],"matchId":"m","moves":[["MOVE"]],"phase":"finished","playClock":1,"players":["ann"],"roles":["solo"],"startClock":1,"startMarks":["MARK"],"states":[["s"],["t"]]}
+    r#"{"cause":null,"endMarks":["MARK"],"errors":[["ERROR"]],"goalValues":[100],"matchId":"m","moves":[["MOVE"]],"phase":"finished","playClock":1,"players":["ann"],"roles":["solo"],"startClock":1,"startMarks":["MARK"],"states":[["s"],["t"]],"strikes":0,"version":2}
 "#;
 
 fn solo_record(alloc: Global, met: Met) -> Result<String, AllocError> {

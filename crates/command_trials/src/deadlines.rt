@@ -20,7 +20,7 @@ const RULES: &str = "(role red) (role blue) (init s) (legal red go) (legal blue 
 (<= (next t) (true s)) (<= terminal (true t)) (goal red 100) (goal blue 0)";
 
 const RECORD: &[u8] =
-    br#"{"cause":null,"endMarks":["","TO"],"errors":[["","TO"]],"goalValues":[100,0],"matchId":"m","moves":[["go","wait"]],"phase":"finished","playClock":1,"players":["ann","bob"],"roles":["red","blue"],"startClock":1,"startMarks":["","TO"],"states":[["s"],["t"]]}
+    br#"{"cause":null,"endMarks":["","TO"],"errors":[["","TO"]],"goalValues":[100,0],"matchId":"m","moves":[["go","wait"]],"phase":"finished","playClock":1,"players":["ann","bob"],"roles":["red","blue"],"startClock":1,"startMarks":["","TO"],"states":[["s"],["t"]],"strikes":0,"version":2}
 "#;
 
 /// Answers three messages at once, and tells how long after the first each came.
