@@ -5,7 +5,10 @@ ghost use Rattle.call_history.specs.RingLines.{posted_calls, taken_replies, Same
 use crate::object::Object;
 use crate::ring_line::RingLine;
 use crate::wire::{AskFault, Wire};
-use std::thread;
+use std::{hint, thread};
+
+/// One of so many tries in a row gives the processor to another thread.
+const YIELD_EACH: u64 = 64;
 
 /// A line of a desk over rings, with so many tries for each call.
 #[derive(Drop)]
@@ -87,6 +90,16 @@ impl<O: Object> Wire for RingWire<O> {
     ghost same_line_trans = { λ a b c ab bc. Prim.search rules };
 }
 
+/// Lets a moment pass after so many tries. Most moments are shorter than a call takes: on a busy computer a thread that gives its
+/// processor away gets it back late.
+fn pause(tried: u64) {
+    if tried % YIELD_EACH == YIELD_EACH - 1 {
+        thread::yield_now();
+    } else {
+        hint::spin_loop();
+    }
+}
+
 /// Tries to post a call in so many turns, and answers how many are left after the one that did.
 fn post_within<O: Object>(line: &mut RingLine<O>, call: O::Call, turns: u64) -> Option<u64>
     ensures line { SameLine line.old line.new }
@@ -100,7 +113,7 @@ fn post_within<O: Object>(line: &mut RingLine<O>, call: O::Call, turns: u64) -> 
             Ok(()) => return Some(turns - tried - 1),
             Err(back) => call = back,
         }
-        thread::yield_now();
+        pause(tried);
     }
     None
 }
@@ -112,11 +125,11 @@ fn take_within<O: Object>(line: &mut RingLine<O>, turns: u64) -> Option<O::Reply
     ensures some { IfSome result (λ r. taken_replies line.new ≡ taken_replies line.old ++ r ∷ []) }
     ensures none { IfNone result (taken_replies line.new ≡ taken_replies line.old) }
 {
-    for _ in 0..turns {
+    for tried in 0..turns {
         if let Some(reply) = line.take() {
             return Some(reply);
         }
-        thread::yield_now();
+        pause(tried);
     }
     None
 }

@@ -1,11 +1,14 @@
 //! How the thread of a desk rests while no call comes.
 use std::sync::Wait;
 use std::sync::atomic::AtomicU64;
-use std::thread;
 use std::time::Duration;
+use std::{hint, thread};
 
-/// After so many rests in a row that only yield, it sleeps.
-const YIELDS: u32 = 64;
+/// The first rests in a row only wait for a moment, which is about what a worker needs for its next call.
+const SPINS: u32 = 64;
+
+/// After so many further rests that give the processor to another thread, it sleeps.
+const YIELDS: u32 = 8;
 
 /// The first sleep, in microseconds. Each further one is twice as long.
 const FIRST_SLEEP: u64 = 20;
@@ -17,6 +20,7 @@ const LONGEST_SLEEP: u64 = 2_000;
 /// time of a processor.
 #[derive(Drop)]
 pub struct Pause {
+    spins: u32,
     yields: u32,
     sleep: u64,
 }
@@ -25,6 +29,7 @@ impl Pause {
     /// Before the first rest.
     pub fn new() -> Pause {
         Pause {
+            spins: SPINS,
             yields: YIELDS,
             sleep: FIRST_SLEEP,
         }
@@ -32,6 +37,11 @@ impl Pause {
 
     /// Rests once. A sleep is left out where the count is not the one that was seen.
     pub fn rest<R: Wait>(&mut self, rt: &R, count: &AtomicU64, seen: u64) {
+        if self.spins > 0 {
+            self.spins -= 1;
+            hint::spin_loop();
+            return;
+        }
         if self.yields > 0 {
             self.yields -= 1;
             thread::yield_now();
