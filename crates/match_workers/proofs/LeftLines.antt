@@ -1,7 +1,8 @@
 -- The lines of a match's desk, as its workers leave them.
-use Rattle.std.proofs.Common.{◌≡◌, ℕ, ◌+◌, ◌<◌, List, [], ◌∷◌, ◌++◌, length, map, Option, Some, option_map, Result, refl, ap, sym, subst, ◌∙◌, arith, rules, get_or, length-append}
-use Rattle.std.specs.Prelude.{slice_get, Contains}
+use Rattle.std.proofs.Common.{◌≡◌, ℕ, ◌+◌, ◌<◌, ◌≤◌, List, [], ◌∷◌, ◌++◌, length, map, Option, Some, option_map, Result, refl, ap, sym, subst, ◌∙◌, arith, rules, get_or, length-append}
+use Rattle.std.specs.Prelude.{slice_get, Contains, All}
 use Rattle.std.proofs.lemmas.List.{length-map}
+use Rattle.std.proofs.lemmas.List.Elements.{All-push}
 use Rattle.std.proofs.lemmas.Option.{slice_get-map, slice_get_within, slice_get-get_or, get_or_from_slice_get}
 use Rattle.call_history.specs.declared.object.Object.{Ghosts}
 use Rattle.call_history.specs.declared.port.Port.{Port}
@@ -134,13 +135,25 @@ module _ {O : Type 0} {G : Ghosts O Call Reply} {P : Type 0} (w : Wire.Ghosts (R
         },
       )
 
-  pub left_lines : length others ≡ length brief.roles → (all : List (LineEnd O Call Reply G)) → ((end : LineEnd O Call Reply G) → Contains lines end → Contains all end) → (ends : List (Result ℕ AttendFault))
+  -- a worker's line has the number of a role that was attended
+  line_within : (k : ℕ) (end : LineEnd O Call Reply G) → slice_get lines k ≡ Some end → end.line.number ≤ length attended
+  line_within k end at =
+      let worker = worker_at k end at in
+      let kept = kept_at k end worker.0 at worker.1 in
+      let number : end.line.number ≡ line_of k = kept.of_line.same.0 ∙ kept.line.0 ∙ kept.is_new.number_is in
+      omega (arith, number, slice_get_within lines k end at, line_count)
+
+  pub left_lines : length others ≡ length brief.roles → (all : List (LineEnd O Call Reply G)) (last : LineEnd O Call Reply G) → all ≡ lines ++ last ∷ [] → last.line.number ≡ 0 → (ends : List (Result ℕ AttendFault))
       → ends ≡ map (λ (a : Attended (RingWire O Call Reply G)). a.end) attended → AreLeftLines p.handed brief tries players all ends
-  left_lines count all among ends is = record {
-    one_each = λ as_many. ap length is ∙ length-map attended (λ (a : Attended (RingWire O Call Reply G)). a.end) ∙ left.one_each
-        ∙ seated.one_each as_many (sym (length-map wires (λ (x : RingWire O Call Reply G). x.line)) ∙ ap length on ∙ count);
-    each = λ role end at. left_line all among role end (subst (λ es. slice_get es role ≡ Some end) is at);
-  }
+  left_lines count all last more zeroth ends is =
+      let as_many : length ends ≡ length attended = ap length is ∙ length-map attended (λ (a : Attended (RingWire O Call Reply G)). a.end) in
+      let Within : LineEnd O Call Reply G → Type 0 = λ e. e.line.number ≤ length ends in
+      record {
+        one_each = λ each. as_many ∙ left.one_each ∙ seated.one_each each (sym (length-map wires (λ (x : RingWire O Call Reply G). x.line)) ∙ ap length on ∙ count);
+        each = λ role end at. left_line all (λ e among. contains_before lines all last e more among) role end (subst (λ es. slice_get es role ≡ Some end) is at);
+        within = subst (All Within) (sym more) (All-push Within lines last
+            (λ k e below. omega (arith, line_within k (get_or lines k e) (slice_get-get_or lines k e below), as_many)) (omega (arith, zeroth)));
+      }
 
 -- new lines stay new, whatever the desk serves
 module _ {O C R : Type 0} {G : Ghosts O C R} where

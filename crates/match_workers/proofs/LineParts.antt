@@ -1,18 +1,21 @@
 -- What the closed desk's history has of each line.
-use Rattle.std.proofs.Common.{◌≡◌, ◌==◌, ℕ, ◌+◌, ◌<◌, true, List, [], ◌∷◌, ◌++◌, length, map, All, Option, Some, Result, IsOk, refl, ap, sym, subst, ◌∙◌, arith, append_assoc, append-nil, length-append, get_or}
+use Rattle.std.proofs.Common.{◌≡◌, ◌==◌, ℕ, ◌+◌, ◌<◌, ◌≤◌, true, ⊎_elim, List, [], ◌∷◌, ◌++◌, length, map, All, Option, Some, Result, IsOk, refl, ap, sym, subst, ◌∙◌, arith, append_assoc, append-nil, length-append, get_or}
 use Rattle.std.specs.Prelude.{slice_get, Contains}
 use Rattle.std.specs.List.{filter}
 use Rattle.std.proofs.lemmas.List.{length-map}
 use Rattle.std.proofs.lemmas.List.Elements.{All-contains, All-head, filter_passes}
 use Rattle.std.proofs.lemmas.Grind.{common_steps}
+use Rattle.std.proofs.lemmas.Bool.{cases_lt}
 use mathlib.Core.List.{IsPrefix}
 use Rattle.call_history.specs.declared.journal.Entry.{Entry}
 use Rattle.call_history.specs.declared.object.Object.{Ghosts}
 use Rattle.call_history.specs.declared.ring_line.RingLine.{RingLine}
 use Rattle.call_history.specs.declared.ring_line.LineEnd.{LineEnd}
 use Rattle.call_history.specs.Parts.{part, calls_of, replies_of}
-use Rattle.call_history.specs.RingLines.{posted_calls, taken_replies}
-use Rattle.call_history.specs.RingClosing.{IsServed, TakesPrefix}
+use Rattle.call_history.specs.declared.port.Port.{Port}
+use Rattle.call_history.specs.Lines.{HasAll}
+use Rattle.call_history.specs.RingLines.{posted_calls, taken_replies, IsLineOf, AreEndsOf as DeskEnds}
+use Rattle.call_history.specs.RingClosing.{end_numbers, IsServed, TakesPrefix}
 use Rattle.match_book.specs.declared.setup.Setup.{Setup}
 use Rattle.match_desk.specs.declared.call.Call.{Call}
 use Rattle.match_desk.specs.declared.call.Reply.{Reply}
@@ -24,6 +27,7 @@ use Rattle.match_workers.specs.Events.{telling}
 use Rattle.match_workers.specs.Ends.{HasEnded, IsEndOf, AreEndsOf}
 use Rattle.match_workers.specs.LineParts.{open_call, OpensMatch, line_of, IsRoleCall, AreRoleLines}
 use Rattle.match_workers.specs.Internal.LeftLines.{IsFinishedOf, HasFinished, IsLeftLine, AreLeftLines}
+use Rattle.call_history.proofs.ReturnedEnds.{has_end}
 use Rattle.match_workers.proofs.LeftLines.{place_of}
 use Rattle.match_workers.proofs.RoleCalls.{role_calls, all_replies}
 
@@ -66,6 +70,12 @@ module _ {O : Type 0} {G : Ghosts O Call Reply} where
       prefix_trans (Opened ∷ []) (taken_replies end.line) (replies_of (part 0 history)) (subst (λ l. IsPrefix l (taken_replies end.line)) taken finished.taken) (subst (λ n. IsPrefix (taken_replies end.line) (replies_of (part n history))) zeroth first) in
       one_entry (part 0 history) (open_call setup) Opened (part_lines 0 history) (sym posted ∙ sym finished.posted ∙ calls ∙ ap (λ n. calls_of (part n history)) zeroth) reply
 
+  -- what is known of each line is known of the one with this number
+  some_line : (lines : List (LineEnd O Call Reply G)) (number : ℕ) (k : ℕ) → k < length lines → ((e : LineEnd O Call Reply G) → (get_or lines k e).line.number ≡ number)
+      → (bound : ℕ) → All (λ e. e.line.number ≤ bound) lines → number ≤ bound
+  some_line [] number k below is bound all = absurd (omega arith)
+  some_line (e ∷ es) number k below is bound all = omega (arith, is e, all k e below)
+
   module _ {P : Type 0} (handed : P → Option (List Handed)) (brief : Brief) (tries : ℕ) (players : List P) (history : List (Entry Call Reply)) (lines : List (LineEnd O Call Reply G)) (ends : List (Result ℕ AttendFault))
       (left : AreLeftLines handed brief tries players lines ends) (served : All (IsServed history) lines) (replies : All (TakesPrefix history) lines) where
     calls_at : (role : ℕ) (end : Result ℕ AttendFault) (line : LineEnd O Call Reply G) → Contains lines line → IsLeftLine handed brief tries players role line end → posted_calls line.line ≡ calls_of (part (line_of role) history)
@@ -96,9 +106,23 @@ module _ {O : Type 0} {G : Ghosts O Call Reply} where
       each = λ role end at. let found = left.each role end at in (found.2.player, found.2.is_player, end_at role end found.0 found.1 found.2);
     }
 
-    pub role_lines : (id : List ℕ) → brief.id ≡ id → AreRoleLines id (length ends) history
-    role_lines id same role below =
-        let place = place_of ends role below in
+    -- all lines came back, so each role was attended
+    pub as_many : (ports : List (Port Call Reply)) (roles : ℕ) → DeskEnds ports lines → length ports ≡ roles + 1 → HasAll (end_numbers lines) (length ports) → length ends ≡ roles
+    as_many ports roles of_desk count all =
+        let last = has_end lines roles (all roles (omega (arith, count))) in
+        let not_fewer : roles ≤ length ends = some_line lines roles last.0 last.1 last.2 (length ends) left.within in
+        ⊎_elim
+        (λ (less : roles < length ends).
+        let place = place_of ends roles less in
+        let found = left.each roles place.0 place.1 in
+        let line : IsLineOf ports found.0.line = All-contains (λ e. IsLineOf ports e.line) lines found.0 of_desk found.1 in
+        absurd (omega (arith, line.within, found.2.number, count)))
+        (λ not_more. omega (arith, not_fewer, not_more))
+        (cases_lt roles (length ends))
+
+    pub role_lines : (id : List ℕ) (roles : ℕ) → brief.id ≡ id → length ends ≡ roles → AreRoleLines id roles history
+    role_lines id roles same count role below =
+        let place = place_of ends role (omega (arith, below, count)) in
         let found = left.each role place.0 place.1 in
         let calls = role_calls brief role tries (posted_calls found.0.line) _ _ _ _ place.0 found.2.ended in
         subst (λ i. All (IsRoleCall i role) (calls_of (part (line_of role) history))) same (subst (All (IsRoleCall brief.id role)) (calls_at role place.0 found.0 found.1 found.2) calls)

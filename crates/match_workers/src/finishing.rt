@@ -1,7 +1,8 @@
 //! The end of a match's desk: its lines are finished, and it is closed.
-ghost use Rattle.std.specs.Prelude.{◌≡◌, IfOk, OnOk, length, map, All};
+ghost use Rattle.std.specs.Prelude.{◌≡◌, [], IfOk, OnOk, length, map, All};
+ghost use Rattle.call_history.specs.Lines.{HasAll};
 ghost use Rattle.call_history.specs.RingLines.{SamePorts, AreEndsOf};
-ghost use Rattle.call_history.specs.RingClosing.{IsServed, TakesPrefix};
+ghost use Rattle.call_history.specs.RingClosing.{end_numbers, IsServed, TakesPrefix};
 ghost use Rattle.match_desk.specs.Headline.{HasHeadline};
 ghost use Rattle.match_workers.specs.Internal.LeftLines.{IsFinishedOf, AreFinishedOf};
 ghost use Rattle.match_workers.specs.LineParts.{AreCounts};
@@ -12,7 +13,7 @@ use crate::seat::Attended;
 use call_history::{Closed, DeskFault, LineEnd, Object, RingDesk, RingLine, RingWire};
 use game_core::Game;
 use match_desk::Manager;
-use std::alloc::{AllocError, Global};
+use std::alloc::AllocError;
 
 /// How many calls, and how many replies, of a line may wait.
 pub const ROOM: u64 = 2;
@@ -35,17 +36,20 @@ pub fn finish_line<O: Object>(line: RingLine<O>) -> LineEnd<O>
     end
 }
 
-/// Finishes the lines of roles that were attended.
+/// Finishes the lines of roles that were attended, and puts them and the ends into lists that are empty and have room for them.
 pub fn finish_all<O: Object + Drop>(
-    alloc: Global,
     attended: Vec<Attended<RingWire<O>>>,
+    room: Finished<O>,
 ) -> Result<Finished<O>, AllocError>
+    requires no_lines { room.lines.items ≡ [] }
+    requires no_ends { room.ends.items ≡ [] }
     ensures lines { IfOk result (λ finished. AreFinishedOf (map (λ a. a.wire.line) attended.items) finished.lines.items) }
     ensures ends { IfOk result (λ finished. finished.ends.items ≡ map (λ a. a.end) attended.items) }
 {
-    let count = attended.len();
-    let mut lines = Vec::with_capacity(alloc, count + 1)?;
-    let mut ends = Vec::with_capacity(alloc, count)?;
+    let Finished {
+        mut lines,
+        mut ends,
+    } = room;
     for Attended { wire, end } in attended {
         lines.push(finish_line(wire.end()))?;
         ends.push(end)?;
@@ -74,6 +78,7 @@ pub fn close_match<G: Game + Drop>(
     requires lines { AreEndsOf desk.ports lines.items }
     ensures headline { IfOk result (λ c. HasHeadline G.rules (length desk.ports) c.object c.history.items c.made_by_line.items) }
     ensures games { IfOk result (λ c. c.object.games ≡ desk.journal.object.games) }
+    ensures all { IfOk result (λ _. HasAll (end_numbers lines.items) (length desk.ports)) }
     ensures served { IfOk result (λ c. All (IsServed c.history.items) lines.items) }
     ensures replies { IfOk result (λ c. All (TakesPrefix c.history.items) lines.items) }
     ensures made { IfOk result (λ c. AreCounts c.history.items c.made_by_line.items) }

@@ -1,5 +1,6 @@
 //! A whole match between players.
 ghost use Rattle.std.specs.Prelude.{◌≡◌, ◌∷◌, ◌++◌, [], ◌+◌, ◌<◌, map, IfOk, OnOk, length, vec_len};
+ghost use Rattle.call_history.specs.Limits.{max_entries};
 ghost use Rattle.call_history.specs.RingLines.{posted_calls, taken_replies, SameLine, SamePorts, AreEndsOf as AreDeskEnds, IsLineOf, IsNewLine};
 ghost use Rattle.match_desk.specs.Headline.{HasHeadline};
 ghost use Rattle.match_desk.specs.ManagerValue.{opening};
@@ -142,6 +143,7 @@ fn open_desk<G: Game + Drop>(
     game: G,
 ) -> Result<(DeskHolder<Manager<G>>, Vec<RingLine<Manager<G>>>), AllocError>
     ensures games { IfOk result (λ opened. opened.0.desk.journal.object.games ≡ game ∷ []) }
+    ensures most { IfOk result (λ opened. opened.0.desk.journal.most ≡ max_entries) }
     ensures desk { IfOk result (λ opened. length opened.0.desk.ports ≡ (G.rules game).roles + 1) }
     ensures first { IfOk result (λ opened. IsNewLine opened.0.desk.ports 0 opened.0.line) }
     ensures seats { IfOk result (λ opened. AreSeatLines opened.0.desk.ports opened.1.items) }
@@ -219,6 +221,7 @@ where
     G::Move: Send,
     P: Player + Drop + Send,
     R: Threads + Wait + Sync,
+    requires zeroth { holder.line.number ≡ 0 }
     requires first { IsLineOf holder.desk.ports holder.line }
     requires seats { AreSeatLines holder.desk.ports others.items }
     requires roles { length others.items ≡ length plan.brief.roles }
@@ -234,11 +237,17 @@ where
         players,
         tries,
     } = plan;
+    // The lists that are filled at the end have their room before the first thread starts.
+    let count = others.len();
+    let room = Finished {
+        lines: Vec::with_capacity(alloc, count + 1)?,
+        ends: Vec::with_capacity(alloc, count)?,
+    };
     let wires = wires_over(alloc, others)?;
     let seats = seat_players(alloc, &brief, wires, players)?;
     let Attendance { holder, attended } = attend_all(rt, alloc, holder, seats, tries)?;
     let DeskHolder { desk, line } = holder;
-    let Finished { mut lines, ends } = finish_all(alloc, attended)?;
+    let Finished { mut lines, ends } = finish_all(attended, room)?;
     lines.push(finish_line(line))?;
     Ok(Played { desk, lines, ends })
 }
@@ -275,8 +284,10 @@ where
     ensures first_line { IfOk result (λ r. OpensMatch setup r.closed.history.items) }
 
     // Each other line is a role's, and made that role's calls alone.
-    ensures role_lines { IfOk result (λ r. AreRoleLines setup.id (length r.ends.items) r.closed.history.items) }
+    ensures role_lines { IfOk result (λ r. AreRoleLines setup.id (G.rules game).roles r.closed.history.items) }
     ensures counts { IfOk result (λ r. AreCounts r.closed.history.items r.closed.made_by_line.items) }
+
+    ensures one_end_each { IfOk result (λ r. length r.ends.items ≡ (G.rules game).roles) }
 
     // Each player was told of this match, and attended as the role at its place, over the role's line.
     ensures ends { IfOk result (λ r. (told : Told) × IsBriefOf (G.rules game) setup rules.items told × AreEndsOf P.handed told tries players.items r.closed.history.items r.ends.items) }

@@ -1,5 +1,5 @@
 -- The lines of a match's desk, as its workers leave them.
-use Rattle.std.specs.Prelude.{◌≡◌, ℕ, ◌<◌, List, [], length, Option, Some, Result, slice_get, Contains}
+use Rattle.std.specs.Prelude.{◌≡◌, ℕ, ◌≤◌, List, [], length, Option, Some, Result, slice_get, Contains, All}
 use mathlib.Core.List.{IsPrefix}
 use Rattle.call_history.specs.declared.object.Object.{Ghosts}
 use Rattle.call_history.specs.declared.port.Port.{Port}
@@ -58,3 +58,5 @@ module _ {O : Type 0} {G : Ghosts O Call Reply} {P : Type 0} (handed : P → Opt
     pub one_each : length players ≡ length brief.roles → length ends ≡ length brief.roles
     pub each : (role : ℕ) (end : Result ℕ AttendFault) → slice_get ends role ≡ Some end
         → (line : LineEnd O Call Reply G) × Contains lines line × IsLeftLine role line end
+    -- no line is of a role that was not attended
+    pub within : All (λ line. line.line.number ≤ length ends) lines

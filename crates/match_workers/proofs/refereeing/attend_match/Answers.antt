@@ -1,7 +1,7 @@
-use Rattle.std.proofs.Common.{◌≡◌, ◌∙◌, refl, subst}
+use Rattle.std.proofs.Common.{◌≡◌, ◌∙◌, refl, ap, subst}
 use Rattle.call_history.proofs.DeskLines.{line_of_same, ends_snoc}
 use Rattle.match_workers.specs.Internal.LeftLines.{IsFinishedOf}
-use Rattle.match_workers.proofs.LeftLines.{contains_before, contains_last, desk_ends, left_lines}
+use Rattle.match_workers.proofs.LeftLines.{contains_last, desk_ends, left_lines}
 use Rattle.match_workers.proofs.refereeing.attend_match.Goals as goal
 
 pub returns-clause-lines : goal.returns-clause-lines
@@ -25,4 +25,4 @@ pub returns-clause-ends : goal.returns-clause-ends
 returns-clause-ends g c =
     left_lines _ g.P.Player (λ x. refl) (λ x. refl) (λ x y s. s) c.args.plan.brief c.args.plan.tries c.args.plan.players.items c.in_ok-wires.wires.items c.in_ok-seats.seats.items c.in_ok-holder.field-0.attended.items
     c.args.others.items c.in_ok-lines.field-0.lines.items c.in_ok-seats.ensures c.in_ok-holder.ensures.left c.in_ok-wires.ensures c.in_ok-lines.ensures.lines c.args.holder.desk.ports c.requires.seats c.requires.roles
-    c.push.new.self.items (λ end among. contains_before c.in_ok-lines.field-0.lines.items c.push.new.self.items c.finish_line.result end c.in_ok-push.ensures.items among) c.in_ok-lines.field-0.ends.items c.in_ok-lines.ensures.ends
+    c.push.new.self.items c.finish_line.result c.in_ok-push.ensures.items (c.finish_line.ensures.same.0 ∙ ap (λ l. l.number) c.in_ok-holder.ensures.line ∙ c.requires.zeroth) c.in_ok-lines.field-0.ends.items c.in_ok-lines.ensures.ends

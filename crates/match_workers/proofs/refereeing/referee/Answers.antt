@@ -4,7 +4,7 @@ use Rattle.match_desk.specs.Headline.{HasHeadline}
 use Rattle.match_desk.specs.declared.call.Reply.TheVariants.{Opened}
 use Rattle.match_workers.specs.LineParts.{open_call}
 use Rattle.match_workers.proofs.LeftLines.{seats_of_ports}
-use Rattle.match_workers.proofs.LineParts.{opens_match, ends_of, role_lines}
+use Rattle.match_workers.proofs.LineParts.{opens_match, ends_of, as_many, role_lines}
 use Rattle.match_workers.proofs.refereeing.referee.Goals as goal
 
 pub attend_match-requires-clause-first : goal.attend_match-requires-clause-first
@@ -47,10 +47,19 @@ returns-clause-first_line g c =
     (c.in_ok-open_match.ensures.reply ∙ ap (λ l. l ++ Opened ∷ []) first.taken)
     c.in_ok-desk.ensures.first c.in_ok-closed.ensures.served c.in_ok-closed.ensures.replies
 
+pub returns-clause-one_end_each : goal.returns-clause-one_end_each
+returns-clause-one_end_each g c =
+    as_many g.P.Player.handed c.in_ok-brief.brief c.args.tries c.args.players.items c.in_ok-closed.closed.history.items c.in_ok-desk.field-0.lines.items c.in_ok-desk.field-0.ends.items
+    c.in_ok-desk.ensures.ends c.in_ok-closed.ensures.served c.in_ok-closed.ensures.replies c.in_ok-desk.field-0.desk.ports (g.G.Game.rules c.args.game).roles c.in_ok-desk.ensures.lines
+    (c.in_ok-desk.ensures.ports.count ∙ c.open_match.ensures.ports.count ∙ c.in_ok-holder.ensures.desk) c.in_ok-closed.ensures.all
+
 pub returns-clause-role_lines : goal.returns-clause-role_lines
 returns-clause-role_lines g c =
     role_lines g.P.Player.handed c.in_ok-brief.brief c.args.tries c.args.players.items c.in_ok-closed.closed.history.items c.in_ok-desk.field-0.lines.items c.in_ok-desk.field-0.ends.items
-    c.in_ok-desk.ensures.ends c.in_ok-closed.ensures.served c.in_ok-closed.ensures.replies c.args.setup.id c.in_ok-brief.ensures.id
+    c.in_ok-desk.ensures.ends c.in_ok-closed.ensures.served c.in_ok-closed.ensures.replies c.args.setup.id (g.G.Game.rules c.args.game).roles c.in_ok-brief.ensures.id
+    (as_many g.P.Player.handed c.in_ok-brief.brief c.args.tries c.args.players.items c.in_ok-closed.closed.history.items c.in_ok-desk.field-0.lines.items c.in_ok-desk.field-0.ends.items
+    c.in_ok-desk.ensures.ends c.in_ok-closed.ensures.served c.in_ok-closed.ensures.replies c.in_ok-desk.field-0.desk.ports (g.G.Game.rules c.args.game).roles c.in_ok-desk.ensures.lines
+    (c.in_ok-desk.ensures.ports.count ∙ c.open_match.ensures.ports.count ∙ c.in_ok-holder.ensures.desk) c.in_ok-closed.ensures.all)
 
 pub returns-clause-ends : goal.returns-clause-ends
 returns-clause-ends g c = (
