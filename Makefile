@@ -4,7 +4,7 @@ PREFIX := /usr/local
 PROGRAM := bin/ggp_manager
 EDITED := $(if $(filter edits,$(firstword $(MAKECMDGOALS))),$(wordlist 2,$(words $(MAKECMDGOALS)),$(MAKECMDGOALS)))
 
-.PHONY: help demo match games build install check edits test $(EDITED)
+.PHONY: help demo match games build install check edits memory test $(EDITED)
 
 help:
 	@echo 'make demo            a match of Countdown through the program, line by line'
@@ -14,6 +14,7 @@ help:
 	@echo 'make install         puts the proved program into $(PREFIX)/bin (PREFIX=DIR: into DIR/bin)'
 	@echo 'make check           proves every crate; what has not changed is not proved again'
 	@echo 'make edits [NAME..]  tries the wrong edits of the crates (all, or those named): the prover must refuse each'
+	@echo 'make memory          has each allocation of the calls refused in turn; whatever they leave has to be as it was'
 	@echo 'make test            the gate: every proof from nothing, wrong edits, the tests, the programs'
 
 # The program that `demo`, `match` and `games` run is the proved one where it is up to date, else one that is not proved yet.
@@ -38,6 +39,9 @@ check:
 
 edits:
 	@tools/edits $(EDITED)
+
+memory:
+	@tools/memory
 
 # The names behind `edits` are no targets of their own.
 $(EDITED): ; @:
