@@ -6,4 +6,6 @@ mod calls;
 #[cfg(test)]
 mod replies;
 #[cfg(test)]
+mod rings;
+#[cfg(test)]
 mod threads;

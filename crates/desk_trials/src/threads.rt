@@ -2,7 +2,8 @@ ghost use Rattle.std.specs.Prelude.{◌≡◌, ◌<◌, [], IfOk};
 
 use crate::replies::{are_same_texts, is_same_reply};
 use call_history::{
-    CloseFault, Closed, Entry, LockDesk, LockLine, MAX_ENTRIES, Object, Unclosed, open_lock,
+    CloseFault, Closed, Entry, LockDesk, LockLine, LockWire, MAX_ENTRIES, Object, Unclosed, Wire,
+    open_lock,
 };
 use game_core::{Countdown, Text, Texts};
 use match_book::{Due, Match, Owed, Setup};
@@ -16,7 +17,7 @@ use std::test::Fail;
 use std::thread;
 use std::thread::Threads;
 
-fn manager(alloc: Global, heap: u8) -> Result<Manager<Countdown>, Fail>
+pub fn manager(alloc: Global, heap: u8) -> Result<Manager<Countdown>, Fail>
     ensures { IfOk result (λ m. m.matches ≡ []) }
 {
     let mut games = Vec::new(alloc);
@@ -26,12 +27,12 @@ fn manager(alloc: Global, heap: u8) -> Result<Manager<Countdown>, Fail>
 }
 
 /// The id of the match with this number.
-fn id_of(alloc: Global, number: u32) -> Result<Text, AllocError> {
+pub fn id_of(alloc: Global, number: u32) -> Result<Text, AllocError> {
     let id = format!(in alloc; "m{number}")?;
     Ok(Text::from_string(id))
 }
 
-fn open(alloc: Global, number: u32) -> Result<Call, AllocError> {
+pub fn open(alloc: Global, number: u32) -> Result<Call, AllocError> {
     Ok(Call::Open {
         id: id_of(alloc, number)?,
         game: 0,
@@ -120,7 +121,7 @@ fn check_replay<R: Abort>(
     check_matches(rt, &replayed, &closed.object)
 }
 
-fn replay<R: Abort>(
+pub fn replay<R: Abort>(
     rt: &R,
     alloc: Global,
     manager: &mut Manager<Countdown>,
@@ -144,7 +145,7 @@ fn gives_reply(
 }
 
 /// The two managers hold the same matches.
-fn check_matches<R: Abort>(
+pub fn check_matches<R: Abort>(
     rt: &R,
     replayed: &Manager<Countdown>,
     left: &Manager<Countdown>,
@@ -216,38 +217,36 @@ fn make_ten_calls<L: Ledger, R: Wait>(
     desk: &LockDesk<Manager<Countdown>, L>,
     line: LockLine<L>,
 ) -> Option<(LockLine<L>, Vec<Reply>)> {
-    let mut line = line;
-    let replies = ten_replies(rt, alloc, desk, &mut line)?;
-    Some((line, replies))
+    let number = line.number();
+    let mut wire = LockWire::new(rt, desk, line);
+    let replies = ten_replies(alloc, &mut wire, number)?;
+    Some((wire.end(), replies))
 }
 
-fn ten_replies<L: Ledger, R: Wait>(
-    rt: &R,
+/// The replies to the ten calls of the line with this number.
+pub fn ten_replies<W: Wire<Call = Call, Reply = Reply>>(
     alloc: Global,
-    desk: &LockDesk<Manager<Countdown>, L>,
-    line: &mut LockLine<L>,
+    wire: &mut W,
+    number: u32,
 ) -> Option<Vec<Reply>> {
-    let number = line.number();
     let mut replies = Vec::new(alloc);
     for turn in 0..CALLS_OF_A_LINE {
-        let reply = ask(rt, desk, line, call_of(alloc, number, turn))?;
+        let reply = ask(wire, call_of(alloc, number, turn))?;
         replies.push(reply).ok()?;
     }
     Some(replies)
 }
 
-/// Makes the call of the line.
-fn ask<L: Ledger, R: Wait>(
-    rt: &R,
-    desk: &LockDesk<Manager<Countdown>, L>,
-    line: &mut LockLine<L>,
+/// Makes the call over the wire.
+pub fn ask<W: Wire<Call = Call, Reply = Reply>>(
+    wire: &mut W,
     call: Result<Call, AllocError>,
 ) -> Option<Reply> {
-    desk.ask(rt, line, call.ok()?).ok()
+    wire.ask(call.ok()?).ok()
 }
 
 /// The entries of the line are its ten calls in order, with the replies that its thread got.
-fn check_line<R: Abort>(
+pub fn check_line<R: Abort>(
     rt: &R,
     alloc: Global,
     history: &[Entry<Call, Reply>],
@@ -388,11 +387,11 @@ fn four_threads_and_one_history(rt: HostRuntime) -> Result<(), Fail> {
     run_four_lines::<Brand, HostRuntime>(&rt, rt.alloc(), Blank::new(4))
 }
 
-const LINES: u32 = 8;
+pub const LINES: u32 = 8;
 
 const MATCHES_OF_A_LINE: u32 = 8;
 
-const MATCHES: u32 = LINES * MATCHES_OF_A_LINE;
+pub const MATCHES: u32 = LINES * MATCHES_OF_A_LINE;
 
 /// How often a line asks what is due, and then answers or queries.
 const TURNS: u32 = 6_246;
@@ -433,48 +432,47 @@ fn answer_to(
     })
 }
 
-/// Opens the line's matches, and then asks of all matches in turn.
+/// Makes many calls over a line, and gives it back.
 fn make_many_calls<L: Ledger, R: Wait>(
     rt: &R,
     alloc: Global,
     desk: &LockDesk<Manager<Countdown>, L>,
     line: LockLine<L>,
 ) -> Option<LockLine<L>> {
-    let mut line = line;
-    make_calls_in_turn(rt, alloc, desk, &mut line)?;
-    Some(line)
+    let number = line.number();
+    let mut wire = LockWire::new(rt, desk, line);
+    make_calls_in_turn(alloc, &mut wire, number)?;
+    Some(wire.end())
 }
 
-fn make_calls_in_turn<L: Ledger, R: Wait>(
-    rt: &R,
+/// Opens the matches of the line with this number, and then asks of all matches in turn.
+pub fn make_calls_in_turn<W: Wire<Call = Call, Reply = Reply>>(
     alloc: Global,
-    desk: &LockDesk<Manager<Countdown>, L>,
-    line: &mut LockLine<L>,
+    wire: &mut W,
+    number: u32,
 ) -> Option<()> {
-    let number = line.number() % LINES;
+    let number = number % LINES;
     for place in 0..MATCHES_OF_A_LINE {
         let opening = open(alloc, number * MATCHES_OF_A_LINE + place);
-        ask(rt, desk, line, opening)?;
+        ask(wire, opening)?;
     }
     for turn in 0..TURNS {
         let wanted = (turn * 5 + number * 7) % MATCHES;
-        ask_and_answer(rt, alloc, desk, line, wanted, turn)?;
+        ask_and_answer(alloc, wire, wanted, turn)?;
     }
     Some(())
 }
 
 /// Asks what the match owes to a role, and then answers or queries.
-fn ask_and_answer<L: Ledger, R: Wait>(
-    rt: &R,
+fn ask_and_answer<W: Wire<Call = Call, Reply = Reply>>(
     alloc: Global,
-    desk: &LockDesk<Manager<Countdown>, L>,
-    line: &mut LockLine<L>,
+    wire: &mut W,
     wanted: u32,
     turn: u32,
 ) -> Option<()> {
     let role = (turn % 2) as usize;
-    let due = ask(rt, desk, line, next(alloc, wanted, role))?;
-    ask(rt, desk, line, answer_to(alloc, &due, wanted, role, turn))?;
+    let due = ask(wire, next(alloc, wanted, role))?;
+    ask(wire, answer_to(alloc, &due, wanted, role, turn))?;
     Some(())
 }
 
