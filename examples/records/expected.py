@@ -2,8 +2,10 @@
 """Writes what `verify` must say of records of Countdown. It stands apart from the program: it replays a record by its
 own reading of the profile, sections 8 and 9.
 
-expected.py          writes NAME.word for each NAME.record of this folder, and the tests' constants
-expected.py --check  ends with status 1 where one of these files is not what it would write
+expected.py                    writes NAME.word for each NAME.record of this folder, and the tests' constants
+expected.py --check            ends with status 1 where one of these files is not what it would write
+expected.py --program PROGRAM  asks the program of records of random matches, and of each changed in one place again and again, and
+                               ends with status 1 where it says something else
 """
 
 import copy
@@ -11,6 +13,7 @@ import json
 import pathlib
 import random
 import re
+import subprocess
 import sys
 
 RECORDS = pathlib.Path(__file__).resolve().parent
@@ -326,11 +329,23 @@ def files():
         rows.append((heap, text, word(heap, text)))
         yield path.with_suffix(".word"), rows[-1][2] + "\n"
     yield TRIALS / "example_records.rt", table("The example records.", "EXAMPLE_RECORDS", rows)
-    rows = [(heap, text, word(heap, text)) for heap, text in random_records(1, 16, 7)]
+    rows = [(heap, text, word(heap, text)) for heap, text in random_records(1, 2, 7)]
     yield TRIALS / "random_records.rt", table("Records of random matches, and each of them changed in one place.", "RANDOM_RECORDS", rows)
 
 
+def compare(program):
+    records = list(random_records(2, 16, 7))
+    for heap, text in records:
+        asked = subprocess.run([program, "verify", "--countdown", str(heap)], input=text, capture_output=True, text=True)
+        said = (asked.stdout + asked.stderr.removeprefix("ggp_manager: not lawful: ")).strip()
+        if said != word(heap, text):
+            sys.exit(f"the program says {said!r} and not {word(heap, text)!r} of {text}")
+    print(f"of {len(records)} records of random matches the program says what it must")
+
+
 def main():
+    if sys.argv[1:2] == ["--program"]:
+        return compare(sys.argv[2])
     for path, text in files():
         if sys.argv[1:] != ["--check"]:
             path.write_text(text)

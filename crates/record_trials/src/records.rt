@@ -172,9 +172,9 @@ fn retired_roles(rt: HostRuntime) -> Result<(), Fail> {
     let rounds = [("READY", "READY"), ("-", "noop"), ("(take 1)", "(take 1)")];
     play(alloc, &game, &mut held, rounds.as_slice())?;
     // Red is retired, and blue answers alone.
-    for (round, said) in [(3, "noop"), (4, "-"), (5, "!")] {
-        answer(alloc, &game, &mut held, 1, round, said)?;
-    }
+    answer(alloc, &game, &mut held, 1, 3, "noop")?;
+    answer(alloc, &game, &mut held, 1, 4, "-")?;
+    answer(alloc, &game, &mut held, 1, 5, "!")?;
     let wanted =
         "{\"cause\":\"allretired\",\"endMarks\":[null,null],\"errors\":[[\"TO\",\"\"],[\"IL (take 1)\",\"\"],[\"RT\",\"\"],[\"RT\",\"TO\"],[\"RT\",\"CE\"]],\"goalValues\":[],\"matchId\":\"m1\",\"moves\":[[\"(take 1)\",\"noop\"],[\"noop\",\"(take 1)\"],[\"(take 1)\",\"noop\"],[\"noop\",\"(take 1)\"],[\"(take 1)\",\"noop\"]],\"phase\":\"aborting\",\"playClock\":1,\"players\":[\"ann\",\"bob\"],\"roles\":[\"red\",\"blue\"],\"startClock\":1,\"startMarks\":[\"\",\"\"],\"states\":[[\"(heap 10)\",\"(turn red)\"],[\"(heap 9)\",\"(turn blue)\"],[\"(heap 8)\",\"(turn red)\"],[\"(heap 7)\",\"(turn blue)\"],[\"(heap 6)\",\"(turn red)\"],[\"(heap 5)\",\"(turn blue)\"]],\"strikes\":2,\"version\":2}";
     let written = record(alloc, &game, &held)?;

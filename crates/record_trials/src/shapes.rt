@@ -37,7 +37,12 @@ fn record_with(
     value: Option<&str>,
 ) -> Result<String, AllocError> {
     let mut text = String::from_str(alloc, r#"{"further":1"#)?;
-    for (key, lawful) in RECORD.iter().take(keys) {
+    let mut left = keys;
+    for (key, lawful) in &RECORD {
+        if left == 0 {
+            break;
+        }
+        left -= 1;
         let shown = if *key == changed {
             value
         } else {
