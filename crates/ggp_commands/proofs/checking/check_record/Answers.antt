@@ -7,7 +7,7 @@ use Rattle.game_core.specs.Play.{Rules}
 use Rattle.match_record.specs.LawfulRecord.{IsLawfulRecord}
 use Rattle.match_record.specs.Verified.{FailsFirst}
 use Rattle.match_record.specs.declared.verify_fault.VerifyFault.{VerifyFault}
-use Rattle.match_record.specs.declared.verify_fault.VerifyFault.TheVariants.{NotJson, BadShape, Illegal, NotFirst, WrongState, WrongGoals, WrongEnd, Memory}
+use Rattle.match_record.specs.declared.verify_fault.VerifyFault.TheVariants.{NotJson, BadShape, Illegal, NotFirst, WrongRetired, WrongState, WrongGoals, WrongEnd, Memory}
 use Rattle.ggp_commands.specs.Checks.{CheckFails, max_record}
 use Rattle.ggp_commands.specs.Faults.{check_fault}
 use Rattle.ggp_commands.proofs.checking.check_record.Goals as goal
@@ -19,6 +19,7 @@ check_fails remaining contents g text reader reader' writer NotJson short read e
 check_fails remaining contents g text reader reader' writer (BadShape key) short read ended unlawful first = (short, read, refl, ended, unlawful (λ same. absurd cc), first)
 check_fails remaining contents g text reader reader' writer (Illegal turn role) short read ended unlawful first = (short, read, refl, ended, unlawful (λ same. absurd cc), first)
 check_fails remaining contents g text reader reader' writer (NotFirst turn role) short read ended unlawful first = (short, read, refl, ended, unlawful (λ same. absurd cc), first)
+check_fails remaining contents g text reader reader' writer (WrongRetired turn role) short read ended unlawful first = (short, read, refl, ended, unlawful (λ same. absurd cc), first)
 check_fails remaining contents g text reader reader' writer (WrongState turn) short read ended unlawful first = (short, read, refl, ended, unlawful (λ same. absurd cc), first)
 check_fails remaining contents g text reader reader' writer WrongGoals short read ended unlawful first = (short, read, refl, ended, unlawful (λ same. absurd cc), first)
 check_fails remaining contents g text reader reader' writer WrongEnd short read ended unlawful first = (short, read, refl, ended, unlawful (λ same. absurd cc), first)
