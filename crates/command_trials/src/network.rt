@@ -1,6 +1,6 @@
 //! The commands that reach players, over loopback.
 use crate::example_games::COUNTDOWN_RULES;
-use crate::outcomes::{Wanted, expect, expect_outcome, outcome_of, outcome_with, with_players};
+use crate::outcomes::{Wanted, expect, expect_outcome, outcome_of, outcome_with};
 use game_core::{Counted, Text};
 use ggp_commands::{Reach, Signal, SocketPlayer, Sockets};
 use match_wire::{give_reply, take_request};
@@ -185,9 +185,14 @@ where
 {
     let (first, ann_word) = listen(rt, alloc, "ann")?;
     let (second, bob_word) = listen(rt, alloc, "bob")?;
-    let both = [ann_word.as_str(), bob_word.as_str()];
-    let players = if bob.is_some() { &both[..] } else { &both[..1] };
-    let words = with_players(alloc, options, players)?;
+    let mut words = Vec::new(alloc);
+    for option in options {
+        words.push(*option)?;
+    }
+    words.push(ann_word.as_str())?;
+    if bob.is_some() {
+        words.push(bob_word.as_str())?;
+    }
     let (words, bob) = (words.as_slice(), bob.unwrap_or(&[]));
     let ((anns, bobs), outcome) = thread::join(
         rt,
