@@ -10,7 +10,7 @@ const WRONG_USE: Wanted<'_> = Wanted {
 };
 
 /// The words of command lines that ask for nothing that can be done.
-const WRONG_LINES: [&[&str]; 28] = [
+const WRONG_LINES: [&[&str]; 32] = [
     &[],
     &["desk"],
     &["frob"],
@@ -21,6 +21,9 @@ const WRONG_LINES: [&[&str]; 28] = [
     &["desk", "--countdown", "3", "--countdown", "3"],
     &["desk", "--countdown", "3", "--rules", "(role a)"],
     &["desk", "--countdown", "3", "more"],
+    &["desk", "--countdown", "3", "--rules-file", "game.kif"],
+    &["verify", "--rules", "(role a)", "--rules-file", "game.kif"],
+    &["desk", "--countdown", "3", "--log"],
     &["run", "--id", "m", "ann@host:80"],
     &["run", "--rules", "(role a)", "ann@host:80"],
     &["run", "--rules", "(role a)", "--id", "m"],
@@ -67,6 +70,16 @@ const WRONG_LINES: [&[&str]; 28] = [
         "ann@host:80",
     ],
     &["run", "--countdown", "3", "--id", "m", "ann@host:80"],
+    &[
+        "run",
+        "--rules",
+        "(role a)",
+        "--rules-file",
+        "game.kif",
+        "--id",
+        "m",
+        "ann@host:80",
+    ],
     &["verify"],
     &["verify", "--countdown", "200"],
     &["info"],
@@ -96,6 +109,15 @@ fn help_is_no_fault(rt: HostRuntime) -> Result<(), AllocError> {
         // What the help says is not looked at.
         assert!(rt; !outcome.output.is_empty());
         expect_outcome(&rt, &outcome, Wanted::output(&outcome.output));
+    }
+    Ok(())
+}
+
+#[test]
+fn the_version_is_told(rt: HostRuntime) -> Result<(), AllocError> {
+    for words in [["--version"], ["-V"]] {
+        let wanted = Wanted::output(b"ggp_manager 0.1.0 (rattle-kit-13b)\n");
+        expect(&rt, rt.alloc(), &words, b"", wanted)?;
     }
     Ok(())
 }

@@ -1,12 +1,13 @@
 //! What players do, what the record of their match shows of it, and how long the match waits.
 use crate::outcomes::{Wanted, expect_outcome, outcome_with};
 use crate::simulated::{Conduct, Conducts, Door, Simulated, Step, Taking, World};
-use ggp_commands::{PlayerAddress, Reach, Signal, SocketPlayer, Sockets, contact};
+use ggp_commands::{Explains, PlayerAddress, Reach, Signal, SocketPlayer, Sockets, contact};
 use match_workers::Player;
 use std::alloc::{AllocError, Global};
 use std::io::ErrorKind;
 use std::net::Net;
 use std::process::Abort;
+use std::rt::Files;
 use std::sync::Wait;
 use std::test::Fail;
 use std::thread::Threads;
@@ -606,8 +607,8 @@ fn expect_match<R, P, S>(
     (does, met): (&str, Met),
 ) -> Result<(), Fail>
 where
-    R: Net + Clock + Threads + Wait + Abort + Sync,
-    P: Player + Drop + Send,
+    R: Net + Clock + Files + Threads + Wait + Abort + Sync,
+    P: Player + Explains + Drop + Send,
     S: Reach<P>,
 {
     let before = world.passed();
@@ -663,8 +664,8 @@ fn expect_contacts<N: Net + Clock>(
 /// Plays a match with each player in turn.
 fn expect_matches<R, P, S>(rt: &R, reach: &S, alloc: Global, world: &World) -> Result<(), Fail>
 where
-    R: Net + Clock + Threads + Wait + Abort + Sync,
-    P: Player + Drop + Send,
+    R: Net + Clock + Files + Threads + Wait + Abort + Sync,
+    P: Player + Explains + Drop + Send,
     S: Reach<P>,
 {
     let mut tried = 0usize;

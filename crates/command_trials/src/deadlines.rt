@@ -1,11 +1,12 @@
 //! Players over loopback that take longer than they have.
 use crate::network::{HostPlayer, answer, bound, listen};
 use crate::outcomes::{Outcome, Wanted, expect_outcome, outcome_with, with_players};
-use ggp_commands::{ContactFault, PlayerAddress, Reach, Signal, Sockets, contact};
+use ggp_commands::{ContactFault, Explains, PlayerAddress, Reach, Signal, Sockets, contact};
 use match_workers::Player;
 use std::alloc::Global;
 use std::io::Write;
 use std::net::{Ipv4Addr, Net, SocketAddr, TcpListener, TcpStream};
+use std::rt::Files;
 use std::sync::Wait;
 use std::test::Fail;
 use std::thread::Threads;
@@ -57,8 +58,8 @@ fn play_with_a_dripping_player<R, P, S>(
     options: &[&str],
 ) -> Result<(Outcome, [Duration; 3]), Fail>
 where
-    R: Net<Listener = TcpListener, Stream = TcpStream> + Clock + Threads + Wait + Sync,
-    P: Player + Drop + Send,
+    R: Net<Listener = TcpListener, Stream = TcpStream> + Clock + Files + Threads + Wait + Sync,
+    P: Player + Explains + Drop + Send,
     S: Reach<P> + Sync,
 {
     let (red, ann) = listen(rt, alloc, "ann")?;

@@ -2,13 +2,14 @@
 use crate::network::{HostPlayer, answer, listen};
 use crate::outcomes::{Outcome, Wanted, expect_outcome, outcome_of, outcome_with};
 use game_core::Text;
-use ggp_commands::{Reach, Signal, Sockets};
+use ggp_commands::{Explains, Reach, Signal, Sockets};
 use match_wire::{Message, read_message};
 use match_workers::Player;
 use std::alloc::{AllocError, Global};
 use std::fmt::Write as _;
 use std::net::{Net, TcpListener, TcpStream};
 use std::process::Abort;
+use std::rt::Files;
 use std::sync::Wait;
 use std::test::Fail;
 use std::thread::Threads;
@@ -91,8 +92,14 @@ where
 /// What `run` leaves of the match, once its players say that all messages were owed.
 fn played<R, P, S>(rt: &R, reach: &S, alloc: Global, rules: &str) -> Result<Outcome, Fail>
 where
-    R: Net<Listener = TcpListener, Stream = TcpStream> + Clock + Threads + Wait + Abort + Sync,
-    P: Player + Drop + Send,
+    R: Net<Listener = TcpListener, Stream = TcpStream>
+        + Clock
+        + Files
+        + Threads
+        + Wait
+        + Abort
+        + Sync,
+    P: Player + Explains + Drop + Send,
     S: Reach<P> + Sync,
 {
     let mut players = Vec::new(alloc);
@@ -118,8 +125,14 @@ where
 /// Plays the match, and checks its record.
 fn play_and_check<R, P, S>(rt: &R, reach: &S, alloc: Global, rules: &str) -> Result<(), Fail>
 where
-    R: Net<Listener = TcpListener, Stream = TcpStream> + Clock + Threads + Wait + Abort + Sync,
-    P: Player + Drop + Send,
+    R: Net<Listener = TcpListener, Stream = TcpStream>
+        + Clock
+        + Files
+        + Threads
+        + Wait
+        + Abort
+        + Sync,
+    P: Player + Explains + Drop + Send,
     S: Reach<P> + Sync,
 {
     let record = played::<R, P, S>(rt, reach, alloc, rules)?;

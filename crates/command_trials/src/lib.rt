@@ -2,6 +2,8 @@
 #![tactic(auto)]
 
 #[cfg(test)]
+mod accounts;
+#[cfg(test)]
 mod command_lines;
 #[cfg(test)]
 mod conducts;
@@ -11,6 +13,8 @@ mod deadlines;
 mod example_games;
 #[cfg(test)]
 mod largest;
+#[cfg(test)]
+mod logs;
 #[cfg(test)]
 mod network;
 #[cfg(test)]
@@ -25,6 +29,8 @@ mod refereed;
 mod rests;
 #[cfg(test)]
 mod retired;
+#[cfg(test)]
+mod rule_files;
 #[cfg(test)]
 mod scripts;
 #[cfg(test)]

@@ -2,13 +2,14 @@
 use crate::example_games::COUNTDOWN_RULES;
 use crate::outcomes::{Wanted, expect, expect_outcome, outcome_of, outcome_with};
 use game_core::{Counted, Text};
-use ggp_commands::{Reach, Signal, SocketPlayer, Sockets};
+use ggp_commands::{Explains, Reach, Signal, SocketPlayer, Sockets};
 use match_wire::{give_reply, take_request};
 use match_workers::Player;
 use std::alloc::{AllocError, Global};
 use std::io::{Read, Write};
 use std::net::{Ipv4Addr, Net, SocketAddr, TcpListener, TcpStream};
 use std::process::Abort;
+use std::rt::Files;
 use std::sync::Wait;
 use std::test::Fail;
 use std::thread::Threads;
@@ -126,7 +127,13 @@ fn expect_info<R>(
     wanted: Wanted<'_>,
 ) -> Result<(), Fail>
 where
-    R: Net<Listener = TcpListener, Stream = TcpStream> + Clock + Threads + Wait + Abort + Sync,
+    R: Net<Listener = TcpListener, Stream = TcpStream>
+        + Clock
+        + Files
+        + Threads
+        + Wait
+        + Abort
+        + Sync,
 {
     let (listener, player) = listen(rt, alloc, "zed")?;
     let (listener, player) = (&listener, player.as_str());
@@ -179,8 +186,14 @@ fn expect_match<R, P, S>(
     record: &[u8],
 ) -> Result<(), Fail>
 where
-    R: Net<Listener = TcpListener, Stream = TcpStream> + Clock + Threads + Wait + Abort + Sync,
-    P: Player + Drop + Send,
+    R: Net<Listener = TcpListener, Stream = TcpStream>
+        + Clock
+        + Files
+        + Threads
+        + Wait
+        + Abort
+        + Sync,
+    P: Player + Explains + Drop + Send,
     S: Reach<P> + Sync,
 {
     let (first, ann_word) = listen(rt, alloc, "ann")?;
@@ -356,8 +369,8 @@ fn expect_refused<R, P, S>(
     (start, play, id, count, errors): (&str, &str, &str, usize, &[u8]),
 ) -> Result<(), AllocError>
 where
-    R: Net + Clock + Threads + Wait + Abort + Sync,
-    P: Player + Drop + Send,
+    R: Net + Clock + Files + Threads + Wait + Abort + Sync,
+    P: Player + Explains + Drop + Send,
     S: Reach<P>,
 {
     let rules = COUNTDOWN_RULES;

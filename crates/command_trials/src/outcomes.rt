@@ -1,12 +1,13 @@
 //! Commands over streams in memory, and what they leave.
 use game_core::Counted;
-use ggp_commands::{PlayerAddress, Reach, command};
+use ggp_commands::{Explains, PlayerAddress, Reach, command};
 use match_book::Answer;
 use match_workers::Player;
 use std::alloc::{AllocError, Global};
 use std::io::{Read, Write};
 use std::net::Net;
 use std::process::Abort;
+use std::rt::Files;
 use std::sync::Wait;
 use std::thread::Threads;
 use std::time::Clock;
@@ -87,6 +88,8 @@ impl Player for SilentPlayer {
     fn rest(&mut self) {}
 }
 
+impl Explains for SilentPlayer {}
+
 /// Where no player answers.
 #[derive(Drop)]
 pub struct NoNetwork;
@@ -95,6 +98,7 @@ impl Reach<SilentPlayer> for NoNetwork {
     fn player(
         &self,
         _alloc: Global,
+        _role: usize,
         _address: &PlayerAddress<'_>,
     ) -> Result<SilentPlayer, AllocError> {
         Ok(SilentPlayer)
@@ -102,7 +106,7 @@ impl Reach<SilentPlayer> for NoNetwork {
 }
 
 /// Runs a command over these streams, with players that never answer.
-pub fn run_command<H, R: Read, W: Write, E: Write>(
+pub fn run_command<H, R: Read, W: Write, E: Write + Send>(
     rt: &H,
     alloc: Global,
     words: &[String],
@@ -111,7 +115,7 @@ pub fn run_command<H, R: Read, W: Write, E: Write>(
     errors: &mut E,
 ) -> u8
 where
-    H: Net + Clock + Threads + Wait + Sync,
+    H: Net + Clock + Files + Threads + Wait + Sync,
 {
     command::<_, SilentPlayer, _, _, _, _>(rt, alloc, &NoNetwork, words, reader, writer, errors)
 }
@@ -124,7 +128,7 @@ pub fn outcome_over<H, R: Read>(
     reader: &mut Counted<R>,
 ) -> Result<Outcome, AllocError>
 where
-    H: Net + Clock + Threads + Wait + Sync,
+    H: Net + Clock + Files + Threads + Wait + Sync,
 {
     let words = strings(alloc, words)?;
     let mut writer = Counted::new(Vec::new(alloc));
@@ -145,8 +149,8 @@ pub fn outcome_with<H, P, S>(
     words: &[&str],
 ) -> Result<Outcome, AllocError>
 where
-    H: Net + Clock + Threads + Wait + Sync,
-    P: Player + Drop + Send,
+    H: Net + Clock + Files + Threads + Wait + Sync,
+    P: Player + Explains + Drop + Send,
     S: Reach<P>,
 {
     let words = strings(alloc, words)?;
@@ -177,7 +181,7 @@ pub fn outcome_of<H>(
     input: &[u8],
 ) -> Result<Outcome, AllocError>
 where
-    H: Net + Clock + Threads + Wait + Sync,
+    H: Net + Clock + Files + Threads + Wait + Sync,
 {
     outcome_over(rt, alloc, words, &mut Counted::new(input))
 }
@@ -198,7 +202,7 @@ pub fn expect<H>(
     wanted: Wanted<'_>,
 ) -> Result<(), AllocError>
 where
-    H: Net + Clock + Threads + Wait + Abort + Sync,
+    H: Net + Clock + Files + Threads + Wait + Abort + Sync,
 {
     let outcome = outcome_of(rt, alloc, words, input)?;
     expect_outcome(rt, &outcome, wanted);

@@ -5,6 +5,7 @@ use std::alloc::Global;
 use std::io::Read;
 use std::net::{Net, TcpListener, TcpStream};
 use std::process::Abort;
+use std::rt::Files;
 use std::sync::Wait;
 use std::test::Fail;
 use std::thread;
@@ -21,7 +22,13 @@ fn wait_out(alloc: Global, listener: &TcpListener) -> Option<usize> {
 /// How long `info` waits for a player that never answers.
 fn patience<R>(rt: &R, alloc: Global) -> Result<Duration, Fail>
 where
-    R: Net<Listener = TcpListener, Stream = TcpStream> + Clock + Threads + Wait + Abort + Sync,
+    R: Net<Listener = TcpListener, Stream = TcpStream>
+        + Clock
+        + Files
+        + Threads
+        + Wait
+        + Abort
+        + Sync,
 {
     let (listener, player) = listen(rt, alloc, "zed")?;
     let (listener, player) = (&listener, player.as_str());
@@ -47,7 +54,13 @@ fn info_waits_ten_seconds(rt: HostRuntime) -> Result<(), Fail> {
 /// A name of this computer may stand for several addresses, of which not all take a connection.
 fn ask_by_name<R>(rt: &R, alloc: Global) -> Result<(), Fail>
 where
-    R: Net<Listener = TcpListener, Stream = TcpStream> + Clock + Threads + Wait + Abort + Sync,
+    R: Net<Listener = TcpListener, Stream = TcpStream>
+        + Clock
+        + Files
+        + Threads
+        + Wait
+        + Abort
+        + Sync,
 {
     let (listener, _) = listen(rt, alloc, "zed")?;
     let port = listener.local_addr()?.port();

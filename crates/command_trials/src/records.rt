@@ -11,6 +11,7 @@ use crate::scripts::{
 use std::alloc::{AllocError, Global};
 use std::net::Net;
 use std::process::Abort;
+use std::rt::Files;
 use std::str::from_utf8;
 use std::sync::Wait;
 use std::test::Fail;
@@ -28,7 +29,7 @@ fn expect_checked<H>(
     wanted: Wanted<'_>,
 ) -> Result<usize, AllocError>
 where
-    H: Net + Clock + Threads + Wait + Abort + Sync,
+    H: Net + Clock + Files + Threads + Wait + Abort + Sync,
 {
     let mut records = 0usize;
     for line in output.split(|b| *b == b'\n') {
@@ -172,7 +173,7 @@ fn expect_changes<H>(
     changes: &[(&str, &str, &[u8])],
 ) -> Result<(), Fail>
 where
-    H: Net + Clock + Threads + Wait + Abort + Sync,
+    H: Net + Clock + Files + Threads + Wait + Abort + Sync,
 {
     let printed = from_utf8(output)?;
     for (from, to, errors) in changes {

@@ -168,8 +168,8 @@ fn players_of<P: Drop, S: Reach<P>>(
         port: 1,
     };
     let mut players = Vec::new(alloc);
-    for _ in 0..count {
-        players.push(reach.player(alloc, &ann)?)?;
+    for role in 0..count {
+        players.push(reach.player(alloc, role, &ann)?)?;
     }
     Ok(players)
 }

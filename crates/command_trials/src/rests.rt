@@ -49,7 +49,7 @@ fn rests_grow_with_the_time_since_the_last_message(rt: HostRuntime) -> Result<()
         rt: &network,
         signal: &signal,
     };
-    let mut player = reach.player(rt.alloc(), &ANN)?;
+    let mut player = reach.player(rt.alloc(), 0, &ANN)?;
     let first = rested(&rt, &mut player)?;
     assert!(rt; first >= Duration::from_millis(99) && is_short(first));
     player.ask(1, b"");
@@ -77,8 +77,8 @@ fn rests_end_when_a_round_begins(rt: HostRuntime) -> Result<(), Fail> {
         rt: &network,
         signal: &signal,
     };
-    let mut ann = reach.player(rt.alloc(), &ANN)?;
-    let mut bob = reach.player(rt.alloc(), &ANN)?;
+    let mut ann = reach.player(rt.alloc(), 0, &ANN)?;
+    let mut bob = reach.player(rt.alloc(), 0, &ANN)?;
     ann.ask(1, b"");
     bob.ask(1, b"");
     assert!(rt; rested(&rt, &mut ann)? >= Duration::from_millis(99));
@@ -120,8 +120,8 @@ fn rests_end_when_a_player_goes(rt: HostRuntime) -> Result<(), Fail> {
         rt: &network,
         signal: &signal,
     };
-    let mut ann = reach.player(rt.alloc(), &ANN)?;
-    let mut bob = reach.player(rt.alloc(), &ANN)?;
+    let mut ann = reach.player(rt.alloc(), 0, &ANN)?;
+    let mut bob = reach.player(rt.alloc(), 0, &ANN)?;
     ann.ask(1, b"");
     bob.ask(1, b"");
     world.pass(LONG);

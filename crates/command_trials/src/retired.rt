@@ -1,10 +1,11 @@
 //! A player that goes away, in a match with strikes.
 use crate::network::{HostPlayer, answer, listen};
 use crate::outcomes::{Outcome, Wanted, expect_outcome, outcome_with, with_players};
-use ggp_commands::{Reach, Signal, Sockets};
+use ggp_commands::{Explains, Reach, Signal, Sockets};
 use match_workers::Player;
 use std::alloc::Global;
 use std::net::{Net, TcpListener, TcpStream};
+use std::rt::Files;
 use std::sync::Wait;
 use std::test::Fail;
 use std::thread;
@@ -43,8 +44,8 @@ fn play_with_a_lost_player<R, P, S>(
     options: &[&str],
 ) -> Result<Outcome, Fail>
 where
-    R: Net<Listener = TcpListener, Stream = TcpStream> + Clock + Threads + Wait + Sync,
-    P: Player + Drop + Send,
+    R: Net<Listener = TcpListener, Stream = TcpStream> + Clock + Files + Threads + Wait + Sync,
+    P: Player + Explains + Drop + Send,
     S: Reach<P> + Sync,
 {
     let (red, ann) = listen(rt, alloc, "ann")?;

@@ -2,7 +2,7 @@
 use crate::example_games::COUNTDOWN_RULES;
 use crate::outcomes::{Outcome, Wanted, expect_outcome, strings};
 use game_core::{Counted, Text};
-use ggp_commands::{PlayerAddress, Reach, command};
+use ggp_commands::{Explains, PlayerAddress, Reach, command};
 use match_book::Answer;
 use match_workers::Player;
 use std::alloc::{AllocError, Global};
@@ -50,6 +50,8 @@ impl Player for ReadyPlayer<'_> {
     }
 }
 
+impl Explains for ReadyPlayer<'_> {}
+
 /// Players in memory, of which ann is slow.
 #[derive(Drop)]
 struct PlayersInMemory<'a> {
@@ -61,6 +63,7 @@ impl<'a> Reach<ReadyPlayer<'a>> for PlayersInMemory<'a> {
     fn player(
         &self,
         alloc: Global,
+        _role: usize,
         address: &PlayerAddress<'_>,
     ) -> Result<ReadyPlayer<'a>, AllocError> {
         Ok(ReadyPlayer {

@@ -4,7 +4,7 @@ use crate::outcomes::{
     Wanted, expect, expect_outcome, outcome_of, outcome_over, run_command, strings,
 };
 use game_core::Counted;
-use ggp_commands::{ArgumentFault, ContactFault, Fault, ScriptFault, report};
+use ggp_commands::{ArgumentFault, ContactFault, Fault, RulesFileFault, ScriptFault, report};
 use match_desk::Refusal;
 use match_wire::WireFault;
 use std::alloc::AllocError;
@@ -123,10 +123,15 @@ fn commands_end_on_streams_without_an_end(rt: HostRuntime) -> Result<(), AllocEr
 }
 
 /// The faults, each with its line and status.
-const FAULTS: [(Fault, &[u8], u8); 10] = [
+const FAULTS: [(Fault, &[u8], u8); 13] = [
     (Fault::WrongUse, b"ggp_manager: wrong use\n", 2),
     (Fault::Memory, b"ggp_manager: want of memory\n", 3),
     (Fault::BadDescription, b"ggp_manager: bad description\n", 1),
+    (
+        Fault::RulesFile(RulesFileFault::Unread),
+        b"ggp_manager: bad description: the file can't be read\n",
+        1,
+    ),
     (Fault::ReadFault, b"ggp_manager: read fault\n", 1),
     (
         Fault::Refused(Refusal::DeskFull),
@@ -137,6 +142,16 @@ const FAULTS: [(Fault, &[u8], u8); 10] = [
     (Fault::InputTooLong, b"ggp_manager: input too long\n", 1),
     (Fault::WriteFault, b"ggp_manager: write fault\n", 1),
     (Fault::NoAnswer, b"ggp_manager: no answer\n", 1),
+    (
+        Fault::NoEntry(2),
+        b"ggp_manager: not replayed: line 2 is no entry\n",
+        1,
+    ),
+    (
+        Fault::Differs(2),
+        b"ggp_manager: not replayed: line 2 differs\n",
+        1,
+    ),
     (Fault::BadLines(10), b"ggp_manager: bad lines 10\n", 1),
 ];
 

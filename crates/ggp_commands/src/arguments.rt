@@ -1,6 +1,7 @@
 //! Reading the command line.
 
 use crate::addresses::{PlayerAddress, decimal, player_address};
+use crate::rules::Rules;
 use clap::error::ErrorKind;
 use clap::{Arg, ArgAction, ArgMatches, Command};
 use std::alloc::{AllocError, AllocFailed, Global};
@@ -14,10 +15,12 @@ pub enum Task<'a> {
     Run(MatchPlan<'a>),
     /// To check a record, for this game.
     Verify(GameSource<'a>),
+    /// To make the calls of an account again, for this game.
+    Replay(GameSource<'a>),
     /// To ask a player whether it is free.
     Info(PlayerAddress<'a>),
-    /// To show this help.
-    Help(String),
+    /// To show this text: the help, or the version.
+    Show(String),
 }
 
 /// Where a game comes from.
@@ -25,20 +28,21 @@ pub enum Task<'a> {
 pub enum GameSource<'a> {
     /// Countdown, with a heap of this size, in or out of its range.
     Countdown(u8),
-    /// A ground description.
-    Rules(&'a str),
+    Described(Rules<'a>),
 }
 
 /// A match between players on the network: the rules of its game, its id, its clocks in seconds, after
 /// how many substituted moves in a row a role is retired (0: never), and its players in the order of
-/// the roles.
+/// the roles; whether each message is told on standard error, and whether the account of the match is wanted.
 #[derive(Drop)]
 pub struct MatchPlan<'a> {
-    pub rules: &'a str,
+    pub rules: Rules<'a>,
     pub id: &'a str,
     pub start: u32,
     pub play: u32,
     pub strikes: u8,
+    pub is_logged: bool,
+    pub has_history: bool,
     pub players: Vec<PlayerAddress<'a>>,
 }
 
@@ -70,6 +74,9 @@ impl From<clap::Error> for ArgumentFault {
     }
 }
 
+/// The program's version, and the kit's that proved it.
+const VERSION: &str = "0.1.0 (rattle-kit-13b)";
+
 fn option<'a>(alloc: Global, name: &'a str, value: &'a str, help: &'a str) -> Arg<'a> {
     Arg::new(alloc, name)
         .long(name)
@@ -78,21 +85,39 @@ fn option<'a>(alloc: Global, name: &'a str, value: &'a str, help: &'a str) -> Ar
         .help(help)
 }
 
-/// The options of a command that wants one game.
-fn with_game<'a>(alloc: Global, command: Command<'a>) -> Result<Command<'a>, AllocError> {
+fn flag<'a>(alloc: Global, name: &'a str, help: &'a str) -> Arg<'a> {
+    Arg::new(alloc, name)
+        .long(name)
+        .action(ArgAction::SetTrue)
+        .help(help)
+}
+
+/// The options that give a ground description.
+fn with_rules<'a>(alloc: Global, command: Command<'a>) -> Result<Command<'a>, AllocError> {
     command
-        .arg(option(
-            alloc,
-            "countdown",
-            "N",
-            "The game is Countdown with a heap of N, 1 to 100",
-        ))?
         .arg(option(
             alloc,
             "rules",
             "TEXT",
             "The game is this ground description",
+        ))?
+        .arg(option(
+            alloc,
+            "rules-file",
+            "FILE",
+            "The game is the ground description in this file",
         ))
+}
+
+/// The options of a command that wants one game.
+fn with_game<'a>(alloc: Global, command: Command<'a>) -> Result<Command<'a>, AllocError> {
+    let command = command.arg(option(
+        alloc,
+        "countdown",
+        "N",
+        "The game is Countdown with a heap of N, 1 to 100",
+    ))?;
+    with_rules(alloc, command)
 }
 
 fn desk_command<'a>(alloc: Global) -> Result<Command<'a>, AllocError> {
@@ -111,10 +136,21 @@ fn verify_command<'a>(alloc: Global) -> Result<Command<'a>, AllocError> {
     )
 }
 
+fn replay_command<'a>(alloc: Global) -> Result<Command<'a>, AllocError> {
+    let command = Command::new(alloc, "replay");
+    with_game(
+        alloc,
+        command.about(
+            "Makes the calls of the account on standard input again, and compares each reply",
+        ),
+    )
+}
+
 fn run_command<'a>(alloc: Global) -> Result<Command<'a>, AllocError> {
-    Command::new(alloc, "run")
-        .about("Referees a match between players over HTTP, and prints its record")
-        .arg(option(alloc, "rules", "TEXT", "The ground description of the game").required(true))?
+    let command = Command::new(alloc, "run").about(
+        "Referees a match between players over HTTP, and prints its record",
+    );
+    with_rules(alloc, command)?
         .arg(option(alloc, "id", "ID", "The match's id").required(true))?
         .arg(option(alloc, "start", "S", "The seconds for START").default_value("10"))?
         .arg(option(alloc, "play", "S", "The seconds for every other message").default_value("10"))?
@@ -125,6 +161,16 @@ fn run_command<'a>(alloc: Global) -> Result<Command<'a>, AllocError> {
             "A role is asked no more once K of its moves in a row had to be replaced; 0 is never",
         )
         .default_value("0"))?
+        .arg(flag(
+            alloc,
+            "log",
+            "Each message and its answer is told on standard error",
+        ))?
+        .arg(flag(
+            alloc,
+            "history",
+            "The account of the match is printed behind the record",
+        ))?
         .arg(
             Arg::new(alloc, "players")
                 .value_name("NAME@HOST:PORT")
@@ -150,24 +196,35 @@ fn info_command<'a>(alloc: Global) -> Result<Command<'a>, AllocError> {
 fn program<'a>(alloc: Global) -> Result<Command<'a>, AllocError> {
     Command::new(alloc, "ggp_manager")
         .about("The referee of General Game Playing")
+        .version(VERSION)
         .no_binary_name(true)
         .subcommand_required(true)
         .subcommand(desk_command(alloc)?)?
         .subcommand(run_command(alloc)?)?
         .subcommand(verify_command(alloc)?)?
+        .subcommand(replay_command(alloc)?)?
         .subcommand(info_command(alloc)?)
 }
 
-/// Exactly one of `--countdown` and `--rules` has to be there.
-fn game_source<'a>(found: &ArgMatches<'a>) -> Option<GameSource<'a>> {
-    match (found.get_str("countdown"), found.get_str("rules")) {
-        (Some(size), None) => {
-            let size = decimal(size, u64::from(u8::MAX))?;
-            Some(GameSource::Countdown(u8::try_from(size).ok()?))
-        }
-        (None, Some(rules)) => Some(GameSource::Rules(rules)),
+/// Exactly one of `--rules` and `--rules-file` has to be there.
+fn rules<'a>(found: &ArgMatches<'a>) -> Option<Rules<'a>> {
+    match (found.get_str("rules"), found.get_str("rules-file")) {
+        (Some(text), None) => Some(Rules::Text(text)),
+        (None, Some(path)) => Some(Rules::File(path)),
         _ => None,
     }
+}
+
+/// Exactly one of `--countdown`, `--rules` and `--rules-file` has to be there.
+fn game_source<'a>(found: &ArgMatches<'a>) -> Option<GameSource<'a>> {
+    let Some(size) = found.get_str("countdown") else {
+        return Some(GameSource::Described(rules(found)?));
+    };
+    if found.get_str("rules").is_some() || found.get_str("rules-file").is_some() {
+        return None;
+    }
+    let size = decimal(size, u64::from(u8::MAX))?;
+    Some(GameSource::Countdown(u8::try_from(size).ok()?))
 }
 
 /// The seconds that an option gives, in or out of a clock's range.
@@ -188,11 +245,13 @@ fn match_plan<'a>(alloc: Global, found: &ArgMatches<'a>) -> Result<MatchPlan<'a>
         players.push(player_address(word).ok_or(ArgumentFault::WrongUse)?)?;
     }
     Ok(MatchPlan {
-        rules: found.get_str("rules").ok_or(ArgumentFault::WrongUse)?,
+        rules: rules(found).ok_or(ArgumentFault::WrongUse)?,
         id: found.get_str("id").ok_or(ArgumentFault::WrongUse)?,
         start: seconds(found, "start").ok_or(ArgumentFault::WrongUse)?,
         play: seconds(found, "play").ok_or(ArgumentFault::WrongUse)?,
         strikes: strikes(found).ok_or(ArgumentFault::WrongUse)?,
+        is_logged: found.get_flag("log"),
+        has_history: found.get_flag("history"),
         players,
     })
 }
@@ -201,13 +260,14 @@ fn match_plan<'a>(alloc: Global, found: &ArgMatches<'a>) -> Result<MatchPlan<'a>
 pub fn read_arguments<'a>(alloc: Global, words: &'a [&'a str]) -> Result<Task<'a>, ArgumentFault> {
     let found = match program(alloc)?.try_get_matches_from(words) {
         Ok(found) => found,
-        Err(error) if !error.use_stderr() => return Ok(Task::Help(error.to_string(alloc)?)),
+        Err(error) if !error.use_stderr() => return Ok(Task::Show(error.to_string(alloc)?)),
         Err(error) => return Err(ArgumentFault::from(error)),
     };
     let task = match found.subcommand() {
         Some(("desk", found)) => game_source(found).map(|game| Task::Desk(game)),
         Some(("run", found)) => Some(Task::Run(match_plan(alloc, found)?)),
         Some(("verify", found)) => game_source(found).map(|game| Task::Verify(game)),
+        Some(("replay", found)) => game_source(found).map(|game| Task::Replay(game)),
         Some(("info", found)) => found
             .get_str("player")
             .and_then(|word| player_address(word))

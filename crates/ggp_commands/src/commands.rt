@@ -6,20 +6,25 @@ use crate::checking::check_record;
 use crate::contacting::{ContactFault, contact};
 use crate::fault::Fault;
 use crate::games::described_game;
-use crate::running::played_record;
+use crate::logging::{Explains, LoggedPlayer, Logging};
+use crate::pieces::Pieces;
+use crate::replaying::replay_account;
+use crate::rules::rules_text;
+use crate::running::{PlayedMatch, played_match};
 use crate::script::run_script;
 use crate::script_fault::ScriptFault;
 use crate::socket_player::Reach;
 use crate::streams::{WriteFault, write_all};
+use desk_text::push_history;
 use game_core::{Countdown, Counted, Game};
 use match_wire::{Info, WireFault, info_message, read_info};
 use match_workers::Player;
 use std::alloc::Global;
-use std::fmt;
 use std::fmt::Write as _;
 use std::io::{Read, Write};
 use std::net::Net;
-use std::sync::Wait;
+use std::rt::Files;
+use std::sync::{Mutex, Wait};
 use std::thread::Threads;
 use std::time::Clock;
 
@@ -73,7 +78,7 @@ impl From<ContactFault> for Fault {
 
 /// Does what the words after the program's name ask for, and answers the program's status. A fault
 /// is one line on `errors`; a failed write to `errors` is passed by.
-pub fn command<H, P, S, R: Read, W: Write, E: Write>(
+pub fn command<H, P, S, R: Read, W: Write, E: Write + Send>(
     rt: &H,
     alloc: Global,
     reach: &S,
@@ -83,36 +88,16 @@ pub fn command<H, P, S, R: Read, W: Write, E: Write>(
     errors: &mut E,
 ) -> u8
 where
-    H: Net + Clock + Threads + Wait + Sync,
-    P: Player + Drop + Send,
+    H: Net + Clock + Files + Threads + Wait + Sync,
+    P: Player + Explains + Drop + Send,
     S: Reach<P>,
 {
-    match perform::<H, P, S, R, W>(rt, alloc, reach, words, reader, writer) {
+    match perform::<H, P, S, R, W, E>(rt, alloc, reach, words, reader, writer, errors) {
         Ok(()) => 0,
         Err(fault) => {
             report(errors, fault);
             fault.status()
         }
-    }
-}
-
-/// A stream to which text is formatted, each piece in as many writes as it takes. The first write that fails, that was
-/// interrupted or that takes nothing ends it: std's `write_all` would go on for as long as a stream is interrupted.
-#[derive(Drop)]
-struct Pieces<'a, E> {
-    stream: &'a mut E,
-}
-
-impl<E: Write> fmt::Write for Pieces<'_, E> {
-    fn write_str(&mut self, text: &str) -> fmt::Result {
-        let mut rest = text.as_bytes();
-        while !rest.is_empty() {
-            match self.stream.write(rest) {
-                Ok(count) if count > 0 => rest = &rest[count..],
-                _ => return Err(fmt::Error),
-            }
-        }
-        Ok(())
     }
 }
 
@@ -122,25 +107,27 @@ pub fn report<E: Write>(errors: &mut E, fault: Fault) {
     let _ = writeln!(pieces, "ggp_manager: {fault}");
 }
 
-fn perform<H, P, S, R: Read, W: Write>(
+fn perform<H, P, S, R: Read, W: Write, E: Write + Send>(
     rt: &H,
     alloc: Global,
     reach: &S,
     words: &[String],
     reader: &mut Counted<R>,
     writer: &mut Counted<W>,
+    errors: &mut E,
 ) -> Result<(), Fault>
 where
-    H: Net + Clock + Threads + Wait + Sync,
-    P: Player + Drop + Send,
+    H: Net + Clock + Files + Threads + Wait + Sync,
+    P: Player + Explains + Drop + Send,
     S: Reach<P>,
 {
     let words: Vec<&str> = words.iter().map(|word| word.as_str()).collect(alloc)?;
     match read_arguments(alloc, words.as_slice())? {
-        Task::Help(text) => Ok(write_all(writer, text.as_bytes())?),
-        Task::Desk(game) => for_game::<Desk, R, W>(alloc, game, reader, writer),
-        Task::Verify(game) => for_game::<Verify, R, W>(alloc, game, reader, writer),
-        Task::Run(plan) => run::<H, P, S, W>(rt, alloc, reach, &plan, writer),
+        Task::Show(text) => Ok(write_all(writer, text.as_bytes())?),
+        Task::Desk(game) => for_game::<Desk, H, R, W>(rt, alloc, game, reader, writer),
+        Task::Verify(game) => for_game::<Verify, H, R, W>(rt, alloc, game, reader, writer),
+        Task::Replay(game) => for_game::<Replay, H, R, W>(rt, alloc, game, reader, writer),
+        Task::Run(plan) => run::<H, P, S, W, E>(rt, alloc, reach, &plan, writer, errors),
         Task::Info(player) => info(rt, alloc, &player, writer),
     }
 }
@@ -157,7 +144,8 @@ trait GameCommand {
 }
 
 /// Does a command's work for the game that the command line gives.
-fn for_game<C: GameCommand, R: Read, W: Write>(
+fn for_game<C: GameCommand, F: Files, R: Read, W: Write>(
+    files: &F,
     alloc: Global,
     source: GameSource<'_>,
     reader: &mut Counted<R>,
@@ -168,8 +156,9 @@ fn for_game<C: GameCommand, R: Read, W: Write>(
             let game = Countdown::new(size).ok_or(Fault::WrongUse)?;
             C::perform(alloc, game, reader, writer)
         }
-        GameSource::Rules(text) => {
-            let game = described_game(alloc, text)?;
+        GameSource::Described(rules) => {
+            let text = rules_text(files, alloc, rules)?;
+            let game = described_game(alloc, &text)?;
             C::perform(alloc, game, reader, writer)
         }
     }
@@ -208,21 +197,71 @@ impl GameCommand for Verify {
     }
 }
 
-fn run<H, P, S, W: Write>(
+/// Makes the calls of an account again, with the game as number 0.
+struct Replay;
+
+impl GameCommand for Replay {
+    fn perform<G: Game + Drop, R: Read, W: Write>(
+        alloc: Global,
+        game: G,
+        reader: &mut Counted<R>,
+        writer: &mut Counted<W>,
+    ) -> Result<(), Fault> {
+        let mut games = Vec::new(alloc);
+        games.push(game)?;
+        replay_account(alloc, reader, writer, games)
+    }
+}
+
+fn run<H, P, S, W: Write, E: Write + Send>(
     rt: &H,
     alloc: Global,
     reach: &S,
     plan: &MatchPlan<'_>,
     writer: &mut Counted<W>,
+    errors: &mut E,
 ) -> Result<(), Fault>
 where
-    H: Net + Clock + Threads + Wait + Sync,
-    P: Player + Drop + Send,
+    H: Net + Clock + Files + Threads + Wait + Sync,
+    P: Player + Explains + Drop + Send,
     S: Reach<P>,
 {
-    let mut record = played_record::<H, P, S>(rt, alloc, reach, plan)?;
-    record.bytes.push(b'\n')?;
-    Ok(write_all(writer, record.as_slice())?)
+    let rules = rules_text(rt, alloc, plan.rules)?;
+    let PlayedMatch { record, history } = if plan.is_logged {
+        logged_match::<H, P, S, E>(rt, alloc, reach, plan, &rules, errors)?
+    } else {
+        played_match::<H, P, S>(rt, alloc, reach, plan, &rules)?
+    };
+    let mut output = record.bytes;
+    output.push(b'\n')?;
+    if plan.has_history {
+        push_history(alloc, &mut output, &history)?;
+    }
+    Ok(write_all(writer, &output)?)
+}
+
+/// Plays the match, and tells each message as it is answered.
+fn logged_match<H, P, S, E: Write + Send>(
+    rt: &H,
+    alloc: Global,
+    reach: &S,
+    plan: &MatchPlan<'_>,
+    rules: &[u8],
+    errors: &mut E,
+) -> Result<PlayedMatch, Fault>
+where
+    H: Clock + Threads + Wait + Sync,
+    P: Player + Explains + Drop + Send,
+    S: Reach<P>,
+{
+    let stream = Mutex::new(errors);
+    let logging = Logging {
+        rt,
+        reach,
+        id: plan.id,
+        stream: &stream,
+    };
+    played_match::<H, LoggedPlayer<'_, H, P, &mut E>, _>(rt, alloc, &logging, plan, rules)
 }
 
 /// What the answer to an INFO means, as a line of output.

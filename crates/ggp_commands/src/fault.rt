@@ -1,6 +1,7 @@
 //! Why a command ends with a fault.
 
-use crate::reply_lines::refusal_word;
+use crate::rules::RulesFileFault;
+use desk_text::refusal_word;
 use match_desk::Refusal;
 use match_record::VerifyFault;
 use std::alloc::{AllocError, AllocFailed};
@@ -16,6 +17,9 @@ pub enum Fault {
     /// The text of the rules is not KIF, or is no ground description.
     #[error("bad description")]
     BadDescription,
+    /// The file of the rules was not read.
+    #[error("bad description: {0}")]
+    RulesFile(RulesFileFault),
     /// Standard input failed.
     #[error("read fault")]
     ReadFault,
@@ -37,6 +41,12 @@ pub enum Fault {
     /// The record is not lawful: the first test that it fails.
     #[error("not lawful: {0}")]
     NotLawful(VerifyFault),
+    /// The line of that number tells no call.
+    #[error("not replayed: line {0} is no entry")]
+    NoEntry(u64),
+    /// The call of the line of that number gets another reply, or the line is written in another way. What it should be is output.
+    #[error("not replayed: line {0} differs")]
+    Differs(u64),
     /// So many lines of a script were bad. All output is there.
     #[error("bad lines {0}")]
     BadLines(u64),

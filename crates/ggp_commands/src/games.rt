@@ -37,16 +37,16 @@ impl From<LoadFault> for Fault {
 }
 
 /// The game that a ground description is of, as it is loaded.
-fn loaded(alloc: Global, rules: &str) -> Result<GroundGame, Fault>
+fn loaded(alloc: Global, rules: &[u8]) -> Result<GroundGame, Fault>
     ensures loaded { IfOk result (IsLoadedFrom rules.now) }
     ensures refused { IfErr result (λ fault. fault ≢ Fault.Memory → (fault ≡ Fault.BadDescription) × DescribesNone rules.now) }
 {
-    let sentences = read_all(alloc, rules.as_bytes())?;
+    let sentences = read_all(alloc, rules)?;
     Ok(load(alloc, sentences.as_slice())?)
 }
 
 /// The game that a ground description is of, in the form that is fast to play.
-pub fn described_game(alloc: Global, rules: &str) -> Result<PackedGame, Fault>
+pub fn described_game(alloc: Global, rules: &[u8]) -> Result<PackedGame, Fault>
     ensures described { IfOk result (IsDescribed rules.now) }
     ensures refused { IfErr result (λ fault. fault ≢ Fault.Memory → (fault ≡ Fault.BadDescription) × DescribesNone rules.now) }
 {

@@ -1,17 +1,20 @@
 //! A match between players on the network, from its plan to its record.
 ghost use Rattle.std.specs.Prelude.{◌≡◌, ◌≢◌, IfOk, IfErr, length, vec_len};
 ghost use Rattle.kif_text.specs.View.{views};
-ghost use Rattle.match_desk.specs.ManagerValue.{ManagerValue};
+ghost use Rattle.call_history.specs.History.{IsReplay};
+ghost use Rattle.match_desk.specs.ManagerValue.{ManagerValue, opening};
+ghost use Rattle.match_desk.specs.Steps.{reply, after};
 ghost use Rattle.ggp_commands.specs.Commands.{IsEndedRecord, HasNoEndedMatch, RunFails};
 
 use crate::arguments::MatchPlan;
 use crate::fault::Fault;
 use crate::games::described_game;
 use crate::socket_player::Reach;
+use call_history::Entry;
 use game_core::{Game, Text, Texts};
 use kif_text::{Expr, copy};
 use match_book::{Phase, Setup};
-use match_desk::Manager;
+use match_desk::{Call, Manager, Reply};
 use match_record::record_json;
 use match_workers::{Player, RefereeFault, referee};
 use packed_rules::PackedGame;
@@ -65,8 +68,8 @@ fn players_of<P: Drop, S: Reach<P>>(
     ensures { IfOk result (λ v. vec_len v ≡ vec_len plan.now.players) }
 {
     let mut players = Vec::with_capacity(alloc, plan.players.len())?;
-    for address in &plan.players {
-        players.push(reach.player(alloc, address)?)?;
+    for (role, address) in plan.players.iter().enumerate() {
+        players.push(reach.player(alloc, role, address)?)?;
     }
     Ok(players)
 }
@@ -99,24 +102,37 @@ fn ended_record<G: Game>(alloc: Global, manager: &Manager<G>) -> Result<Text, Fa
     }
 }
 
-/// Referees the match between its players, and gives its record.
-pub fn played_record<R, P, S>(
+/// A match that was played to its end.
+#[derive(Drop)]
+pub struct PlayedMatch {
+    pub record: Text,
+    /// All calls on the desk of the match, each with its reply, in their order.
+    pub history: Vec<Entry<Call, Reply>>,
+}
+
+/// Referees the match between its players, by the rules that this text describes.
+pub fn played_match<R, P, S>(
     rt: &R,
     alloc: Global,
     reach: &S,
     plan: &MatchPlan<'_>,
-) -> Result<Text, Fault>
+    rules: &[u8],
+) -> Result<PlayedMatch, Fault>
 where
     R: Threads + Wait + Sync,
     P: Player + Drop + Send,
     S: Reach<P>,
-    ensures ended { IfOk result (λ text. (d : ManagerValue _ _) × IsEndedRecord ⟦<PackedGame as Game>⟧.rules d text) }
-    ensures fails { IfErr result (RunFails plan.now.rules.now) }
+    ensures ended { IfOk result (λ played. (d : ManagerValue _ _) × IsEndedRecord ⟦<PackedGame as Game>⟧.rules d played.record × IsReplay (reply ⟦<PackedGame as Game>⟧.rules) (after ⟦<PackedGame as Game>⟧.rules) opening d played.history.items) }
+    ensures fails { IfErr result (RunFails rules.now) }
 {
-    let game = described_game(alloc, plan.rules)?;
-    let rules = copies(alloc, game.description())?;
+    let game = described_game(alloc, rules)?;
+    let sentences = copies(alloc, game.description())?;
     let setup = setup_of(alloc, plan)?;
     let players: Vec<P> = players_of(alloc, reach, plan)?;
-    let refereed = referee(rt, alloc, game, setup, rules, players, MAX_TRIES)?;
-    ended_record(alloc, &refereed.closed.object)
+    let refereed = referee(rt, alloc, game, setup, sentences, players, MAX_TRIES)?;
+    let record = ended_record(alloc, &refereed.closed.object)?;
+    Ok(PlayedMatch {
+        record,
+        history: refereed.closed.history,
+    })
 }

@@ -4,6 +4,7 @@ ghost use Rattle.ggp_commands.specs.Contacts.{answer_of, contact_answer};
 
 use crate::addresses::PlayerAddress;
 use crate::contacting::{ContactFault, contact};
+use crate::logging::Explains;
 use crate::signal::{Signal, rest_after};
 use game_core::Text;
 use match_book::Answer;
@@ -17,8 +18,13 @@ use std::time::{Clock, Duration, Instant};
 
 /// Where players are reached.
 pub trait Reach<P> {
-    /// The player at this address. Nothing is asked of it yet.
-    fn player(&self, alloc: Global, address: &PlayerAddress<'_>) -> Result<P, AllocError>;
+    /// The player of this role, at this address. Nothing is asked of it yet.
+    fn player(
+        &self,
+        alloc: Global,
+        role: usize,
+        address: &PlayerAddress<'_>,
+    ) -> Result<P, AllocError>;
 }
 
 /// The network, as a runtime reaches it, for the players of one match. It is made where it is known which runtime that is, as in
@@ -43,6 +49,8 @@ pub struct SocketPlayer<'a, H> {
     seen: u64,
     /// When the last message was answered, where the clock could be read.
     answered: Option<Instant>,
+    /// Why the last message brought no answer: none where it brought one.
+    fault: Option<ContactFault>,
 }
 
 /// Whose player goes is attended no longer, since the match is over as a rule: so the others are woken.
@@ -58,6 +66,7 @@ impl<H> Drop for SocketPlayer<'_, H> {
             messages,
             seen: _,
             answered: _,
+            fault: _,
         } = self;
         signal.raise(messages.saturating_add(1));
     }
@@ -67,6 +76,7 @@ impl<'a, H: Net + Clock> Reach<SocketPlayer<'a, H>> for Sockets<'a, H> {
     fn player(
         &self,
         alloc: Global,
+        _role: usize,
         address: &PlayerAddress<'_>,
     ) -> Result<SocketPlayer<'a, H>, AllocError> {
         let name = String::from_str(alloc, address.name)?;
@@ -81,6 +91,7 @@ impl<'a, H: Net + Clock> Reach<SocketPlayer<'a, H>> for Sockets<'a, H> {
             messages: 0,
             seen: self.signal.latest(),
             answered: None,
+            fault: None,
         })
     }
 }
@@ -114,10 +125,16 @@ fn contact_answer(reached: Result<Text, ContactFault>) -> Answer
 }
 
 /// How long ago that was: no time where the clock can't be read.
-fn time_since(clock: &impl Clock, moment: Option<Instant>) -> Duration {
+pub(crate) fn time_since(clock: &impl Clock, moment: Option<Instant>) -> Duration {
     match moment {
         Some(moment) => moment.elapsed(clock).unwrap_or(Duration::ZERO),
         None => Duration::ZERO,
+    }
+}
+
+impl<H> Explains for SocketPlayer<'_, H> {
+    fn why(&self) -> Option<ContactFault> {
+        self.fault
     }
 }
 
@@ -135,10 +152,11 @@ impl<H: Net + Clock + Wait> Player for SocketPlayer<'_, H> {
             host: self.host.as_str(),
             port: self.port,
         };
-        let answer = contact_answer(contact(self.rt, self.alloc, &address, seconds, body));
+        let reached = contact(self.rt, self.alloc, &address, seconds, body);
         self.seen = self.signal.latest();
         self.answered = Instant::now(self.rt).ok();
-        answer
+        self.fault = reached.as_ref().err().copied();
+        contact_answer(reached)
     }
 
     fn rest(&mut self) {

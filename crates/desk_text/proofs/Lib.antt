@@ -1,0 +1,6 @@
+pub mod Accounts
+pub mod LineLemmas
+pub mod Pieces
+pub mod Records
+pub mod Submits
+pub mod WordLemmas

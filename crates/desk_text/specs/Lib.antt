@@ -1,0 +1,4 @@
+pub mod Words
+pub mod ScriptLines
+pub mod Script
+pub mod Account

@@ -1,0 +1,171 @@
+//! The account of a desk: its history as text, one line for each entry, so that anyone can make its calls again.
+ghost use Rattle.std.specs.Prelude.{◌≡◌, ◌<◌, ◌++◌, codes, OnOk};
+ghost use Rattle.std.specs.Fmt.{decimal};
+ghost use Rattle.desk_text.specs.Words.{behind_spaces};
+ghost use Rattle.desk_text.specs.Account.{call_text, is_plain, hex_digit, escaped_byte, escaped, entry_text, history_text};
+
+use crate::reply_lines::{push_number, push_reply};
+use call_history::Entry;
+use game_core::Text;
+use match_desk::{Call, Reply};
+use std::alloc::{AllocError, Global};
+
+/// Writes a space and the number behind `out`.
+fn push_behind_space(alloc: Global, out: &mut Vec<u8>, number: u64) -> Result<(), AllocError>
+    ensures { OnOk result (out.new.items ≡ out.old.items ++ codes " " ++ decimal number) }
+{
+    out.push(b' ')?;
+    push_number(alloc, out, number)
+}
+
+/// Writes the texts behind `out`, each behind a space.
+fn push_behind_spaces(out: &mut Vec<u8>, texts: &[Text]) -> Result<(), AllocError>
+    ensures { OnOk result (out.new.items ≡ out.old.items ++ behind_spaces texts.now) }
+{
+    for text in texts {
+        out.push(b' ')?;
+        out.extend_from_slice(text.as_slice())?;
+    }
+    Ok(())
+}
+
+/// Writes a keyword, which ends with its space, and a match's id behind `out`.
+fn push_keyword(out: &mut Vec<u8>, keyword: &[u8], id: &Text) -> Result<(), AllocError>
+    ensures { OnOk result (out.new.items ≡ out.old.items ++ keyword.now ++ id.now) }
+{
+    out.extend_from_slice(keyword)?;
+    out.extend_from_slice(id.as_slice())
+}
+
+/// Writes the script's line for the call, without its line feed, behind `out`.
+fn push_call(alloc: Global, out: &mut Vec<u8>, call: &Call) -> Result<(), AllocError>
+    ensures { OnOk result (out.new.items ≡ out.old.items ++ call_text call.now) }
+{
+    match call {
+        Call::Open {
+            id,
+            game,
+            start,
+            play,
+            strikes,
+            players,
+        } => {
+            push_keyword(out, b"strict ", id)?;
+            push_behind_space(alloc, out, *game as u64)?;
+            push_behind_space(alloc, out, u64::from(*start))?;
+            push_behind_space(alloc, out, u64::from(*play))?;
+            push_behind_space(alloc, out, u64::from(*strikes))?;
+            push_behind_spaces(out, players.as_slice())
+        }
+        Call::Next { id, role } => {
+            push_keyword(out, b"next ", id)?;
+            push_behind_space(alloc, out, *role as u64)
+        }
+        Call::Submit {
+            id,
+            role,
+            round,
+            text,
+        } => {
+            push_keyword(out, b"submit ", id)?;
+            push_behind_space(alloc, out, *role as u64)?;
+            push_behind_space(alloc, out, *round)?;
+            out.push(b' ')?;
+            out.extend_from_slice(text.as_slice())
+        }
+        Call::Miss {
+            id,
+            role,
+            round,
+            broken,
+        } => {
+            push_keyword(out, b"miss ", id)?;
+            push_behind_space(alloc, out, *role as u64)?;
+            push_behind_space(alloc, out, *round)?;
+            if *broken {
+                out.extend_from_slice(b" broken")
+            } else {
+                out.extend_from_slice(b" silent")
+            }
+        }
+        Call::Query { id } => push_keyword(out, b"query ", id),
+        Call::Abort { id } => push_keyword(out, b"abort ", id),
+    }
+}
+
+/// Whether a byte stands in an account as it is.
+fn is_plain(byte: u8) -> bool
+    ensures { result ≡ is_plain byte }
+{
+    byte != b'\\' && byte >= b' ' && byte <= b'~'
+}
+
+/// The digit for a number below 16.
+fn hex_digit(number: u8) -> u8
+    requires { number < 16 }
+    ensures { result ≡ hex_digit number }
+{
+    if number < 10 {
+        b'0' + number
+    } else {
+        b'A' + (number - 10)
+    }
+}
+
+fn push_escaped_byte(out: &mut Vec<u8>, byte: u8) -> Result<(), AllocError>
+    ensures { OnOk result (out.new.items ≡ out.old.items ++ escaped_byte byte) }
+{
+    if is_plain(byte) {
+        out.push(byte)?;
+        return Ok(());
+    }
+    out.push(b'\\')?;
+    out.push(b'x')?;
+    out.push(hex_digit(byte / 16))?;
+    out.push(hex_digit(byte % 16))?;
+    Ok(())
+}
+
+fn push_escaped(out: &mut Vec<u8>, text: &[u8]) -> Result<(), AllocError>
+    ensures { OnOk result (out.new.items ≡ out.old.items ++ escaped text.now) }
+{
+    for byte in text {
+        push_escaped_byte(out, *byte)?;
+    }
+    Ok(())
+}
+
+/// Writes the line of an entry, without its line feed, behind `out`.
+pub(crate) fn push_entry(
+    alloc: Global,
+    out: &mut Vec<u8>,
+    entry: &Entry<Call, Reply>,
+) -> Result<(), AllocError>
+    ensures { OnOk result (out.new.items ≡ out.old.items ++ entry_text entry.now) }
+{
+    let mut call = Vec::new(alloc);
+    push_call(alloc, &mut call, &entry.call)?;
+    let mut reply = Vec::new(alloc);
+    push_reply(alloc, &mut reply, &entry.reply)?;
+    push_number(alloc, out, u64::from(entry.line))?;
+    out.push(b'\t')?;
+    push_escaped(out, &call)?;
+    out.push(b'\t')?;
+    push_escaped(out, &reply)
+}
+
+/// Writes the lines of a history behind `out`, each with its line feed: the number of the desk's line that made the call, the call
+/// in the words of a script, and the reply, with a tab between each two. A byte that is not seen, and the backslash, is written `\xHH`.
+pub fn push_history(
+    alloc: Global,
+    out: &mut Vec<u8>,
+    history: &[Entry<Call, Reply>],
+) -> Result<(), AllocError>
+    ensures { OnOk result (out.new.items ≡ out.old.items ++ history_text history.now) }
+{
+    for entry in history {
+        push_entry(alloc, out, entry)?;
+        out.push(b'\n')?;
+    }
+    Ok(())
+}

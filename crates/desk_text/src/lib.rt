@@ -1,0 +1,22 @@
+//! The desk in text: a script's lines as calls, replies as lines, and the answers to a whole script.
+//!
+//! A line has a call's keyword and its words, with one space between each two; a reply has one line. `answer_script` answers
+//! the lines of a script one by one on a manager of its own, and writes the records of the matches behind them.
+//! `push_history` writes what a desk has kept, and `replay` makes the calls of such an account again.
+//!
+//! Free functions take the allocator first.
+#![tactic(auto)]
+
+mod account;
+mod lines;
+mod replaying;
+mod reply_lines;
+mod script;
+mod script_lines;
+mod words;
+
+pub use account::push_history;
+pub use replaying::{ReplayFault, Replayed, replay};
+pub use reply_lines::{push_reply, refusal_word};
+pub use script::{Answers, answer_script, push_records};
+pub use script_lines::call_of;

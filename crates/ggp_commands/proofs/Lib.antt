@@ -1,5 +1,0 @@
-pub mod LineLemmas
-pub mod Pieces
-pub mod Records
-pub mod Submits
-pub mod WordLemmas

@@ -1,6 +1,0 @@
-use Rattle.std.proofs.Common.{◌≡◌, ◌++◌, drop}
-use Rattle.ggp_commands.specs.Words.{behind_spaces}
-use Rattle.ggp_commands.proofs.reply_lines.push_spaced.Given as goal
-
-abbrev pub invariant-loop-text : goal.invariant-loop-text
-invariant-loop-text l = l.out.items ++ behind_spaces (drop l.text-index l.others) ≡ l.initial.out.items ++ behind_spaces l.others

@@ -1,0 +1,74 @@
+//! Where a description comes from.
+
+use crate::fault::Fault;
+use crate::streams::{InputFault, read_to_end};
+use game_core::Counted;
+use std::alloc::Global;
+use std::borrow::CowSlice;
+use std::io::ErrorKind;
+use std::rt::Files;
+use std::{fs, io};
+use thiserror::Error;
+
+/// A ground description: its text, or the file that holds it.
+#[derive(Clone, Copy, Debug, PartialEq, Eq)]
+pub enum Rules<'a> {
+    Text(&'a str),
+    /// The file's path, from the folder in which the program runs where it doesn't begin with a slash.
+    File(&'a str),
+}
+
+/// How many bytes a file of rules has at most: as many as a description may have.
+const MAX_RULES: usize = 1_048_576;
+
+/// Why a file of rules was not read.
+#[derive(Clone, Copy, Debug, PartialEq, Eq, Error)]
+pub enum RulesFileFault {
+    #[error("no such file")]
+    NoFile,
+    #[error("the file can't be opened")]
+    Unopened,
+    #[error("the file can't be read")]
+    Unread,
+    #[error("the file is too long")]
+    TooLong,
+}
+
+fn opening_fault(error: io::Error) -> Fault {
+    match error.kind() {
+        ErrorKind::OutOfMemory => Fault::Memory,
+        ErrorKind::NotFound => Fault::RulesFile(RulesFileFault::NoFile),
+        _ => Fault::RulesFile(RulesFileFault::Unopened),
+    }
+}
+
+fn reading_fault(fault: InputFault) -> Fault {
+    match fault {
+        InputFault::ReadFault => Fault::RulesFile(RulesFileFault::Unread),
+        InputFault::TooLong => Fault::RulesFile(RulesFileFault::TooLong),
+        InputFault::Memory => Fault::Memory,
+    }
+}
+
+fn file_text<F: Files>(files: &F, alloc: Global, path: &str) -> Result<Vec<u8>, Fault> {
+    let file = match fs::open(files, path) {
+        Ok(file) => file,
+        Err(error) => return Err(opening_fault(error)),
+    };
+    match read_to_end(alloc, &mut Counted::new(file), MAX_RULES) {
+        Ok(text) => Ok(text),
+        Err(fault) => Err(reading_fault(fault)),
+    }
+}
+
+/// The text of a description. A file is read whole.
+pub fn rules_text<'a, F: Files>(
+    files: &F,
+    alloc: Global,
+    rules: Rules<'a>,
+) -> Result<CowSlice<'a, u8>, Fault> {
+    match rules {
+        Rules::Text(text) => Ok(CowSlice::Borrowed(text.as_bytes())),
+        Rules::File(path) => Ok(CowSlice::Owned(file_text(files, alloc, path)?)),
+    }
+}
