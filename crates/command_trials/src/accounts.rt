@@ -38,7 +38,7 @@ const CHANGED: [(&str, &str, &[u8], &[u8]); 8] = [
     (
         "1\tmiss m1 0 0 broken\ttaken\n",
         "",
-        b"1\tnext m1 0\thold 0\n",
+        b"1\tnext m1 0\towe 0 start\n",
         b"ggp_manager: not replayed: line 5 differs\n",
     ),
     (
