@@ -1,8 +1,11 @@
 -- Each step of a match keeps what the match keeps.
-use Rattle.std.proofs.Common.{◌≡◌, ◌≢◌, ℕ, ◌+◌, ◌*◌, ◌<◌, ◌≤◌, true, false, eqb, Bool, Option, Some, None, List, [], ◌∷◌, ◌++◌, length, set, refl, arith, ap, sym, ◌∙◌, subst, length-append}
+use Rattle.std.proofs.Common.{◌≡◌, ◌≢◌, ℕ, ◌+◌, ◌*◌, ◌<◌, ◌≤◌, true, false, eqb, Bool, Option, Some, None, List, [], ◌∷◌, ◌++◌, length, set, refl, arith, ap, sym, ◌∙◌, subst, inl, inr, take, length-append}
+use Rattle.std.proofs.lemmas.List.{take-append-le, get_or_append_left}
 use Rattle.std.proofs.lemmas.List.Sums.{sum_by_push}
+use Rattle.std.proofs.lemmas.Option.{slice_get-get_or, get_or_from_slice_get}
+use Rattle.std.proofs.Math.Seq.{take-append_seam, get_or-append_seam}
 use Rattle.std.proofs.lemmas.Bool.Decides.{nat_tests}
-use Rattle.std.specs.Prelude.{All, IsSome, IfSome, is_some, slice_index_or, count_by, replicate, not, ◌==◌, if◌then◌else◌}
+use Rattle.std.specs.Prelude.{All, IsSome, IfSome, is_some, slice_index_or, slice_get, count_by, replicate, not, ◌==◌, if◌then◌else◌}
 use Rattle.game_core.specs.Play.{Rules, IsLawful, IsJoint, max_roles}
 use Rattle.match_book.specs.Roles.{every_role, of_each_role, at_role, is_there, blank}
 use Rattle.match_book.specs.Judgement.{judged_answer, judgement, substitute, IsJudged}
@@ -14,7 +17,7 @@ use Rattle.match_book.specs.Lawful.{IsLawfulTurn, IsLawfulMatch}
 use Rattle.match_book.specs.Internal.OpenAnswers.{AreMoves, kept_part}
 use Rattle.match_book.specs.Steps.{new_match, with_abort, with_start_mark, with_end_mark, with_open_answer, turn_of, part, parts, IsLastToStart}
 use Rattle.match_book.specs.Internal.RoleStrikes.{unstruck, is_retired_in, count_roles, AreStrikes, answered_at_first}
-use Rattle.match_book.specs.Internal.Kept.{IsKept}
+use Rattle.match_book.specs.Internal.Kept.{ArePast, IsKept}
 use Rattle.match_book.specs.declared.retirement.RoleStrikes.{RoleStrikes}
 use Rattle.match_book.specs.declared.judgement.Substitution.TheVariants.{Retired}
 use Rattle.match_book.specs.declared.setup.Setup.{Setup}
@@ -25,7 +28,7 @@ use Rattle.match_book.specs.declared.turn.Turn.{Turn}
 use Rattle.match_book.specs.declared.phase.Cause.TheVariants.{Asked}
 use Rattle.match_book.specs.declared.phase.Stage.{Stage}
 use Rattle.match_book.specs.declared.phase.Stage.TheVariants.{Starting, Playing, Stopping, Aborting}
-use Rattle.match_book.proofs.RoleTests.{every_role-but, every_role-at, every_role-count, at_role-set, at_role-other, count-blank, count-set, count_roles-same, count_roles-more, count_roles-none, count_roles-le, is_there-blank, of_each_role-set}
+use Rattle.match_book.proofs.RoleTests.{below_or_at, every_role-but, every_role-at, every_role-count, at_role-set, at_role-other, count-blank, count-set, count_roles-same, count_roles-more, count_roles-none, count_roles-le, is_there-blank, of_each_role-set}
 use Rattle.match_book.proofs.StruckTurns.{retired_by-none, strikes-none, strikes-push, strikes-few, strikes-retired, strikes-count, all_retired-count}
 use Rattle.match_book.proofs.Stages.{stage-by, stage-asked, stage-starting, stage-settled, starting-missing, live-not_asked, settled-not_starting, goal_in-live, answered_in-none, answered_in-retired, not_answered-parts, playing-settled}
 use Rattle.match_book.proofs.Judgements.{Contains-move}
@@ -42,11 +45,12 @@ all_there c n le ge = grind (arith, nat_tests)
 pub game_match : {G M : Type 0} (x : G) (b c : MatchValue M) → b ≡ c → ◌≡◌ {A = GameMatch G M} (record { game = x; value = b }) (record { game = x; value = c })
 game_match {G} {M} x b c e = let f : MatchValue M → GameMatch G M = λ y. record { game = x; value = y } in ap f e
 
-pub kept-new_match : {S M : Type 0} (g : Rules S M) → IsLawful g → (setup : Setup) → length setup.players ≡ g.roles → IsKept g (new_match {M = M} g setup) g.initial Starting 0 0 (replicate g.roles unstruck) [] []
+pub kept-new_match : {S M : Type 0} (g : Rules S M) → IsLawful g → (setup : Setup) → length setup.players ≡ g.roles → IsKept g (new_match {M = M} g setup) [] g.initial Starting 0 0 (replicate g.roles unstruck) [] []
 kept-new_match {S} {M} g laws setup players =
     let missing : every_role g.roles (is_there {A = Mark} (blank g.roles)) ≡ false = every_role-but g.roles 0 (is_there (blank g.roles)) laws.some_role (is_there-blank Mark g.roles 0) in
     record {
       lawful = lawful-new_match g laws setup players;
+      past_are = record { one_each = refl; before = λ k lt. absurd (omega arith) };
       state_is = refl;
       is_state = laws.initial_is_state;
       stage_is = sym (stage-starting g (new_match g setup) refl missing);
@@ -64,12 +68,38 @@ answered-begun Playing m n retired ne answers ends count = count ∙ sym (count_
 answered-begun Stopping m n retired ne answers ends count = sym (count_roles-none n (answered_in Stopping m) (λ k lt. answered_in-none Stopping m n k ne (λ e. absurd cc) ends))
 answered-begun (Aborting c) m n retired ne answers ends count = sym (count_roles-none n (answered_in (Aborting c) m) (λ k lt. answered_in-none (Aborting c) m n k ne (λ e. absurd cc) ends))
 
+-- a turn in this state
+past-push : {S M : Type 0} (g : Rules S M) (turns : List (Turn M)) (t : Turn M) (past : List S) (s : S) → ArePast g turns past → s ≡ state_after g turns → ArePast g (turns ++ t ∷ []) (past ++ s ∷ [])
+past-push {S} {M} g turns t past s are is =
+    record {
+      one_each = length-append past (s ∷ []) ∙ (ap (λ n. n + 1) are.one_each ∙ sym (length-append turns (t ∷ [])));
+      before = λ k lt. elim (below_or_at k (length turns) (omega (arith, length-append turns (t ∷ [])))) [
+        | inl last ↦ at_last k last
+        | inr below ↦ earlier k below
+      ];
+    }
+  where
+    at_last : (k : ℕ) → k ≡ length turns → slice_get (past ++ s ∷ []) k ≡ Some (state_after g (take k (turns ++ t ∷ [])))
+    at_last k last =
+        slice_get-get_or (past ++ s ∷ []) k s (omega (arith, last, are.one_each, length-append past (s ∷ [])))
+        ∙ ap Some
+        (ap (λ n. slice_index_or (past ++ s ∷ []) n s) (last ∙ sym are.one_each) ∙ get_or-append_seam past s [] s
+        ∙ (is ∙ ap (state_after g) (sym (take-append_seam turns (t ∷ [])) ∙ ap (λ n. take n (turns ++ t ∷ [])) (sym last))))
+
+    earlier : (k : ℕ) → k < length turns → slice_get (past ++ s ∷ []) k ≡ Some (state_after g (take k (turns ++ t ∷ [])))
+    earlier k below =
+        slice_get-get_or (past ++ s ∷ []) k s (omega (arith, below, are.one_each, length-append past (s ∷ [])))
+        ∙ ap Some
+        (get_or_append_left past (s ∷ []) s k (omega (arith, below, are.one_each))
+        ∙ get_or_from_slice_get past k _ s (are.before k below)
+        ∙ ap (state_after g) (sym (take-append-le k turns (t ∷ []) (omega (arith, below)))))
+
 -- a round that the settling rule begins
-kept-settled : {S M : Type 0} (g : Rules S M) (laws : IsLawful g) (m : MatchValue M) (s : S) (at : Stage) (retired substituted : ℕ) (strikes : List RoleStrikes) (legal : List (List M)) (goals : List (Option ℕ)) → IsLawfulMatch g m
+kept-settled : {S M : Type 0} (g : Rules S M) (laws : IsLawful g) (m : MatchValue M) (past : List S) (s : S) (at : Stage) (retired substituted : ℕ) (strikes : List RoleStrikes) (legal : List (List M)) (goals : List (Option ℕ)) → IsLawfulMatch g m → ArePast g m.turns past
     → m.abort_asked ≡ false → every_role g.roles (is_there m.start_marks) ≡ true → m.open_answers ≡ blank g.roles → m.end_marks ≡ blank g.roles
     → s ≡ state_after g m.turns → retired ≡ count_roles g.roles (is_retired m) → at ≡ settled g (length m.turns) (retired == g.roles) s → substituted ≡ substitutions m.turns → AreStrikes g.roles m.setup.strikes m.turns strikes → (at ≡ Playing → AreLegalMoves g s legal) → ((r : ℕ) → r < g.roles → at_role goals r ≡ goal_in at g s r)
-    → IsKept g m s at (answered_at_first at retired) substituted strikes legal goals
-kept-settled {S} {M} g laws m s at retired substituted strikes legal goals lawful asked all answers ends state count settles total kept moves are =
+    → IsKept g m past s at (answered_at_first at retired) substituted strikes legal goals
+kept-settled {S} {M} g laws m past s at retired substituted strikes legal goals lawful before asked all answers ends state count settles total kept moves are =
     let now : stage g m ≡ at =
     stage-settled g m asked all
     ∙ (ap (λ b. settled g (length m.turns) b (state_after g m.turns)) (all_retired-count g.roles m.setup.strikes m.turns retired count) ∙ (ap (settled g (length m.turns) (retired == g.roles)) (sym state) ∙ sym settles))
@@ -77,6 +107,7 @@ kept-settled {S} {M} g laws m s at retired substituted strikes legal goals lawfu
     let not_start : at ≢ Starting = λ e. settled-not_starting g (length m.turns) (retired == g.roles) s (sym settles ∙ e) in
     record {
       lawful = lawful;
+      past_are = before;
       state_is = state;
       is_state = subst (λ (x : S). g.IsState x) (sym state) (state_after-is_state g laws m.turns lawful.turns);
       stage_is = sym now;
@@ -87,7 +118,7 @@ kept-settled {S} {M} g laws m s at retired substituted strikes legal goals lawfu
       goals_are = are;
     }
 
-module _ {S M : Type 0} (g : Rules S M) (laws : IsLawful g) {m : MatchValue M} {s : S} {at : Stage} {answered substituted : ℕ} {strikes : List RoleStrikes} {legal : List (List M)} {goals : List (Option ℕ)} (kept : IsKept g m s at answered substituted strikes legal goals) where
+module _ {S M : Type 0} (g : Rules S M) (laws : IsLawful g) {m : MatchValue M} {past : List S} {s : S} {at : Stage} {answered substituted : ℕ} {strikes : List RoleStrikes} {legal : List (List M)} {goals : List (Option ℕ)} (kept : IsKept g m past s at answered substituted strikes legal goals) where
   -- there are few roles to answer
   pub answered-few : answered ≤ max_roles
   answered-few = let few = count_roles-le g.roles (answered_in at m) in let e = kept.answered_is in let roles = laws.few_roles in omega arith
@@ -95,11 +126,12 @@ module _ {S M : Type 0} (g : Rules S M) (laws : IsLawful g) {m : MatchValue M} {
   pub substituted-few : substituted ≤ max_turns * max_roles
   substituted-few = let few = substitutions-few g laws m.turns kept.lawful.turns in let long = kept.lawful.few_turns in let e = kept.substituted_is in omega arith
 
-  pub kept-with_abort : (lists : List (List M)) → is_live at ≡ true → IsKept g (with_abort g m) s (Aborting Asked) 0 substituted strikes lists goals
+  pub kept-with_abort : (lists : List (List M)) → is_live at ≡ true → IsKept g (with_abort g m) past s (Aborting Asked) 0 substituted strikes lists goals
   kept-with_abort lists live =
       let live_now : is_live (stage g m) ≡ true = rw (← kept.stage_is) live in
       record {
         lawful = lawful-with_abort g laws m kept.lawful live_now;
+        past_are = kept.past_are;
         state_is = kept.state_is;
         is_state = kept.is_state;
         stage_is = sym (stage-asked g (with_abort g m) refl);
@@ -117,12 +149,13 @@ module _ {S M : Type 0} (g : Rules S M) (laws : IsLawful g) {m : MatchValue M} {
     ended_count Stopping e free = count-set m.end_marks g.roles r mark kept.lawful.one_end_mark lt free
     ended_count (Aborting c) e free = count-set m.end_marks g.roles r mark kept.lawful.one_end_mark lt free
 
-    pub kept-with_end_mark : is_live at ≡ false → is_there m.end_marks r ≡ false → IsKept g (with_end_mark m r mark) s at (answered + 1) substituted strikes legal goals
+    pub kept-with_end_mark : is_live at ≡ false → is_there m.end_marks r ≡ false → IsKept g (with_end_mark m r mark) past s at (answered + 1) substituted strikes legal goals
     kept-with_end_mark ended free =
         let ended_now : is_live (stage g m) ≡ false = rw (← kept.stage_is) ended in
         let same : stage g (with_end_mark m r mark) ≡ stage g m = stage-by g m (with_end_mark m r mark) refl refl refl refl in
         record {
           lawful = lawful-with_end_mark g laws m kept.lawful r mark ended_now;
+          past_are = kept.past_are;
           state_is = kept.state_is;
           is_state = kept.is_state;
           stage_is = kept.stage_is ∙ sym same;
@@ -146,11 +179,12 @@ module _ {S M : Type 0} (g : Rules S M) (laws : IsLawful g) {m : MatchValue M} {
           ∙ ap (λ n. n + 1) (sym (kept.answered_is ∙ ap (λ (x : Stage). count_roles g.roles (answered_in x m)) starting))
 
       -- a START mark that is not the last
-      pub kept-with_start_mark : answered + 1 < g.roles → IsKept g (with_start_mark m r mark) s at (answered + 1) substituted strikes legal goals
+      pub kept-with_start_mark : answered + 1 < g.roles → IsKept g (with_start_mark m r mark) past s at (answered + 1) substituted strikes legal goals
       kept-with_start_mark not_last =
           let missing : every_role g.roles (is_there (with_start_mark m r mark).start_marks) ≡ false = every_role-count g.roles (is_there (with_start_mark m r mark).start_marks) ∙ rw start_count (not_all (answered + 1) g.roles not_last) in
           record {
             lawful = lawful-with_start_mark g laws m kept.lawful r mark starting_now;
+            past_are = kept.past_are;
             state_is = kept.state_is;
             is_state = kept.is_state;
             stage_is = starting ∙ sym (stage-starting g (with_start_mark m r mark) asked missing);
@@ -172,10 +206,10 @@ module _ {S M : Type 0} (g : Rules S M) (laws : IsLawful g) {m : MatchValue M} {
 
       -- the last START mark
       pub kept-with_last_start_mark : (to : Stage) (lists : List (List M)) (are : List (Option ℕ)) → g.roles ≤ answered + 1 → to ≡ settled g (length m.turns) (0 == g.roles) s → (to ≡ Playing → AreLegalMoves g s lists) → ((k : ℕ) → k < g.roles → at_role are k ≡ goal_in to g s k)
-          → IsKept g (with_start_mark m r mark) s to 0 substituted strikes lists are
+          → IsKept g (with_start_mark m r mark) past s to 0 substituted strikes lists are
       kept-with_last_start_mark to lists are last settles moves goals_are =
-          subst (λ n. IsKept g (with_start_mark m r mark) s to n substituted strikes lists are) (first to)
-          (kept-settled g laws (with_start_mark m r mark) s to 0 substituted strikes lists are (lawful-with_start_mark g laws m kept.lawful r mark starting_now) asked (all_started last)
+          subst (λ n. IsKept g (with_start_mark m r mark) past s to n substituted strikes lists are) (first to)
+          (kept-settled g laws (with_start_mark m r mark) past s to 0 substituted strikes lists are (lawful-with_start_mark g laws m kept.lawful r mark starting_now) kept.past_are asked (all_started last)
           (kept.lawful.answers_in_play (rw starting_now refl)) (kept.lawful.ends_at_end (rw starting_now refl)) kept.state_is none_retired settles kept.substituted_is kept.strikes_are moves goals_are)
         where
           first : (x : Stage) → answered_at_first x 0 ≡ 0
@@ -256,11 +290,12 @@ module _ {S M : Type 0} (g : Rules S M) (laws : IsLawful g) {m : MatchValue M} {
               ∙ rw answer_count (all_there (answered + 1) g.roles (rw answer_count at (count_roles-le g.roles (answered_in Playing (record m { open_answers = set m.open_answers r (Some j) })))) last)
 
           -- an answer that is not the last
-          pub kept-open_answer : answered + 1 < g.roles → IsKept g (record m { open_answers = set m.open_answers r (Some j) }) s at (answered + 1) substituted strikes legal goals
+          pub kept-open_answer : answered + 1 < g.roles → IsKept g (record m { open_answers = set m.open_answers r (Some j) }) past s at (answered + 1) substituted strikes legal goals
           kept-open_answer not_last =
               let same : stage g (record m { open_answers = set m.open_answers r (Some j) }) ≡ stage g m = stage-by g m (record m { open_answers = set m.open_answers r (Some j) }) refl refl refl refl in
               record {
                 lawful = lawful-open_answer g laws m kept.lawful playing_now r lt j still-answers judged (not_every not_last);
+                past_are = kept.past_are;
                 state_is = kept.state_is;
                 is_state = kept.is_state;
                 stage_is = kept.stage_is ∙ sym same;
@@ -299,13 +334,13 @@ module _ {S M : Type 0} (g : Rules S M) (laws : IsLawful g) {m : MatchValue M} {
             pub kept-recorded : (next : S) (to : Stage) (retired total : ℕ) (after : List RoleStrikes) (lists : List (List M)) (are : List (Option ℕ)) → next ≡ g.next s t.moves
                 → AreStrikes g.roles m.setup.strikes (m.turns ++ t ∷ []) after → retired ≡ count_roles (length after) (is_retired_in after)
                 → to ≡ settled g (length m.turns + 1) (retired == g.roles) next → total ≡ substituted + count_by is_error t.errors → (to ≡ Playing → AreLegalMoves g next lists) → ((k : ℕ) → k < g.roles → at_role are k ≡ goal_in to g next k)
-                → IsKept g (record m { turns = m.turns ++ t ∷ []; open_answers = blank g.roles }) next to (answered_at_first to retired) total after lists are
+                → IsKept g (record m { turns = m.turns ++ t ∷ []; open_answers = blank g.roles }) (past ++ s ∷ []) next to (answered_at_first to retired) total after lists are
             kept-recorded next to retired total after lists are is_next strikes_are is_retired is_to is_total moves goals_are =
                 let lawful : IsLawfulMatch g (record m { turns = m.turns ++ t ∷ []; open_answers = blank g.roles }) =
                 subst (λ (x : Turn M). IsLawfulMatch g (record m { turns = m.turns ++ x ∷ []; open_answers = blank g.roles })) (sym turn) (lawful-recorded g laws m kept.lawful playing_now r lt j answers judged all)
                 in
                 let wide : length (m.turns ++ t ∷ []) ≡ length m.turns + 1 = length-append m.turns (t ∷ []) in
-                kept-settled g laws (record m { turns = m.turns ++ t ∷ []; open_answers = blank g.roles }) next to retired total after lists are lawful (live-not_asked g m (rw playing_now refl)) (playing-settled g m playing_now).0 refl
+                kept-settled g laws (record m { turns = m.turns ++ t ∷ []; open_answers = blank g.roles }) (past ++ s ∷ []) next to retired total after lists are lawful (past-push g m.turns t past s kept.past_are kept.state_is) (live-not_asked g m (rw playing_now refl)) (playing-settled g m playing_now).0 refl
                 (kept.lawful.ends_at_end (rw playing_now refl)) (is_next ∙ (ap (λ x. g.next x t.moves) kept.state_is ∙ sym (state_after-push g m.turns t)))
                 (is_retired ∙ strikes-count g.roles m.setup.strikes (m.turns ++ t ∷ []) after strikes_are) (is_to ∙ ap (λ n. settled g n (retired == g.roles) next) (sym wide))
                 (is_total ∙ (ap (λ n. n + count_by is_error t.errors) kept.substituted_is ∙ sym (sum_by_push (λ u. count_by is_error u.errors) m.turns t))) strikes_are moves goals_are

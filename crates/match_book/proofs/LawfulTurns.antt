@@ -41,11 +41,16 @@ prefix_is_state {S} {M} g laws {strikes} turns lawful (suc k) d le =
     let state : state_after g (take (suc k) turns) ≡ g.next (state_after g (take k turns)) t.moves = ap (state_after g) more ∙ state_after-push g (take k turns) t in
     subst (λ (s : S). g.IsState s) (sym state) (laws.next_is_state (state_after g (take k turns)) t.moves before (lawful k d (omega arith)).joint)
 
+-- so many lawful turns lead to a state of the game
+pub prefix-is_state : {S M : Type 0} (g : Rules S M) → IsLawful g → {strikes : ℕ} → (turns : List (Turn M)) → AreLawful g strikes turns → (k : ℕ) → k ≤ length turns → g.IsState (state_after g (take k turns))
+prefix-is_state g laws {strikes} [] lawful zero le = laws.initial_is_state
+prefix-is_state g laws {strikes} [] lawful (suc k) le = laws.initial_is_state
+prefix-is_state g laws {strikes} (t ∷ ts) lawful k le = prefix_is_state g laws {strikes = strikes} (t ∷ ts) lawful k t le
+
 -- lawful turns lead to a state of the game
 pub state_after-is_state : {S M : Type 0} (g : Rules S M) → IsLawful g → {strikes : ℕ} → (turns : List (Turn M)) → AreLawful g strikes turns → g.IsState (state_after g turns)
-state_after-is_state g laws {strikes} [] lawful = laws.initial_is_state
-state_after-is_state {S} {M} g laws {strikes} (t ∷ ts) lawful =
-    subst (λ (x : List (Turn M)). g.IsState (state_after g x)) (take_all (length (t ∷ ts)) (t ∷ ts) (omega arith)) (prefix_is_state g laws {strikes = strikes} (t ∷ ts) lawful (length (t ∷ ts)) t (omega arith))
+state_after-is_state {S} {M} g laws {strikes} turns lawful =
+    subst (λ (x : List (Turn M)). g.IsState (state_after g x)) (take_all (length turns) turns (omega arith)) (prefix-is_state g laws {strikes = strikes} turns lawful (length turns) (omega arith))
 
 -- each turn has one move for each role, and one error
 pub turn-width : {S M : Type 0} (g : Rules S M) {strikes : ℕ} (turns : List (Turn M)) (k : ℕ) (t : Turn M) → AreLawful g strikes turns → k < length turns → t ≡ slice_index_or turns k t → (length t.moves ≡ g.roles) × (length t.errors ≡ g.roles)

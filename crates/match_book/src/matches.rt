@@ -1,5 +1,5 @@
 //! A match.
-ghost use Rattle.std.specs.Prelude.{◌≡◌, ◌<◌, ◌≤◌, ◌+◌, length, true, false, IfOk, OnOk, OnErr, Err, None, IsSome, option_copied, option_map, Some, slice_set};
+ghost use Rattle.std.specs.Prelude.{◌≡◌, ◌<◌, ◌≤◌, ◌+◌, length, true, false, IfOk, OnOk, OnErr, Err, None, IsSome, option_copied, option_map, Some, slice_set, take, ◌++◌, ◌∷◌, []};
 ghost use Rattle.game_core.specs.Play.{Rules};
 ghost use Rattle.match_book.specs.Roles.{at_role, is_there, every_role};
 ghost use Rattle.match_book.specs.Marks.{answer_lent, mark_text};
@@ -27,6 +27,7 @@ use crate::turn::{Turn, count_errors, move_texts, parts_with, turn_of};
 use game_core::{Game, Texts};
 use std::alloc::{AllocError, Global};
 use std::marker::Model;
+use std::mem;
 use std::snapshot::Snapshot;
 
 /// A match: what was answered, and what is known of the present, so that no call goes over the turns.
@@ -42,6 +43,7 @@ pub struct Match<G: Game> {
     open_answers: Vec<Option<Judgement<G::Move>>>,
     abort_asked: bool,
     end_marks: Vec<Option<Mark>>,
+    past: Vec<G::State>,
     state: G::State,
     stage: Stage,
     answered: usize,
@@ -76,7 +78,31 @@ impl<G: Game> Model for Match<G> {
       open_answers = m.open_answers.items;
       abort_asked = m.abort_asked;
       end_marks = m.end_marks.items;
-    }) m.state m.stage m.answered m.substituted m.strikes.items m.legal.items m.goals.items };
+    }) m.past.items m.state m.stage m.answered m.substituted m.strikes.items m.legal.items m.goals.items };
+}
+
+/// Records a turn: the present state is kept behind the past ones, and the next one takes its place. Where a growth is refused
+/// nothing has changed.
+fn go_on<T: Drop, S: Drop>(
+    turns: &mut Vec<T>,
+    turn: T,
+    past: &mut Vec<S>,
+    present: &mut S,
+    next: S,
+) -> Result<(), AllocError>
+    ensures turns { OnOk result (turns.new.items ≡ turns.old.items ++ turn ∷ []) }
+    ensures past { OnOk result (past.new.items ≡ past.old.items ++ present.old ∷ []) }
+    ensures present { OnOk result (present.new ≡ next) }
+    ensures err { OnErr result ((turns.new.items ≡ turns.old.items) × (past.new.items ≡ past.old.items) × (present.new ≡ present.old)) }
+{
+    past.push(next)?;
+    if turns.push(turn).is_err() {
+        past.pop();
+        return Err(AllocError);
+    }
+    let last = past.len() - 1;
+    mem::swap(present, &mut past[last]);
+    Ok(())
 }
 
 impl<G: Game> Match<G> {
@@ -99,6 +125,7 @@ impl<G: Game> Match<G> {
             open_answers,
             abort_asked: false,
             end_marks,
+            past: Vec::new(alloc),
             state,
             stage: Stage::Starting,
             answered: 0,
@@ -135,6 +162,19 @@ impl<G: Game> Match<G> {
         ensures lawful { IsLawfulMatch (G.rules self.now.game) self.now.value }
     {
         &self.state
+    }
+
+    /// The state after so many of the recorded turns. No turn is played again for it.
+    pub fn state_after(&self, turns: usize) -> &G::State
+        requires { turns ≤ length self.now.value.turns }
+        ensures state { result.now ≡ state_after (G.rules self.now.game) (take turns self.now.value.turns) }
+        ensures is_state { (G.rules self.now.game).IsState result.now }
+    {
+        if turns < self.past.len() {
+            &self.past[turns]
+        } else {
+            &self.state
+        }
     }
 
     /// The role's move in a recorded turn. Turns are numbered from 0.
@@ -472,9 +512,14 @@ impl<G: Game> Match<G> {
         let retired = count_retired(strikes.as_slice());
         let settlement = settle(alloc, game, &state, self.turns.len() + 1, retired)?;
         let substituted = count_errors(errors);
-        self.turns.push(turn)?;
+        go_on(
+            &mut self.turns,
+            turn,
+            &mut self.past,
+            &mut self.state,
+            state,
+        )?;
         clear(&mut self.open_answers);
-        self.state = state;
         self.stage = settlement.stage;
         self.legal = settlement.legal;
         self.goals = settlement.goals;

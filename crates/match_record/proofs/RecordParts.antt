@@ -1,8 +1,8 @@
 -- The lists of a record, member by member, and its tree: no floats, and three levels.
 use Rattle.std.proofs.Common.{◌≡◌, ℕ, zero, suc, ◌+◌, ◌<◌, ◌≤◌, false, Option, Some, None, List, [], ◌∷◌, ◌++◌, length, take, map, refl, sym, ap, ◌∙◌, subst, arith, add-one, Vec, Global}
-use Rattle.std.specs.Prelude.{slice_get, option_map, option_and_then, option_to_list}
+use Rattle.std.specs.Prelude.{slice_get, slice_index_or, option_map, option_and_then, option_to_list}
 use Rattle.std.proofs.lemmas.List.{map-append, take_more, take_all, length-map}
-use Rattle.std.proofs.lemmas.Option.{slice_get-map, get_or_from_slice_get, slice_get_within}
+use Rattle.std.proofs.lemmas.Option.{slice_get-map, slice_get-get_or, get_or_from_slice_get, slice_get_within}
 use Rattle.serde_json.specs.Data.{Data, string, array, depth, items_depth, members_depth}
 use Rattle.serde_json.specs.Written.{has_float, items_have_float, members_have_float}
 use Rattle.serde_json.specs.View.{view, items_of}
@@ -10,7 +10,6 @@ use Rattle.serde_json.specs.declared.value.Value.{Value, Array}
 use Rattle.serde_json.proofs.Views.{view-Array}
 use Rattle.serde_json.specs.Read.{max_depth}
 use Rattle.game_core.specs.Play.{Rules, IsJoint, IsLawful}
-use Rattle.match_book.proofs.LawfulTurns.{state_after-push}
 use Rattle.match_book.specs.Marks.{mark_text}
 use Rattle.match_book.specs.MatchValue.{MatchValue, state_after}
 use Rattle.match_book.specs.Lawful.{AreLawful}
@@ -81,11 +80,6 @@ turn-widths {S} {M} g {strikes} turns k t lawful at =
     let turn = lawful k t (slice_get_within turns k t at) in
     subst (λ (u : Turn M). (length u.moves ≡ g.roles) × (length u.errors ≡ g.roles)) (get_or_from_slice_get turns k t t at) (turn.joint.width, turn.one_error)
 
--- and its moves are a joint move in the state before it
-pub turn-joint : {S M : Type 0} (g : Rules S M) {strikes : ℕ} (turns : List (Turn M)) (k : ℕ) (t : Turn M) → AreLawful g strikes turns → slice_get turns k ≡ Some t → IsJoint g (state_after g (take k turns)) t.moves
-turn-joint {S} {M} g {strikes} turns k t lawful at =
-    subst (λ (u : Turn M). IsJoint g (state_after g (take k turns)) u.moves) (get_or_from_slice_get turns k t t at) (lawful k t (slice_get_within turns k t at)).joint
-
 -- ---- values in memory
 
 pub view_push : (vs ws : List Value) (v : Value) (d : Data) → ws ≡ vs ++ v ∷ [] → view v ≡ d → map view ws ≡ map view vs ++ d ∷ []
@@ -112,14 +106,6 @@ pub errors_view : {T : Type 0} (part : T → List (List ℕ)) (o : Option T) (v 
 errors_view part None v is = absurd cc
 errors_view part (Some t) v is = let same : map view v.items ≡ map string (part t) = cc in ap Some (list_view v _ same)
 
-map_same : {A : Type 0} (xs : List A) → map (λ x. x) xs ≡ xs
-map_same [] = refl
-map_same (x ∷ xs) = ap (λ ys. x ∷ ys) (map_same xs)
-
-pub joint_is : {T A : Type 0} (part : T → List A) (o : Option T) (xs : List A) → option_map (λ t. map (λ x. x) (part t)) o ≡ Some xs → Some xs ≡ option_map part o
-joint_is part None xs is = absurd cc
-joint_is part (Some t) xs is = let same : xs ≡ map (λ x. x) (part t) = cc in ap Some (same ∙ map_same (part t))
-
 -- ---- prefixes
 
 prefixes-cons : {A : Type 0} (x y : A) (xs : List A) → map (λ front. x ∷ front) (prefixes xs ++ (xs ++ y ∷ []) ∷ []) ≡ map (λ front. x ∷ front) (prefixes xs) ++ (x ∷ (xs ++ y ∷ [])) ∷ []
@@ -139,30 +125,11 @@ pub prefixes-push : {A : Type 0} (xs : List A) (y : A) → prefixes (xs ++ y ∷
 prefixes-push [] y = refl
 prefixes-push (x ∷ xs) y = ap (λ ps. [] ∷ map (λ front. x ∷ front) ps) (prefixes-push xs y) ∙ ap (λ ps. [] ∷ ps) (prefixes-cons x y xs)
 
--- ---- the state after one turn more
-
-pub record IsNext {S M : Type 0} (g : Rules S M) (turns : List (Turn M)) (k : ℕ) (s : S) (moves : List M) : Type 0 where
-  pub joint : IsJoint g s moves
-  pub state : g.next s moves ≡ state_after g (take (k + 1) turns)
-  pub is_state : g.IsState (g.next s moves)
-  pub longer : prefixes (take (k + 1) turns) ≡ prefixes (take k turns) ++ take (k + 1) turns ∷ []
-
-pub next_state : {S M : Type 0} (g : Rules S M) → IsLawful g → {strikes : ℕ} (turns : List (Turn M)) (k : ℕ) (s : S) (joint : List M) → AreLawful g strikes turns → s ≡ state_after g (take k turns) → g.IsState s
-    → Some joint ≡ option_map (λ t. t.moves) (slice_get turns k) → IsNext g turns k s joint
-next_state {S} {M} g laws {strikes} turns k s joint lawful at is_state found = go (slice_get turns k) refl found
-  where
-    go : (o : Option (Turn M)) → slice_get turns k ≡ o → Some joint ≡ option_map (λ t. t.moves) o → IsNext g turns k s joint
-    go None there same = absurd cc
-    go (Some t) there same =
-        let same_moves : joint ≡ t.moves = cc in
-        let more = take-next turns k t there in
-        let legal : IsJoint g s joint = subst (λ (x : S). IsJoint g x joint) (sym at) (subst (λ (js : List M). IsJoint g (state_after g (take k turns)) js) (sym same_moves) (turn-joint g turns k t lawful there)) in
-        record {
-          joint = legal;
-          state = ap (λ (x : S). g.next x joint) at ∙ ap (λ (js : List M). g.next (state_after g (take k turns)) js) same_moves ∙ sym (ap (state_after g) more ∙ state_after-push g (take k turns) t);
-          is_state = laws.next_is_state s joint is_state legal;
-          longer = ap prefixes more ∙ prefixes-push (take k turns) t ∙ ap (λ (ts : List (Turn M)). prefixes (take k turns) ++ ts ∷ []) (sym more);
-        }
+pub prefixes-next : {A : Type 0} (xs : List A) (k : ℕ) → k < length xs → prefixes (take (k + 1) xs) ≡ prefixes (take k xs) ++ take (k + 1) xs ∷ []
+prefixes-next [] k lt = absurd (omega arith)
+prefixes-next (x ∷ xs) k lt =
+    let more = take-next (x ∷ xs) k (slice_index_or (x ∷ xs) k x) (slice_get-get_or (x ∷ xs) k x lt) in
+    ap prefixes more ∙ prefixes-push (take k (x ∷ xs)) (slice_index_or (x ∷ xs) k x) ∙ ap (λ ts. prefixes (take k (x ∷ xs)) ++ ts ∷ []) (sym more)
 
 -- ---- no floats
 

@@ -155,38 +155,15 @@ fn state_tree<G: Game>(alloc: Global, game: &G, state: &G::State) -> Result<Valu
     texts_tree(alloc, texts.as_slice())
 }
 
-/// The joint move of a turn.
-fn joint_at<G: Game>(
-    alloc: Global,
-    game: &G,
-    held: &Match<G>,
-    turn: usize,
-) -> Result<Vec<G::Move>, AllocError>
-    requires game { held.now.game ≡ game.now }
-    requires lawful { IsLawfulMatch (G.rules game.now) held.now.value }
-    requires turn { turn < length held.now.value.turns }
-    ensures { IfOk result (λ v. Some v.items ≡ option_map (λ t. t.moves) (slice_get held.now.value.turns turn)) }
-{
-    let mut joint = Vec::new(alloc);
-    for role in 0..game.roles() {
-        joint.push(game.copy_move(alloc, held.move_at(turn, role))?)?;
-    }
-    Ok(joint)
-}
-
-/// The texts of the state before the first turn and of the state after each turn. The turns are replayed once.
+/// The texts of the state before the first turn and of the state after each turn.
 fn states<G: Game>(alloc: Global, game: &G, held: &Match<G>) -> Result<Value, AllocError>
     requires game { held.now.game ≡ game.now }
-    requires lawful { IsLawfulMatch (G.rules game.now) held.now.value }
     ensures { IfOk result (λ v. view v ≡ text_lists_tree (parts_of (G.rules game.now) held.now.value).states) }
 {
-    let mut state = game.initial(alloc)?;
     let mut states = Vec::new(alloc);
-    states.push(state_tree(alloc, game, &state)?)?;
+    states.push(state_tree(alloc, game, held.state_after(0))?)?;
     for turn in 0..turns(held) {
-        let joint = joint_at(alloc, game, held, turn)?;
-        state = game.next(alloc, &state, joint.as_slice())?;
-        states.push(state_tree(alloc, game, &state)?)?;
+        states.push(state_tree(alloc, game, held.state_after(turn + 1))?)?;
     }
     Ok(Value::Array(states))
 }

@@ -1,5 +1,5 @@
 -- What a match keeps beside its value, so that no call goes over the turns.
-use Rattle.std.specs.Prelude.{◌≡◌, ℕ, ◌<◌, List, Option}
+use Rattle.std.specs.Prelude.{◌≡◌, ℕ, ◌<◌, List, Option, Some, length, take, slice_get}
 use Rattle.game_core.specs.Play.{Rules}
 use Rattle.match_book.specs.Roles.{at_role}
 use Rattle.match_book.specs.MatchValue.{MatchValue, state_after, substitutions}
@@ -8,13 +8,20 @@ use Rattle.match_book.specs.LegalMoves.{AreLegalMoves}
 use Rattle.match_book.specs.Lawful.{IsLawfulMatch}
 use Rattle.match_book.specs.Internal.RoleStrikes.{AreStrikes, count_roles}
 use Rattle.match_book.specs.declared.retirement.RoleStrikes.{RoleStrikes}
+use Rattle.match_book.specs.declared.turn.Turn.{Turn}
 use Rattle.match_book.specs.declared.phase.Stage.{Stage}
 use Rattle.match_book.specs.declared.phase.Stage.TheVariants.{Playing}
 
--- The match is lawful, and these are its present state, its stage, how many roles have answered this round, its
+-- the states before each of these turns, in their order
+pub record ArePast {S M : Type 0} (g : Rules S M) (turns : List (Turn M)) (past : List S) : Type 0 where
+  pub one_each : length past ≡ length turns
+  pub before : (k : ℕ) → k < length turns → slice_get past k ≡ Some (state_after g (take k turns))
+
+-- The match is lawful, and these are its past states, its present state, its stage, how many roles have answered this round, its
 -- substitutions, what is known of each role's, each role's legal moves while it is played, and its goals.
-pub record IsKept {S M : Type 0} (g : Rules S M) (m : MatchValue M) (s : S) (at : Stage) (answered substituted : ℕ) (strikes : List RoleStrikes) (legal : List (List M)) (goals : List (Option ℕ)) : Type 0 where
+pub record IsKept {S M : Type 0} (g : Rules S M) (m : MatchValue M) (past : List S) (s : S) (at : Stage) (answered substituted : ℕ) (strikes : List RoleStrikes) (legal : List (List M)) (goals : List (Option ℕ)) : Type 0 where
   pub lawful : IsLawfulMatch g m
+  pub past_are : ArePast g m.turns past
   pub state_is : s ≡ state_after g m.turns
   pub is_state : g.IsState s
   pub stage_is : at ≡ stage g m

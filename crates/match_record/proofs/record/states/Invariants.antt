@@ -6,8 +6,5 @@ use Rattle.match_record.specs.RecordTree.{texts_tree}
 use Rattle.match_record.proofs.record.states.Given as goal
 
 abbrev pub invariant-loop-turn : goal.invariant-loop-turn
-invariant-loop-turn g l = record {
-  state : l.state ≡ state_after (g.G.Game.rules l.game) (take l.turn l.held.value.turns);
-  is_state : (g.G.Game.rules l.game).IsState l.state;
-  states : map view l.states.items ≡ map (λ front. texts_tree ((g.G.Game.rules l.game).state_text (state_after (g.G.Game.rules l.game) front))) (prefixes (take l.turn l.held.value.turns));
-}
+invariant-loop-turn g l =
+    map view l.states.items ≡ map (λ front. texts_tree ((g.G.Game.rules l.game).state_text (state_after (g.G.Game.rules l.game) front))) (prefixes (take l.turn l.held.value.turns))

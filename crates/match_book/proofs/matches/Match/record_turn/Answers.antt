@@ -1,4 +1,4 @@
-use Rattle.std.proofs.Common.{arith, sym, length, ap, ◌∙◌, subst, ◌≡◌, ◌<◌, ◌≤◌, List, ℕ}
+use Rattle.std.proofs.Common.{arith, sym, length, ap, ◌∙◌, subst, ◌≡◌, ◌<◌, ◌≤◌, List}
 use Rattle.std.specs.Prelude.{◌+◌, ◌==◌, All, count_by}
 use Rattle.game_core.specs.Play.{IsJoint}
 use Rattle.match_book.specs.MatchValue.{is_error}
@@ -84,7 +84,7 @@ invariant_of-self-2 g c =
     let retired : c.count_retired-retired.result ≡ count_roles (length c.in_ok-strikes.strikes.items) (is_retired_in c.in_ok-strikes.strikes.items) =
     c.count_retired-retired.ensures ∙ ap (λ (l : List RoleStrikes). count_roles (length l) (is_retired_in l)) c.as_slice-3.ensures.value
     in
-    rw (c.in_ok-push.ensures.items, c.clear.ensures.items, c.self.invariant.lawful.one_open_answer, c.answered_at_first-self-inside.ensures)
+    rw (c.in_ok-go_on.ensures.turns, c.in_ok-go_on.ensures.past, c.in_ok-go_on.ensures.present, c.clear.ensures.items, c.self.invariant.lawful.one_open_answer, c.answered_at_first-self-inside.ensures)
     (
     kept-recorded rules (g.met.G.Game.laws c.self.inside.game.value) c.self.invariant playing c.args.role (rw (← c.self.view_is) at c.requires.role) c.args.judged
     (rw (← c.self.view_is) at c.requires.judged) (rw (← c.self.view_is) at c.requires.answers) (rw (← c.self.view_is) at c.requires.last) c.in_ok-turn.turn turn c.in_ok-state.state c.in_ok-settlement.settlement.stage
@@ -98,7 +98,7 @@ pub returns-clause-ok : goal.returns-clause-ok
 returns-clause-ok g c =
     let playing = c.self.invariant.stage_is ∙ (rw (← c.self.view_is) at c.requires.stage) in
     let turn = rw (← c.self.view_is) at c.in_ok-turn.ensures in
-    rw (← c.self.view_is, c.in_ok-push.ensures.items, c.clear.ensures.items, c.self.invariant.lawful.one_open_answer, turn)
+    rw (← c.self.view_is, c.in_ok-go_on.ensures.turns, c.clear.ensures.items, c.self.invariant.lawful.one_open_answer, turn)
     (
     value-recorded (g.G.Game.rules c.self.inside.game.value) (g.met.G.Game.laws c.self.inside.game.value) c.self.invariant playing c.args.role (rw (← c.self.view_is) at c.requires.role) c.args.judged
     (rw (← c.self.view_is) at c.requires.judged) (rw (← c.self.view_is) at c.requires.answers) (rw (← c.self.view_is) at c.requires.last)

@@ -1,5 +1,5 @@
-use Rattle.std.proofs.Common.{◌≡◌, ◌∙◌, ap, sym, subst, arith}
-use Rattle.std.specs.Prelude.{IfOk, Some}
+use Rattle.std.proofs.Common.{◌≡◌, ◌∙◌, ap, subst}
+use Rattle.std.specs.Prelude.{IfOk}
 use Rattle.match_book.specs.Steps.{turn_of}
 use Rattle.match_book.proofs.KeptMatches.{open_answers-moves, turn-parts}
 use Rattle.match_book.proofs.matches.Match.turn_with.Goals as goal
