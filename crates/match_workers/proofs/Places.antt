@@ -1,5 +1,5 @@
 -- Lists of which something is known at each place.
-use Rattle.std.proofs.Common.{◌≡◌, ℕ, zero, suc, ◌+◌, ◌<◌, List, [], ◌∷◌, ◌++◌, Some, length, map, drop, All, refl, subst, sym, ap, ◌∙◌, arith}
+use Rattle.std.proofs.Common.{◌≡◌, ℕ, zero, suc, ◌+◌, ◌<◌, List, [], ◌∷◌, ◌++◌, Some, length, map, drop, refl, subst, sym, ap, ◌∙◌, arith}
 use Rattle.std.specs.Prelude.{slice_get, slice_index_or}
 use Rattle.std.proofs.lemmas.Option.{slice_get_within, get_or_from_slice_get}
 
@@ -39,14 +39,6 @@ pub map_at : {A B : Type 0} (f : A → B) (xs : List A) (k : ℕ) (b : B) → sl
 map_at f [] k b is = absurd cc
 map_at f (x ∷ xs) zero b is = (x, refl, cc)
 map_at f (x ∷ xs) (suc k) b is = map_at f xs k b is
-
-pub All-map_at : {A B : Type 0} (Q : B → Type 0) (f : A → B) (xs : List A) → EachAt (λ k a. Q (f a)) xs → All Q (map f xs)
-All-map_at Q f [] each k d lt = absurd (omega arith)
-All-map_at Q f (x ∷ xs) each zero d lt = each 0 x refl
-All-map_at Q f (x ∷ xs) each (suc k) d lt = All-map_at Q f xs (λ n a is. each (suc n) a is) k d (omega arith)
-
-pub all_at : {A : Type 0} (Q : A → Type 0) (xs : List A) (k : ℕ) (x : A) → All Q xs → slice_get xs k ≡ Some x → Q x
-all_at Q xs k x all is = subst Q (get_or_from_slice_get xs k x x is) (all k x (slice_get_within xs k x is))
 
 -- what stands behind the first of a list stands one place later in the list
 pub behind_first_at : {A : Type 0} (all rest : List A) → rest ≡ drop 1 all → (k : ℕ) (x : A) → slice_get rest k ≡ Some x → (k + 1 < length all) × (slice_index_or all (k + 1) x ≡ x)
