@@ -9,9 +9,9 @@ use Rattle.serde_json.specs.View.{view, items_of}
 use Rattle.serde_json.specs.declared.value.Value.{Value, Array}
 use Rattle.serde_json.proofs.Views.{view-Array}
 use Rattle.serde_json.specs.Read.{max_depth}
-use Rattle.game_core.specs.Play.{Rules, IsJoint, IsLawful}
+use Rattle.game_core.specs.Play.{Rules}
 use Rattle.match_book.specs.Marks.{mark_text}
-use Rattle.match_book.specs.MatchValue.{MatchValue, state_after}
+use Rattle.match_book.specs.MatchValue.{MatchValue}
 use Rattle.match_book.specs.Lawful.{AreLawful}
 use Rattle.match_book.specs.declared.answer.Mark.{Mark}
 use Rattle.match_book.specs.declared.turn.Turn.{Turn}
