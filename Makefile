@@ -14,7 +14,7 @@ help:
 	@echo 'make install         puts the proved program into $(PREFIX)/bin (PREFIX=DIR: into DIR/bin)'
 	@echo 'make check           proves every crate; what has not changed is not proved again'
 	@echo 'make edits [NAME..]  tries the wrong edits of the crates (all, or those named): the prover must refuse each'
-	@echo 'make memory          has each allocation of the calls refused in turn; whatever they leave has to be as it was'
+	@echo 'make memory          has each allocation of the calls, and of a match, refused in turn, and looks at what is left'
 	@echo 'make test            the gate: every proof from nothing, wrong edits, the tests, the programs'
 
 # The program that `demo`, `match` and `games` run is the proved one where it is up to date, else one that is not proved yet.

@@ -6,14 +6,19 @@
 //! and given back, before the first call: so one compiled program, of which the Nth allocation is refused, tries each
 //! allocation of the calls, by the number that it is given. What the calls are made on is made before all that. A line of
 //! standard error says how often memory was wanted, and where.
+//!
+//! With the word `match` behind the number it plays a match in threads instead, once: it says whether what that left is right, and
+//! on standard error what it is. With `limits` it makes calls at sizes near their limits.
 #![tactic(auto)]
 
 mod desks;
 mod expressions;
+mod limits;
 mod matches;
 mod messages;
 mod openings;
 mod pages;
+mod refereeing;
 mod rounds;
 mod rules;
 mod trial;
@@ -22,6 +27,7 @@ use desks::Desks;
 use matches::Matches;
 use messages::Messages;
 use openings::Openings;
+use refereeing::Table;
 use rounds::Rounds;
 use rules::Rules;
 use std::alloc::Global;
@@ -29,27 +35,42 @@ use std::io;
 use std::io::Read;
 use trial::Trials;
 
-/// The most bytes of the number on standard input.
-const DIGITS: usize = 20;
+/// The most bytes of the line on standard input.
+const LINE: usize = 32;
 
 /// How many allocations are made at the end, to see whether one is still refused.
 const LAST_ALLOCATIONS: u64 = 6_000;
 
-/// The number on standard input: none is 0.
-fn given_number(rt: &HostRuntime) -> io::Result<u64> {
-    let mut digits = [0; DIGITS];
-    let count = rt.stdin().read(&mut digits)?;
-    let mut number = 0u64;
-    for digit in digits
-        .iter()
-        .take(count)
-        .filter(|digit| digit.is_ascii_digit())
-    {
-        number = number
+/// What the line on standard input asks for.
+#[derive(Clone, Copy)]
+enum Series {
+    /// The calls, on small values.
+    Calls,
+    /// A match in threads.
+    Match,
+    /// Calls at sizes near their limits.
+    Limits,
+}
+
+/// How many allocations are made before the calls, none where there is no number, and what is tried.
+fn given_line(rt: &HostRuntime) -> io::Result<(u64, Series)> {
+    let mut line = [0; LINE];
+    let count = rt.stdin().read(&mut line)?;
+    let said = line.get(..count).unwrap_or(&[]).trim_ascii_end();
+    let mut early = 0u64;
+    for digit in said.iter().filter(|digit| digit.is_ascii_digit()) {
+        early = early
             .saturating_mul(10)
             .saturating_add((digit - b'0') as u64);
     }
-    Ok(number)
+    let series = if said.ends_with(b"match") {
+        Series::Match
+    } else if said.ends_with(b"limits") {
+        Series::Limits
+    } else {
+        Series::Calls
+    };
+    Ok((early, series))
 }
 
 /// Makes so many allocations, each of one byte, and gives each back. The answer is how many were refused.
@@ -63,7 +84,8 @@ fn allocate(alloc: Global, count: u64) -> u64 {
     refused
 }
 
-fn main(rt: HostRuntime) -> io::Result<()> {
+/// Tries the calls.
+fn try_calls(rt: &HostRuntime, early: u64) -> io::Result<()> {
     let alloc = rt.alloc();
     let expr = expressions::expression(alloc)?;
     let mut rules = Rules::new(alloc)?;
@@ -72,8 +94,8 @@ fn main(rt: HostRuntime) -> io::Result<()> {
     let mut openings = Openings::new(alloc)?;
     let rounds = Rounds::new(alloc)?;
     let messages = Messages::new(alloc)?;
-    let before = allocate(alloc, given_number(&rt)?);
-    let mut trials = Trials::new(&rt);
+    let before = allocate(alloc, early);
+    let mut trials = Trials::new(rt);
     expressions::try_all(&mut trials, &expr)?;
     rules.try_all(&mut trials)?;
     matches.try_all(&mut trials)?;
@@ -85,5 +107,30 @@ fn main(rt: HostRuntime) -> io::Result<()> {
     eprintln!(rt;
         "memory was wanted {before} times before the calls, {} in them, {after} after them",
         trials.wanted()
+    )
+}
+
+/// Tries calls at sizes near their limits.
+fn try_limits(rt: &HostRuntime, early: u64) -> io::Result<()> {
+    allocate(rt.alloc(), early);
+    limits::try_all(&mut Trials::new(rt))
+}
+
+fn main(rt: HostRuntime) -> io::Result<()> {
+    let alloc = rt.alloc();
+    let (early, series) = given_line(&rt)?;
+    match series {
+        Series::Calls => return try_calls(&rt, early),
+        Series::Limits => return try_limits(&rt, early),
+        Series::Match => (),
+    }
+    let table = Table::new(&rt, alloc)?;
+    let before = allocate(alloc, early);
+    let played = table.play(&rt, alloc);
+    let after = allocate(alloc, LAST_ALLOCATIONS);
+    Trials::new(&rt).tell("match", &played)?;
+    eprintln!(rt;
+        "memory was wanted {before} times before the match, {after} after it; it is {}",
+        played.ending(alloc)?.name()
     )
 }

@@ -25,7 +25,7 @@ pub fn players(alloc: Global) -> Result<Texts, AllocError> {
     Ok(Texts { items })
 }
 
-fn setup(alloc: Global) -> Result<Setup, AllocError>
+pub fn setup(alloc: Global) -> Result<Setup, AllocError>
     ensures { IfOk result (λ s. length s.players ≡ 2) }
 {
     let items = vec![in alloc; text(alloc, "ann")?, text(alloc, "bob")?]?;
