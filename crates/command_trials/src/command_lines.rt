@@ -10,7 +10,7 @@ const WRONG_USE: Wanted<'_> = Wanted {
 };
 
 /// The words of command lines that ask for nothing that can be done.
-const WRONG_LINES: [&[&str]; 32] = [
+const WRONG_LINES: [&[&str]; 39] = [
     &[],
     &["desk"],
     &["frob"],
@@ -80,6 +80,13 @@ const WRONG_LINES: [&[&str]; 32] = [
         "m",
         "ann@host:80",
     ],
+    &["season"],
+    &["season", "--countdown", "0"],
+    &["season", "--countdown", "3", "--rules", "(role a)"],
+    &["season", "--countdown", "3", "--at-once", "0"],
+    &["season", "--countdown", "3", "--at-once", "1025"],
+    &["season", "--countdown", "3", "--strikes", "256"],
+    &["season", "--countdown", "3", "m1"],
     &["verify"],
     &["verify", "--countdown", "200"],
     &["info"],

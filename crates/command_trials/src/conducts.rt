@@ -609,7 +609,7 @@ fn expect_match<R, P, S>(
 where
     R: Net + Clock + Files + Threads + Wait + Abort + Sync,
     P: Player + Explains + Drop + Send,
-    S: Reach<P>,
+    S: Reach<P> + Sync,
 {
     let before = world.passed();
     let outcome = outcome_with::<R, P, S>(rt, reach, alloc, &MATCH)?;
@@ -666,7 +666,7 @@ fn expect_matches<R, P, S>(rt: &R, reach: &S, alloc: Global, world: &World) -> R
 where
     R: Net + Clock + Files + Threads + Wait + Abort + Sync,
     P: Player + Explains + Drop + Send,
-    S: Reach<P>,
+    S: Reach<P> + Sync,
 {
     let mut tried = 0usize;
     for rows in ROWS {
@@ -695,7 +695,7 @@ type PlayerInMemory<'a> = SocketPlayer<'a, Simulated<'a, HostRuntime, AllRows>>;
 
 #[test]
 fn records_show_what_players_do(rt: HostRuntime) -> Result<(), Fail> {
-    let (world, signal) = (World::new(), Signal::new());
+    let (world, signals) = (World::new(), [Signal::new()]);
     let network = Simulated {
         host: &rt,
         world: &world,
@@ -703,7 +703,7 @@ fn records_show_what_players_do(rt: HostRuntime) -> Result<(), Fail> {
     };
     let reach = Sockets {
         rt: &network,
-        signal: &signal,
+        signals: &signals,
     };
     expect_matches::<_, PlayerInMemory<'_>, _>(&rt, &reach, rt.alloc(), &world)
 }

@@ -84,10 +84,10 @@ where
 
 #[test]
 fn dripping_players_are_late(rt: HostRuntime) -> Result<(), Fail> {
-    let signal = Signal::new();
+    let signals = [Signal::new()];
     let reach = Sockets {
         rt: &rt,
-        signal: &signal,
+        signals: &signals,
     };
     let options = [
         "run", "--rules", RULES, "--id", "m", "--start", "1", "--play", "1",

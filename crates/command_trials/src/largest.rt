@@ -150,10 +150,10 @@ where
 #[test]
 fn largest_descriptions_are_played_and_checked(rt: HostRuntime) -> Result<(), Fail> {
     let rules = largest_rules(rt.alloc())?;
-    let signal = Signal::new();
+    let signals = [Signal::new()];
     let reach = Sockets {
         rt: &rt,
-        signal: &signal,
+        signals: &signals,
     };
     play_and_check::<_, HostPlayer<'_>, _>(&rt, &reach, rt.alloc(), rules.as_str())
 }

@@ -34,6 +34,8 @@ mod rule_files;
 #[cfg(test)]
 mod scripts;
 #[cfg(test)]
+mod seasons;
+#[cfg(test)]
 mod simulated;
 #[cfg(test)]
 mod stalled;

@@ -68,6 +68,7 @@ impl Reach<ScriptedPlayer> for Scripted {
     fn player(
         &self,
         alloc: Global,
+        _place: usize,
         role: usize,
         _address: &PlayerAddress<'_>,
     ) -> Result<ScriptedPlayer, AllocError> {

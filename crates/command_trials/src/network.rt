@@ -229,10 +229,10 @@ const COUNTDOWN_RECORD: &[u8] =
 
 #[test]
 fn matches_are_run_to_their_records(rt: HostRuntime) -> Result<(), Fail> {
-    let signal = Signal::new();
+    let signals = [Signal::new()];
     let reach = Sockets {
         rt: &rt,
-        signal: &signal,
+        signals: &signals,
     };
     let options = ["run", "--rules", COUNTDOWN_RULES, "--id", "m1"];
     let ann: &[Deed] = &[
@@ -288,10 +288,10 @@ const BLUE: &[Deed] = &[
 
 #[test]
 fn players_are_sent_what_they_are_owed(rt: HostRuntime) -> Result<(), Fail> {
-    let signal = Signal::new();
+    let signals = [Signal::new()];
     let reach = Sockets {
         rt: &rt,
-        signal: &signal,
+        signals: &signals,
     };
     let options = [
         "run",
@@ -325,10 +325,10 @@ const STUCK_RECORD: &[u8] =
 
 #[test]
 fn aborted_matches_have_records(rt: HostRuntime) -> Result<(), Fail> {
-    let signal = Signal::new();
+    let signals = [Signal::new()];
     let reach = Sockets {
         rt: &rt,
-        signal: &signal,
+        signals: &signals,
     };
     let options = [
         "run",
@@ -371,7 +371,7 @@ fn expect_refused<R, P, S>(
 where
     R: Net + Clock + Files + Threads + Wait + Abort + Sync,
     P: Player + Explains + Drop + Send,
-    S: Reach<P>,
+    S: Reach<P> + Sync,
 {
     let rules = COUNTDOWN_RULES;
     let words = [
@@ -385,10 +385,10 @@ where
 
 #[test]
 fn refused_matches_reach_no_player(rt: HostRuntime) -> Result<(), Fail> {
-    let signal = Signal::new();
+    let signals = [Signal::new()];
     let reach = Sockets {
         rt: &rt,
-        signal: &signal,
+        signals: &signals,
     };
     let (listener, player) = listen(&rt, rt.alloc(), "ann")?;
     for refused in REFUSED {
@@ -439,10 +439,10 @@ const FAILING: [(&[Deed], &str, &str); 5] = [
 
 #[test]
 fn failing_players_end_no_match(rt: HostRuntime) -> Result<(), Fail> {
-    let signal = Signal::new();
+    let signals = [Signal::new()];
     let reach = Sockets {
         rt: &rt,
-        signal: &signal,
+        signals: &signals,
     };
     let options = [
         "run",

@@ -98,6 +98,7 @@ impl Reach<SilentPlayer> for NoNetwork {
     fn player(
         &self,
         _alloc: Global,
+        _place: usize,
         _role: usize,
         _address: &PlayerAddress<'_>,
     ) -> Result<SilentPlayer, AllocError> {
@@ -151,10 +152,26 @@ pub fn outcome_with<H, P, S>(
 where
     H: Net + Clock + Files + Threads + Wait + Sync,
     P: Player + Explains + Drop + Send,
-    S: Reach<P>,
+    S: Reach<P> + Sync,
+{
+    outcome_on::<H, P, S>(rt, reach, alloc, words, b"")
+}
+
+/// Runs a command on that input, with the players that are reached there.
+pub fn outcome_on<H, P, S>(
+    rt: &H,
+    reach: &S,
+    alloc: Global,
+    words: &[&str],
+    input: &[u8],
+) -> Result<Outcome, AllocError>
+where
+    H: Net + Clock + Files + Threads + Wait + Sync,
+    P: Player + Explains + Drop + Send,
+    S: Reach<P> + Sync,
 {
     let words = strings(alloc, words)?;
-    let mut reader = Counted::new(b"".as_slice());
+    let mut reader = Counted::new(input);
     let mut writer = Counted::new(Vec::new(alloc));
     let mut errors = Vec::new(alloc);
     let status = command::<H, P, S, _, _, _>(

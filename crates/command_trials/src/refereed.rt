@@ -169,7 +169,7 @@ fn players_of<P: Drop, S: Reach<P>>(
     };
     let mut players = Vec::new(alloc);
     for role in 0..count {
-        players.push(reach.player(alloc, role, &ann)?)?;
+        players.push(reach.player(alloc, 0, role, &ann)?)?;
     }
     Ok(players)
 }
@@ -193,7 +193,7 @@ where
 fn few_calls_are_made_in_vain(rt: HostRuntime) -> Result<(), Fail> {
     let rounds = TURNS as usize + 2;
     for roles in [2usize, 5, 10, 16] {
-        let (world, signal) = (World::new(), Signal::new());
+        let (world, signals) = (World::new(), [Signal::new()]);
         let network = Simulated {
             host: &rt,
             world: &world,
@@ -201,7 +201,7 @@ fn few_calls_are_made_in_vain(rt: HostRuntime) -> Result<(), Fail> {
         };
         let reach = Sockets {
             rt: &network,
-            signal: &signal,
+            signals: &signals,
         };
         let players = players_of::<PlayerInMemory<'_>, _>(rt.alloc(), &reach, roles)?;
         let calls = calls_of(&rt, rt.alloc(), players)?;

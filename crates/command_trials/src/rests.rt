@@ -39,7 +39,7 @@ fn rested<P: Player>(clock: &impl Clock, player: &mut P) -> io::Result<Duration>
 
 #[test]
 fn rests_grow_with_the_time_since_the_last_message(rt: HostRuntime) -> Result<(), Fail> {
-    let (world, signal) = (World::new(), Signal::new());
+    let (world, signals) = (World::new(), [Signal::new()]);
     let network = Simulated {
         host: &rt,
         world: &world,
@@ -47,9 +47,9 @@ fn rests_grow_with_the_time_since_the_last_message(rt: HostRuntime) -> Result<()
     };
     let reach = Sockets {
         rt: &network,
-        signal: &signal,
+        signals: &signals,
     };
-    let mut player = reach.player(rt.alloc(), 0, &ANN)?;
+    let mut player = reach.player(rt.alloc(), 0, 0, &ANN)?;
     let first = rested(&rt, &mut player)?;
     assert!(rt; first >= Duration::from_millis(99) && is_short(first));
     player.ask(1, b"");
@@ -67,7 +67,7 @@ fn rests_grow_with_the_time_since_the_last_message(rt: HostRuntime) -> Result<()
 /// Each has been handed one message: the round that one of them waits for begins with the second message to the other.
 #[test]
 fn rests_end_when_a_round_begins(rt: HostRuntime) -> Result<(), Fail> {
-    let (world, signal) = (World::new(), Signal::new());
+    let (world, signals) = (World::new(), [Signal::new()]);
     let network = Simulated {
         host: &rt,
         world: &world,
@@ -75,10 +75,10 @@ fn rests_end_when_a_round_begins(rt: HostRuntime) -> Result<(), Fail> {
     };
     let reach = Sockets {
         rt: &network,
-        signal: &signal,
+        signals: &signals,
     };
-    let mut ann = reach.player(rt.alloc(), 0, &ANN)?;
-    let mut bob = reach.player(rt.alloc(), 0, &ANN)?;
+    let mut ann = reach.player(rt.alloc(), 0, 0, &ANN)?;
+    let mut bob = reach.player(rt.alloc(), 0, 0, &ANN)?;
     ann.ask(1, b"");
     bob.ask(1, b"");
     assert!(rt; rested(&rt, &mut ann)? >= Duration::from_millis(99));
@@ -110,7 +110,7 @@ where
 
 #[test]
 fn rests_end_when_a_player_goes(rt: HostRuntime) -> Result<(), Fail> {
-    let (world, signal) = (World::new(), Signal::new());
+    let (world, signals) = (World::new(), [Signal::new()]);
     let network = Simulated {
         host: &rt,
         world: &world,
@@ -118,10 +118,10 @@ fn rests_end_when_a_player_goes(rt: HostRuntime) -> Result<(), Fail> {
     };
     let reach = Sockets {
         rt: &network,
-        signal: &signal,
+        signals: &signals,
     };
-    let mut ann = reach.player(rt.alloc(), 0, &ANN)?;
-    let mut bob = reach.player(rt.alloc(), 0, &ANN)?;
+    let mut ann = reach.player(rt.alloc(), 0, 0, &ANN)?;
+    let mut bob = reach.player(rt.alloc(), 0, 0, &ANN)?;
     ann.ask(1, b"");
     bob.ask(1, b"");
     world.pass(LONG);

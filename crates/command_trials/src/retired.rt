@@ -64,10 +64,10 @@ where
 
 #[test]
 fn retired_players_hold_no_match(rt: HostRuntime) -> Result<(), Fail> {
-    let signal = Signal::new();
+    let signals = [Signal::new()];
     let reach = Sockets {
         rt: &rt,
-        signal: &signal,
+        signals: &signals,
     };
     let options = [
         "run",

@@ -63,6 +63,7 @@ impl<'a> Reach<ReadyPlayer<'a>> for PlayersInMemory<'a> {
     fn player(
         &self,
         alloc: Global,
+        _place: usize,
         _role: usize,
         address: &PlayerAddress<'_>,
     ) -> Result<ReadyPlayer<'a>, AllocError> {

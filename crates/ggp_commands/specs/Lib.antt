@@ -5,3 +5,5 @@ pub mod Commands
 pub mod Checks
 pub mod Games
 pub mod Contacts
+pub mod Schedules
+pub mod Seasons

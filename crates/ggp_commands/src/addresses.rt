@@ -1,4 +1,7 @@
 //! Players, as the command line names them.
+ghost use Rattle.std.specs.Prelude.{◌≡◌, IfSome};
+ghost use Rattle.ggp_commands.specs.Schedules.{addressed_name};
+
 use match_book::is_name;
 use std::net::Ipv6Addr;
 
@@ -31,7 +34,9 @@ fn plain_host(host: &str) -> &str {
 }
 
 /// The player that a word names: none where the name is no lawful one, or the port not 1 to 65,535.
-pub fn player_address(word: &str) -> Option<PlayerAddress<'_>> {
+pub fn player_address(word: &str) -> Option<PlayerAddress<'_>>
+    ensures { IfSome result (λ p. p.name.now ≡ addressed_name word.now) }
+{
     let (name, place) = word.split_once('@')?;
     let (host, port) = place.rsplit_once(':')?;
     let port = decimal(port, u64::from(u16::MAX)).filter(|port| *port > 0)?;

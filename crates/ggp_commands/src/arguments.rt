@@ -2,6 +2,7 @@
 
 use crate::addresses::{PlayerAddress, decimal, player_address};
 use crate::rules::Rules;
+use crate::schedule::MAX_MATCHES;
 use clap::error::ErrorKind;
 use clap::{Arg, ArgAction, ArgMatches, Command};
 use std::alloc::{AllocError, AllocFailed, Global};
@@ -12,7 +13,9 @@ pub enum Task<'a> {
     /// To answer a script, with one game.
     Desk(GameSource<'a>),
     /// To referee a match between players on the network.
-    Run(MatchPlan<'a>),
+    Run(RunPlan<'a>),
+    /// To referee the matches of a schedule.
+    Season(SeasonPlan<'a>),
     /// To check a record, for this game.
     Verify(GameSource<'a>),
     /// To make the calls of an account again, for this game.
@@ -31,19 +34,32 @@ pub enum GameSource<'a> {
     Described(Rules<'a>),
 }
 
-/// A match between players on the network: the rules of its game, its id, its clocks in seconds, after
-/// how many substituted moves in a row a role is retired (0: never), and its players in the order of
-/// the roles; whether each message is told on standard error, and whether the account of the match is wanted.
+/// A match between players on the network: its id, its clocks in seconds, after how many substituted moves in a row a role is
+/// retired (0: never), and its players in the order of the roles.
 #[derive(Drop)]
 pub struct MatchPlan<'a> {
-    pub rules: Rules<'a>,
     pub id: &'a str,
     pub start: u32,
     pub play: u32,
     pub strikes: u8,
+    pub players: Vec<PlayerAddress<'a>>,
+}
+
+/// One match: the rules of its game, whether each message is told on standard error, and whether the account of the match is wanted.
+#[derive(Drop)]
+pub struct RunPlan<'a> {
+    pub rules: Rules<'a>,
+    pub plan: MatchPlan<'a>,
     pub is_logged: bool,
     pub has_history: bool,
-    pub players: Vec<PlayerAddress<'a>>,
+}
+
+/// The matches of a schedule: their game, the strikes of each, and how many of them are played at once at most.
+#[derive(Clone, Copy, Debug, PartialEq, Eq)]
+pub struct SeasonPlan<'a> {
+    pub game: GameSource<'a>,
+    pub strikes: u8,
+    pub at_once: usize,
 }
 
 /// Why a command line is refused.
@@ -146,6 +162,31 @@ fn replay_command<'a>(alloc: Global) -> Result<Command<'a>, AllocError> {
     )
 }
 
+fn strikes_option<'a>(alloc: Global) -> Arg<'a> {
+    option(
+        alloc,
+        "strikes",
+        "K",
+        "A role is asked no more once K of its moves in a row had to be replaced; 0 is never",
+    )
+    .default_value("0")
+}
+
+fn season_command<'a>(alloc: Global) -> Result<Command<'a>, AllocError> {
+    let command = Command::new(alloc, "season").about(
+        "Referees the matches of the schedule on standard input, and prints their records",
+    );
+    with_game(alloc, command)?
+        .arg(strikes_option(alloc))?
+        .arg(option(
+            alloc,
+            "at-once",
+            "N",
+            "How many matches are played at once at most, 1 to 1024",
+        )
+        .default_value("16"))
+}
+
 fn run_command<'a>(alloc: Global) -> Result<Command<'a>, AllocError> {
     let command = Command::new(alloc, "run").about(
         "Referees a match between players over HTTP, and prints its record",
@@ -154,13 +195,7 @@ fn run_command<'a>(alloc: Global) -> Result<Command<'a>, AllocError> {
         .arg(option(alloc, "id", "ID", "The match's id").required(true))?
         .arg(option(alloc, "start", "S", "The seconds for START").default_value("10"))?
         .arg(option(alloc, "play", "S", "The seconds for every other message").default_value("10"))?
-        .arg(option(
-            alloc,
-            "strikes",
-            "K",
-            "A role is asked no more once K of its moves in a row had to be replaced; 0 is never",
-        )
-        .default_value("0"))?
+        .arg(strikes_option(alloc))?
         .arg(flag(
             alloc,
             "log",
@@ -201,6 +236,7 @@ fn program<'a>(alloc: Global) -> Result<Command<'a>, AllocError> {
         .subcommand_required(true)
         .subcommand(desk_command(alloc)?)?
         .subcommand(run_command(alloc)?)?
+        .subcommand(season_command(alloc)?)?
         .subcommand(verify_command(alloc)?)?
         .subcommand(replay_command(alloc)?)?
         .subcommand(info_command(alloc)?)
@@ -239,20 +275,38 @@ fn strikes(found: &ArgMatches<'_>) -> Option<u8> {
     u8::try_from(strikes).ok()
 }
 
+fn season_plan<'a>(found: &ArgMatches<'a>) -> Option<SeasonPlan<'a>> {
+    let at_once = decimal(found.get_str("at-once")?, MAX_MATCHES as u64)?;
+    if at_once == 0 {
+        return None;
+    }
+    Some(SeasonPlan {
+        game: game_source(found)?,
+        strikes: strikes(found)?,
+        at_once: at_once as usize,
+    })
+}
+
 fn match_plan<'a>(alloc: Global, found: &ArgMatches<'a>) -> Result<MatchPlan<'a>, ArgumentFault> {
     let mut players = Vec::new(alloc);
     for word in found.get_strs("players").ok_or(ArgumentFault::WrongUse)? {
         players.push(player_address(word).ok_or(ArgumentFault::WrongUse)?)?;
     }
     Ok(MatchPlan {
-        rules: rules(found).ok_or(ArgumentFault::WrongUse)?,
         id: found.get_str("id").ok_or(ArgumentFault::WrongUse)?,
         start: seconds(found, "start").ok_or(ArgumentFault::WrongUse)?,
         play: seconds(found, "play").ok_or(ArgumentFault::WrongUse)?,
         strikes: strikes(found).ok_or(ArgumentFault::WrongUse)?,
+        players,
+    })
+}
+
+fn run_plan<'a>(alloc: Global, found: &ArgMatches<'a>) -> Result<RunPlan<'a>, ArgumentFault> {
+    Ok(RunPlan {
+        rules: rules(found).ok_or(ArgumentFault::WrongUse)?,
+        plan: match_plan(alloc, found)?,
         is_logged: found.get_flag("log"),
         has_history: found.get_flag("history"),
-        players,
     })
 }
 
@@ -265,7 +319,8 @@ pub fn read_arguments<'a>(alloc: Global, words: &'a [&'a str]) -> Result<Task<'a
     };
     let task = match found.subcommand() {
         Some(("desk", found)) => game_source(found).map(|game| Task::Desk(game)),
-        Some(("run", found)) => Some(Task::Run(match_plan(alloc, found)?)),
+        Some(("run", found)) => Some(Task::Run(run_plan(alloc, found)?)),
+        Some(("season", found)) => season_plan(found).map(|plan| Task::Season(plan)),
         Some(("verify", found)) => game_source(found).map(|game| Task::Verify(game)),
         Some(("replay", found)) => game_source(found).map(|game| Task::Replay(game)),
         Some(("info", found)) => found

@@ -1,7 +1,9 @@
 //! The commands, over any streams, runtime and players.
 
 use crate::addresses::PlayerAddress;
-use crate::arguments::{ArgumentFault, GameSource, MatchPlan, Task, read_arguments};
+use crate::arguments::{
+    ArgumentFault, GameSource, MatchPlan, RunPlan, SeasonPlan, Task, read_arguments,
+};
 use crate::checking::check_record;
 use crate::contacting::{ContactFault, contact};
 use crate::fault::Fault;
@@ -9,12 +11,14 @@ use crate::games::described_game;
 use crate::logging::{Explains, LoggedPlayer, Logging};
 use crate::pieces::Pieces;
 use crate::replaying::replay_account;
-use crate::rules::rules_text;
+use crate::rules::{rules_text, season_rules};
 use crate::running::{PlayedMatch, played_match};
+use crate::schedule::read_schedule;
 use crate::script::run_script;
 use crate::script_fault::ScriptFault;
+use crate::season::{Season, fixtures, play_season};
 use crate::socket_player::Reach;
-use crate::streams::{WriteFault, write_all};
+use crate::streams::{WriteFault, read_to_end, write_all};
 use desk_text::push_history;
 use game_core::{Countdown, Counted, Game};
 use match_wire::{Info, WireFault, info_message, read_info};
@@ -90,7 +94,7 @@ pub fn command<H, P, S, R: Read, W: Write, E: Write + Send>(
 where
     H: Net + Clock + Files + Threads + Wait + Sync,
     P: Player + Explains + Drop + Send,
-    S: Reach<P>,
+    S: Reach<P> + Sync,
 {
     match perform::<H, P, S, R, W, E>(rt, alloc, reach, words, reader, writer, errors) {
         Ok(()) => 0,
@@ -119,7 +123,7 @@ fn perform<H, P, S, R: Read, W: Write, E: Write + Send>(
 where
     H: Net + Clock + Files + Threads + Wait + Sync,
     P: Player + Explains + Drop + Send,
-    S: Reach<P>,
+    S: Reach<P> + Sync,
 {
     let words: Vec<&str> = words.iter().map(|word| word.as_str()).collect(alloc)?;
     match read_arguments(alloc, words.as_slice())? {
@@ -128,6 +132,9 @@ where
         Task::Verify(game) => for_game::<Verify, H, R, W>(rt, alloc, game, reader, writer),
         Task::Replay(game) => for_game::<Replay, H, R, W>(rt, alloc, game, reader, writer),
         Task::Run(plan) => run::<H, P, S, W, E>(rt, alloc, reach, &plan, writer, errors),
+        Task::Season(plan) => {
+            season::<H, P, S, R, W, E>(rt, alloc, reach, plan, reader, writer, errors)
+        }
         Task::Info(player) => info(rt, alloc, &player, writer),
     }
 }
@@ -217,24 +224,24 @@ fn run<H, P, S, W: Write, E: Write + Send>(
     rt: &H,
     alloc: Global,
     reach: &S,
-    plan: &MatchPlan<'_>,
+    run: &RunPlan<'_>,
     writer: &mut Counted<W>,
     errors: &mut E,
 ) -> Result<(), Fault>
 where
     H: Net + Clock + Files + Threads + Wait + Sync,
     P: Player + Explains + Drop + Send,
-    S: Reach<P>,
+    S: Reach<P> + Sync,
 {
-    let rules = rules_text(rt, alloc, plan.rules)?;
-    let PlayedMatch { record, history } = if plan.is_logged {
-        logged_match::<H, P, S, E>(rt, alloc, reach, plan, &rules, errors)?
+    let rules = rules_text(rt, alloc, run.rules)?;
+    let PlayedMatch { record, history } = if run.is_logged {
+        logged_match::<H, P, S, E>(rt, alloc, reach, &run.plan, &rules, errors)?
     } else {
-        played_match::<H, P, S>(rt, alloc, reach, plan, &rules)?
+        played_match::<H, P, S>(rt, alloc, reach, 0, &run.plan, &rules)?
     };
     let mut output = record.bytes;
     output.push(b'\n')?;
-    if plan.has_history {
+    if run.has_history {
         push_history(alloc, &mut output, &history)?;
     }
     Ok(write_all(writer, &output)?)
@@ -252,7 +259,7 @@ fn logged_match<H, P, S, E: Write + Send>(
 where
     H: Clock + Threads + Wait + Sync,
     P: Player + Explains + Drop + Send,
-    S: Reach<P>,
+    S: Reach<P> + Sync,
 {
     let stream = Mutex::new(errors);
     let logging = Logging {
@@ -261,7 +268,41 @@ where
         id: plan.id,
         stream: &stream,
     };
-    played_match::<H, LoggedPlayer<'_, H, P, &mut E>, _>(rt, alloc, &logging, plan, rules)
+    played_match::<H, LoggedPlayer<'_, H, P, &mut E>, _>(rt, alloc, &logging, 0, plan, rules)
+}
+
+/// How many bytes a schedule has at most.
+const MAX_SCHEDULE: usize = 4_194_304;
+
+/// Plays the matches of the schedule on standard input. The game and the schedule are read before one is begun.
+fn season<H, P, S, R: Read, W: Write, E: Write>(
+    rt: &H,
+    alloc: Global,
+    reach: &S,
+    plan: SeasonPlan<'_>,
+    reader: &mut Counted<R>,
+    writer: &mut Counted<W>,
+    errors: &mut E,
+) -> Result<(), Fault>
+where
+    H: Files + Threads + Wait + Sync,
+    P: Player + Drop + Send,
+    S: Reach<P> + Sync,
+{
+    let rules = season_rules(rt, alloc, plan.game)?;
+    drop(described_game(alloc, &rules)?);
+    let input = read_to_end(alloc, reader, MAX_SCHEDULE)?;
+    let plans = read_schedule(alloc, &input, plan.strikes)?;
+    let fixtures = fixtures(alloc, plans)?;
+    let season = Season {
+        rules: &rules,
+        fixtures: fixtures.as_slice(),
+        at_once: plan.at_once,
+    };
+    match play_season::<H, P, S, W, E>(rt, alloc, reach, season, writer, errors)? {
+        0 => Ok(()),
+        count => Err(Fault::NoRecords(count)),
+    }
 }
 
 /// What the answer to an INFO means, as a line of output.

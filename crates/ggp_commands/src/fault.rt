@@ -1,6 +1,7 @@
 //! Why a command ends with a fault.
 
 use crate::rules::RulesFileFault;
+use crate::schedule::LineFault;
 use desk_text::refusal_word;
 use match_desk::Refusal;
 use match_record::VerifyFault;
@@ -38,6 +39,12 @@ pub enum Fault {
     /// The match has neither finished nor been aborted.
     #[error("match not ended")]
     MatchNotEnded,
+    /// The line of that number of a schedule is a bad one. No match was begun.
+    #[error("bad schedule: line {0}: {1}")]
+    BadSchedule(u64, LineFault),
+    /// So many matches of a schedule have no record. The records of the others are output.
+    #[error("matches without record {0}")]
+    NoRecords(u64),
     /// The record is not lawful: the first test that it fails.
     #[error("not lawful: {0}")]
     NotLawful(VerifyFault),

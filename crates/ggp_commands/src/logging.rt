@@ -97,13 +97,14 @@ impl<'a, H, P, S: Reach<P>, E> Reach<LoggedPlayer<'a, H, P, E>> for Logging<'a, 
     fn player(
         &self,
         alloc: Global,
+        place: usize,
         role: usize,
         address: &PlayerAddress<'_>,
     ) -> Result<LoggedPlayer<'a, H, P, E>, AllocError> {
         let name = String::from_str(alloc, address.name)?;
         Ok(LoggedPlayer {
             rt: self.rt,
-            player: self.reach.player(alloc, role, address)?,
+            player: self.reach.player(alloc, place, role, address)?,
             alloc,
             id: self.id,
             role,

@@ -1,8 +1,10 @@
 //! Where a description comes from.
 
+use crate::arguments::GameSource;
+use crate::countdown_rules::countdown_rules;
 use crate::fault::Fault;
 use crate::streams::{InputFault, read_to_end};
-use game_core::Counted;
+use game_core::{Countdown, Counted};
 use std::alloc::Global;
 use std::borrow::CowSlice;
 use std::io::ErrorKind;
@@ -70,5 +72,23 @@ pub fn rules_text<'a, F: Files>(
     match rules {
         Rules::Text(text) => Ok(CowSlice::Borrowed(text.as_bytes())),
         Rules::File(path) => Ok(CowSlice::Owned(file_text(files, alloc, path)?)),
+    }
+}
+
+/// The text of a season's game. That of Countdown is written here, since its players are told the rules.
+pub fn season_rules<'a, F: Files>(
+    files: &F,
+    alloc: Global,
+    game: GameSource<'a>,
+) -> Result<CowSlice<'a, u8>, Fault> {
+    match game {
+        GameSource::Described(rules) => rules_text(files, alloc, rules),
+        GameSource::Countdown(size) => {
+            let game = Countdown::new(size).ok_or(Fault::WrongUse)?;
+            match countdown_rules(alloc, game.size) {
+                Ok(text) => Ok(CowSlice::Owned(text.into_bytes())),
+                Err(_) => Err(Fault::Memory),
+            }
+        }
     }
 }

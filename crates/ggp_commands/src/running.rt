@@ -5,6 +5,7 @@ ghost use Rattle.call_history.specs.History.{IsReplay};
 ghost use Rattle.match_desk.specs.ManagerValue.{ManagerValue, opening};
 ghost use Rattle.match_desk.specs.Steps.{reply, after};
 ghost use Rattle.ggp_commands.specs.Commands.{IsEndedRecord, HasNoEndedMatch, RunFails};
+ghost use Rattle.ggp_commands.specs.Seasons.{IsMatchRecord};
 
 use crate::arguments::MatchPlan;
 use crate::fault::Fault;
@@ -63,13 +64,14 @@ fn setup_of(alloc: Global, plan: &MatchPlan<'_>) -> Result<Setup, AllocError>
 fn players_of<P: Drop, S: Reach<P>>(
     alloc: Global,
     reach: &S,
+    place: usize,
     plan: &MatchPlan<'_>,
 ) -> Result<Vec<P>, AllocError>
     ensures { IfOk result (λ v. vec_len v ≡ vec_len plan.now.players) }
 {
     let mut players = Vec::with_capacity(alloc, plan.players.len())?;
     for (role, address) in plan.players.iter().enumerate() {
-        players.push(reach.player(alloc, role, address)?)?;
+        players.push(reach.player(alloc, place, role, address)?)?;
     }
     Ok(players)
 }
@@ -110,11 +112,19 @@ pub struct PlayedMatch {
     pub history: Vec<Entry<Call, Reply>>,
 }
 
-/// Referees the match between its players, by the rules that this text describes.
+/// The record of a match that was played to its end.
+#[derive(Drop)]
+pub struct EndedRecord {
+    pub text: Text,
+    ghost is_ended: { ∥ IsMatchRecord text ∥₁ },
+}
+
+/// Referees the match at this place of its season between its players, by the rules that this text describes.
 pub fn played_match<R, P, S>(
     rt: &R,
     alloc: Global,
     reach: &S,
+    place: usize,
     plan: &MatchPlan<'_>,
     rules: &[u8],
 ) -> Result<PlayedMatch, Fault>
@@ -128,11 +138,30 @@ where
     let game = described_game(alloc, rules)?;
     let sentences = copies(alloc, game.description())?;
     let setup = setup_of(alloc, plan)?;
-    let players: Vec<P> = players_of(alloc, reach, plan)?;
+    let players: Vec<P> = players_of(alloc, reach, place, plan)?;
     let refereed = referee(rt, alloc, game, setup, sentences, players, MAX_TRIES)?;
     let record = ended_record(alloc, &refereed.closed.object)?;
     Ok(PlayedMatch {
         record,
         history: refereed.closed.history,
     })
+}
+
+/// The record of the match at this place of its season, played as `played_match` does.
+pub fn played_record<R, P, S>(
+    rt: &R,
+    alloc: Global,
+    reach: &S,
+    place: usize,
+    plan: &MatchPlan<'_>,
+    rules: &[u8],
+) -> Result<EndedRecord, Fault>
+where
+    R: Threads + Wait + Sync,
+    P: Player + Drop + Send,
+    S: Reach<P>,
+    ensures fails { IfErr result (RunFails rules.now) }
+{
+    let PlayedMatch { record, .. } = played_match::<R, P, S>(rt, alloc, reach, place, plan, rules)?;
+    Ok(EndedRecord { text: record })
 }

@@ -1,7 +1,8 @@
 //! What wakes the players of a match that rest.
-ghost use Rattle.std.specs.Prelude.{◌≡◌, ◌/◌, max};
+ghost use Rattle.std.specs.Prelude.{◌≡◌, ◌/◌, max, IfOk, length};
 ghost use Rattle.std.specs.Duration.{as_nanos};
 
+use std::alloc::{AllocError, Global};
 use std::sync::Wait;
 use std::sync::atomic::{AtomicU64, Ordering};
 use std::time::Duration;
@@ -36,6 +37,17 @@ impl Signal {
         Signal {
             latest: AtomicU64::new(0),
         }
+    }
+
+    /// Those of so many matches whose players were handed nothing.
+    pub fn many(alloc: Global, count: usize) -> Result<Vec<Signal>, AllocError>
+        ensures { IfOk result (λ signals. length signals.items ≡ count) }
+    {
+        let mut signals = Vec::with_capacity(alloc, count)?;
+        for _ in 0..count {
+            signals.push(Signal::new())?;
+        }
+        Ok(signals)
     }
 
     pub(crate) fn latest(&self) -> u64 {

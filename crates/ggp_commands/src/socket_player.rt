@@ -1,5 +1,5 @@
 //! Players that are reached over the network.
-ghost use Rattle.std.specs.Prelude.{◌≡◌};
+ghost use Rattle.std.specs.Prelude.{◌≡◌, ◌<◌, length};
 ghost use Rattle.ggp_commands.specs.Contacts.{answer_of, contact_answer};
 
 use crate::addresses::PlayerAddress;
@@ -18,21 +18,25 @@ use std::time::{Clock, Duration, Instant};
 
 /// Where players are reached.
 pub trait Reach<P> {
-    /// The player of this role, at this address. Nothing is asked of it yet.
+    /// The player of this role of a match, at this address. The match is known by its place among those of its season, 0 where it is
+    /// the only one. Nothing is asked of the player yet.
     fn player(
         &self,
         alloc: Global,
+        place: usize,
         role: usize,
         address: &PlayerAddress<'_>,
     ) -> Result<P, AllocError>;
 }
 
-/// The network, as a runtime reaches it, for the players of one match. It is made where it is known which runtime that is, as in
-/// `main`: a player goes to another thread, and a function for any runtime can't tell that its players may.
+/// The network, as a runtime reaches it. It is made where it is known which runtime that is, as in `main`: a player goes to another
+/// thread, and a function for any runtime can't tell that its players may.
 #[derive(Drop)]
 pub struct Sockets<'a, H> {
     pub rt: &'a H,
-    pub signal: &'a Signal,
+    /// One for each place that a match may have. Where there are fewer the matches share them, and their players may rest for longer.
+    pub signals: &'a [Signal],
+    ghost has_one: { 0 < length signals.now },
 }
 
 /// A player on the network. Each message goes over a connection of its own.
@@ -76,20 +80,22 @@ impl<'a, H: Net + Clock> Reach<SocketPlayer<'a, H>> for Sockets<'a, H> {
     fn player(
         &self,
         alloc: Global,
+        place: usize,
         _role: usize,
         address: &PlayerAddress<'_>,
     ) -> Result<SocketPlayer<'a, H>, AllocError> {
+        let signal = &self.signals[place % self.signals.len()];
         let name = String::from_str(alloc, address.name)?;
         let host = String::from_str(alloc, address.host)?;
         Ok(SocketPlayer {
             rt: self.rt,
-            signal: self.signal,
+            signal,
             alloc,
             name,
             host,
             port: address.port,
             messages: 0,
-            seen: self.signal.latest(),
+            seen: signal.latest(),
             answered: None,
             fault: None,
         })

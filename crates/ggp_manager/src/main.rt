@@ -2,7 +2,7 @@
 #![tactic(auto)]
 
 use game_core::Counted;
-use ggp_commands::{Fault, Signal, SocketPlayer, Sockets, command, report};
+use ggp_commands::{Fault, MAX_MATCHES, Signal, SocketPlayer, Sockets, command, report};
 use std::io::ErrorKind;
 use std::process::ExitCode;
 use std::{env, io};
@@ -27,10 +27,13 @@ fn main(rt: HostRuntime) -> ExitCode {
     };
     let mut reader = Counted::new(rt.stdin());
     let mut writer = Counted::new(rt.stdout());
-    let signal = Signal::new();
+    let Ok(signals) = Signal::many(rt.alloc(), MAX_MATCHES) else {
+        report(&mut errors, Fault::Memory);
+        return ExitCode::from(Fault::Memory.status());
+    };
     let reach = Sockets {
         rt: &rt,
-        signal: &signal,
+        signals: signals.as_slice(),
     };
     let status = command::<_, SocketPlayer<'_, HostRuntime>, _, _, _, _>(
         &rt,

@@ -1,7 +1,7 @@
 use Rattle.std.proofs.Common.{◌≡◌, ◌≢◌, List, ℕ, sym, subst}
 use Rattle.std.proofs.lemmas.Result.{err_from_is_err_and}
 use Rattle.ggp_commands.specs.declared.fault.Fault.{Fault}
-use Rattle.ggp_commands.specs.declared.fault.Fault.TheVariants.{WrongUse, Memory, BadDescription, RulesFile, ReadFault, InputTooLong, WriteFault, NoAnswer, Refused, MatchNotEnded, NotLawful, NoEntry, Differs, BadLines}
+use Rattle.ggp_commands.specs.declared.fault.Fault.TheVariants.{WrongUse, Memory, BadDescription, RulesFile, ReadFault, InputTooLong, WriteFault, NoAnswer, Refused, MatchNotEnded, NotLawful, NoEntry, Differs, BadLines, BadSchedule, NoRecords}
 use Rattle.ggp_commands.specs.Commands.{RunFails}
 use Rattle.ggp_commands.specs.Games.{DescribesNone}
 use Rattle.ggp_commands.proofs.running.played_match.Goals as goal
@@ -20,6 +20,8 @@ fails text NoAnswer refused = let same : NoAnswer ≡ BadDescription = (refused 
 fails text (NotLawful fault) refused = let same : NotLawful fault ≡ BadDescription = (refused (λ same. absurd cc)).0 in absurd cc
 fails text (NoEntry place) refused = let same : NoEntry place ≡ BadDescription = (refused (λ same. absurd cc)).0 in absurd cc
 fails text (Differs place) refused = let same : Differs place ≡ BadDescription = (refused (λ same. absurd cc)).0 in absurd cc
+fails text (BadSchedule line why) refused = let same : BadSchedule line why ≡ BadDescription = (refused (λ same. absurd cc)).0 in absurd cc
+fails text (NoRecords count) refused = let same : NoRecords count ≡ BadDescription = (refused (λ same. absurd cc)).0 in absurd cc
 fails text (BadLines count) refused = let same : BadLines count ≡ BadDescription = (refused (λ same. absurd cc)).0 in absurd cc
 
 pub returns-in_err-game-clause-fails : goal.returns-in_err-game-clause-fails

@@ -1,0 +1,179 @@
+//! A season: the matches of a schedule, some of them at once, each on a desk of its own.
+ghost use Rattle.std.specs.Prelude.{◌≡◌, ◌++◌, ◌∷◌, [], ℕ, List, OnOk};
+ghost use Rattle.std.specs.Io.KnownBytes.{Appends};
+ghost use Rattle.game_core.specs.Bytes.{line_feed};
+ghost use Rattle.ggp_commands.specs.Seasons.{AreRecords};
+ghost use denote.Param.Send.{IsSync};
+
+use crate::arguments::MatchPlan;
+use crate::fault::Fault;
+use crate::pieces::Pieces;
+use crate::running::{EndedRecord, played_record};
+use crate::socket_player::Reach;
+use crate::streams::{WriteFault, write_all};
+use game_core::Counted;
+use match_workers::Player;
+use std::alloc::{AllocError, Global};
+use std::fmt::Write as _;
+use std::io::Write;
+use std::sync::atomic::{AtomicU64, Ordering};
+use std::sync::{Condvar, Mutex, Wait};
+use std::thread;
+use std::thread::Threads;
+
+/// What a match came to: its record, or why it has none.
+type Outcome = Result<EndedRecord, Fault>;
+
+/// A match of a season, and what it came to, from when that is known until it is taken.
+#[derive(Drop)]
+pub struct Fixture<'a> {
+    plan: MatchPlan<'a>,
+    outcome: Mutex<Option<Outcome>>,
+    settled: Condvar,
+}
+
+impl Fixture<'_> {
+    /// Says what the match came to.
+    fn settle<R: Wait>(&self, rt: &R, outcome: Outcome) {
+        *self.outcome.lock(rt) = Some(outcome);
+        self.settled.notify_all();
+    }
+
+    /// Waits until it is known what the match came to, and takes it.
+    fn take<R: Wait>(&self, rt: &R) -> Outcome {
+        let mut outcome = self
+            .settled
+            .wait_while(rt, self.outcome.lock(rt), |outcome| outcome.is_none());
+        outcome.take().unwrap()
+    }
+}
+
+/// The matches of these plans, before any is played.
+pub fn fixtures<'a>(
+    alloc: Global,
+    plans: Vec<MatchPlan<'a>>,
+) -> Result<Vec<Fixture<'a>>, AllocError> {
+    let mut fixtures = Vec::with_capacity(alloc, plans.len())?;
+    for plan in plans {
+        fixtures.push(Fixture {
+            plan,
+            outcome: Mutex::new(None),
+            settled: Condvar::new(),
+        })?;
+    }
+    Ok(fixtures)
+}
+
+/// The matches of a schedule, in its order, the rules of their game, and how many of them are played at once at most.
+#[derive(Clone, Copy)]
+pub struct Season<'a, 'b> {
+    pub rules: &'a [u8],
+    pub fixtures: &'a [Fixture<'b>],
+    pub at_once: usize,
+}
+
+/// Plays the matches that are left, one after another. The next one is that at the number of those which were taken.
+fn play_matches<R, P, S>(
+    rt: &R,
+    alloc: Global,
+    reach: &S,
+    season: Season<'_, '_>,
+    taken: &AtomicU64,
+)
+where
+    R: Threads + Wait + Sync,
+    P: Player + Drop + Send,
+    S: Reach<P>,
+{
+    for _ in 0..season.fixtures.len() {
+        let place = taken.fetch_add(1, Ordering::SeqCst) as usize;
+        let Some(fixture) = season.fixtures.get(place) else {
+            return;
+        };
+        let outcome = played_record::<R, P, S>(
+            rt,
+            alloc,
+            reach,
+            place,
+            &fixture.plan,
+            season.rules,
+        );
+        fixture.settle(rt, outcome);
+    }
+}
+
+/// Writes a record as a line.
+fn write_record<W: Write>(writer: &mut Counted<W>, ended: &EndedRecord) -> Result<(), WriteFault>
+    ensures { OnOk result (Appends (W.contents writer.old.stream) (W.contents writer.new.stream) (ended.now.text ++ line_feed ∷ [])) }
+{
+    write_all(writer, ended.text.as_slice())?;
+    write_all(writer, b"\n")
+}
+
+/// Writes the record of each match, in their order, once it is over. Why a match has none is told in a line; how many have none is answered.
+fn write_records<R: Wait, W: Write, E: Write>(
+    rt: &R,
+    fixtures: &[Fixture<'_>],
+    writer: &mut Counted<W>,
+    errors: &mut E,
+) -> Result<u64, WriteFault>
+    ensures { OnOk result ((text : List ℕ) × AreRecords text × Appends (W.contents writer.old.stream) (W.contents writer.new.stream) text) }
+{
+    let mut without = 0;
+    for fixture in fixtures {
+        match fixture.take(rt) {
+            Ok(ended) => write_record(writer, &ended)?,
+            Err(fault) => {
+                let id = fixture.plan.id;
+                let _ = writeln!(Pieces { stream: errors }, "ggp_manager: {id}: {fault}");
+                without += 1;
+            }
+        }
+    }
+    Ok(without)
+}
+
+/// Plays the matches of a season, so many at once at most, each in threads of its own, and writes their records in the order of the
+/// schedule, each as soon as it and those before it are over. How many matches have no record is answered.
+///
+/// Where no thread can be made that is want of memory, and no match was begun. After a failed write no further match begins.
+pub fn play_season<R, P, S, W: Write, E: Write>(
+    rt: &R,
+    alloc: Global,
+    reach: &S,
+    season: Season<'_, '_>,
+    writer: &mut Counted<W>,
+    errors: &mut E,
+) -> Result<u64, Fault>
+where
+    R: Threads + Wait + Sync,
+    P: Player + Drop + Send,
+    S: Reach<P> + Sync,
+{
+    let count = AtomicU64::new(0);
+    let taken = &count;
+    thread::scope(
+        thread::scope_env(),
+        rt,
+        move |scope| -> Result<u64, Fault>
+            requires sent { IsSync R.row × IsSync S.row }
+        {
+            let mut threads = 0;
+            for _ in 0..season.at_once.min(season.fixtures.len()) {
+                let work = move || play_matches::<R, P, S>(rt, alloc, reach, season, taken);
+                if scope.spawn(work).is_err() {
+                    break;
+                }
+                threads += 1;
+            }
+            if threads == 0 && !season.fixtures.is_empty() {
+                return Err(Fault::Memory);
+            }
+            let written = write_records(rt, season.fixtures, writer, errors);
+            if written.is_err() {
+                taken.store(season.fixtures.len() as u64, Ordering::SeqCst);
+            }
+            Ok(written?)
+        },
+    )
+}
