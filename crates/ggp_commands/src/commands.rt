@@ -12,11 +12,11 @@ use crate::logging::{Explains, LoggedPlayer, Logging};
 use crate::pieces::Pieces;
 use crate::replaying::replay_account;
 use crate::rules::{rules_text, season_rules};
-use crate::running::{PlayedMatch, played_match};
+use crate::running::{Entrants, PlayedMatch, entrants_of, played_match};
 use crate::schedule::read_schedule;
 use crate::script::run_script;
 use crate::script_fault::ScriptFault;
-use crate::season::{Season, fixtures, play_season};
+use crate::season::{Fixture, fixtures, play_season};
 use crate::socket_player::Reach;
 use crate::streams::{WriteFault, read_to_end, write_all};
 use desk_text::push_history;
@@ -94,7 +94,7 @@ pub fn command<H, P, S, R: Read, W: Write, E: Write + Send>(
 where
     H: Net + Clock + Files + Threads + Wait + Sync,
     P: Player + Explains + Drop + Send,
-    S: Reach<P> + Sync,
+    S: Reach<P>,
 {
     match perform::<H, P, S, R, W, E>(rt, alloc, reach, words, reader, writer, errors) {
         Ok(()) => 0,
@@ -123,7 +123,7 @@ fn perform<H, P, S, R: Read, W: Write, E: Write + Send>(
 where
     H: Net + Clock + Files + Threads + Wait + Sync,
     P: Player + Explains + Drop + Send,
-    S: Reach<P> + Sync,
+    S: Reach<P>,
 {
     let words: Vec<&str> = words.iter().map(|word| word.as_str()).collect(alloc)?;
     match read_arguments(alloc, words.as_slice())? {
@@ -231,13 +231,14 @@ fn run<H, P, S, W: Write, E: Write + Send>(
 where
     H: Net + Clock + Files + Threads + Wait + Sync,
     P: Player + Explains + Drop + Send,
-    S: Reach<P> + Sync,
+    S: Reach<P>,
 {
     let rules = rules_text(rt, alloc, run.rules)?;
     let PlayedMatch { record, history } = if run.is_logged {
         logged_match::<H, P, S, E>(rt, alloc, reach, &run.plan, &rules, errors)?
     } else {
-        played_match::<H, P, S>(rt, alloc, reach, 0, &run.plan, &rules)?
+        let entrants: Entrants<P> = entrants_of(alloc, reach, 0, &run.plan)?;
+        played_match(rt, alloc, entrants, &rules)?
     };
     let mut output = record.bytes;
     output.push(b'\n')?;
@@ -259,7 +260,7 @@ fn logged_match<H, P, S, E: Write + Send>(
 where
     H: Clock + Threads + Wait + Sync,
     P: Player + Explains + Drop + Send,
-    S: Reach<P> + Sync,
+    S: Reach<P>,
 {
     let stream = Mutex::new(errors);
     let logging = Logging {
@@ -268,7 +269,8 @@ where
         id: plan.id,
         stream: &stream,
     };
-    played_match::<H, LoggedPlayer<'_, H, P, &mut E>, _>(rt, alloc, &logging, 0, plan, rules)
+    let entrants: Entrants<LoggedPlayer<'_, H, P, &mut E>> = entrants_of(alloc, &logging, 0, plan)?;
+    played_match(rt, alloc, entrants, rules)
 }
 
 /// How many bytes a schedule has at most.
@@ -287,19 +289,23 @@ fn season<H, P, S, R: Read, W: Write, E: Write>(
 where
     H: Files + Threads + Wait + Sync,
     P: Player + Drop + Send,
-    S: Reach<P> + Sync,
+    S: Reach<P>,
 {
     let rules = season_rules(rt, alloc, plan.game)?;
     drop(described_game(alloc, &rules)?);
     let input = read_to_end(alloc, reader, MAX_SCHEDULE)?;
     let plans = read_schedule(alloc, &input, plan.strikes)?;
-    let fixtures = fixtures(alloc, plans)?;
-    let season = Season {
-        rules: &rules,
-        fixtures: fixtures.as_slice(),
-        at_once: plan.at_once,
-    };
-    match play_season::<H, P, S, W, E>(rt, alloc, reach, season, writer, errors)? {
+    let fixtures: Vec<Fixture<'_, P>> = fixtures(alloc, reach, plans.as_slice())?;
+    let written = play_season(
+        rt,
+        alloc,
+        &rules,
+        fixtures.as_slice(),
+        plan.at_once,
+        writer,
+        errors,
+    )?;
+    match written {
         0 => Ok(()),
         count => Err(Fault::NoRecords(count)),
     }

@@ -76,6 +76,26 @@ fn players_of<P: Drop, S: Reach<P>>(
     Ok(players)
 }
 
+/// A match before it is played: its setup, and a player for each name in it.
+#[derive(Drop)]
+pub struct Entrants<P> {
+    setup: Setup,
+    players: Vec<P>,
+    ghost one_each: { vec_len players ≡ length setup.players },
+}
+
+/// The entrants of the match at this place of its season.
+pub fn entrants_of<P: Drop, S: Reach<P>>(
+    alloc: Global,
+    reach: &S,
+    place: usize,
+    plan: &MatchPlan<'_>,
+) -> Result<Entrants<P>, AllocError> {
+    let setup = setup_of(alloc, plan)?;
+    let players = players_of(alloc, reach, place, plan)?;
+    Ok(Entrants { setup, players })
+}
+
 fn copies(alloc: Global, sentences: &[Expr]) -> Result<Vec<Expr>, AllocError>
     ensures { IfOk result (λ copies. views copies.items ≡ views sentences.now) }
 {
@@ -119,26 +139,22 @@ pub struct EndedRecord {
     ghost is_ended: { ∥ IsMatchRecord text ∥₁ },
 }
 
-/// Referees the match at this place of its season between its players, by the rules that this text describes.
-pub fn played_match<R, P, S>(
+/// Referees a match between its entrants, by the rules that this text describes.
+pub fn played_match<R, P>(
     rt: &R,
     alloc: Global,
-    reach: &S,
-    place: usize,
-    plan: &MatchPlan<'_>,
+    entrants: Entrants<P>,
     rules: &[u8],
 ) -> Result<PlayedMatch, Fault>
 where
     R: Threads + Wait + Sync,
     P: Player + Drop + Send,
-    S: Reach<P>,
     ensures ended { IfOk result (λ played. (d : ManagerValue _ _) × IsEndedRecord ⟦<PackedGame as Game>⟧.rules d played.record × IsReplay (reply ⟦<PackedGame as Game>⟧.rules) (after ⟦<PackedGame as Game>⟧.rules) opening d played.history.items) }
     ensures fails { IfErr result (RunFails rules.now) }
 {
     let game = described_game(alloc, rules)?;
     let sentences = copies(alloc, game.description())?;
-    let setup = setup_of(alloc, plan)?;
-    let players: Vec<P> = players_of(alloc, reach, place, plan)?;
+    let Entrants { setup, players } = entrants;
     let refereed = referee(rt, alloc, game, setup, sentences, players, MAX_TRIES)?;
     let record = ended_record(alloc, &refereed.closed.object)?;
     Ok(PlayedMatch {
@@ -147,21 +163,18 @@ where
     })
 }
 
-/// The record of the match at this place of its season, played as `played_match` does.
-pub fn played_record<R, P, S>(
+/// The record of a match, played as `played_match` does.
+pub fn played_record<R, P>(
     rt: &R,
     alloc: Global,
-    reach: &S,
-    place: usize,
-    plan: &MatchPlan<'_>,
+    entrants: Entrants<P>,
     rules: &[u8],
 ) -> Result<EndedRecord, Fault>
 where
     R: Threads + Wait + Sync,
     P: Player + Drop + Send,
-    S: Reach<P>,
     ensures fails { IfErr result (RunFails rules.now) }
 {
-    let PlayedMatch { record, .. } = played_match::<R, P, S>(rt, alloc, reach, place, plan, rules)?;
+    let PlayedMatch { record, .. } = played_match(rt, alloc, entrants, rules)?;
     Ok(EndedRecord { text: record })
 }

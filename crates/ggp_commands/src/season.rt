@@ -3,12 +3,12 @@ ghost use Rattle.std.specs.Prelude.{◌≡◌, ◌++◌, ◌∷◌, [], ℕ, Lis
 ghost use Rattle.std.specs.Io.KnownBytes.{Appends};
 ghost use Rattle.game_core.specs.Bytes.{line_feed};
 ghost use Rattle.ggp_commands.specs.Seasons.{AreRecords};
-ghost use denote.Param.Send.{IsSync};
+ghost use denote.Param.Send.{IsSend, IsSync};
 
 use crate::arguments::MatchPlan;
 use crate::fault::Fault;
 use crate::pieces::Pieces;
-use crate::running::{EndedRecord, played_record};
+use crate::running::{EndedRecord, Entrants, entrants_of, played_record};
 use crate::socket_player::Reach;
 use crate::streams::{WriteFault, write_all};
 use game_core::Counted;
@@ -24,15 +24,16 @@ use std::thread::Threads;
 /// What a match came to: its record, or why it has none.
 type Outcome = Result<EndedRecord, Fault>;
 
-/// A match of a season, and what it came to, from when that is known until it is taken.
+/// A match of a season: its entrants until it begins, and what it came to, from when that is known until it is taken.
 #[derive(Drop)]
-pub struct Fixture<'a> {
-    plan: MatchPlan<'a>,
+pub struct Fixture<'a, P> {
+    id: &'a str,
+    entrants: Mutex<Option<Entrants<P>>>,
     outcome: Mutex<Option<Outcome>>,
     settled: Condvar,
 }
 
-impl Fixture<'_> {
+impl<P> Fixture<'_, P> {
     /// Says what the match came to.
     fn settle<R: Wait>(&self, rt: &R, outcome: Outcome) {
         *self.outcome.lock(rt) = Some(outcome);
@@ -49,14 +50,17 @@ impl Fixture<'_> {
 }
 
 /// The matches of these plans, before any is played.
-pub fn fixtures<'a>(
+pub fn fixtures<'a, P: Drop, S: Reach<P>>(
     alloc: Global,
-    plans: Vec<MatchPlan<'a>>,
-) -> Result<Vec<Fixture<'a>>, AllocError> {
+    reach: &S,
+    plans: &[MatchPlan<'a>],
+) -> Result<Vec<Fixture<'a, P>>, AllocError> {
     let mut fixtures = Vec::with_capacity(alloc, plans.len())?;
-    for plan in plans {
+    for (place, plan) in plans.iter().enumerate() {
+        let entrants = entrants_of(alloc, reach, place, plan)?;
         fixtures.push(Fixture {
-            plan,
+            id: plan.id,
+            entrants: Mutex::new(Some(entrants)),
             outcome: Mutex::new(None),
             settled: Condvar::new(),
         })?;
@@ -64,41 +68,37 @@ pub fn fixtures<'a>(
     Ok(fixtures)
 }
 
-/// The matches of a schedule, in its order, the rules of their game, and how many of them are played at once at most.
-#[derive(Clone, Copy)]
-pub struct Season<'a, 'b> {
-    pub rules: &'a [u8],
-    pub fixtures: &'a [Fixture<'b>],
-    pub at_once: usize,
+/// Plays a match, and says what it came to.
+fn play<R, P>(rt: &R, alloc: Global, rules: &[u8], fixture: &Fixture<'_, P>)
+where
+    R: Threads + Wait + Sync,
+    P: Player + Drop + Send,
+{
+    let entrants = fixture.entrants.lock(rt).take();
+    if let Some(entrants) = entrants {
+        let outcome = played_record(rt, alloc, entrants, rules);
+        fixture.settle(rt, outcome);
+    }
 }
 
 /// Plays the matches that are left, one after another. The next one is that at the number of those which were taken.
-fn play_matches<R, P, S>(
+fn play_matches<R, P>(
     rt: &R,
     alloc: Global,
-    reach: &S,
-    season: Season<'_, '_>,
+    rules: &[u8],
+    fixtures: &[Fixture<'_, P>],
     taken: &AtomicU64,
 )
 where
     R: Threads + Wait + Sync,
     P: Player + Drop + Send,
-    S: Reach<P>,
 {
-    for _ in 0..season.fixtures.len() {
+    for _ in 0..fixtures.len() {
         let place = taken.fetch_add(1, Ordering::SeqCst) as usize;
-        let Some(fixture) = season.fixtures.get(place) else {
+        let Some(fixture) = fixtures.get(place) else {
             return;
         };
-        let outcome = played_record::<R, P, S>(
-            rt,
-            alloc,
-            reach,
-            place,
-            &fixture.plan,
-            season.rules,
-        );
-        fixture.settle(rt, outcome);
+        play(rt, alloc, rules, fixture);
     }
 }
 
@@ -111,9 +111,9 @@ fn write_record<W: Write>(writer: &mut Counted<W>, ended: &EndedRecord) -> Resul
 }
 
 /// Writes the record of each match, in their order, once it is over. Why a match has none is told in a line; how many have none is answered.
-fn write_records<R: Wait, W: Write, E: Write>(
+fn write_records<R: Wait, P, W: Write, E: Write>(
     rt: &R,
-    fixtures: &[Fixture<'_>],
+    fixtures: &[Fixture<'_, P>],
     writer: &mut Counted<W>,
     errors: &mut E,
 ) -> Result<u64, WriteFault>
@@ -124,7 +124,7 @@ fn write_records<R: Wait, W: Write, E: Write>(
         match fixture.take(rt) {
             Ok(ended) => write_record(writer, &ended)?,
             Err(fault) => {
-                let id = fixture.plan.id;
+                let id = fixture.id;
                 let _ = writeln!(Pieces { stream: errors }, "ggp_manager: {id}: {fault}");
                 without += 1;
             }
@@ -133,22 +133,23 @@ fn write_records<R: Wait, W: Write, E: Write>(
     Ok(without)
 }
 
-/// Plays the matches of a season, so many at once at most, each in threads of its own, and writes their records in the order of the
-/// schedule, each as soon as it and those before it are over. How many matches have no record is answered.
+/// Plays the matches of a season by the rules that this text describes, so many at once at most, each in threads of its own, and
+/// writes their records in the order of the fixtures, each as soon as it and those before it are over. How many matches have no
+/// record is answered.
 ///
 /// Where no thread can be made that is want of memory, and no match was begun. After a failed write no further match begins.
-pub fn play_season<R, P, S, W: Write, E: Write>(
+pub fn play_season<R, P, W: Write, E: Write>(
     rt: &R,
     alloc: Global,
-    reach: &S,
-    season: Season<'_, '_>,
+    rules: &[u8],
+    fixtures: &[Fixture<'_, P>],
+    at_once: usize,
     writer: &mut Counted<W>,
     errors: &mut E,
 ) -> Result<u64, Fault>
 where
     R: Threads + Wait + Sync,
     P: Player + Drop + Send,
-    S: Reach<P> + Sync,
 {
     let count = AtomicU64::new(0);
     let taken = &count;
@@ -156,22 +157,22 @@ where
         thread::scope_env(),
         rt,
         move |scope| -> Result<u64, Fault>
-            requires sent { IsSync R.row × IsSync S.row }
+            requires sent { IsSync R.row × IsSend P.row }
         {
-            let mut threads = 0;
-            for _ in 0..season.at_once.min(season.fixtures.len()) {
-                let work = move || play_matches::<R, P, S>(rt, alloc, reach, season, taken);
+            let mut has_thread = false;
+            for _ in 0..at_once.min(fixtures.len()) {
+                let work = move || play_matches(rt, alloc, rules, fixtures, taken);
                 if scope.spawn(work).is_err() {
                     break;
                 }
-                threads += 1;
+                has_thread = true;
             }
-            if threads == 0 && !season.fixtures.is_empty() {
+            if !has_thread && !fixtures.is_empty() {
                 return Err(Fault::Memory);
             }
-            let written = write_records(rt, season.fixtures, writer, errors);
+            let written = write_records(rt, fixtures, writer, errors);
             if written.is_err() {
-                taken.store(season.fixtures.len() as u64, Ordering::SeqCst);
+                taken.store(fixtures.len() as u64, Ordering::SeqCst);
             }
             Ok(written?)
         },
