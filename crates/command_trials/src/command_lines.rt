@@ -1,6 +1,6 @@
 //! Command lines: wrong use, help, and the addresses of players.
 use crate::outcomes::{Wanted, expect, expect_outcome, outcome_of};
-use ggp_commands::{PlayerAddress, player_address};
+use network_players::{PlayerAddress, player_address};
 use std::alloc::AllocError;
 
 const WRONG_USE: Wanted<'_> = Wanted {

@@ -1,8 +1,8 @@
 //! What players do, what the record of their match shows of it, and how long the match waits.
 use crate::outcomes::{Wanted, expect_outcome, outcome_with};
 use crate::simulated::{Conduct, Conducts, Door, Simulated, Step, Taking, World};
-use ggp_commands::{Explains, PlayerAddress, Reach, Signal, SocketPlayer, Sockets, contact};
 use match_workers::Player;
+use network_players::{Explains, PlayerAddress, Reach, Signal, SocketPlayer, Sockets, contact};
 use std::alloc::{AllocError, Global};
 use std::io::ErrorKind;
 use std::net::Net;

@@ -1,8 +1,8 @@
 //! Players over loopback that take longer than they have.
 use crate::network::{HostPlayer, answer, bound, listen};
 use crate::outcomes::{Outcome, Wanted, expect_outcome, outcome_with, with_players};
-use ggp_commands::{ContactFault, Explains, PlayerAddress, Reach, Signal, Sockets, contact};
 use match_workers::Player;
+use network_players::{ContactFault, Explains, PlayerAddress, Reach, Signal, Sockets, contact};
 use std::alloc::Global;
 use std::io::Write;
 use std::net::{Ipv4Addr, Net, SocketAddr, TcpListener, TcpStream};

@@ -2,9 +2,9 @@
 use crate::network::{HostPlayer, answer, listen};
 use crate::outcomes::{Outcome, Wanted, expect_outcome, outcome_of, outcome_with};
 use game_core::Text;
-use ggp_commands::{Explains, Reach, Signal, Sockets};
 use match_wire::{Message, read_message};
 use match_workers::Player;
+use network_players::{Explains, Reach, Signal, Sockets};
 use std::alloc::{AllocError, Global};
 use std::fmt::Write as _;
 use std::net::{Net, TcpListener, TcpStream};

@@ -2,9 +2,9 @@
 use crate::example_games::COUNTDOWN_RULES;
 use crate::outcomes::{Outcome, outcome_with};
 use game_core::Text;
-use ggp_commands::{ContactFault, Explains, PlayerAddress, Reach};
 use match_book::Answer;
 use match_workers::Player;
+use network_players::{ContactFault, Explains, PlayerAddress, Reach};
 use std::alloc::{AllocError, Global};
 use std::net::Net;
 use std::rt::Files;

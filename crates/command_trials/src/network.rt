@@ -2,9 +2,9 @@
 use crate::example_games::COUNTDOWN_RULES;
 use crate::outcomes::{Wanted, expect, expect_outcome, outcome_of, outcome_with};
 use game_core::{Counted, Text};
-use ggp_commands::{Explains, Reach, Signal, SocketPlayer, Sockets};
 use match_wire::{give_reply, take_request};
 use match_workers::Player;
+use network_players::{Explains, Reach, Signal, SocketPlayer, Sockets};
 use std::alloc::{AllocError, Global};
 use std::io::{Read, Write};
 use std::net::{Ipv4Addr, Net, SocketAddr, TcpListener, TcpStream};

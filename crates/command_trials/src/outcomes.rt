@@ -1,8 +1,9 @@
 //! Commands over streams in memory, and what they leave.
 use game_core::Counted;
-use ggp_commands::{Explains, PlayerAddress, Reach, command};
+use ggp_commands::command;
 use match_book::Answer;
 use match_workers::Player;
+use network_players::{Explains, PlayerAddress, Reach};
 use std::alloc::{AllocError, Global};
 use std::io::{Read, Write};
 use std::net::Net;

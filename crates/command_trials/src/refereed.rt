@@ -3,12 +3,12 @@ ghost use Rattle.std.specs.Prelude.{◌<◌};
 
 use crate::simulated::{Conduct, Door, Simulated, Step, Taking, World};
 use game_core::{Countdown, Text, Texts};
-use ggp_commands::{PlayerAddress, Reach, Signal, SocketPlayer, Sockets, answer_of};
 use ground_rules::{GroundGame, load};
 use kif_text::read_all;
 use match_book::{Answer, Match, Phase, Setup};
 use match_wire::WireFault;
 use match_workers::{Player, referee};
+use network_players::{PlayerAddress, Reach, Signal, SocketPlayer, Sockets, answer_of};
 use std::alloc::{AllocError, Global};
 use std::fmt;
 use std::fmt::Write as _;

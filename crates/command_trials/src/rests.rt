@@ -1,7 +1,7 @@
 //! How long a player rests, and what ends its rest.
 use crate::simulated::{Conduct, Door, Simulated, Taking, World};
-use ggp_commands::{PlayerAddress, Reach, Signal, Sockets};
 use match_workers::Player;
+use network_players::{PlayerAddress, Reach, Signal, Sockets};
 use std::io::ErrorKind;
 use std::sync::Wait;
 use std::test::Fail;

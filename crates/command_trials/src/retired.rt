@@ -1,8 +1,8 @@
 //! A player that goes away, in a match with strikes.
 use crate::network::{HostPlayer, answer, listen};
 use crate::outcomes::{Outcome, Wanted, expect_outcome, outcome_with, with_players};
-use ggp_commands::{Explains, Reach, Signal, Sockets};
 use match_workers::Player;
+use network_players::{Explains, Reach, Signal, Sockets};
 use std::alloc::Global;
 use std::net::{Net, TcpListener, TcpStream};
 use std::rt::Files;

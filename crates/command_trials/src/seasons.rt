@@ -1,9 +1,10 @@
 //! Seasons: schedules of matches, many of them at once.
 use crate::outcomes::{Outcome, Wanted, expect, expect_outcome, outcome_of, outcome_on, strings};
 use game_core::{Counted, Text};
-use ggp_commands::{Explains, PlayerAddress, Reach, command};
+use ggp_commands::command;
 use match_book::Answer;
 use match_workers::Player;
+use network_players::{Explains, PlayerAddress, Reach};
 use std::alloc::{AllocError, Global};
 use std::fmt::Write as _;
 use std::io::{ErrorKind, Write};

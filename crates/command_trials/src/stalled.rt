@@ -2,9 +2,10 @@
 use crate::example_games::COUNTDOWN_RULES;
 use crate::outcomes::{Outcome, Wanted, expect_outcome, strings};
 use game_core::{Counted, Text};
-use ggp_commands::{Explains, PlayerAddress, Reach, command};
+use ggp_commands::command;
 use match_book::Answer;
 use match_workers::Player;
+use network_players::{Explains, PlayerAddress, Reach};
 use std::alloc::{AllocError, Global};
 use std::sync::atomic::{AtomicU64, Ordering};
 use std::thread;

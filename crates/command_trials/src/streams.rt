@@ -4,9 +4,10 @@ use crate::outcomes::{
     Wanted, expect, expect_outcome, outcome_of, outcome_over, run_command, strings,
 };
 use game_core::Counted;
-use ggp_commands::{ArgumentFault, ContactFault, Fault, RulesFileFault, ScriptFault, report};
+use ggp_commands::{ArgumentFault, Fault, RulesFileFault, ScriptFault, report};
 use match_desk::Refusal;
 use match_wire::WireFault;
+use network_players::ContactFault;
 use std::alloc::AllocError;
 use std::io;
 use std::io::{ErrorKind, Read, Write};

@@ -6,7 +6,7 @@ use Rattle.game_core.specs.Counting.{Counting, one_more}
 use Rattle.game_core.specs.Play.{Rules}
 use Rattle.match_record.specs.LawfulRecord.{IsLawfulRecord}
 use Rattle.match_record.specs.Verified.{FailsFirst}
-use Rattle.ggp_commands.specs.Streams.{StopsReading}
+use Rattle.whole_streams.specs.Streams.{StopsReading}
 use Rattle.ggp_commands.specs.declared.fault.Fault.{Fault}
 use Rattle.ggp_commands.specs.declared.fault.Fault.TheVariants.{ReadFault, InputTooLong, Memory, NotLawful, WriteFault}
 

@@ -1,9 +1,3 @@
-pub mod Streams
 pub mod ScriptFaults
 pub mod Faults
-pub mod Commands
 pub mod Checks
-pub mod Games
-pub mod Contacts
-pub mod Schedules
-pub mod Seasons

@@ -2,7 +2,7 @@
 use Rattle.std.specs.Prelude.{◌≡◌, ℕ, ◌<◌, ◌≤◌, List, length, take, Option}
 use Rattle.std.specs.Io.KnownBytes.{Appends, IsAtEnd}
 use Rattle.game_core.specs.Counting.{Counting, one_more}
-use Rattle.ggp_commands.specs.Streams.{StopsReading}
+use Rattle.whole_streams.specs.Streams.{StopsReading}
 use Rattle.ggp_commands.specs.declared.script_fault.ScriptFault.{ScriptFault}
 use Rattle.ggp_commands.specs.declared.script_fault.ScriptFault.TheVariants.{ReadFault, TooLong, Memory, WriteFault}
 

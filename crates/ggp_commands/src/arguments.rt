@@ -1,10 +1,10 @@
 //! Reading the command line.
 
-use crate::addresses::{PlayerAddress, decimal, player_address};
 use crate::rules::Rules;
-use crate::schedule::MAX_MATCHES;
 use clap::error::ErrorKind;
 use clap::{Arg, ArgAction, ArgMatches, Command};
+use match_season::{MAX_MATCHES, MatchPlan};
+use network_players::{PlayerAddress, decimal, player_address};
 use std::alloc::{AllocError, AllocFailed, Global};
 
 /// What the command line asks for. Its texts are the words that it was read from.
@@ -32,17 +32,6 @@ pub enum GameSource<'a> {
     /// Countdown, with a heap of this size, in or out of its range.
     Countdown(u8),
     Described(Rules<'a>),
-}
-
-/// A match between players on the network: its id, its clocks in seconds, after how many substituted moves in a row a role is
-/// retired (0: never), and its players in the order of the roles.
-#[derive(Drop)]
-pub struct MatchPlan<'a> {
-    pub id: &'a str,
-    pub start: u32,
-    pub play: u32,
-    pub strikes: u8,
-    pub players: Vec<PlayerAddress<'a>>,
 }
 
 /// One match: the rules of its game, whether each message is told on standard error, and whether the account of the match is wanted.

@@ -6,11 +6,11 @@ ghost use Rattle.ggp_commands.specs.Checks.{lawful_line, CheckFails};
 
 use crate::fault::Fault;
 use crate::script_fault::ScriptFault;
-use crate::streams::{InputFault, read_to_end, write_all};
 use game_core::{Counted, Game};
 use match_record::{VerifyFault, verify};
 use std::alloc::Global;
 use std::io::{Read, Write};
+use whole_streams::{InputFault, read_to_end, write_all};
 
 /// How many bytes a record has at most: 16 MiB.
 const MAX_RECORD: usize = 16_777_216;

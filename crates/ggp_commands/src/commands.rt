@@ -1,28 +1,20 @@
 //! The commands, over any streams, runtime and players.
 
-use crate::addresses::PlayerAddress;
-use crate::arguments::{
-    ArgumentFault, GameSource, MatchPlan, RunPlan, SeasonPlan, Task, read_arguments,
-};
+use crate::arguments::{ArgumentFault, GameSource, RunPlan, SeasonPlan, Task, read_arguments};
 use crate::checking::check_record;
-use crate::contacting::{ContactFault, contact};
 use crate::fault::Fault;
-use crate::games::described_game;
-use crate::logging::{Explains, LoggedPlayer, Logging};
-use crate::pieces::Pieces;
 use crate::replaying::replay_account;
 use crate::rules::{rules_text, season_rules};
-use crate::running::{Entrants, PlayedMatch, entrants_of, played_match};
-use crate::schedule::read_schedule;
 use crate::script::run_script;
 use crate::script_fault::ScriptFault;
-use crate::season::{Fixture, fixtures, play_season};
-use crate::socket_player::Reach;
-use crate::streams::{WriteFault, read_to_end, write_all};
 use desk_text::push_history;
 use game_core::{Countdown, Counted, Game};
+use match_season::{
+    Entrants, Fixture, MatchPlan, PlayedMatch, described_game, entrants_of, fixtures, play_season, played_match, read_schedule,
+};
 use match_wire::{Info, WireFault, info_message, read_info};
 use match_workers::Player;
+use network_players::{ContactFault, Explains, LoggedPlayer, Logging, PlayerAddress, Reach, contact};
 use std::alloc::Global;
 use std::fmt::Write as _;
 use std::io::{Read, Write};
@@ -31,6 +23,7 @@ use std::rt::Files;
 use std::sync::{Mutex, Wait};
 use std::thread::Threads;
 use std::time::Clock;
+use whole_streams::{Pieces, WriteFault, read_to_end, write_all};
 
 /// How many seconds a player has to answer INFO.
 const INFO_SECONDS: u32 = 10;

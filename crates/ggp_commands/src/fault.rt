@@ -1,10 +1,10 @@
 //! Why a command ends with a fault.
 
 use crate::rules::RulesFileFault;
-use crate::schedule::LineFault;
 use desk_text::refusal_word;
 use match_desk::Refusal;
 use match_record::VerifyFault;
+use match_season::{DescriptionFault, LineFault, MatchFault, ScheduleFault, SeasonFault};
 use std::alloc::{AllocError, AllocFailed};
 use thiserror::Error;
 
@@ -84,5 +84,43 @@ impl From<AllocError> for Fault {
 impl<T: Drop> From<AllocFailed<T>> for Fault {
     fn from(_: AllocFailed<T>) -> Fault {
         Fault::Memory
+    }
+}
+
+impl From<DescriptionFault> for Fault {
+    fn from(fault: DescriptionFault) -> Fault {
+        match fault {
+            DescriptionFault::BadDescription => Fault::BadDescription,
+            DescriptionFault::Memory => Fault::Memory,
+        }
+    }
+}
+
+impl From<MatchFault> for Fault {
+    fn from(fault: MatchFault) -> Fault {
+        match fault {
+            MatchFault::BadDescription => Fault::BadDescription,
+            MatchFault::Refused(refusal) => Fault::Refused(refusal),
+            MatchFault::NotEnded => Fault::MatchNotEnded,
+            MatchFault::Memory => Fault::Memory,
+        }
+    }
+}
+
+impl From<ScheduleFault> for Fault {
+    fn from(fault: ScheduleFault) -> Fault {
+        match fault {
+            ScheduleFault::BadLine(number, why) => Fault::BadSchedule(number, why),
+            ScheduleFault::Memory => Fault::Memory,
+        }
+    }
+}
+
+impl From<SeasonFault> for Fault {
+    fn from(fault: SeasonFault) -> Fault {
+        match fault {
+            SeasonFault::WriteFault => Fault::WriteFault,
+            SeasonFault::Memory => Fault::Memory,
+        }
     }
 }

@@ -1,11 +1,11 @@
 //! An account is read, and its calls are made again.
 
 use crate::fault::Fault;
-use crate::streams::{read_to_end, write_all};
 use desk_text::{ReplayFault, push_records, replay};
 use game_core::{Counted, Game};
 use std::alloc::Global;
 use std::io::{Read, Write};
+use whole_streams::{read_to_end, write_all};
 
 /// How many bytes an account has at most: 256 MiB.
 const MAX_ACCOUNT: usize = 268_435_456;

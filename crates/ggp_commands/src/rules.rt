@@ -1,16 +1,16 @@
 //! Where a description comes from.
 
 use crate::arguments::GameSource;
-use crate::countdown_rules::countdown_rules;
 use crate::fault::Fault;
-use crate::streams::{InputFault, read_to_end};
 use game_core::{Countdown, Counted};
+use match_season::countdown_rules;
 use std::alloc::Global;
 use std::borrow::CowSlice;
 use std::io::ErrorKind;
 use std::rt::Files;
 use std::{fs, io};
 use thiserror::Error;
+use whole_streams::{InputFault, read_to_end};
 
 /// A ground description: its text, or the file that holds it.
 #[derive(Clone, Copy, Debug, PartialEq, Eq)]

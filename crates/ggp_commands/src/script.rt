@@ -6,11 +6,11 @@ ghost use Rattle.desk_text.specs.Script.{bad_lines, script_output};
 ghost use Rattle.ggp_commands.specs.ScriptFaults.{ScriptFails};
 
 use crate::script_fault::ScriptFault;
-use crate::streams::{read_to_end, write_all};
 use desk_text::answer_script;
 use game_core::{Counted, Game};
 use std::alloc::Global;
 use std::io::{Read, Write};
+use whole_streams::{read_to_end, write_all};
 
 /// How many bytes a script has at most.
 const MAX_SCRIPT: usize = 1_048_576;

@@ -1,8 +1,8 @@
 //! Why a script is not answered.
 
-use crate::streams::{InputFault, WriteFault};
 use std::alloc::AllocError;
 use thiserror::Error;
+use whole_streams::{InputFault, WriteFault};
 
 /// Why a script was not answered: the first of these to come. After the first three nothing was
 /// written, and after a failed write a prefix of the output was.

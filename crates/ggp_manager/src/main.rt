@@ -2,7 +2,9 @@
 #![tactic(auto)]
 
 use game_core::Counted;
-use ggp_commands::{Fault, MAX_MATCHES, Signal, SocketPlayer, Sockets, command, report};
+use ggp_commands::{Fault, command, report};
+use match_season::MAX_MATCHES;
+use network_players::{Signal, SocketPlayer, Sockets};
 use std::io::ErrorKind;
 use std::process::ExitCode;
 use std::{env, io};

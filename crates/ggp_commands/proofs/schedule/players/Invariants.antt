@@ -1,6 +1,0 @@
-use Rattle.std.proofs.Common.{◌≡◌, take, map}
-use Rattle.ggp_commands.specs.Schedules.{addressed_name}
-use Rattle.ggp_commands.proofs.schedule.players.Given as goal
-
-abbrev pub invariant-loop-word : goal.invariant-loop-word
-invariant-loop-word l = map (λ p. p.name.now) l.players.items ≡ map (λ w. addressed_name w.now) (take l.word-index l.words)

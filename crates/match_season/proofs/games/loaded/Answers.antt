@@ -1,0 +1,38 @@
+use Rattle.std.proofs.Common.{rules, ◌≡◌, ◌≢◌, List, ℕ, refl, sym, subst}
+use Rattle.std.proofs.lemmas.Result.{err_from_is_err_and}
+use Rattle.std.specs.Prelude.{map}
+use Rattle.game_core.specs.Expression.{Expression, folded}
+use Rattle.kif_text.specs.Spelling.{SpellsAll}
+use Rattle.kif_text.specs.View.{view, expressions}
+use Rattle.ground_rules.specs.Loading.{IsLoadFault}
+use Rattle.ground_rules.specs.declared.fault.LoadFault.{LoadFault}
+use Rattle.ground_rules.specs.declared.fault.LoadFault.TheVariants.{Variable, BadForm, Misplaced, NoRole, RoleTwice, TooLarge, Cyclic, Depends, Memory as LoadMemory}
+use Rattle.match_season.specs.declared.games.DescriptionFault.{DescriptionFault}
+use Rattle.match_season.specs.declared.games.DescriptionFault.TheVariants.{Memory, BadDescription}
+use Rattle.match_season.specs.Games.{DescribesNone, faulty, loading_fault}
+use Rattle.match_season.proofs.games.loaded.Goals as goal
+
+IsRefusedAs : List ℕ → DescriptionFault → Type 0
+IsRefusedAs text fault = fault ≢ Memory → DescribesNone text
+
+refused : (text : List ℕ) (xs : List Expression) (fault : LoadFault) → SpellsAll text (expressions xs) → IsLoadFault (map folded xs) fault → IsRefusedAs text (loading_fault fault)
+unfolding IsRefusedAs
+refused text xs (Variable i) spelled found = λ _. faulty xs (Variable i) spelled (λ same. absurd cc) found
+refused text xs (BadForm i) spelled found = λ _. faulty xs (BadForm i) spelled (λ same. absurd cc) found
+refused text xs (Misplaced i) spelled found = λ _. faulty xs (Misplaced i) spelled (λ same. absurd cc) found
+refused text xs NoRole spelled found = λ _. faulty xs NoRole spelled (λ same. absurd cc) found
+refused text xs RoleTwice spelled found = λ _. faulty xs RoleTwice spelled (λ same. absurd cc) found
+refused text xs TooLarge spelled found = λ _. faulty xs TooLarge spelled (λ same. absurd cc) found
+refused text xs Cyclic spelled found = λ _. faulty xs Cyclic spelled (λ same. absurd cc) found
+refused text xs Depends spelled found = λ _. faulty xs Depends spelled (λ same. absurd cc) found
+refused text xs LoadMemory spelled found = λ differs. absurd (differs refl)
+
+pub returns-in_err-load-clause-refused : goal.returns-in_err-load-clause-refused
+unfolding IsRefusedAs
+returns-in_err-load-clause-refused c =
+    let text = c.args.rules.now in
+    let sentences = map view c.as_slice.result.now in
+    let passed = err_from_is_err_and c.from_residual-in_err-load.result c.from_residual-in_err-load.ensures.1 in
+    let spelled : SpellsAll text (expressions sentences) = search rules in
+    let why = refused text sentences c.in_err-load.field-0.0 spelled c.in_err-load.ensures in
+    rw passed.1 (subst (IsRefusedAs text) (sym passed.2) why)

@@ -1,0 +1,42 @@
+-- Games that are described in text.
+use Rattle.std.specs.Prelude.{◌≢◌, ℕ, List, map}
+use Rattle.game_core.specs.Expression.{Expression, Expressions, folded}
+use Rattle.kif_text.specs.Spelling.{SpellsAll}
+use Rattle.kif_text.specs.View.{expressions}
+use Rattle.ground_rules.specs.declared.fault.LoadFault.{LoadFault}
+use Rattle.ground_rules.specs.declared.fault.LoadFault.TheVariants.{Memory as LoadMemory}
+use Rattle.ground_rules.specs.declared.ground_game.GroundGame.{GroundGame}
+use Rattle.ground_rules.specs.Loading.{IsLoadFault}
+use Rattle.ground_rules.specs.Loaded.{IsLoaded}
+use Rattle.kif_text.specs.declared.fault.KifFault.{KifFault}
+use Rattle.kif_text.specs.declared.fault.KifFault.TheVariants.{Memory as KifMemory}
+use Rattle.packed_rules.specs.PackedGames.{IsPackedFormOf}
+use Rattle.packed_rules.specs.declared.packed_game.PackedGame.{PackedGame}
+use Rattle.match_season.specs.declared.games.DescriptionFault.{DescriptionFault}
+use Rattle.match_season.specs.declared.games.DescriptionFault.TheVariants.{Memory, BadDescription}
+
+-- the text spells sentences, and the game is what they describe without their capitals
+pub record IsLoadedFrom (text : List ℕ) (game : GroundGame) : Type 0 where
+  pub sentences : List Expression
+  pub spelled : SpellsAll text (expressions sentences)
+  pub loaded : IsLoaded (map folded sentences) game
+
+-- the game is the packed form of what the text describes
+pub record IsDescribed (text : List ℕ) (game : PackedGame) : Type 0 where
+  pub plain : GroundGame
+  pub loaded : IsLoadedFrom text plain
+  pub packed : IsPackedFormOf plain game
+
+-- the text spells no sentences, or sentences that have a fault
+pub data DescribesNone (text : List ℕ) : Type 0 where
+  unread : ((xs : Expressions) → ¬ SpellsAll text xs) → DescribesNone text
+  faulty : (sentences : List Expression) (fault : LoadFault) → SpellsAll text (expressions sentences) → fault ≢ LoadMemory → IsLoadFault (map folded sentences) fault → DescribesNone text
+
+-- a text that can't be read, or that has a fault, is a bad description
+abbrev pub reading_fault : KifFault → DescriptionFault
+reading_fault KifMemory = Memory
+reading_fault fault = BadDescription
+
+abbrev pub loading_fault : LoadFault → DescriptionFault
+loading_fault LoadMemory = Memory
+loading_fault fault = BadDescription

@@ -1,0 +1,4 @@
+pub mod Games
+pub mod Matches
+pub mod Schedules
+pub mod Seasons

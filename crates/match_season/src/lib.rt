@@ -1,0 +1,21 @@
+//! Matches between players that are reached at their addresses: one, or the matches of a schedule, some of them at once.
+//!
+//! `described_game` makes a game of its text; `played_match` referees a match by such a text, from its plan to its record;
+//! `read_schedule` and `play_season` do so for all matches of a schedule.
+//!
+//! Free functions take the allocator first, behind a handle for threads and waiting.
+#![tactic(auto)]
+
+mod countdown_rules;
+mod games;
+mod plan;
+mod playing;
+mod schedule;
+mod season;
+
+pub use countdown_rules::countdown_rules;
+pub use games::{DescriptionFault, described_game};
+pub use plan::MatchPlan;
+pub use playing::{Entrants, MatchFault, PlayedMatch, entrants_of, played_match};
+pub use schedule::{LineFault, MAX_MATCHES, ScheduleFault, read_schedule};
+pub use season::{Fixture, SeasonFault, fixtures, play_season};

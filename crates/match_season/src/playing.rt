@@ -1,0 +1,228 @@
+//! A match between players on the network, from its plan to its record.
+ghost use Rattle.std.specs.Prelude.{◌≡◌, ◌≢◌, IfOk, IfErr, length, vec_len};
+ghost use Rattle.kif_text.specs.View.{views};
+ghost use Rattle.call_history.specs.History.{IsReplay};
+ghost use Rattle.match_desk.specs.ManagerValue.{ManagerValue, opening};
+ghost use Rattle.match_desk.specs.Steps.{reply, after};
+ghost use Rattle.match_season.specs.Matches.{IsEndedRecord, HasNoEndedMatch, RunFails};
+ghost use Rattle.match_season.specs.Seasons.{IsMatchRecord};
+
+use crate::games::{DescriptionFault, described_game};
+use crate::plan::MatchPlan;
+use call_history::Entry;
+use desk_text::refusal_word;
+use game_core::{Game, Text, Texts};
+use kif_text::{Expr, copy};
+use match_book::{Phase, Setup};
+use match_desk::{Call, Manager, Refusal, Reply};
+use match_record::record_json;
+use match_workers::{Player, RefereeFault, referee};
+use network_players::Reach;
+use packed_rules::PackedGame;
+use std::alloc::{AllocError, AllocFailed, Global};
+use std::sync::Wait;
+use std::thread::Threads;
+use thiserror::Error;
+
+/// How often a role may ask what is due to it. To wait for a message of another takes the role of a player on the network 101 asks in
+/// ten seconds and 1,011 in a day.
+const MAX_TRIES: u64 = 100_000;
+
+/// Why a match has no record.
+#[derive(Clone, Copy, Debug, PartialEq, Eq, Error)]
+pub enum MatchFault {
+    /// The text of the rules is not KIF, or is no ground description.
+    #[error("bad description")]
+    BadDescription,
+    /// The match was not opened.
+    #[error("refused {}", refusal_word(*.0))]
+    Refused(Refusal),
+    /// The match has neither finished nor been aborted.
+    #[error("match not ended")]
+    NotEnded,
+    #[error("want of memory")]
+    Memory,
+}
+
+impl From<AllocError> for MatchFault {
+    ghost use Rattle.std.specs.Prelude.{◌≡◌};
+    ghost use Rattle.match_season.specs.declared.playing.MatchFault.TheVariants.{Memory};
+
+    ghost from_gives = { λ _ given. given ≡ Memory };
+
+    fn from(_: AllocError) -> MatchFault {
+        MatchFault::Memory
+    }
+}
+
+impl<T: Drop> From<AllocFailed<T>> for MatchFault {
+    fn from(_: AllocFailed<T>) -> MatchFault {
+        MatchFault::Memory
+    }
+}
+
+impl From<DescriptionFault> for MatchFault {
+    ghost use Rattle.std.specs.Prelude.{◌≡◌};
+    ghost use Rattle.match_season.specs.Matches.{description_fault};
+
+    ghost from_gives = { λ fault given. given ≡ description_fault fault };
+
+    fn from(fault: DescriptionFault) -> MatchFault {
+        match fault {
+            DescriptionFault::BadDescription => MatchFault::BadDescription,
+            DescriptionFault::Memory => MatchFault::Memory,
+        }
+    }
+}
+
+impl From<RefereeFault> for MatchFault {
+    ghost use Rattle.std.specs.Prelude.{◌≡◌};
+    ghost use Rattle.match_season.specs.Matches.{referee_fault};
+
+    ghost from_gives = { λ fault given. given ≡ referee_fault fault };
+
+    fn from(fault: RefereeFault) -> MatchFault {
+        match fault {
+            RefereeFault::Refused(refusal) => MatchFault::Refused(refusal),
+            RefereeFault::Unclosed | RefereeFault::Full => MatchFault::NotEnded,
+            RefereeFault::Memory => MatchFault::Memory,
+        }
+    }
+}
+
+fn setup_of(alloc: Global, plan: &MatchPlan<'_>) -> Result<Setup, AllocError>
+    ensures players { IfOk result (λ s. length s.players ≡ vec_len plan.now.players) }
+    ensures start { IfOk result (λ s. s.start ≡ plan.now.start) }
+    ensures play { IfOk result (λ s. s.play ≡ plan.now.play) }
+    ensures strikes { IfOk result (λ s. s.strikes ≡ plan.now.strikes) }
+{
+    let mut items = Vec::with_capacity(alloc, plan.players.len())?;
+    for player in &plan.players {
+        items.push(Text::from_slice(alloc, player.name.as_bytes())?)?;
+    }
+    Ok(Setup {
+        id: Text::from_slice(alloc, plan.id.as_bytes())?,
+        start: plan.start,
+        play: plan.play,
+        strikes: plan.strikes,
+        players: Texts { items },
+    })
+}
+
+fn players_of<P: Drop, S: Reach<P>>(
+    alloc: Global,
+    reach: &S,
+    place: usize,
+    plan: &MatchPlan<'_>,
+) -> Result<Vec<P>, AllocError>
+    ensures { IfOk result (λ v. vec_len v ≡ vec_len plan.now.players) }
+{
+    let mut players = Vec::with_capacity(alloc, plan.players.len())?;
+    for (role, address) in plan.players.iter().enumerate() {
+        players.push(reach.player(alloc, place, role, address)?)?;
+    }
+    Ok(players)
+}
+
+/// A match before it is played: its setup, and a player for each name in it.
+#[derive(Drop)]
+pub struct Entrants<P> {
+    setup: Setup,
+    players: Vec<P>,
+    ghost one_each: { vec_len players ≡ length setup.players },
+}
+
+/// The entrants of the match at this place of its season.
+pub fn entrants_of<P: Drop, S: Reach<P>>(
+    alloc: Global,
+    reach: &S,
+    place: usize,
+    plan: &MatchPlan<'_>,
+) -> Result<Entrants<P>, AllocError> {
+    let setup = setup_of(alloc, plan)?;
+    let players = players_of(alloc, reach, place, plan)?;
+    Ok(Entrants { setup, players })
+}
+
+fn copies(alloc: Global, sentences: &[Expr]) -> Result<Vec<Expr>, AllocError>
+    ensures { IfOk result (λ copies. views copies.items ≡ views sentences.now) }
+{
+    let mut rules = Vec::with_capacity(alloc, sentences.len())?;
+    for sentence in sentences {
+        rules.push(copy(alloc, sentence)?)?;
+    }
+    Ok(rules)
+}
+
+/// The record of the desk's match, where that has come to its end.
+fn ended_record<G: Game>(alloc: Global, manager: &Manager<G>) -> Result<Text, MatchFault>
+    ensures ended { IfOk result (IsEndedRecord G.rules manager.now) }
+    ensures not_ended { IfErr result (λ fault. fault ≢ MatchFault.Memory → (fault ≡ MatchFault.NotEnded) × HasNoEndedMatch G.rules manager.now) }
+{
+    if manager.matches() == 0 {
+        return Err(MatchFault::NotEnded);
+    }
+    let game = manager.game_of_match(0).unwrap();
+    let held = manager.match_at(0).unwrap();
+    match held.status().phase {
+        Phase::Finished | Phase::Aborted => Ok(record_json(alloc, game, held)?),
+        Phase::Starting | Phase::Playing | Phase::Stopping | Phase::Aborting => {
+            Err(MatchFault::NotEnded)
+        }
+    }
+}
+
+/// A match that was played to its end.
+#[derive(Drop)]
+pub struct PlayedMatch {
+    pub record: Text,
+    /// All calls on the desk of the match, each with its reply, in their order.
+    pub history: Vec<Entry<Call, Reply>>,
+}
+
+/// The record of a match that was played to its end.
+#[derive(Drop)]
+pub struct EndedRecord {
+    pub text: Text,
+    ghost is_ended: { ∥ IsMatchRecord text ∥₁ },
+}
+
+/// Referees a match between its entrants, by the rules that this text describes.
+pub fn played_match<R, P>(
+    rt: &R,
+    alloc: Global,
+    entrants: Entrants<P>,
+    rules: &[u8],
+) -> Result<PlayedMatch, MatchFault>
+where
+    R: Threads + Wait + Sync,
+    P: Player + Drop + Send,
+    ensures ended { IfOk result (λ played. (d : ManagerValue _ _) × IsEndedRecord ⟦<PackedGame as Game>⟧.rules d played.record × IsReplay (reply ⟦<PackedGame as Game>⟧.rules) (after ⟦<PackedGame as Game>⟧.rules) opening d played.history.items) }
+    ensures fails { IfErr result (RunFails rules.now) }
+{
+    let game = described_game(alloc, rules)?;
+    let sentences = copies(alloc, game.description())?;
+    let Entrants { setup, players } = entrants;
+    let refereed = referee(rt, alloc, game, setup, sentences, players, MAX_TRIES)?;
+    let record = ended_record(alloc, &refereed.closed.object)?;
+    Ok(PlayedMatch {
+        record,
+        history: refereed.closed.history,
+    })
+}
+
+/// The record of a match, played as `played_match` does.
+pub fn played_record<R, P>(
+    rt: &R,
+    alloc: Global,
+    entrants: Entrants<P>,
+    rules: &[u8],
+) -> Result<EndedRecord, MatchFault>
+where
+    R: Threads + Wait + Sync,
+    P: Player + Drop + Send,
+    ensures fails { IfErr result (RunFails rules.now) }
+{
+    let PlayedMatch { record, .. } = played_match(rt, alloc, entrants, rules)?;
+    Ok(EndedRecord { text: record })
+}

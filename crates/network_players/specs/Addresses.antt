@@ -1,0 +1,7 @@
+-- Players, as a word names them.
+use Rattle.std.specs.Prelude.{◌==◌, ℕ, List}
+use Rattle.std.specs.List.{before_first}
+
+-- the name in a player's address: what stands before its first @
+abbrev pub addressed_name : List ℕ → List ℕ
+addressed_name word = before_first (λ b. b == 64) word

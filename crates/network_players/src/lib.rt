@@ -1,0 +1,20 @@
+//! Players that are reached over the network: their addresses, a message on a connection of its own with one deadline, the rest
+//! between two messages, and each message told on a stream.
+//!
+//! `Sockets` reaches players over HTTP; `Logging` reaches them as another `Reach` does, and tells what they are asked.
+//!
+//! Free functions take the allocator first, behind a handle for waiting or the network.
+#![tactic(auto)]
+
+mod addresses;
+mod contacting;
+mod deadline;
+mod logging;
+mod signal;
+mod socket_player;
+
+pub use addresses::{PlayerAddress, decimal, player_address};
+pub use contacting::{ContactFault, contact};
+pub use logging::{Explains, LoggedPlayer, Logging};
+pub use signal::Signal;
+pub use socket_player::{Reach, SocketPlayer, Sockets, answer_of};

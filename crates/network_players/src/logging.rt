@@ -1,0 +1,158 @@
+//! A match that is told line by line, while it runs: whoever reaches players through `Logging` reads each message with its answer.
+
+use crate::addresses::PlayerAddress;
+use crate::contacting::ContactFault;
+use crate::socket_player::{Reach, time_since};
+use match_book::Answer;
+use match_workers::Player;
+use std::alloc::{AllocError, Global};
+use std::fmt;
+use std::fmt::Write as _;
+use std::io::Write;
+use std::sync::{Mutex, Wait};
+use std::time::{Clock, Instant};
+use whole_streams::Pieces;
+
+/// Who can say why the last message brought no answer.
+pub trait Explains {
+    /// None where it brought one, or where nothing more is known.
+    fn why(&self) -> Option<ContactFault> {
+        None
+    }
+}
+
+/// How many bytes of a message or an answer a line shows.
+const SHOWN: usize = 60;
+
+/// The beginning of a text that any bytes may be in: `?` stands for each that is not seen, and dots for what follows.
+#[derive(Drop)]
+struct Shown<'a> {
+    text: &'a [u8],
+}
+
+impl fmt::Display for Shown<'_> {
+    fn fmt<F: fmt::Write>(&self, f: &mut fmt::Formatter<F>) -> fmt::Result {
+        for byte in self.text.iter().take(SHOWN) {
+            let is_seen = *byte == b' ' || byte.is_ascii_graphic();
+            f.write_char(if is_seen { char::from(*byte) } else { '?' })?;
+        }
+        if self.text.len() > SHOWN {
+            f.write_str("..")?;
+        }
+        Ok(())
+    }
+}
+
+/// What a message brought, as a line shows it: the answer, or `TO` or `CE` with the reason where one is known.
+#[derive(Drop)]
+struct Brought<'a> {
+    answer: &'a Answer,
+    why: Option<ContactFault>,
+}
+
+impl fmt::Display for Brought<'_> {
+    fn fmt<F: fmt::Write>(&self, f: &mut fmt::Formatter<F>) -> fmt::Result {
+        match self.answer {
+            Answer::Text(text) => {
+                return Shown {
+                    text: text.as_slice(),
+                }
+                .fmt(f);
+            }
+            Answer::Silent => f.write_str("TO")?,
+            Answer::Broken => f.write_str("CE")?,
+        }
+        match self.why {
+            Some(fault) => write!(f, " ({fault})"),
+            None => Ok(()),
+        }
+    }
+}
+
+/// Reaches players as another does, and has each message to one told on a stream, as it is answered.
+#[derive(Drop)]
+pub struct Logging<'a, H, S, E> {
+    pub rt: &'a H,
+    pub reach: &'a S,
+    /// The match's id.
+    pub id: &'a str,
+    pub stream: &'a Mutex<E>,
+}
+
+/// A player whose messages are told on a stream.
+#[derive(Drop)]
+pub struct LoggedPlayer<'a, H, P, E> {
+    rt: &'a H,
+    player: P,
+    alloc: Global,
+    id: &'a str,
+    role: usize,
+    name: String,
+    /// How many messages it was handed.
+    messages: u64,
+    stream: &'a Mutex<E>,
+}
+
+impl<'a, H, P, S: Reach<P>, E> Reach<LoggedPlayer<'a, H, P, E>> for Logging<'a, H, S, E> {
+    fn player(
+        &self,
+        alloc: Global,
+        place: usize,
+        role: usize,
+        address: &PlayerAddress<'_>,
+    ) -> Result<LoggedPlayer<'a, H, P, E>, AllocError> {
+        let name = String::from_str(alloc, address.name)?;
+        Ok(LoggedPlayer {
+            rt: self.rt,
+            player: self.reach.player(alloc, place, role, address)?,
+            alloc,
+            id: self.id,
+            role,
+            name,
+            messages: 0,
+            stream: self.stream,
+        })
+    }
+}
+
+impl<H: Wait, P: Explains, E: Write> LoggedPlayer<'_, H, P, E> {
+    /// Tells in one line what a message brought. Where there is no memory for the line it is left out.
+    fn tell(&self, body: &[u8], answer: &Answer, millis: u128) {
+        let Ok(line) = format!(in self.alloc;
+            "{} role {} {} message {} {}: {}, {millis} ms\n",
+            self.id,
+            self.role,
+            self.name,
+            self.messages,
+            Shown { text: body },
+            Brought {
+                answer,
+                why: self.player.why(),
+            },
+        ) else {
+            return;
+        };
+        let mut stream = self.stream.lock(self.rt);
+        let _ = Pieces {
+            stream: &mut *stream,
+        }
+        .write_str(line.as_str());
+    }
+}
+
+impl<H: Clock + Wait, P: Player + Explains, E: Write> Player for LoggedPlayer<'_, H, P, E> {
+    ghost handed = { λ p. P.handed p.player };
+
+    fn ask(&mut self, seconds: u32, body: &[u8]) -> Answer {
+        self.messages = self.messages.saturating_add(1);
+        let began = Instant::now(self.rt).ok();
+        let answer = self.player.ask(seconds, body);
+        let millis = time_since(self.rt, began).as_millis();
+        self.tell(body, &answer, millis);
+        answer
+    }
+
+    fn rest(&mut self) {
+        self.player.rest();
+    }
+}

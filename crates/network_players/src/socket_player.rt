@@ -1,0 +1,174 @@
+//! Players that are reached over the network.
+ghost use Rattle.std.specs.Prelude.{◌≡◌, ◌<◌, length};
+ghost use Rattle.network_players.specs.Contacts.{answer_of, contact_answer};
+
+use crate::addresses::PlayerAddress;
+use crate::contacting::{ContactFault, contact};
+use crate::logging::Explains;
+use crate::signal::{Signal, rest_after};
+use game_core::Text;
+use match_book::Answer;
+use match_wire::WireFault;
+use match_workers::Player;
+use std::alloc::{AllocError, Global};
+use std::io::ErrorKind;
+use std::net::Net;
+use std::sync::Wait;
+use std::time::{Clock, Duration, Instant};
+
+/// Where players are reached.
+pub trait Reach<P> {
+    /// The player of this role of a match, at this address. The match is known by its place among those of its season, 0 where it is
+    /// the only one. Nothing is asked of the player yet.
+    fn player(
+        &self,
+        alloc: Global,
+        place: usize,
+        role: usize,
+        address: &PlayerAddress<'_>,
+    ) -> Result<P, AllocError>;
+}
+
+/// The network, as a runtime reaches it. It is made where it is known which runtime that is, as in `main`: a player goes to another
+/// thread, and a function for any runtime can't tell that its players may.
+#[derive(Drop)]
+pub struct Sockets<'a, H> {
+    pub rt: &'a H,
+    /// One for each place that a match may have. Where there are fewer the matches share them, and their players may rest for longer.
+    pub signals: &'a [Signal],
+    ghost has_one: { 0 < length signals.now },
+}
+
+/// A player on the network. Each message goes over a connection of its own.
+pub struct SocketPlayer<'a, H> {
+    rt: &'a H,
+    signal: &'a Signal,
+    alloc: Global,
+    name: String,
+    host: String,
+    port: u16,
+    /// How many messages it was handed.
+    messages: u64,
+    /// What the signal said before the role last asked what is due.
+    seen: u64,
+    /// When the last message was answered, where the clock could be read.
+    answered: Option<Instant>,
+    /// Why the last message brought no answer: none where it brought one.
+    fault: Option<ContactFault>,
+}
+
+/// Whose player goes is attended no longer, since the match is over as a rule: so the others are woken.
+impl<H> Drop for SocketPlayer<'_, H> {
+    fn drop(self) {
+        let SocketPlayer {
+            rt: _,
+            signal,
+            alloc: _,
+            name: _,
+            host: _,
+            port: _,
+            messages,
+            seen: _,
+            answered: _,
+            fault: _,
+        } = self;
+        signal.raise(messages.saturating_add(1));
+    }
+}
+
+impl<'a, H: Net + Clock> Reach<SocketPlayer<'a, H>> for Sockets<'a, H> {
+    fn player(
+        &self,
+        alloc: Global,
+        place: usize,
+        _role: usize,
+        address: &PlayerAddress<'_>,
+    ) -> Result<SocketPlayer<'a, H>, AllocError> {
+        let signal = &self.signals[place % self.signals.len()];
+        let name = String::from_str(alloc, address.name)?;
+        let host = String::from_str(alloc, address.host)?;
+        Ok(SocketPlayer {
+            rt: self.rt,
+            signal,
+            alloc,
+            name,
+            host,
+            port: address.port,
+            messages: 0,
+            seen: signal.latest(),
+            answered: None,
+            fault: None,
+        })
+    }
+}
+
+/// What an exchange with a player came to: no answer in time is a silence, every other fault a broken answer.
+pub fn answer_of(exchanged: Result<Text, WireFault>) -> Answer
+    ensures { result ≡ answer_of exchanged }
+{
+    match exchanged {
+        Ok(text) => Answer::Text(text),
+        Err(WireFault::ReadFault(ErrorKind::WouldBlock | ErrorKind::TimedOut)) => Answer::Silent,
+        Err(_) => Answer::Broken,
+    }
+}
+
+/// What handing a message over came to: where the time was over a silence, without a connection a broken answer.
+fn contact_answer(reached: Result<Text, ContactFault>) -> Answer
+    ensures { result ≡ contact_answer reached }
+{
+    match reached {
+        Ok(text) => answer_of(Ok(text)),
+        Err(ContactFault::Exchange(fault)) => answer_of(Err(fault)),
+        Err(ContactFault::Late) => Answer::Silent,
+        Err(
+            ContactFault::NoAddress
+            | ContactFault::NoConnection
+            | ContactFault::NoClock
+            | ContactFault::Memory,
+        ) => Answer::Broken,
+    }
+}
+
+/// How long ago that was: no time where the clock can't be read.
+pub(crate) fn time_since(clock: &impl Clock, moment: Option<Instant>) -> Duration {
+    match moment {
+        Some(moment) => moment.elapsed(clock).unwrap_or(Duration::ZERO),
+        None => Duration::ZERO,
+    }
+}
+
+impl<H> Explains for SocketPlayer<'_, H> {
+    fn why(&self) -> Option<ContactFault> {
+        self.fault
+    }
+}
+
+impl<H: Net + Clock + Wait> Player for SocketPlayer<'_, H> {
+    ghost use Rattle.std.specs.Prelude.{None};
+
+    // What a socket carries no contract can name.
+    ghost handed = { λ p. None };
+
+    fn ask(&mut self, seconds: u32, body: &[u8]) -> Answer {
+        self.messages = self.messages.saturating_add(1);
+        self.signal.raise(self.messages);
+        let address = PlayerAddress {
+            name: self.name.as_str(),
+            host: self.host.as_str(),
+            port: self.port,
+        };
+        let reached = contact(self.rt, self.alloc, &address, seconds, body);
+        self.seen = self.signal.latest();
+        self.answered = Instant::now(self.rt).ok();
+        self.fault = reached.as_ref().err().copied();
+        contact_answer(reached)
+    }
+
+    fn rest(&mut self) {
+        let most = rest_after(time_since(self.rt, self.answered));
+        self.signal.wait(self.rt, self.seen, most);
+        // Read before the role asks again: whatever is raised after that ends the next rest.
+        self.seen = self.signal.latest();
+    }
+}

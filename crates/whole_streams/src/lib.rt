@@ -1,0 +1,9 @@
+//! Whole inputs and whole outputs over streams that count their calls and faults: `read_to_end`, `write_all`, and text that is
+//! formatted to a stream piece by piece.
+#![tactic(auto)]
+
+mod pieces;
+mod whole;
+
+pub use pieces::Pieces;
+pub use whole::{InputFault, WriteFault, read_to_end, write_all};
