@@ -4,7 +4,7 @@ use crate::outcomes::{Outcome, outcome_with};
 use game_core::Text;
 use match_book::Answer;
 use match_workers::Player;
-use network_players::{ContactFault, Explains, PlayerAddress, Reach};
+use network_players::{ContactFault, Explains, PlayerAddress, Reach, Seat};
 use std::alloc::{AllocError, Global};
 use std::net::Net;
 use std::rt::Files;
@@ -68,13 +68,12 @@ impl Reach<ScriptedPlayer> for Scripted {
     fn player(
         &self,
         alloc: Global,
-        _place: usize,
-        role: usize,
+        seat: Seat<'_>,
         _address: &PlayerAddress<'_>,
     ) -> Result<ScriptedPlayer, AllocError> {
         Ok(ScriptedPlayer {
             alloc,
-            answers: ANSWERS.get(role).copied().unwrap_or(&[]),
+            answers: ANSWERS.get(seat.role).copied().unwrap_or(&[]),
             asked: 0,
         })
     }

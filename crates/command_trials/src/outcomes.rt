@@ -3,7 +3,7 @@ use game_core::Counted;
 use ggp_commands::command;
 use match_book::Answer;
 use match_workers::Player;
-use network_players::{Explains, PlayerAddress, Reach};
+use network_players::{Explains, PlayerAddress, Reach, Seat};
 use std::alloc::{AllocError, Global};
 use std::io::{Read, Write};
 use std::net::Net;
@@ -99,8 +99,7 @@ impl Reach<SilentPlayer> for NoNetwork {
     fn player(
         &self,
         _alloc: Global,
-        _place: usize,
-        _role: usize,
+        _seat: Seat<'_>,
         _address: &PlayerAddress<'_>,
     ) -> Result<SilentPlayer, AllocError> {
         Ok(SilentPlayer)

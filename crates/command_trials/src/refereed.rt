@@ -8,7 +8,7 @@ use kif_text::read_all;
 use match_book::{Answer, Match, Phase, Setup};
 use match_wire::WireFault;
 use match_workers::{Player, referee};
-use network_players::{PlayerAddress, Reach, Signal, SocketPlayer, Sockets, answer_of};
+use network_players::{PlayerAddress, Reach, Seat, Signal, SocketPlayer, Sockets, answer_of};
 use std::alloc::{AllocError, Global};
 use std::fmt;
 use std::fmt::Write as _;
@@ -169,7 +169,12 @@ fn players_of<P: Drop, S: Reach<P>>(
     };
     let mut players = Vec::new(alloc);
     for role in 0..count {
-        players.push(reach.player(alloc, 0, role, &ann)?)?;
+        let seat = Seat {
+            place: 0,
+            id: "m1",
+            role,
+        };
+        players.push(reach.player(alloc, seat, &ann)?)?;
     }
     Ok(players)
 }

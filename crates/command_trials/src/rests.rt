@@ -1,13 +1,19 @@
 //! How long a player rests, and what ends its rest.
 use crate::simulated::{Conduct, Door, Simulated, Taking, World};
 use match_workers::Player;
-use network_players::{PlayerAddress, Reach, Signal, Sockets};
+use network_players::{PlayerAddress, Reach, Seat, Signal, Sockets};
 use std::io::ErrorKind;
 use std::sync::Wait;
 use std::test::Fail;
 use std::thread::Threads;
 use std::time::{Clock, Duration, Instant};
 use std::{io, thread};
+
+const SEAT: Seat<'_> = Seat {
+    place: 0,
+    id: "m1",
+    role: 0,
+};
 
 const ANN: PlayerAddress<'_> = PlayerAddress {
     name: "ann",
@@ -49,7 +55,7 @@ fn rests_grow_with_the_time_since_the_last_message(rt: HostRuntime) -> Result<()
         rt: &network,
         signals: &signals,
     };
-    let mut player = reach.player(rt.alloc(), 0, 0, &ANN)?;
+    let mut player = reach.player(rt.alloc(), SEAT, &ANN)?;
     let first = rested(&rt, &mut player)?;
     assert!(rt; first >= Duration::from_millis(99) && is_short(first));
     player.ask(1, b"");
@@ -77,8 +83,8 @@ fn rests_end_when_a_round_begins(rt: HostRuntime) -> Result<(), Fail> {
         rt: &network,
         signals: &signals,
     };
-    let mut ann = reach.player(rt.alloc(), 0, 0, &ANN)?;
-    let mut bob = reach.player(rt.alloc(), 0, 0, &ANN)?;
+    let mut ann = reach.player(rt.alloc(), SEAT, &ANN)?;
+    let mut bob = reach.player(rt.alloc(), SEAT, &ANN)?;
     ann.ask(1, b"");
     bob.ask(1, b"");
     assert!(rt; rested(&rt, &mut ann)? >= Duration::from_millis(99));
@@ -120,8 +126,8 @@ fn rests_end_when_a_player_goes(rt: HostRuntime) -> Result<(), Fail> {
         rt: &network,
         signals: &signals,
     };
-    let mut ann = reach.player(rt.alloc(), 0, 0, &ANN)?;
-    let mut bob = reach.player(rt.alloc(), 0, 0, &ANN)?;
+    let mut ann = reach.player(rt.alloc(), SEAT, &ANN)?;
+    let mut bob = reach.player(rt.alloc(), SEAT, &ANN)?;
     ann.ask(1, b"");
     bob.ask(1, b"");
     world.pass(LONG);

@@ -4,10 +4,11 @@ use game_core::{Counted, Text};
 use ggp_commands::command;
 use match_book::Answer;
 use match_workers::Player;
-use network_players::{Explains, PlayerAddress, Reach};
+use network_players::{Explains, PlayerAddress, Reach, Seat};
 use std::alloc::{AllocError, Global};
 use std::fmt::Write as _;
 use std::io::{ErrorKind, Write};
+use std::str::from_utf8;
 use std::sync::atomic::{AtomicU64, Ordering};
 use std::test::Fail;
 use std::time::Duration;
@@ -190,8 +191,7 @@ impl<'a> Reach<SeasonPlayer<'a>> for SeasonPlayers<'a> {
     fn player(
         &self,
         alloc: Global,
-        _place: usize,
-        role: usize,
+        seat: Seat<'_>,
         address: &PlayerAddress<'_>,
     ) -> Result<SeasonPlayer<'a>, AllocError> {
         let kind = match address.name {
@@ -203,7 +203,7 @@ impl<'a> Reach<SeasonPlayer<'a>> for SeasonPlayers<'a> {
         Ok(SeasonPlayer {
             rt: self.rt,
             alloc,
-            role,
+            role: seat.role,
             kind,
             ends: self.ends,
         })
@@ -274,6 +274,101 @@ fn records_come_in_the_order_of_the_schedule(rt: HostRuntime) -> Result<(), Fail
         status: 1,
     };
     expect_outcome(&rt, &outcome, wanted);
+    Ok(())
+}
+
+/// The lines of a text that begin with this one, in their order.
+fn lines_with<'a>(
+    alloc: Global,
+    text: &'a str,
+    beginning: &str,
+) -> Result<Vec<&'a str>, AllocError> {
+    text.lines()
+        .filter(|line| line.starts_with(beginning))
+        .collect(alloc)
+}
+
+/// One thread plays all matches but the first, so these end in the schedule's order, and the first one last.
+#[test]
+fn records_come_as_the_matches_end(rt: HostRuntime) -> Result<(), Fail> {
+    let ends = AtomicU64::new(0);
+    let reach = SeasonPlayers {
+        rt: &rt,
+        ends: &ends,
+    };
+    let words = [
+        "season",
+        "--countdown",
+        "1",
+        "--at-once",
+        "2",
+        "--as-they-end",
+    ];
+    let alloc = rt.alloc();
+    let outcome = outcome_on::<_, SeasonPlayer<'_>, _>(&rt, &reach, alloc, &words, MIXED_SCHEDULE)?;
+    assert_eq!(rt; outcome.status, 1);
+    let records = mixed_records(alloc)?;
+    let (late, others) = records.split_once('\n').ok_or("one record")?;
+    let told = from_utf8(&outcome.output)?;
+    assert_eq!(rt; told.len(), records.len());
+    assert!(rt; told.contains(late));
+    for (line, wanted) in told.lines().zip(others.lines()).take(3) {
+        assert_eq!(rt; line, wanted);
+    }
+    let errors = from_utf8(&outcome.errors)?;
+    assert!(rt; errors.ends_with("ggp_manager: matches without record 3\n"));
+    assert_eq!(rt; errors.lines().count(), 4);
+    Ok(())
+}
+
+/// The accounts of the matches, one behind the other, are one account of a desk that has them all.
+#[test]
+fn seasons_are_accounted_for(rt: HostRuntime) -> Result<(), Fail> {
+    let ends = AtomicU64::new(0);
+    let reach = SeasonPlayers {
+        rt: &rt,
+        ends: &ends,
+    };
+    let words = ["season", "--countdown", "1", "--at-once", "2", "--history"];
+    let alloc = rt.alloc();
+    let outcome = outcome_on::<_, SeasonPlayer<'_>, _>(&rt, &reach, alloc, &words, MIXED_SCHEDULE)?;
+    let records = mixed_records(alloc)?;
+    let output = from_utf8(&outcome.output)?;
+    let account = output.strip_prefix(records.as_str()).ok_or("no records")?;
+    assert_eq!(rt; lines_with(alloc, account, "0\tstrict ")?.len(), 5);
+    let calls = account.lines().count();
+    let wanted = format!(in alloc; "replayed {calls} calls\n{records}")?;
+    let words = ["replay", "--countdown", "1"];
+    let wanted = Wanted::output(wanted.as_bytes());
+    expect(&rt, alloc, &words, account.as_bytes(), wanted)?;
+    Ok(())
+}
+
+#[test]
+fn messages_of_a_season_are_told(rt: HostRuntime) -> Result<(), Fail> {
+    let ends = AtomicU64::new(0);
+    let reach = SeasonPlayers {
+        rt: &rt,
+        ends: &ends,
+    };
+    let words = ["season", "--countdown", "1", "--log"];
+    let alloc = rt.alloc();
+    let outcome = outcome_on::<_, SeasonPlayer<'_>, _>(&rt, &reach, alloc, &words, MIXED_SCHEDULE)?;
+    let records = mixed_records(alloc)?;
+    assert!(rt; outcome.output.as_slice() == records.as_bytes());
+    let errors = from_utf8(&outcome.errors)?;
+    for (red, blue) in [
+        ("m0 role 0 late message ", "m0 role 1 bob message "),
+        ("m1 role 0 ann message ", "m1 role 1 bob message "),
+        ("m2 role 0 ann message ", "m2 role 1 gone message "),
+        ("m3 role 0 ann message ", "m3 role 1 mute message "),
+        ("m4 role 0 ann message ", "m4 role 1 bob message "),
+    ] {
+        // START, one PLAY, STOP.
+        assert_eq!(rt; lines_with(alloc, errors, red)?.len(), 3);
+        assert_eq!(rt; lines_with(alloc, errors, blue)?.len(), 3);
+    }
+    assert_eq!(rt; lines_with(alloc, errors, "ggp_manager: ")?.len(), 4);
     Ok(())
 }
 

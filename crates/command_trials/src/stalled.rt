@@ -5,7 +5,7 @@ use game_core::{Counted, Text};
 use ggp_commands::command;
 use match_book::Answer;
 use match_workers::Player;
-use network_players::{Explains, PlayerAddress, Reach};
+use network_players::{Explains, PlayerAddress, Reach, Seat};
 use std::alloc::{AllocError, Global};
 use std::sync::atomic::{AtomicU64, Ordering};
 use std::thread;
@@ -64,8 +64,7 @@ impl<'a> Reach<ReadyPlayer<'a>> for PlayersInMemory<'a> {
     fn player(
         &self,
         alloc: Global,
-        _place: usize,
-        _role: usize,
+        _seat: Seat<'_>,
         address: &PlayerAddress<'_>,
     ) -> Result<ReadyPlayer<'a>, AllocError> {
         Ok(ReadyPlayer {

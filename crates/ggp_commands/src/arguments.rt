@@ -3,7 +3,7 @@
 use crate::rules::Rules;
 use clap::error::ErrorKind;
 use clap::{Arg, ArgAction, ArgMatches, Command};
-use match_season::{MAX_MATCHES, MatchPlan};
+use match_season::{MAX_MATCHES, MatchPlan, RecordOrder, SeasonForm};
 use network_players::{PlayerAddress, decimal, player_address};
 use std::alloc::{AllocError, AllocFailed, Global};
 
@@ -43,12 +43,14 @@ pub struct RunPlan<'a> {
     pub has_history: bool,
 }
 
-/// The matches of a schedule: their game, the strikes of each, and how many of them are played at once at most.
+/// The matches of a schedule: their game, the strikes of each, how they are played and told, and whether each message is told on
+/// standard error.
 #[derive(Clone, Copy, Debug, PartialEq, Eq)]
 pub struct SeasonPlan<'a> {
     pub game: GameSource<'a>,
     pub strikes: u8,
-    pub at_once: usize,
+    pub form: SeasonForm,
+    pub is_logged: bool,
 }
 
 /// Why a command line is refused.
@@ -161,6 +163,14 @@ fn strikes_option<'a>(alloc: Global) -> Arg<'a> {
     .default_value("0")
 }
 
+fn log_flag<'a>(alloc: Global) -> Arg<'a> {
+    flag(
+        alloc,
+        "log",
+        "Each message and its answer is told on standard error",
+    )
+}
+
 fn season_command<'a>(alloc: Global) -> Result<Command<'a>, AllocError> {
     let command = Command::new(alloc, "season").about(
         "Referees the matches of the schedule on standard input, and prints their records",
@@ -173,7 +183,18 @@ fn season_command<'a>(alloc: Global) -> Result<Command<'a>, AllocError> {
             "N",
             "How many matches are played at once at most, 1 to 1024",
         )
-        .default_value("16"))
+        .default_value("16"))?
+        .arg(flag(
+            alloc,
+            "as-they-end",
+            "The records are printed in the order in which the matches end",
+        ))?
+        .arg(log_flag(alloc))?
+        .arg(flag(
+            alloc,
+            "history",
+            "The accounts of the matches are printed behind the records",
+        ))
 }
 
 fn run_command<'a>(alloc: Global) -> Result<Command<'a>, AllocError> {
@@ -185,11 +206,7 @@ fn run_command<'a>(alloc: Global) -> Result<Command<'a>, AllocError> {
         .arg(option(alloc, "start", "S", "The seconds for START").default_value("10"))?
         .arg(option(alloc, "play", "S", "The seconds for every other message").default_value("10"))?
         .arg(strikes_option(alloc))?
-        .arg(flag(
-            alloc,
-            "log",
-            "Each message and its answer is told on standard error",
-        ))?
+        .arg(log_flag(alloc))?
         .arg(flag(
             alloc,
             "history",
@@ -264,6 +281,14 @@ fn strikes(found: &ArgMatches<'_>) -> Option<u8> {
     u8::try_from(strikes).ok()
 }
 
+fn record_order(found: &ArgMatches<'_>) -> RecordOrder {
+    if found.get_flag("as-they-end") {
+        RecordOrder::OfEnds
+    } else {
+        RecordOrder::OfSchedule
+    }
+}
+
 fn season_plan<'a>(found: &ArgMatches<'a>) -> Option<SeasonPlan<'a>> {
     let at_once = decimal(found.get_str("at-once")?, MAX_MATCHES as u64)?;
     if at_once == 0 {
@@ -272,7 +297,12 @@ fn season_plan<'a>(found: &ArgMatches<'a>) -> Option<SeasonPlan<'a>> {
     Some(SeasonPlan {
         game: game_source(found)?,
         strikes: strikes(found)?,
-        at_once: at_once as usize,
+        form: SeasonForm {
+            at_once: at_once as usize,
+            order: record_order(found),
+            has_history: found.get_flag("history"),
+        },
+        is_logged: found.get_flag("log"),
     })
 }
 

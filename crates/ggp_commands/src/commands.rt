@@ -10,11 +10,14 @@ use crate::script_fault::ScriptFault;
 use desk_text::push_history;
 use game_core::{Countdown, Counted, Game};
 use match_season::{
-    Entrants, Fixture, MatchPlan, PlayedMatch, described_game, entrants_of, fixtures, play_season, played_match, read_schedule,
+    Entrants, Fixture, MatchPlan, PlayedMatch, described_game, entrants_of, fixtures, play_season,
+    played_match, read_schedule,
 };
 use match_wire::{Info, WireFault, info_message, read_info};
 use match_workers::Player;
-use network_players::{ContactFault, Explains, LoggedPlayer, Logging, PlayerAddress, Reach, contact};
+use network_players::{
+    ContactFault, Explains, LoggedPlayer, Logging, PlayerAddress, Reach, contact,
+};
 use std::alloc::Global;
 use std::fmt::Write as _;
 use std::io::{Read, Write};
@@ -259,18 +262,17 @@ where
     let logging = Logging {
         rt,
         reach,
-        id: plan.id,
         stream: &stream,
     };
     let entrants: Entrants<LoggedPlayer<'_, H, P, &mut E>> = entrants_of(alloc, &logging, 0, plan)?;
-    played_match(rt, alloc, entrants, rules)
+    Ok(played_match(rt, alloc, entrants, rules)?)
 }
 
 /// How many bytes a schedule has at most.
 const MAX_SCHEDULE: usize = 4_194_304;
 
 /// Plays the matches of the schedule on standard input. The game and the schedule are read before one is begun.
-fn season<H, P, S, R: Read, W: Write, E: Write>(
+fn season<H, P, S, R: Read, W: Write, E: Write + Send>(
     rt: &H,
     alloc: Global,
     reach: &S,
@@ -280,24 +282,29 @@ fn season<H, P, S, R: Read, W: Write, E: Write>(
     errors: &mut E,
 ) -> Result<(), Fault>
 where
-    H: Files + Threads + Wait + Sync,
-    P: Player + Drop + Send,
+    H: Clock + Files + Threads + Wait + Sync,
+    P: Player + Explains + Drop + Send,
     S: Reach<P>,
 {
     let rules = season_rules(rt, alloc, plan.game)?;
     drop(described_game(alloc, &rules)?);
     let input = read_to_end(alloc, reader, MAX_SCHEDULE)?;
     let plans = read_schedule(alloc, &input, plan.strikes)?;
-    let fixtures: Vec<Fixture<'_, P>> = fixtures(alloc, reach, plans.as_slice())?;
-    let written = play_season(
-        rt,
-        alloc,
-        &rules,
-        fixtures.as_slice(),
-        plan.at_once,
-        writer,
-        errors,
-    )?;
+    let stream = Mutex::new(errors);
+    let written = if plan.is_logged {
+        let logging = Logging {
+            rt,
+            reach,
+            stream: &stream,
+        };
+        let fixtures: Vec<Fixture<'_, LoggedPlayer<'_, H, P, &mut E>>> = fixtures(
+            alloc, &logging, &plans,
+        )?;
+        play_season(rt, alloc, &rules, &fixtures, plan.form, writer, &stream)?
+    } else {
+        let fixtures: Vec<Fixture<'_, P>> = fixtures(alloc, reach, &plans)?;
+        play_season(rt, alloc, &rules, &fixtures, plan.form, writer, &stream)?
+    };
     match written {
         0 => Ok(()),
         count => Err(Fault::NoRecords(count)),

@@ -1,19 +1,44 @@
 -- What a season writes.
-use Rattle.std.specs.Prelude.{ℕ, List, [], ◌∷◌, ◌++◌}
+use Rattle.std.specs.Prelude.{◌≡◌, ℕ, List, [], ◌∷◌, ◌++◌, Option, IfSome}
 use Rattle.game_core.specs.Bytes.{line_feed}
-use Rattle.game_core.specs.Play.{Rules}
 use Rattle.ground_rules.specs.LoadedGame.{loaded_game}
 use Rattle.packed_rules.specs.PackedGames.{tables_of}
 use Rattle.packed_rules.specs.declared.packed_game.PackedGame.{PackedGame}
-use Rattle.match_desk.specs.ManagerValue.{ManagerValue}
+use Rattle.call_history.specs.History.{IsReplay}
+use Rattle.call_history.specs.declared.journal.Entry.{Entry}
+use Rattle.match_desk.specs.ManagerValue.{ManagerValue, opening}
+use Rattle.match_desk.specs.Steps.{reply, after}
+use Rattle.match_desk.specs.declared.call.Call.{Call}
+use Rattle.match_desk.specs.declared.call.Reply.{Reply}
+use Rattle.desk_text.specs.Account.{history_text}
 use Rattle.match_season.specs.Matches.{IsEndedRecord}
 
--- the text is the record of the first match of some desk of described games, which is over
-pub record IsMatchRecord (text : List ℕ) : Type 0 where
+-- the text tells a legal history from the opening, and the desk is what that leaves
+pub record IsDeskAccount (desk : ManagerValue PackedGame _) (text : List ℕ) : Type 0 where
+  pub history : List (Entry Call Reply)
+  pub is_told : text ≡ history_text history
+  pub replayed : IsReplay (reply (λ g. loaded_game (tables_of g))) (after (λ g. loaded_game (tables_of g))) opening desk history
+
+-- the text is the record of the first match of some desk of described games, which is over, and an account is that of this desk
+pub record IsEndedMatch (text : List ℕ) (account : Option (List ℕ)) : Type 0 where
   pub desk : ManagerValue PackedGame _
   pub ended : IsEndedRecord (λ g. loaded_game (tables_of g)) desk text
+  pub told : IfSome account (IsDeskAccount desk)
 
--- a text of lines, each such a record
+-- the text is the record of a match
+abbrev pub IsMatchRecord : List ℕ → Type 0
+IsMatchRecord text = (account : Option (List ℕ)) × IsEndedMatch text account
+
+-- the text is the account of some desk of described games
+abbrev pub IsAccountOfDesk : List ℕ → Type 0
+IsAccountOfDesk text = (desk : ManagerValue PackedGame _) × IsDeskAccount desk text
+
+-- a text of lines, each the record of a match
 pub data AreRecords : List ℕ → Type 0 where
   none : AreRecords []
   more : (text line : List ℕ) → AreRecords text → ∥ IsMatchRecord line ∥₁ → AreRecords (text ++ (line ++ line_feed ∷ []))
+
+-- a text of accounts, one behind the other
+pub data AreAccounts : List ℕ → Type 0 where
+  none : AreAccounts []
+  more : (text account : List ℕ) → AreAccounts text → ∥ IsAccountOfDesk account ∥₁ → AreAccounts (text ++ account)

@@ -12,10 +12,14 @@ mod plan;
 mod playing;
 mod schedule;
 mod season;
+mod season_output;
 
 pub use countdown_rules::countdown_rules;
 pub use games::{DescriptionFault, described_game};
 pub use plan::MatchPlan;
-pub use playing::{Entrants, MatchFault, PlayedMatch, entrants_of, played_match};
+pub use playing::{
+    EndedMatch, Entrants, MatchFault, PlayedMatch, ended_match, entrants_of, played_match,
+};
 pub use schedule::{LineFault, MAX_MATCHES, ScheduleFault, read_schedule};
-pub use season::{Fixture, SeasonFault, fixtures, play_season};
+pub use season::{Fixture, SeasonForm, fixtures, play_season};
+pub use season_output::{RecordOrder, SeasonFault};

@@ -1,23 +1,24 @@
 //! A match between players on the network, from its plan to its record.
-ghost use Rattle.std.specs.Prelude.{◌≡◌, ◌≢◌, IfOk, IfErr, length, vec_len};
+ghost use Rattle.std.specs.Prelude.{◌≡◌, ◌≢◌, IfOk, IfErr, IfSome, length, vec_len};
 ghost use Rattle.kif_text.specs.View.{views};
 ghost use Rattle.call_history.specs.History.{IsReplay};
 ghost use Rattle.match_desk.specs.ManagerValue.{ManagerValue, opening};
 ghost use Rattle.match_desk.specs.Steps.{reply, after};
 ghost use Rattle.match_season.specs.Matches.{IsEndedRecord, HasNoEndedMatch, RunFails};
-ghost use Rattle.match_season.specs.Seasons.{IsMatchRecord};
+ghost use Rattle.desk_text.specs.Account.{history_text};
+ghost use Rattle.match_season.specs.Seasons.{IsEndedMatch};
 
 use crate::games::{DescriptionFault, described_game};
 use crate::plan::MatchPlan;
 use call_history::Entry;
-use desk_text::refusal_word;
+use desk_text::{push_history, refusal_word};
 use game_core::{Game, Text, Texts};
 use kif_text::{Expr, copy};
 use match_book::{Phase, Setup};
 use match_desk::{Call, Manager, Refusal, Reply};
 use match_record::record_json;
 use match_workers::{Player, RefereeFault, referee};
-use network_players::Reach;
+use network_players::{Reach, Seat};
 use packed_rules::PackedGame;
 use std::alloc::{AllocError, AllocFailed, Global};
 use std::sync::Wait;
@@ -119,7 +120,12 @@ fn players_of<P: Drop, S: Reach<P>>(
 {
     let mut players = Vec::with_capacity(alloc, plan.players.len())?;
     for (role, address) in plan.players.iter().enumerate() {
-        players.push(reach.player(alloc, place, role, address)?)?;
+        let seat = Seat {
+            place,
+            id: plan.id,
+            role,
+        };
+        players.push(reach.player(alloc, seat, address)?)?;
     }
     Ok(players)
 }
@@ -180,11 +186,12 @@ pub struct PlayedMatch {
     pub history: Vec<Entry<Call, Reply>>,
 }
 
-/// The record of a match that was played to its end.
+/// What is left of a match that was played to its end: its record, and the account of its desk where that is wanted.
 #[derive(Drop)]
-pub struct EndedRecord {
-    pub text: Text,
-    ghost is_ended: { ∥ IsMatchRecord text ∥₁ },
+pub struct EndedMatch {
+    pub record: Text,
+    pub account: Option<Text>,
+    ghost is_ended: { ∥ IsEndedMatch record account ∥₁ },
 }
 
 /// Referees a match between its entrants, by the rules that this text describes.
@@ -211,18 +218,36 @@ where
     })
 }
 
-/// The record of a match, played as `played_match` does.
-pub fn played_record<R, P>(
+/// The history as text, where that is wanted.
+fn account_of(
+    alloc: Global,
+    history: &[Entry<Call, Reply>],
+    is_wanted: bool,
+) -> Result<Option<Text>, AllocError>
+    ensures { IfOk result (λ account. IfSome account (λ text. text ≡ history_text history.now)) }
+{
+    if !is_wanted {
+        return Ok(None);
+    }
+    let mut bytes = Vec::new(alloc);
+    push_history(alloc, &mut bytes, history)?;
+    Ok(Some(Text { bytes }))
+}
+
+/// What is left of a match, played as `played_match` does.
+pub fn ended_match<R, P>(
     rt: &R,
     alloc: Global,
     entrants: Entrants<P>,
     rules: &[u8],
-) -> Result<EndedRecord, MatchFault>
+    has_account: bool,
+) -> Result<EndedMatch, MatchFault>
 where
     R: Threads + Wait + Sync,
     P: Player + Drop + Send,
     ensures fails { IfErr result (RunFails rules.now) }
 {
-    let PlayedMatch { record, .. } = played_match(rt, alloc, entrants, rules)?;
-    Ok(EndedRecord { text: record })
+    let PlayedMatch { record, history } = played_match(rt, alloc, entrants, rules)?;
+    let account = account_of(alloc, &history, has_account)?;
+    Ok(EndedMatch { record, account })
 }

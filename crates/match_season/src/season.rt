@@ -1,70 +1,38 @@
 //! A season: the matches of a schedule, some of them at once, each on a desk of its own.
-ghost use Rattle.std.specs.Prelude.{◌≡◌, ◌++◌, ◌∷◌, [], ℕ, List, OnOk};
-ghost use Rattle.std.specs.Io.KnownBytes.{Appends};
-ghost use Rattle.game_core.specs.Bytes.{line_feed};
-ghost use Rattle.match_season.specs.Seasons.{AreRecords};
 ghost use denote.Param.Send.{IsSend, IsSync};
 
 use crate::plan::MatchPlan;
-use crate::playing::{EndedRecord, Entrants, MatchFault, entrants_of, played_record};
+use crate::playing::{Entrants, MatchFault, ended_match, entrants_of};
+use crate::season_output::{Over, RecordOrder, SeasonFault, write_season};
+use crossbeam_channel::{Sender, bounded};
 use game_core::Counted;
 use match_workers::Player;
 use network_players::Reach;
 use std::alloc::{AllocError, Global};
-use std::fmt::Write as _;
 use std::io::Write;
 use std::sync::atomic::{AtomicU64, Ordering};
-use std::sync::{Condvar, Mutex, Wait};
+use std::sync::{Mutex, Wait};
 use std::thread;
 use std::thread::Threads;
-use thiserror::Error;
-use whole_streams::{Pieces, WriteFault, write_all};
 
-/// Why a season was not played, or not to its end.
-#[derive(Clone, Copy, Debug, PartialEq, Eq, Error)]
-pub enum SeasonFault {
-    /// A record can't be written.
-    #[error("write fault")]
-    WriteFault,
-    #[error("want of memory")]
-    Memory,
+/// How the matches of a season are played and told.
+#[derive(Clone, Copy, Debug, PartialEq, Eq)]
+pub struct SeasonForm {
+    /// How many of them are played at once at most.
+    pub at_once: usize,
+    pub order: RecordOrder,
+    /// Whether the account of each match is written behind the records.
+    pub has_history: bool,
 }
 
-impl From<WriteFault> for SeasonFault {
-    fn from(_: WriteFault) -> SeasonFault {
-        SeasonFault::WriteFault
-    }
-}
-
-/// What a match came to: its record, or why it has none.
-type Outcome = Result<EndedRecord, MatchFault>;
-
-/// A match of a season: its entrants until it begins, and what it came to, from when that is known until it is taken.
+/// A match of a season: its entrants until it begins, if there was memory for them.
 #[derive(Drop)]
 pub struct Fixture<'a, P> {
     id: &'a str,
-    entrants: Mutex<Option<Entrants<P>>>,
-    outcome: Mutex<Option<Outcome>>,
-    settled: Condvar,
+    entrants: Mutex<Option<Result<Entrants<P>, AllocError>>>,
 }
 
-impl<P> Fixture<'_, P> {
-    /// Says what the match came to.
-    fn settle<R: Wait>(&self, rt: &R, outcome: Outcome) {
-        *self.outcome.lock(rt) = Some(outcome);
-        self.settled.notify_all();
-    }
-
-    /// Waits until it is known what the match came to, and takes it.
-    fn take<R: Wait>(&self, rt: &R) -> Outcome {
-        let mut outcome = self
-            .settled
-            .wait_while(rt, self.outcome.lock(rt), |outcome| outcome.is_none());
-        outcome.take().unwrap()
-    }
-}
-
-/// The matches of these plans, before any is played.
+/// The matches of these plans, before any is played. One for whose entrants memory is wanting costs itself alone.
 pub fn fixtures<'a, P: Drop, S: Reach<P>>(
     alloc: Global,
     reach: &S,
@@ -72,102 +40,95 @@ pub fn fixtures<'a, P: Drop, S: Reach<P>>(
 ) -> Result<Vec<Fixture<'a, P>>, AllocError> {
     let mut fixtures = Vec::with_capacity(alloc, plans.len())?;
     for (place, plan) in plans.iter().enumerate() {
-        let entrants = entrants_of(alloc, reach, place, plan)?;
         fixtures.push(Fixture {
             id: plan.id,
-            entrants: Mutex::new(Some(entrants)),
-            outcome: Mutex::new(None),
-            settled: Condvar::new(),
+            entrants: Mutex::new(Some(entrants_of(alloc, reach, place, plan))),
         })?;
     }
     Ok(fixtures)
 }
 
-/// Plays a match, and says what it came to.
-fn play<R, P>(rt: &R, alloc: Global, rules: &[u8], fixture: &Fixture<'_, P>)
-where
-    R: Threads + Wait + Sync,
-    P: Player + Drop + Send,
-{
-    let entrants = fixture.entrants.lock(rt).take();
-    if let Some(entrants) = entrants {
-        let outcome = played_record(rt, alloc, entrants, rules);
-        fixture.settle(rt, outcome);
-    }
-}
-
-/// Plays the matches that are left, one after another. The next one is that at the number of those which were taken.
-fn play_matches<R, P>(
-    rt: &R,
+/// The matches of a season, as its threads see them.
+struct Season<'f, 'a, P> {
     alloc: Global,
-    rules: &[u8],
-    fixtures: &[Fixture<'_, P>],
-    taken: &AtomicU64,
-)
-where
-    R: Threads + Wait + Sync,
-    P: Player + Drop + Send,
-{
-    for _ in 0..fixtures.len() {
-        let place = taken.fetch_add(1, Ordering::SeqCst) as usize;
-        let Some(fixture) = fixtures.get(place) else {
-            return;
+    rules: &'f [u8],
+    fixtures: &'f [Fixture<'a, P>],
+    has_history: bool,
+    /// How many matches a thread has taken: the place of the next one.
+    taken: AtomicU64,
+}
+
+impl<'a, P> Season<'_, 'a, P> {
+    /// Plays the match at this place, unless it was played: what it came to.
+    fn play<R>(&self, rt: &R, place: usize) -> Option<Over<'a>>
+    where
+        R: Threads + Wait + Sync,
+        P: Player + Drop + Send,
+    {
+        let fixture = self.fixtures.get(place)?;
+        let entrants = fixture.entrants.lock(rt).take()?;
+        let outcome = match entrants {
+            Ok(entrants) => ended_match(rt, self.alloc, entrants, self.rules, self.has_history),
+            Err(_) => Err(MatchFault::Memory),
         };
-        play(rt, alloc, rules, fixture);
+        Some(Over {
+            id: fixture.id,
+            place,
+            outcome,
+        })
     }
-}
 
-/// Writes a record as a line.
-fn write_record<W: Write>(writer: &mut Counted<W>, ended: &EndedRecord) -> Result<(), WriteFault>
-    ensures { OnOk result (Appends (W.contents writer.old.stream) (W.contents writer.new.stream) (ended.now.text ++ line_feed ∷ [])) }
-{
-    write_all(writer, ended.text.as_slice())?;
-    write_all(writer, b"\n")
-}
-
-/// Writes the record of each match, in their order, once it is over. Why a match has none is told in a line; how many have none is answered.
-fn write_records<R: Wait, P, W: Write, E: Write>(
-    rt: &R,
-    fixtures: &[Fixture<'_, P>],
-    writer: &mut Counted<W>,
-    errors: &mut E,
-) -> Result<u64, WriteFault>
-    ensures { OnOk result ((text : List ℕ) × AreRecords text × Appends (W.contents writer.old.stream) (W.contents writer.new.stream) text) }
-{
-    let mut without = 0;
-    for fixture in fixtures {
-        match fixture.take(rt) {
-            Ok(ended) => write_record(writer, &ended)?,
-            Err(fault) => {
-                let id = fixture.id;
-                let _ = writeln!(Pieces { stream: errors }, "ggp_manager: {id}: {fault}");
-                without += 1;
-            }
+    /// Plays the matches that are left, one after another, and sends what each came to.
+    fn play_matches<R>(&self, rt: &R, sender: &Sender<Over<'a>>)
+    where
+        R: Threads + Wait + Sync,
+        P: Player + Drop + Send,
+    {
+        for _ in 0..self.fixtures.len() {
+            let place = self.taken.fetch_add(1, Ordering::SeqCst) as usize;
+            let Some(over) = self.play(rt, place) else {
+                return;
+            };
+            let _ = sender.send(rt, over);
         }
     }
-    Ok(without)
+
+    /// Has no further match begin.
+    fn stop(&self) {
+        self.taken
+            .store(self.fixtures.len() as u64, Ordering::SeqCst);
+    }
 }
 
-/// Plays the matches of a season by the rules that this text describes, so many at once at most, each in threads of its own, and
-/// writes their records in the order of the fixtures, each as soon as it and those before it are over. How many matches have no
-/// record is answered.
+/// Plays the matches of a season by the rules that this text describes, each in threads of its own, and writes their records, each
+/// as soon as its turn has come, and then the accounts where they are wanted. How many matches have no record is answered.
 ///
 /// Where no thread can be made that is want of memory, and no match was begun. After a failed write no further match begins.
-pub fn play_season<R, P, W: Write, E: Write>(
+pub fn play_season<R, P, W: Write, E: Write + Send>(
     rt: &R,
     alloc: Global,
     rules: &[u8],
     fixtures: &[Fixture<'_, P>],
-    at_once: usize,
+    form: SeasonForm,
     writer: &mut Counted<W>,
-    errors: &mut E,
+    errors: &Mutex<E>,
 ) -> Result<u64, SeasonFault>
 where
     R: Threads + Wait + Sync,
     P: Player + Drop + Send,
 {
-    let count = AtomicU64::new(0);
-    let taken = &count;
+    if fixtures.is_empty() {
+        return Ok(0);
+    }
+    let (sender, receiver) = bounded(alloc, fixtures.len())?;
+    let season = Season {
+        alloc,
+        rules,
+        fixtures,
+        has_history: form.has_history,
+        taken: AtomicU64::new(0),
+    };
+    let (season, sender) = (&season, &sender);
     thread::scope(
         thread::scope_env(),
         rt,
@@ -175,21 +136,29 @@ where
             requires sent { IsSync R.row × IsSend P.row }
         {
             let mut has_thread = false;
-            for _ in 0..at_once.min(fixtures.len()) {
-                let work = move || play_matches(rt, alloc, rules, fixtures, taken);
+            for _ in 0..form.at_once.min(fixtures.len()) {
+                let work = move || season.play_matches(rt, sender);
                 if scope.spawn(work).is_err() {
                     break;
                 }
                 has_thread = true;
             }
-            if !has_thread && !fixtures.is_empty() {
+            if !has_thread {
                 return Err(SeasonFault::Memory);
             }
-            let written = write_records(rt, fixtures, writer, errors);
+            let written = write_season(
+                rt,
+                alloc,
+                fixtures.len(),
+                form.order,
+                &receiver,
+                writer,
+                errors,
+            );
             if written.is_err() {
-                taken.store(fixtures.len() as u64, Ordering::SeqCst);
+                season.stop();
             }
-            Ok(written?)
+            written
         },
     )
 }

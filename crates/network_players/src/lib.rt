@@ -17,4 +17,4 @@ pub use addresses::{PlayerAddress, decimal, player_address};
 pub use contacting::{ContactFault, contact};
 pub use logging::{Explains, LoggedPlayer, Logging};
 pub use signal::Signal;
-pub use socket_player::{Reach, SocketPlayer, Sockets, answer_of};
+pub use socket_player::{Reach, Seat, SocketPlayer, Sockets, answer_of};

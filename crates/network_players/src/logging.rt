@@ -1,8 +1,8 @@
-//! A match that is told line by line, while it runs: whoever reaches players through `Logging` reads each message with its answer.
+//! Matches that are told line by line, while they run: whoever reaches players through `Logging` reads each message with its answer.
 
 use crate::addresses::PlayerAddress;
 use crate::contacting::ContactFault;
-use crate::socket_player::{Reach, time_since};
+use crate::socket_player::{Reach, Seat, time_since};
 use match_book::Answer;
 use match_workers::Player;
 use std::alloc::{AllocError, Global};
@@ -74,8 +74,6 @@ impl fmt::Display for Brought<'_> {
 pub struct Logging<'a, H, S, E> {
     pub rt: &'a H,
     pub reach: &'a S,
-    /// The match's id.
-    pub id: &'a str,
     pub stream: &'a Mutex<E>,
 }
 
@@ -85,7 +83,8 @@ pub struct LoggedPlayer<'a, H, P, E> {
     rt: &'a H,
     player: P,
     alloc: Global,
-    id: &'a str,
+    /// The match's id.
+    id: String,
     role: usize,
     name: String,
     /// How many messages it was handed.
@@ -97,17 +96,17 @@ impl<'a, H, P, S: Reach<P>, E> Reach<LoggedPlayer<'a, H, P, E>> for Logging<'a, 
     fn player(
         &self,
         alloc: Global,
-        place: usize,
-        role: usize,
+        seat: Seat<'_>,
         address: &PlayerAddress<'_>,
     ) -> Result<LoggedPlayer<'a, H, P, E>, AllocError> {
+        let id = String::from_str(alloc, seat.id)?;
         let name = String::from_str(alloc, address.name)?;
         Ok(LoggedPlayer {
             rt: self.rt,
-            player: self.reach.player(alloc, place, role, address)?,
+            player: self.reach.player(alloc, seat, address)?,
             alloc,
-            id: self.id,
-            role,
+            id,
+            role: seat.role,
             name,
             messages: 0,
             stream: self.stream,

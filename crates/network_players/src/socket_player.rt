@@ -16,15 +16,23 @@ use std::net::Net;
 use std::sync::Wait;
 use std::time::{Clock, Duration, Instant};
 
+/// Where a player sits.
+#[derive(Clone, Copy, Debug, PartialEq, Eq)]
+pub struct Seat<'a> {
+    /// The match's place among those of its season, 0 where it is the only one.
+    pub place: usize,
+    /// The match's id.
+    pub id: &'a str,
+    pub role: usize,
+}
+
 /// Where players are reached.
 pub trait Reach<P> {
-    /// The player of this role of a match, at this address. The match is known by its place among those of its season, 0 where it is
-    /// the only one. Nothing is asked of the player yet.
+    /// The player at this address, for this seat. Nothing is asked of it yet.
     fn player(
         &self,
         alloc: Global,
-        place: usize,
-        role: usize,
+        seat: Seat<'_>,
         address: &PlayerAddress<'_>,
     ) -> Result<P, AllocError>;
 }
@@ -80,11 +88,10 @@ impl<'a, H: Net + Clock> Reach<SocketPlayer<'a, H>> for Sockets<'a, H> {
     fn player(
         &self,
         alloc: Global,
-        place: usize,
-        _role: usize,
+        seat: Seat<'_>,
         address: &PlayerAddress<'_>,
     ) -> Result<SocketPlayer<'a, H>, AllocError> {
-        let signal = &self.signals[place % self.signals.len()];
+        let signal = &self.signals[seat.place % self.signals.len()];
         let name = String::from_str(alloc, address.name)?;
         let host = String::from_str(alloc, address.host)?;
         Ok(SocketPlayer {
