@@ -2,8 +2,10 @@
 //! formatted to a stream piece by piece.
 #![tactic(auto)]
 
+mod lines;
 mod pieces;
 mod whole;
 
+pub use lines::LineBuffer;
 pub use pieces::Pieces;
 pub use whole::{InputFault, WriteFault, read_to_end, write_all};

@@ -24,7 +24,7 @@ pub enum InputFault {
 pub struct WriteFault;
 
 /// How many bytes a read is given room for.
-const READ_SIZE: usize = 16_384;
+pub(crate) const READ_SIZE: usize = 16_384;
 
 /// Reads all bytes up to the end of the stream, at most `most` of them.
 pub fn read_to_end<R: Read>(

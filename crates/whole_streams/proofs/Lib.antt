@@ -1,0 +1,2 @@
+pub mod LineLemmas
+mod Ranges

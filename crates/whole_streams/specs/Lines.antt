@@ -1,0 +1,30 @@
+-- Taking an input line by line. Of what was read, the bytes that are at hand are those of no line yet.
+use Rattle.std.specs.Prelude.{◌≡◌, ◌≢◌, ℕ, ◌<◌, ◌≤◌, ◌⊎◌, Bool, true, false, List, [], ◌∷◌, ◌++◌, length, All, Option, Some, None}
+use Rattle.std.specs.Io.KnownBytes.{IsAtEnd}
+use Rattle.std.specs.Str.Lines.{strip_carriage_return}
+use Rattle.game_core.specs.Bytes.{line_feed}
+use Rattle.whole_streams.specs.declared.whole.InputFault.{InputFault}
+use Rattle.whole_streams.specs.declared.whole.InputFault.TheVariants.{ReadFault, TooLong, Memory}
+
+abbrev pub HasNoLineFeed : List ℕ → Type 0
+HasNoLineFeed bytes = All (λ b. b ≢ line_feed) bytes
+
+-- these bytes begin with this line, without its line feed and one carriage return before that, and that is left behind it
+abbrev pub BeginsWithLine : List ℕ → List ℕ → List ℕ → Type 0
+BeginsWithLine bytes line left = (whole : List ℕ) × (bytes ≡ whole ++ line_feed ∷ left) × HasNoLineFeed whole × (line ≡ strip_carriage_return whole)
+
+-- The next line of an input of which these bytes are at hand, and what is at hand behind it. A last line may have no line feed, and is then taken as it is. There is none where no byte is left.
+abbrev pub IsNextLine : Option (List ℕ) → List ℕ → Option (List ℕ) → List ℕ → Type 0
+IsNextLine remaining bytes (Some line) left = BeginsWithLine bytes line left ⊎ ((0 < length bytes) × (line ≡ bytes) × HasNoLineFeed bytes × (left ≡ []) × IsAtEnd remaining)
+IsNextLine remaining bytes None left = (bytes ≡ []) × (left ≡ []) × IsAtEnd remaining
+
+-- Of the bytes at hand this piece belongs to the line that is read, and that is left. Where the line ends, its line feed is passed by; else all bytes are of it.
+abbrev pub IsPiece : List ℕ → Bool → List ℕ → List ℕ → Type 0
+IsPiece bytes true piece left = bytes ≡ piece ++ line_feed ∷ left
+IsPiece bytes false piece left = (bytes ≡ piece) × (left ≡ [])
+
+-- why a line is not continued to this length
+abbrev pub StopsLine : ℕ → InputFault → ℕ → Type 0
+StopsLine most ReadFault count = ⊥
+StopsLine most TooLong count = most < count
+StopsLine most Memory count = count ≤ most

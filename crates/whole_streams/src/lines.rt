@@ -1,0 +1,181 @@
+//! Taking an input line by line, with one line in memory at a time.
+ghost use Rattle.std.specs.Prelude.{◌≡◌, ◌≢◌, ◌<◌, ◌≤◌, ◌+◌, ◌++◌, ◌∷◌, [], ℕ, List, length, take, drop, slice_index, option_map, IsSome, IfOk, IfSome, OnOk, OnErr, IfErr, MatchOption, MatchBool};
+ghost use Rattle.std.specs.Io.KnownBytes.{Consumes, IsAtEnd};
+ghost use Rattle.std.specs.Str.Lines.{strip_carriage_return};
+ghost use Rattle.game_core.specs.Bytes.{line_feed};
+ghost use Rattle.game_core.specs.Counting.{CallsMade, one_more};
+ghost use Rattle.whole_streams.specs.Streams.{InputFails};
+ghost use Rattle.whole_streams.specs.declared.whole.InputFault.TheVariants.{ReadFault};
+ghost use Rattle.whole_streams.specs.Lines.{HasNoLineFeed, IsNextLine, IsPiece, StopsLine};
+
+use crate::whole::{InputFault, READ_SIZE};
+use game_core::{Counted, MAX_STREAM_CALLS};
+use std::alloc::Global;
+use std::io::Read;
+use std::marker::Model;
+
+/// What was read of an input and is of no line yet. It is seen as these bytes: with what the stream has left behind them, they
+/// are the input that is left.
+#[derive(Drop)]
+pub struct LineBuffer {
+    chunk: [u8; READ_SIZE],
+    start: usize,
+    end: usize,
+}
+
+impl Model for LineBuffer {
+    ghost use Rattle.std.specs.Prelude.{ℕ, ◌≤◌, List, length, slice_range};
+
+    ghost Value = { List ℕ };
+
+    ghost view = { λ b. slice_range b.chunk b.start b.end };
+
+    ghost invariant = { λ b. (b.start ≤ b.end) × (b.end ≤ length b.chunk) };
+}
+
+/// Where the first line feed is.
+fn line_end(bytes: &[u8]) -> Option<usize>
+    ensures { MatchOption result (HasNoLineFeed bytes.now)
+        (λ end. (end < length bytes.now) × HasNoLineFeed (take end bytes.now) × (slice_index bytes.now end ≡ line_feed)) }
+{
+    bytes.iter().position(|b| *b == b'\n')
+}
+
+/// A line without the one carriage return before its line feed.
+fn without_return(mut line: Vec<u8>) -> Vec<u8>
+    ensures { result.items ≡ strip_carriage_return line.items }
+{
+    if line.last() == Some(&b'\r') {
+        line.pop();
+    }
+    line
+}
+
+/// What was read behind the last line feed, as a line: none where there is nothing.
+fn last_line(line: Vec<u8>) -> Option<Vec<u8>>
+    ensures { MatchOption result (line.items ≡ []) (λ last. (last.items ≡ line.items) × (0 < length line.items)) }
+{
+    if line.is_empty() { None } else { Some(line) }
+}
+
+/// Adds a piece to a line that has at most `most` bytes then.
+fn push_within(line: &mut Vec<u8>, piece: &[u8], most: usize) -> Result<(), InputFault>
+    requires { length line.old.items ≤ most }
+    ensures grown { OnOk result (line.new.items ≡ line.old.items ++ piece.now) }
+    ensures within { OnOk result (length line.new.items ≤ most) }
+    ensures fails { IfErr result (λ fault. StopsLine most fault (length line.old.items + length piece.now)) }
+{
+    if piece.len() > most - line.len() {
+        return Err(InputFault::TooLong);
+    }
+    match line.extend_from_slice(piece) {
+        Ok(()) => Ok(()),
+        Err(_) => Err(InputFault::Memory),
+    }
+}
+
+impl LineBuffer {
+    /// Nothing of the input has been read.
+    pub fn new() -> LineBuffer
+        ensures { result ≡ [] }
+    {
+        LineBuffer {
+            chunk: [0; READ_SIZE],
+            start: 0,
+            end: 0,
+        }
+    }
+
+    /// Reads once, into the place of what was at hand. Whether there was more of the input is answered.
+    fn refill<R: Read>(&mut self, reader: &mut Counted<R>) -> Result<bool, InputFault>
+        ensures given { OnOk result (Consumes (R.remaining reader.old.stream) (R.remaining reader.new.stream) self.new) }
+        ensures no_fault { OnOk result (reader.new.faults ≡ reader.old.faults) }
+        ensures called { reader.new.calls ≡ one_more reader.old.calls }
+        ensures fails { IfErr result (λ fault. (fault ≡ ReadFault) × (self.new ≡ []) × (reader.new.faults ≡ one_more reader.old.faults)
+            × Consumes (R.remaining reader.old.stream) (R.remaining reader.new.stream) []) }
+        ensures more { IfOk result (λ more. MatchBool more (0 < length self.new) ((self.new ≡ []) × IsAtEnd (R.remaining reader.new.stream))) }
+    {
+        self.start = 0;
+        self.end = 0;
+        match reader.read(&mut self.chunk) {
+            Ok(count) => {
+                self.end = count;
+                Ok(count > 0)
+            }
+            Err(_) => Err(InputFault::ReadFault),
+        }
+    }
+    /// Moves what is at hand of the line to its end, up to its line feed. Whether the line ends there is answered. At a fault the
+    /// piece is lost.
+    fn take_piece(&mut self, line: &mut Vec<u8>, most: usize) -> Result<bool, InputFault>
+        requires { length line.old.items ≤ most }
+        ensures piece { IfOk result (λ ended. (piece : List ℕ) × (line.new.items ≡ line.old.items ++ piece)
+            × HasNoLineFeed piece × IsPiece self.old ended piece self.new) }
+        ensures within { OnOk result (length line.new.items ≤ most) }
+        ensures fails { IfErr result (λ fault. (piece : List ℕ) × (self.old ≡ piece ++ self.new) × HasNoLineFeed piece
+            × StopsLine most fault (length line.old.items + length piece)) }
+    {
+        let begin = self.start;
+        match line_end(&self.chunk[begin..self.end]) {
+            Some(count) => {
+                self.start = begin + count;
+                match push_within(line, &self.chunk[begin..begin + count], most) {
+                    Ok(()) => {
+                        self.start += 1;
+                        Ok(true)
+                    }
+                    Err(fault) => Err(fault),
+                }
+            }
+            None => {
+                self.start = self.end;
+                match push_within(line, &self.chunk[begin..self.end], most) {
+                    Ok(()) => Ok(false),
+                    Err(fault) => Err(fault),
+                }
+            }
+        }
+    }
+
+    /// The next line of the input, without its line feed and one carriage return before that; the last line may lack its line
+    /// feed, and keeps its carriage return then. Before its line feed a line has at most `most` bytes, and it comes within 200,000
+    /// reads. At a fault what was read of the line is lost.
+    pub fn next_line<R: Read>(
+        &mut self,
+        alloc: Global,
+        reader: &mut Counted<R>,
+        most: usize,
+    ) -> Result<Option<Vec<u8>>, InputFault>
+        ensures next { IfOk result (λ line. (given : List ℕ)
+            × Consumes (R.remaining reader.old.stream) (R.remaining reader.new.stream) given
+            × IsNextLine (R.remaining reader.new.stream) (self.old ++ given) (option_map (λ v. v.items) line) self.new) }
+        ensures within { IfOk result (λ line. IfSome line (λ v. length v.items ≤ most)) }
+        ensures no_fault { OnOk result (reader.new.faults ≡ reader.old.faults) }
+        ensures fails { IfErr result (λ fault. (given : List ℕ) × (lost : List ℕ)
+            × Consumes (R.remaining reader.old.stream) (R.remaining reader.new.stream) given
+            × (self.old ++ given ≡ lost ++ self.new)
+            × HasNoLineFeed lost
+            × InputFails most fault lost reader.old reader.new) }
+        ensures called { CallsMade 0 reader.old.calls reader.new.calls }
+    {
+        let mut line = Vec::new(alloc);
+        match self.take_piece(&mut line, most) {
+            Ok(true) => return Ok(Some(without_return(line))),
+            Ok(false) => {}
+            Err(fault) => return Err(fault),
+        }
+        for call in 0..MAX_STREAM_CALLS {
+            match self.refill(reader) {
+                Ok(true) => {}
+                Ok(false) => return Ok(last_line(line)),
+                Err(fault) => return Err(fault),
+            }
+            match self.take_piece(&mut line, most) {
+                Ok(true) => return Ok(Some(without_return(line))),
+                Ok(false) => {}
+                Err(fault) => return Err(fault),
+            }
+        }
+        Err(InputFault::ReadFault)
+    }
+}
