@@ -1,8 +1,10 @@
 -- Taking an input line by line. Of what was read, the bytes that are at hand are those of no line yet.
-use Rattle.std.specs.Prelude.{◌≡◌, ◌≢◌, ℕ, ◌<◌, ◌≤◌, ◌⊎◌, Bool, true, false, List, [], ◌∷◌, ◌++◌, length, All, Option, Some, None}
+use Rattle.std.specs.Prelude.{◌≡◌, ◌≢◌, ℕ, ◌<◌, ◌≤◌, Bool, true, false, List, [], ◌∷◌, ◌++◌, length, All, Option}
 use Rattle.std.specs.Io.KnownBytes.{IsAtEnd}
 use Rattle.std.specs.Str.Lines.{strip_carriage_return}
 use Rattle.game_core.specs.Bytes.{line_feed}
+use Rattle.whole_streams.specs.declared.lines.NextLine.{NextLine}
+use Rattle.whole_streams.specs.declared.lines.NextLine.TheVariants.{Ended, Last, Nothing}
 use Rattle.whole_streams.specs.declared.whole.InputFault.{InputFault}
 use Rattle.whole_streams.specs.declared.whole.InputFault.TheVariants.{ReadFault, TooLong, Memory}
 
@@ -13,10 +15,22 @@ HasNoLineFeed bytes = All (λ b. b ≢ line_feed) bytes
 abbrev pub BeginsWithLine : List ℕ → List ℕ → List ℕ → Type 0
 BeginsWithLine bytes line left = (whole : List ℕ) × (bytes ≡ whole ++ line_feed ∷ left) × HasNoLineFeed whole × (line ≡ strip_carriage_return whole)
 
--- The next line of an input of which these bytes are at hand, and what is at hand behind it. A last line may have no line feed, and is then taken as it is. There is none where no byte is left.
-abbrev pub IsNextLine : Option (List ℕ) → List ℕ → Option (List ℕ) → List ℕ → Type 0
-IsNextLine remaining bytes (Some line) left = BeginsWithLine bytes line left ⊎ ((0 < length bytes) × (line ≡ bytes) × HasNoLineFeed bytes × (left ≡ []) × IsAtEnd remaining)
-IsNextLine remaining bytes None left = (bytes ≡ []) × (left ≡ []) × IsAtEnd remaining
+-- What comes next of an input of which these bytes are at hand, and what is at hand behind it. Only a last line may have no line feed, and it is taken as it is.
+abbrev pub IsNextLine : Option (List ℕ) → List ℕ → NextLine → List ℕ → Type 0
+IsNextLine remaining bytes (Ended line) left = BeginsWithLine bytes line.items left
+IsNextLine remaining bytes (Last line) left = (0 < length bytes) × (line.items ≡ bytes) × HasNoLineFeed bytes × (left ≡ []) × IsAtEnd remaining
+IsNextLine remaining bytes Nothing left = (bytes ≡ []) × (left ≡ []) × IsAtEnd remaining
+
+abbrev pub line_bytes : NextLine → List ℕ
+line_bytes (Ended line) = line.items
+line_bytes (Last line) = line.items
+line_bytes Nothing = []
+
+-- these bytes are a last line, or nothing
+abbrev pub IsEnd : List ℕ → NextLine → Type 0
+IsEnd bytes (Ended line) = ⊥
+IsEnd bytes (Last line) = (line.items ≡ bytes) × (0 < length bytes)
+IsEnd bytes Nothing = bytes ≡ []
 
 -- Of the bytes at hand this piece belongs to the line that is read, and that is left. Where the line ends, its line feed is passed by; else all bytes are of it.
 abbrev pub IsPiece : List ℕ → Bool → List ℕ → List ℕ → Type 0

@@ -6,6 +6,6 @@ mod lines;
 mod pieces;
 mod whole;
 
-pub use lines::LineBuffer;
+pub use lines::{LineBuffer, NextLine};
 pub use pieces::Pieces;
 pub use whole::{InputFault, WriteFault, read_to_end, write_all};

@@ -1,18 +1,29 @@
 //! Taking an input line by line, with one line in memory at a time.
-ghost use Rattle.std.specs.Prelude.{◌≡◌, ◌≢◌, ◌<◌, ◌≤◌, ◌+◌, ◌++◌, ◌∷◌, [], ℕ, List, length, take, drop, slice_index, option_map, IsSome, IfOk, IfSome, OnOk, OnErr, IfErr, MatchOption, MatchBool};
+ghost use Rattle.std.specs.Prelude.{◌≡◌, ◌≢◌, ◌<◌, ◌≤◌, ◌+◌, ◌++◌, ◌∷◌, [], ℕ, List, length, take, drop, slice_index, IfOk, OnOk, OnErr, IfErr, MatchOption, MatchBool};
 ghost use Rattle.std.specs.Io.KnownBytes.{Consumes, IsAtEnd};
 ghost use Rattle.std.specs.Str.Lines.{strip_carriage_return};
 ghost use Rattle.game_core.specs.Bytes.{line_feed};
 ghost use Rattle.game_core.specs.Counting.{CallsMade, one_more};
 ghost use Rattle.whole_streams.specs.Streams.{InputFails};
 ghost use Rattle.whole_streams.specs.declared.whole.InputFault.TheVariants.{ReadFault};
-ghost use Rattle.whole_streams.specs.Lines.{HasNoLineFeed, IsNextLine, IsPiece, StopsLine};
+ghost use Rattle.whole_streams.specs.Lines.{HasNoLineFeed, IsEnd, IsNextLine, IsPiece, StopsLine, line_bytes};
 
 use crate::whole::{InputFault, READ_SIZE};
 use game_core::{Counted, MAX_STREAM_CALLS};
 use std::alloc::Global;
 use std::io::Read;
 use std::marker::Model;
+
+/// What comes next of an input that is taken line by line.
+#[derive(Debug, Drop)]
+pub enum NextLine {
+    /// A line that ended with a line feed: without it, and without one carriage return before it.
+    Ended(Vec<u8>),
+    /// The last line, which has no line feed: as it is. Nothing is left of the input.
+    Last(Vec<u8>),
+    /// Nothing is left of the input.
+    Nothing,
+}
 
 /// What was read of an input and is of no line yet. It is seen as these bytes: with what the stream has left behind them, they
 /// are the input that is left.
@@ -51,11 +62,15 @@ fn without_return(mut line: Vec<u8>) -> Vec<u8>
     line
 }
 
-/// What was read behind the last line feed, as a line: none where there is nothing.
-fn last_line(line: Vec<u8>) -> Option<Vec<u8>>
-    ensures { MatchOption result (line.items ≡ []) (λ last. (last.items ≡ line.items) × (0 < length line.items)) }
+/// What was read behind the last line feed, where nothing follows it.
+fn at_end(line: Vec<u8>) -> NextLine
+    ensures { IsEnd line.items result }
 {
-    if line.is_empty() { None } else { Some(line) }
+    if line.is_empty() {
+        NextLine::Nothing
+    } else {
+        NextLine::Last(line)
+    }
 }
 
 /// Adds a piece to a line that has at most `most` bytes then.
@@ -137,19 +152,18 @@ impl LineBuffer {
         }
     }
 
-    /// The next line of the input, without its line feed and one carriage return before that; the last line may lack its line
-    /// feed, and keeps its carriage return then. Before its line feed a line has at most `most` bytes, and it comes within 200,000
-    /// reads. At a fault what was read of the line is lost.
+    /// The next line of the input. Before its line feed it has at most `most` bytes, and it comes within 200,000 reads. At a fault
+    /// what was read of it is lost.
     pub fn next_line<R: Read>(
         &mut self,
         alloc: Global,
         reader: &mut Counted<R>,
         most: usize,
-    ) -> Result<Option<Vec<u8>>, InputFault>
+    ) -> Result<NextLine, InputFault>
         ensures next { IfOk result (λ line. (given : List ℕ)
             × Consumes (R.remaining reader.old.stream) (R.remaining reader.new.stream) given
-            × IsNextLine (R.remaining reader.new.stream) (self.old ++ given) (option_map (λ v. v.items) line) self.new) }
-        ensures within { IfOk result (λ line. IfSome line (λ v. length v.items ≤ most)) }
+            × IsNextLine (R.remaining reader.new.stream) (self.old ++ given) line self.new) }
+        ensures within { IfOk result (λ line. length (line_bytes line) ≤ most) }
         ensures no_fault { OnOk result (reader.new.faults ≡ reader.old.faults) }
         ensures fails { IfErr result (λ fault. (given : List ℕ) × (lost : List ℕ)
             × Consumes (R.remaining reader.old.stream) (R.remaining reader.new.stream) given
@@ -160,18 +174,18 @@ impl LineBuffer {
     {
         let mut line = Vec::new(alloc);
         match self.take_piece(&mut line, most) {
-            Ok(true) => return Ok(Some(without_return(line))),
+            Ok(true) => return Ok(NextLine::Ended(without_return(line))),
             Ok(false) => {}
             Err(fault) => return Err(fault),
         }
         for call in 0..MAX_STREAM_CALLS {
             match self.refill(reader) {
                 Ok(true) => {}
-                Ok(false) => return Ok(last_line(line)),
+                Ok(false) => return Ok(at_end(line)),
                 Err(fault) => return Err(fault),
             }
             match self.take_piece(&mut line, most) {
-                Ok(true) => return Ok(Some(without_return(line))),
+                Ok(true) => return Ok(NextLine::Ended(without_return(line))),
                 Ok(false) => {}
                 Err(fault) => return Err(fault),
             }

@@ -1,4 +1,4 @@
-use Rattle.std.proofs.Common.{rules, refl, ◌≡◌, ◌<◌, ◌+◌, ◌++◌, ◌∷◌, [], ℕ, List, length, sym, ap, subst, ◌∙◌, inl, inr, arith, length-append, Option, Some, None, MatchBool, MatchOption, ◌≢◌, Vec, Global, option_map}
+use Rattle.std.proofs.Common.{rules, refl, ◌≡◌, ◌<◌, ◌+◌, ◌++◌, ◌∷◌, [], ℕ, List, length, sym, ap, subst, ◌∙◌, arith, length-append, Option, MatchBool, ◌≢◌}
 use Rattle.std.proofs.lemmas.List.{append-nil, append_assoc}
 use Rattle.std.proofs.lemmas.List.Elements.{All-append}
 use Rattle.std.specs.Io.KnownBytes.{Consumes, IsAtEnd}
@@ -8,7 +8,9 @@ use Rattle.game_core.specs.Counting.{Counting}
 use Rattle.whole_streams.specs.Streams.{InputFails}
 use Rattle.whole_streams.specs.declared.whole.InputFault.{InputFault}
 use Rattle.whole_streams.specs.declared.whole.InputFault.TheVariants.{ReadFault, TooLong, Memory}
-use Rattle.whole_streams.specs.Lines.{HasNoLineFeed, IsNextLine, IsPiece, StopsLine}
+use Rattle.whole_streams.specs.Lines.{HasNoLineFeed, IsEnd, IsNextLine, IsPiece, StopsLine}
+use Rattle.whole_streams.specs.declared.lines.NextLine.{NextLine}
+use Rattle.whole_streams.specs.declared.lines.NextLine.TheVariants.{Ended, Last, Nothing}
 use Rattle.whole_streams.proofs.lines.LineBuffer.next_line.Goals as goal
 
 feedless_append : (xs ys : List ℕ) → HasNoLineFeed xs → HasNoLineFeed ys → HasNoLineFeed (xs ++ ys)
@@ -29,11 +31,12 @@ input_fails most ReadFault line piece reader reader' same stops = absurd stops
 input_fails most TooLong line piece reader reader' same stops = (omega (arith, length-append line piece), same)
 input_fails most Memory line piece reader reader' same stops = (omega (arith, length-append line piece), same)
 
-is_last : (remaining : Option (List ℕ)) (bytes line left : List ℕ) (last : Option (Vec ℕ Global)) → bytes ≡ line → HasNoLineFeed line → left ≡ [] → IsAtEnd remaining
-    → MatchOption last (line ≡ []) (λ v. (v.items ≡ line) × (0 < length line)) → IsNextLine remaining bytes (option_map (λ v. v.items) last) left
-is_last remaining bytes line left None same feedless none ended is = (same ∙ is, none, ended)
-is_last remaining bytes line left (Some v) same feedless none ended is =
-    inr (subst (λ l. 0 < length l) (sym same) is.1, is.0 ∙ sym same, subst HasNoLineFeed (sym same) feedless, none, ended)
+is_last : (remaining : Option (List ℕ)) (bytes line left : List ℕ) (last : NextLine) → bytes ≡ line → HasNoLineFeed line → left ≡ [] → IsAtEnd remaining → IsEnd line last
+    → IsNextLine remaining bytes last left
+is_last remaining bytes line left (Ended v) same feedless none ended is = absurd is
+is_last remaining bytes line left (Last v) same feedless none ended is =
+    (subst (λ l. 0 < length l) (sym same) is.1, is.0 ∙ sym same, subst HasNoLineFeed (sym same) feedless, none, ended)
+is_last remaining bytes line left Nothing same feedless none ended is = (same ∙ is, none, ended)
 
 pub returns-in-Ok-false-refill-clause-next : goal.returns-in-Ok-false-refill-clause-next
 returns-in-Ok-false-refill-clause-next g c =
@@ -44,7 +47,7 @@ returns-in-Ok-false-refill-clause-next g c =
     let ended = subst (λ b. MatchBool b (0 < length read) ((read ≡ []) × IsAtEnd remaining)) c.in-Ok-false-refill.field-0-test c.in-Ok-false-refill.ensures.more in
     let none = ended.0 in
     let consumed = consumes_no_more _ _ _ given _ inv.given.1 c.in-Ok-false-refill.ensures.given none in
-    (given, consumed, is_last remaining _ c.loop-call.line.items read c.last_line.result inv.given.2 inv.feedless none ended.1 c.last_line.ensures)
+    (given, consumed, is_last remaining _ c.loop-call.line.items read c.at_end.result inv.given.2 inv.feedless none ended.1 c.at_end.ensures)
 
 pub returns-in-Ok-true-take_piece-clause-next : goal.returns-in-Ok-true-take_piece-clause-next
 returns-in-Ok-true-take_piece-clause-next g c =
@@ -56,7 +59,7 @@ returns-in-Ok-true-take_piece-clause-next g c =
     let left = c.take_piece-in-loop-call.new.self in
     let cut = joined c.args.self.now given c.loop-call.line.items piece.0 read (line_feed ∷ left) line inv.given.2 piece.1 (subst (λ b. IsPiece read b piece.0 left) c.in-Ok-true-take_piece.field-0-test piece.3) in
     let feedless : HasNoLineFeed line = subst HasNoLineFeed (sym {A = List ℕ} piece.1) (feedless_append _ _ inv.feedless piece.2) in
-    (given ++ read, Consumes-trans _ _ _ _ _ inv.given.1 c.in-Ok-true-refill.ensures.given, inl (line, cut, feedless, c.without_return-in-Ok-true-take_piece.ensures))
+    (given ++ read, Consumes-trans _ _ _ _ _ inv.given.1 c.in-Ok-true-refill.ensures.given, (line, cut, feedless, c.without_return-in-Ok-true-take_piece.ensures))
 
 pub returns-in-Err-take_piece-clause-fails : goal.returns-in-Err-take_piece-clause-fails
 returns-in-Err-take_piece-clause-fails g c =
