@@ -10,7 +10,7 @@ const WRONG_USE: Wanted<'_> = Wanted {
 };
 
 /// The words of command lines that ask for nothing that can be done.
-const WRONG_LINES: [&[&str]; 39] = [
+const WRONG_LINES: [&[&str]; 41] = [
     &[],
     &["desk"],
     &["frob"],
@@ -88,6 +88,8 @@ const WRONG_LINES: [&[&str]; 39] = [
     &["season", "--countdown", "3", "--strikes", "256"],
     &["season", "--countdown", "3", "m1"],
     &["verify"],
+    &["verify", "--lines"],
+    &["desk", "--countdown", "3", "--lines"],
     &["verify", "--countdown", "200"],
     &["info"],
     &["info", "ann"],

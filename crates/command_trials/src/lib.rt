@@ -4,6 +4,8 @@
 #[cfg(test)]
 mod accounts;
 #[cfg(test)]
+mod checked_lines;
+#[cfg(test)]
 mod command_lines;
 #[cfg(test)]
 mod conducts;

@@ -124,7 +124,7 @@ fn commands_end_on_streams_without_an_end(rt: HostRuntime) -> Result<(), AllocEr
 }
 
 /// The faults, each with its line and status.
-const FAULTS: [(Fault, &[u8], u8); 13] = [
+const FAULTS: [(Fault, &[u8], u8); 14] = [
     (Fault::WrongUse, b"ggp_manager: wrong use\n", 2),
     (Fault::Memory, b"ggp_manager: want of memory\n", 3),
     (Fault::BadDescription, b"ggp_manager: bad description\n", 1),
@@ -154,6 +154,11 @@ const FAULTS: [(Fault, &[u8], u8); 13] = [
         1,
     ),
     (Fault::BadLines(10), b"ggp_manager: bad lines 10\n", 1),
+    (
+        Fault::UnlawfulRecords(10),
+        b"ggp_manager: records not lawful 10\n",
+        1,
+    ),
 ];
 
 #[test]

@@ -1,12 +1,16 @@
 -- What the check of a record writes, and what its faults say.
-use Rattle.std.specs.Prelude.{◌≡◌, ℕ, ◌<◌, ◌≤◌, List, [], ◌∷◌, ◌++◌, length, take, codes, Option}
+use Rattle.std.specs.Prelude.{◌≡◌, ℕ, ◌<◌, ◌≤◌, List, [], ◌∷◌, ◌++◌, length, take, codes, ◌⊎◌, Option}
 use Rattle.std.specs.Io.KnownBytes.{Appends, IsAtEnd}
 use Rattle.game_core.specs.Bytes.{line_feed}
-use Rattle.game_core.specs.Counting.{Counting, one_more}
+use Rattle.std.specs.Str.Lines.{lines}
+use Rattle.game_core.specs.Counting.{Counting, last_count, one_more}
 use Rattle.game_core.specs.Play.{Rules}
 use Rattle.match_record.specs.LawfulRecord.{IsLawfulRecord}
 use Rattle.match_record.specs.Verified.{FailsFirst}
+use Rattle.match_record.specs.declared.verify_fault.VerifyFault.{VerifyFault}
 use Rattle.whole_streams.specs.Streams.{StopsReading}
+use Rattle.whole_streams.specs.Lines.{HasNoLineFeed, BeginsWithLine}
+use Rattle.ggp_commands.specs.Verdicts.{IsVerdict, verdict_line, verdict_lines}
 use Rattle.ggp_commands.specs.declared.fault.Fault.{Fault}
 use Rattle.ggp_commands.specs.declared.fault.Fault.TheVariants.{ReadFault, InputTooLong, Memory, NotLawful, WriteFault}
 
@@ -30,3 +34,41 @@ CheckFails remaining contents g WriteFault given reader reader' writer writer' =
     (reader'.faults ≡ reader.faults) × (writer'.faults ≡ one_more writer.faults) × IsAtEnd (remaining reader'.stream) × IsLawfulRecord g given
     × ((taken : ℕ) × (taken ≤ length lawful_line) × Appends (contents writer.stream) (contents writer'.stream) (take taken lawful_line))
 CheckFails remaining contents g fault given reader reader' writer writer' = ⊥
+
+-- However the text goes on, its lines are these, and then those of what is left of it.
+abbrev pub BeginsWithLines : List ℕ → List (List ℕ) → List ℕ → Type 0
+BeginsWithLines text first left = (more : List ℕ) → lines (text ++ more) ≡ first ++ lines (left ++ more)
+
+-- the first line of these bytes, which may be a last one without a line feed
+abbrev pub HasFirstLine : Option (List ℕ) → List ℕ → List ℕ → Type 0
+HasFirstLine remaining bytes line = ((left : List ℕ) × BeginsWithLine bytes line left) ⊎ ((0 < length bytes) × HasNoLineFeed bytes × (line ≡ bytes) × IsAtEnd remaining)
+
+-- the bytes begin with so many of a line that has not ended
+abbrev pub HasOpenLine : List ℕ → (ℕ → Type 0) → Type 0
+HasOpenLine bytes IsLength = (part rest : List ℕ) × (bytes ≡ part ++ rest) × HasNoLineFeed part × IsLength (length part)
+
+-- these verdicts, and nothing else, were written
+abbrev pub TellsVerdicts : {W : Type 0} → (W → Option (List ℕ)) → List (Option VerifyFault) → Counting W → Counting W → Type 0
+TellsVerdicts contents verdicts writer writer' = Appends (contents writer.stream) (contents writer'.stream) (verdict_lines verdicts) × (writer'.faults ≡ writer.faults)
+
+-- these verdicts were written, and a part of that on this line, and then a write failed
+abbrev pub TellsPart : {S M W : Type 0} → (W → Option (List ℕ)) → Rules S M → List (Option VerifyFault) → List ℕ → Counting W → Counting W → Type 0
+TellsPart contents g verdicts line writer writer' = (writer'.faults ≡ one_more writer.faults)
+    × ((verdict : Option VerifyFault) × (taken : ℕ) × IsVerdict g line verdict × (taken ≤ length (verdict_line verdict))
+    × Appends (contents writer.stream) (contents writer'.stream) (verdict_lines verdicts ++ take taken (verdict_line verdict)))
+
+-- what a fault says of telling the verdict on this line
+abbrev pub LineFails : {S M W : Type 0} → (W → Option (List ℕ)) → Rules S M → Fault → List ℕ → Counting W → Counting W → Type 0
+LineFails contents g fault line writer writer' = ((fault ≡ Memory) × (writer' ≡ writer)) ⊎ ((fault ≡ WriteFault) × TellsPart contents g [] line writer writer')
+
+-- Of an input whose first lines have these verdicts, and of which these bytes are left: what the fault says of the streams before and
+-- after. A line that is too long is not read further; so is an input of 2^64 - 1 lines.
+abbrev pub CheckStops : {S M R W : Type 0} → (R → Option (List ℕ)) → (W → Option (List ℕ)) → Rules S M → Fault → List (Option VerifyFault) → List ℕ → Counting R → Counting R → Counting W → Counting W → Type 0
+CheckStops remaining contents g ReadFault verdicts left reader reader' writer writer' =
+    HasOpenLine left (λ count. (count ≤ max_record) × StopsReading count reader reader') × TellsVerdicts contents verdicts writer writer'
+CheckStops remaining contents g InputTooLong verdicts left reader reader' writer writer' =
+    (HasOpenLine left (λ count. max_record < count) ⊎ (last_count ≤ length verdicts)) × (reader'.faults ≡ reader.faults) × TellsVerdicts contents verdicts writer writer'
+CheckStops remaining contents g Memory verdicts left reader reader' writer writer' = (reader'.faults ≡ reader.faults) × TellsVerdicts contents verdicts writer writer'
+CheckStops remaining contents g WriteFault verdicts left reader reader' writer writer' =
+    (reader'.faults ≡ reader.faults) × ((line : List ℕ) × HasFirstLine (remaining reader'.stream) left line × TellsPart contents g verdicts line writer writer')
+CheckStops remaining contents g fault verdicts left reader reader' writer writer' = ⊥

@@ -1,3 +1,4 @@
 pub mod ScriptFaults
 pub mod Faults
+pub mod Verdicts
 pub mod Checks

@@ -18,6 +18,8 @@ pub enum Task<'a> {
     Season(SeasonPlan<'a>),
     /// To check a record, for this game.
     Verify(GameSource<'a>),
+    /// To check each line as a record, for this game.
+    VerifyLines(GameSource<'a>),
     /// To make the calls of an account again, for this game.
     Replay(GameSource<'a>),
     /// To ask a player whether it is free.
@@ -140,7 +142,12 @@ fn verify_command<'a>(alloc: Global) -> Result<Command<'a>, AllocError> {
     with_game(
         alloc,
         command.about("Says whether the record on standard input is lawful"),
-    )
+    )?
+    .arg(flag(
+        alloc,
+        "lines",
+        "Each line of standard input is a record, and is told by a line",
+    ))
 }
 
 fn replay_command<'a>(alloc: Global) -> Result<Command<'a>, AllocError> {
@@ -340,6 +347,9 @@ pub fn read_arguments<'a>(alloc: Global, words: &'a [&'a str]) -> Result<Task<'a
         Some(("desk", found)) => game_source(found).map(|game| Task::Desk(game)),
         Some(("run", found)) => Some(Task::Run(run_plan(alloc, found)?)),
         Some(("season", found)) => season_plan(found).map(|plan| Task::Season(plan)),
+        Some(("verify", found)) if found.get_flag("lines") => {
+            game_source(found).map(|game| Task::VerifyLines(game))
+        }
         Some(("verify", found)) => game_source(found).map(|game| Task::Verify(game)),
         Some(("replay", found)) => game_source(found).map(|game| Task::Replay(game)),
         Some(("info", found)) => found

@@ -1,16 +1,20 @@
 //! The check of a record.
-ghost use Rattle.std.specs.Prelude.{◌≡◌, ℕ, List, IfErr, OnOk};
+ghost use Rattle.std.specs.Prelude.{◌≡◌, ◌∷◌, [], ℕ, List, Option, IfErr, IfOk, OnOk};
 ghost use Rattle.std.specs.Io.KnownBytes.{Consumes, Appends, IsAtEnd};
+ghost use Rattle.std.specs.Str.Lines.{lines};
 ghost use Rattle.match_record.specs.LawfulRecord.{IsLawfulRecord};
-ghost use Rattle.ggp_commands.specs.Checks.{lawful_line, CheckFails};
+ghost use Rattle.match_record.specs.declared.verify_fault.VerifyFault.{VerifyFault};
+ghost use Rattle.ggp_commands.specs.Verdicts.{IsVerdict, AreVerdicts, verdict_line, verdict_lines, count_unlawful};
+ghost use Rattle.ggp_commands.specs.Checks.{lawful_line, CheckFails, BeginsWithLines, LineFails, CheckStops};
 
 use crate::fault::Fault;
 use crate::script_fault::ScriptFault;
+use crate::verdicts::{verdict_line, verdict_on};
 use game_core::{Counted, Game};
 use match_record::{VerifyFault, verify};
 use std::alloc::Global;
 use std::io::{Read, Write};
-use whole_streams::{InputFault, read_to_end, write_all};
+use whole_streams::{InputFault, LineBuffer, NextLine, read_to_end, write_all};
 
 /// How many bytes a record has at most: 16 MiB.
 const MAX_RECORD: usize = 16_777_216;
@@ -60,4 +64,63 @@ pub fn check_record<G: Game, R: Read, W: Write>(
     let record = read_to_end(alloc, reader, MAX_RECORD)?;
     verify(alloc, game, &record)?;
     Ok(write_all(writer, b"lawful\n")?)
+}
+
+/// Writes the verdict on a line, and counts it where it is no lawful record.
+fn check_line<G: Game, W: Write>(
+    alloc: Global,
+    game: &G,
+    line: &[u8],
+    writer: &mut Counted<W>,
+) -> Result<u64, Fault>
+    ensures verdict { IfOk result (λ count. (verdict : Option VerifyFault) × IsVerdict (G.rules game.now) line.now verdict
+        × (count ≡ count_unlawful (verdict ∷ []))
+        × Appends (W.contents writer.old.stream) (W.contents writer.new.stream) (verdict_line verdict)) }
+    ensures no_fault { OnOk result (writer.new.faults ≡ writer.old.faults) }
+    ensures fails { IfErr result (λ fault. LineFails W.contents (G.rules game.now) fault line.now writer.old writer.new) }
+{
+    let verdict = verdict_on(alloc, game, line)?;
+    let told = verdict_line(alloc, verdict)?;
+    write_all(writer, told.as_bytes())?;
+    Ok(if verdict.is_some() { 1 } else { 0 })
+}
+
+/// Tests each line of the input as a record of the game, one after another, and writes a line for each as soon as it is tested. How
+/// many are no lawful records is answered. One line is in memory at a time.
+pub fn check_records<G: Game, R: Read, W: Write>(
+    alloc: Global,
+    game: &G,
+    reader: &mut Counted<R>,
+    writer: &mut Counted<W>,
+) -> Result<u64, Fault>
+    ensures verdicts { IfOk result (λ unlawful. (input : List ℕ) × (verdicts : List (Option VerifyFault))
+        × Consumes (R.remaining reader.old.stream) (R.remaining reader.new.stream) input
+        × IsAtEnd (R.remaining reader.new.stream)
+        × AreVerdicts (G.rules game.now) (lines input) verdicts
+        × Appends (W.contents writer.old.stream) (W.contents writer.new.stream) (verdict_lines verdicts)
+        × (unlawful ≡ count_unlawful verdicts)) }
+    ensures no_fault { OnOk result ((reader.new.faults ≡ reader.old.faults) × (writer.new.faults ≡ writer.old.faults)) }
+    ensures stops { IfErr result (λ fault. (given : List ℕ) × (first : List (List ℕ)) × (left : List ℕ) × (verdicts : List (Option VerifyFault))
+        × Consumes (R.remaining reader.old.stream) (R.remaining reader.new.stream) given
+        × BeginsWithLines given first left
+        × AreVerdicts (G.rules game.now) first verdicts
+        × CheckStops R.remaining W.contents (G.rules game.now) fault verdicts left reader.old reader.new writer.old writer.new) }
+{
+    let mut buffer = LineBuffer::new();
+    let mut unlawful = 0;
+    for place in 0..u64::MAX {
+        match buffer.next_line(alloc, reader, MAX_RECORD) {
+            Ok(NextLine::Ended(line)) => match check_line(alloc, game, &line, writer) {
+                Ok(count) => unlawful += count,
+                Err(fault) => return Err(fault),
+            },
+            Ok(NextLine::Last(line)) => match check_line(alloc, game, &line, writer) {
+                Ok(count) => return Ok(unlawful + count),
+                Err(fault) => return Err(fault),
+            },
+            Ok(NextLine::Nothing) => return Ok(unlawful),
+            Err(fault) => return Err(Fault::from(fault)),
+        }
+    }
+    Err(Fault::InputTooLong)
 }

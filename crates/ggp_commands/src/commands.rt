@@ -1,7 +1,7 @@
 //! The commands, over any streams, runtime and players.
 
 use crate::arguments::{ArgumentFault, GameSource, RunPlan, SeasonPlan, Task, read_arguments};
-use crate::checking::check_record;
+use crate::checking::{check_record, check_records};
 use crate::fault::Fault;
 use crate::replaying::replay_account;
 use crate::rules::{rules_text, season_rules};
@@ -126,6 +126,9 @@ where
         Task::Show(text) => Ok(write_all(writer, text.as_bytes())?),
         Task::Desk(game) => for_game::<Desk, H, R, W>(rt, alloc, game, reader, writer),
         Task::Verify(game) => for_game::<Verify, H, R, W>(rt, alloc, game, reader, writer),
+        Task::VerifyLines(game) => for_game::<VerifyLines, H, R, W>(
+            rt, alloc, game, reader, writer,
+        ),
         Task::Replay(game) => for_game::<Replay, H, R, W>(rt, alloc, game, reader, writer),
         Task::Run(plan) => run::<H, P, S, W, E>(rt, alloc, reach, &plan, writer, errors),
         Task::Season(plan) => {
@@ -197,6 +200,23 @@ impl GameCommand for Verify {
         writer: &mut Counted<W>,
     ) -> Result<(), Fault> {
         check_record(alloc, &game, reader, writer)
+    }
+}
+
+/// Checks each line as a record of the game.
+struct VerifyLines;
+
+impl GameCommand for VerifyLines {
+    fn perform<G: Game + Drop, R: Read, W: Write>(
+        alloc: Global,
+        game: G,
+        reader: &mut Counted<R>,
+        writer: &mut Counted<W>,
+    ) -> Result<(), Fault> {
+        match check_records(alloc, &game, reader, writer)? {
+            0 => Ok(()),
+            count => Err(Fault::UnlawfulRecords(count)),
+        }
     }
 }
 

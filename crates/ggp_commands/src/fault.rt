@@ -48,6 +48,9 @@ pub enum Fault {
     /// The record is not lawful: the first test that it fails.
     #[error("not lawful: {0}")]
     NotLawful(VerifyFault),
+    /// So many lines of the input are no lawful records. All verdicts are output.
+    #[error("records not lawful {0}")]
+    UnlawfulRecords(u64),
     /// The line of that number tells no call.
     #[error("not replayed: line {0} is no entry")]
     NoEntry(u64),

@@ -16,6 +16,7 @@ mod replaying;
 mod rules;
 mod script;
 mod script_fault;
+mod verdicts;
 
 pub use arguments::ArgumentFault;
 pub use commands::{command, report};

@@ -120,6 +120,7 @@ impl LineBuffer {
             Err(_) => Err(InputFault::ReadFault),
         }
     }
+
     /// Moves what is at hand of the line to its end, up to its line feed. Whether the line ends there is answered. At a fault the
     /// piece is lost.
     fn take_piece(&mut self, line: &mut Vec<u8>, most: usize) -> Result<bool, InputFault>

@@ -1,0 +1,22 @@
+use Rattle.std.proofs.Common.{◌≡◌, ◌≤◌, ℕ, List, Option, length}
+use Rattle.std.specs.Io.KnownBytes.{Consumes, Appends}
+use Rattle.game_core.specs.Counting.{CallsMade}
+use Rattle.match_record.specs.declared.verify_fault.VerifyFault.{VerifyFault}
+use Rattle.ggp_commands.specs.Verdicts.{AreVerdicts, verdict_lines, count_unlawful}
+use Rattle.ggp_commands.specs.Checks.{BeginsWithLines}
+use Rattle.ggp_commands.proofs.checking.check_records.Given as goal
+
+abbrev pub invariant-loop-place : goal.invariant-loop-place
+invariant-loop-place g l = record {
+  checked : (given : List ℕ) × (first : List (List ℕ)) × (verdicts : List (Option VerifyFault))
+      × Consumes (g.R.Read.remaining l.initial.reader.stream) (g.R.Read.remaining l.reader.stream) given
+      × BeginsWithLines given first l.buffer
+      × AreVerdicts (g.G.Game.rules l.game) first verdicts
+      × Appends (g.W.Write.contents l.initial.writer.stream) (g.W.Write.contents l.writer.stream) (verdict_lines verdicts)
+      × (l.unlawful ≡ count_unlawful verdicts)
+      × (length verdicts ≡ l.place);
+  few : l.unlawful ≤ l.place;
+  calls : CallsMade 0 l.initial.reader.calls l.reader.calls;
+  read : l.reader.faults ≡ l.initial.reader.faults;
+  wrote : l.writer.faults ≡ l.initial.writer.faults;
+}
