@@ -1,5 +1,6 @@
 -- What a season writes.
 use Rattle.std.specs.Prelude.{◌≡◌, ℕ, List, [], ◌∷◌, ◌++◌, Option, IfSome}
+use Rattle.std.specs.Io.KnownBytes.{Appends}
 use Rattle.game_core.specs.Bytes.{line_feed}
 use Rattle.ground_rules.specs.LoadedGame.{loaded_game}
 use Rattle.packed_rules.specs.PackedGames.{tables_of}
@@ -42,3 +43,14 @@ pub data AreRecords : List ℕ → Type 0 where
 pub data AreAccounts : List ℕ → Type 0 where
   none : AreAccounts []
   more : (text account : List ℕ) → AreAccounts text → ∥ IsAccountOfDesk account ∥₁ → AreAccounts (text ++ account)
+
+-- From one content of a stream to the other so many records were written, or none.
+abbrev pub WritesRecords : Option (List ℕ) → Option (List ℕ) → Type 0
+WritesRecords old new = (text : List ℕ) × AreRecords text × Appends old new text
+
+abbrev pub WritesAccounts : Option (List ℕ) → Option (List ℕ) → Type 0
+WritesAccounts old new = (text : List ℕ) × AreAccounts text × Appends old new text
+
+-- records, and accounts behind them
+abbrev pub WritesSeason : Option (List ℕ) → Option (List ℕ) → Type 0
+WritesSeason old new = (records : List ℕ) × (accounts : List ℕ) × AreRecords records × AreAccounts accounts × Appends old new (records ++ accounts)

@@ -6,7 +6,7 @@
 //! Free functions take the allocator first, behind a handle for threads and waiting.
 #![tactic(auto)]
 
-mod countdown_rules;
+mod countdown_text;
 mod games;
 mod plan;
 mod playing;
@@ -14,7 +14,7 @@ mod schedule;
 mod season;
 mod season_output;
 
-pub use countdown_rules::countdown_rules;
+pub use countdown_text::countdown_rules;
 pub use games::{DescriptionFault, described_game};
 pub use plan::MatchPlan;
 pub use playing::{

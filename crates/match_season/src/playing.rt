@@ -189,9 +189,10 @@ pub struct PlayedMatch {
 /// What is left of a match that was played to its end: its record, and the account of its desk where that is wanted.
 #[derive(Drop)]
 pub struct EndedMatch {
-    pub record: Text,
+    /// The record.
+    pub text: Text,
     pub account: Option<Text>,
-    ghost is_ended: { ∥ IsEndedMatch record account ∥₁ },
+    ghost is_ended: { ∥ IsEndedMatch text account ∥₁ },
 }
 
 /// Referees a match between its entrants, by the rules that this text describes.
@@ -249,5 +250,8 @@ where
 {
     let PlayedMatch { record, history } = played_match(rt, alloc, entrants, rules)?;
     let account = account_of(alloc, &history, has_account)?;
-    Ok(EndedMatch { record, account })
+    Ok(EndedMatch {
+        text: record,
+        account,
+    })
 }

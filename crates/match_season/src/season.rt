@@ -49,6 +49,7 @@ pub fn fixtures<'a, P: Drop, S: Reach<P>>(
 }
 
 /// The matches of a season, as its threads see them.
+#[derive(Drop)]
 struct Season<'f, 'a, P> {
     alloc: Global,
     rules: &'f [u8],

@@ -1,8 +1,8 @@
 //! What a season writes: the record of each match, and the accounts behind them.
-ghost use Rattle.std.specs.Prelude.{◌≡◌, ◌++◌, ◌∷◌, [], ℕ, List, OnOk};
+ghost use Rattle.std.specs.Prelude.{◌++◌, ◌∷◌, [], OnOk};
 ghost use Rattle.std.specs.Io.KnownBytes.{Appends};
 ghost use Rattle.game_core.specs.Bytes.{line_feed};
-ghost use Rattle.match_season.specs.Seasons.{AreRecords, AreAccounts, IsAccountOfDesk};
+ghost use Rattle.match_season.specs.Seasons.{IsAccountOfDesk, WritesRecords, WritesAccounts, WritesSeason};
 
 use crate::playing::{EndedMatch, MatchFault};
 use crossbeam_channel::Receiver;
@@ -75,9 +75,9 @@ struct Written {
 
 /// Writes a record as a line.
 fn write_record<W: Write>(writer: &mut Counted<W>, ended: &EndedMatch) -> Result<(), WriteFault>
-    ensures { OnOk result (Appends (W.contents writer.old.stream) (W.contents writer.new.stream) (ended.now.record ++ line_feed ∷ [])) }
+    ensures { OnOk result (Appends (W.contents writer.old.stream) (W.contents writer.new.stream) (ended.now.text ++ line_feed ∷ [])) }
 {
-    write_all(writer, ended.record.as_slice())?;
+    write_all(writer, ended.text.as_slice())?;
     write_all(writer, b"\n")
 }
 
@@ -96,6 +96,22 @@ fn tell_fault<R: Wait, E: Write>(rt: &R, errors: &Mutex<E>, id: &str, fault: Mat
     let _ = writeln!(pieces, "ggp_manager: {id}: {fault}");
 }
 
+/// Writes the record of a match, and keeps its account.
+fn write_ended<W: Write>(
+    ended: EndedMatch,
+    written: &mut Written,
+    writer: &mut Counted<W>,
+) -> Result<(), SeasonFault>
+    ensures { OnOk result (WritesRecords (W.contents writer.old.stream) (W.contents writer.new.stream)) }
+{
+    write_record(writer, &ended)?;
+    written.records = written.records.saturating_add(1);
+    if let Some(account) = account_of(ended) {
+        written.accounts.push(account)?;
+    }
+    Ok(())
+}
+
 /// Writes the record of a match, or tells why it has none.
 fn write_outcome<R: Wait, W: Write, E: Write>(
     rt: &R,
@@ -104,19 +120,15 @@ fn write_outcome<R: Wait, W: Write, E: Write>(
     writer: &mut Counted<W>,
     errors: &Mutex<E>,
 ) -> Result<(), SeasonFault>
-    ensures { OnOk result ((text : List ℕ) × AreRecords text × Appends (W.contents writer.old.stream) (W.contents writer.new.stream) text) }
+    ensures { OnOk result (WritesRecords (W.contents writer.old.stream) (W.contents writer.new.stream)) }
 {
     match over.outcome {
-        Ok(ended) => {
-            write_record(writer, &ended)?;
-            written.records = written.records.saturating_add(1);
-            if let Some(account) = account_of(ended) {
-                written.accounts.push(account)?;
-            }
+        Ok(ended) => write_ended(ended, written, writer),
+        Err(fault) => {
+            tell_fault(rt, errors, over.id, fault);
+            Ok(())
         }
-        Err(fault) => tell_fault(rt, errors, over.id, fault),
     }
-    Ok(())
 }
 
 /// Writes what waits from this place on, up to the first match that is not over. The place of that is answered.
@@ -128,7 +140,7 @@ fn write_waiting<R: Wait, W: Write, E: Write>(
     writer: &mut Counted<W>,
     errors: &Mutex<E>,
 ) -> Result<usize, SeasonFault>
-    ensures { OnOk result ((text : List ℕ) × AreRecords text × Appends (W.contents writer.old.stream) (W.contents writer.new.stream) text) }
+    ensures { OnOk result (WritesRecords (W.contents writer.old.stream) (W.contents writer.new.stream)) }
 {
     let count = waiting.len();
     for place in next..count {
@@ -159,7 +171,7 @@ fn write_by_schedule<R: Wait, W: Write, E: Write>(
     writer: &mut Counted<W>,
     errors: &Mutex<E>,
 ) -> Result<(), SeasonFault>
-    ensures { OnOk result ((text : List ℕ) × AreRecords text × Appends (W.contents writer.old.stream) (W.contents writer.new.stream) text) }
+    ensures { OnOk result (WritesRecords (W.contents writer.old.stream) (W.contents writer.new.stream)) }
 {
     let mut waiting = none_waiting(alloc, count)?;
     let mut next = 0;
@@ -184,7 +196,7 @@ fn write_by_ends<R: Wait, W: Write, E: Write>(
     writer: &mut Counted<W>,
     errors: &Mutex<E>,
 ) -> Result<(), SeasonFault>
-    ensures { OnOk result ((text : List ℕ) × AreRecords text × Appends (W.contents writer.old.stream) (W.contents writer.new.stream) text) }
+    ensures { OnOk result (WritesRecords (W.contents writer.old.stream) (W.contents writer.new.stream)) }
 {
     for _ in 0..count {
         let Ok(over) = receiver.recv(rt) else {
@@ -195,12 +207,18 @@ fn write_by_ends<R: Wait, W: Write, E: Write>(
     Ok(())
 }
 
+fn write_account<W: Write>(writer: &mut Counted<W>, account: &Account) -> Result<(), WriteFault>
+    ensures { OnOk result (Appends (W.contents writer.old.stream) (W.contents writer.new.stream) account.now.text) }
+{
+    write_all(writer, account.text.as_slice())
+}
+
 /// Writes the accounts, one behind the other.
 fn write_accounts<W: Write>(writer: &mut Counted<W>, accounts: &[Account]) -> Result<(), WriteFault>
-    ensures { OnOk result ((text : List ℕ) × AreAccounts text × Appends (W.contents writer.old.stream) (W.contents writer.new.stream) text) }
+    ensures { OnOk result (WritesAccounts (W.contents writer.old.stream) (W.contents writer.new.stream)) }
 {
     for account in accounts {
-        write_all(writer, account.text.as_slice())?;
+        write_account(writer, account)?;
     }
     Ok(())
 }
@@ -216,8 +234,7 @@ pub fn write_season<R: Wait, W: Write, E: Write>(
     writer: &mut Counted<W>,
     errors: &Mutex<E>,
 ) -> Result<u64, SeasonFault>
-    ensures { OnOk result ((records : List ℕ) × (accounts : List ℕ) × AreRecords records × AreAccounts accounts
-        × Appends (W.contents writer.old.stream) (W.contents writer.new.stream) (records ++ accounts)) }
+    ensures { OnOk result (WritesSeason (W.contents writer.old.stream) (W.contents writer.new.stream)) }
 {
     let mut written = Written {
         records: 0,

@@ -1,4 +1,4 @@
-use Rattle.std.proofs.Common.{rules, ◌≡◌, ◌≢◌, List, ℕ, refl, sym, subst}
+use Rattle.std.proofs.Common.{rules, ◌≢◌, List, ℕ, refl, sym, subst}
 use Rattle.std.proofs.lemmas.Result.{err_from_is_err_and}
 use Rattle.std.specs.Prelude.{map}
 use Rattle.game_core.specs.Expression.{Expression, folded}
@@ -8,7 +8,7 @@ use Rattle.ground_rules.specs.Loading.{IsLoadFault}
 use Rattle.ground_rules.specs.declared.fault.LoadFault.{LoadFault}
 use Rattle.ground_rules.specs.declared.fault.LoadFault.TheVariants.{Variable, BadForm, Misplaced, NoRole, RoleTwice, TooLarge, Cyclic, Depends, Memory as LoadMemory}
 use Rattle.match_season.specs.declared.games.DescriptionFault.{DescriptionFault}
-use Rattle.match_season.specs.declared.games.DescriptionFault.TheVariants.{Memory, BadDescription}
+use Rattle.match_season.specs.declared.games.DescriptionFault.TheVariants.{Memory}
 use Rattle.match_season.specs.Games.{DescribesNone, faulty, loading_fault}
 use Rattle.match_season.proofs.games.loaded.Goals as goal
 

@@ -1,4 +1,4 @@
-use Rattle.std.proofs.Common.{◌≡◌, ◌≢◌, List, ℕ, sym, subst}
+use Rattle.std.proofs.Common.{◌≢◌, List, ℕ, sym, subst}
 use Rattle.std.proofs.lemmas.Result.{err_from_is_err_and}
 use Rattle.match_season.specs.declared.games.DescriptionFault.{DescriptionFault}
 use Rattle.match_season.specs.declared.games.DescriptionFault.TheVariants.{Memory, BadDescription}
@@ -13,6 +13,6 @@ fails text BadDescription refused = refused (λ same. absurd cc)
 pub returns-in_err-game-clause-fails : goal.returns-in_err-game-clause-fails
 returns-in_err-game-clause-fails g c =
     let text = c.args.rules.now in
-    let passed = err_from_is_err_and c.from_residual-in_err-game.result c.from_residual-in_err-game.ensures.1 in
+    let passed = err_from_is_err_and c.from_residual.result c.from_residual.ensures.1 in
     let why = fails text c.in_err-game.field-0.0 c.in_err-game.ensures.refused in
     rw passed.1 (subst (RunFails text) (sym passed.2) why)

@@ -1,0 +1,2 @@
+mod EndedMatches
+mod WrittenLines
