@@ -150,7 +150,7 @@ impl Write for Full {
 fn a_failed_write_leaves_a_prefix(rt: HostRuntime) -> Result<(), AllocError> {
     let words = strings(rt.alloc(), &WORDS)?;
     let bytes = mixed_lines(rt.alloc())?;
-    for room in [0, 6, 7, 15, 24, 83] {
+    for room in [0, 6, 7, 15, 24, 78] {
         let mut input = Counted::new(bytes.as_slice());
         let mut output = Counted::new(Full {
             taken: Vec::new(rt.alloc()),
