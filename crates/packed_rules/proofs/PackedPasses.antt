@@ -8,8 +8,9 @@ use Rattle.ground_rules.specs.Literals.{Literal, Literals, literals, End, More, 
 use Rattle.ground_rules.specs.Fit.{Situation, truth, all_true}
 use Rattle.ground_rules.specs.Numbered.{bit, numbered, row_after, unset, view, rule_of, rules_of}
 use Rattle.packed_rules.specs.declared.rules.Test.{Test}
+use Rattle.packed_rules.specs.declared.rules.MoveTest.{MoveTest}
 use Rattle.packed_rules.specs.declared.rules.PackedRule.{PackedRule}
-use Rattle.packed_rules.specs.Internal.PackedPass.{passes, all_pass, fires, packed_after, IsPacked, ArePacked}
+use Rattle.packed_rules.specs.Internal.PackedPass.{passes, all_pass, agrees, all_agree, fires, packed_after, IsPacked, ArePacked}
 
 pub take-past : (n : ℕ) (xs : List Bool) (i : ℕ) → n ≤ i → bit (take n xs) i ≡ false
 take-past zero xs i le = none i
@@ -79,55 +80,80 @@ and-assoc : (x y z : Bool) → ((x && y) && z) ≡ (x && (y && z))
 and-assoc true y z = refl
 and-assoc false y z = refl
 
-and-swap : (x y z : Bool) → ((x && y) && z) ≡ ((x && z) && y)
-and-swap true true true = refl
-and-swap true true false = refl
-and-swap true false true = refl
-and-swap true false false = refl
-and-swap false y z = refl
+and-true : (b : Bool) → (b && true) ≡ b
+and-true true = refl
+and-true false = refl
 
 all-pass-push : (bits : List Bool) (ts : List Test) (t : Test) → all_pass bits (ts ++ t ∷ []) ≡ (all_pass bits ts && passes bits t)
 all-pass-push bits [] t = and-true (passes bits t)
-  where
-    and-true : (b : Bool) → (b && true) ≡ b
-    and-true true = refl
-    and-true false = refl
 all-pass-push bits (u ∷ ts) t = ap (λ x. passes bits u && x) (all-pass-push bits ts t) ∙ sym (and-assoc (passes bits u) (all_pass bits ts) (passes bits t))
+
+all-agree-push : (joint : List ℕ) (ts : List MoveTest) (t : MoveTest) → all_agree joint (ts ++ t ∷ []) ≡ (all_agree joint ts && agrees joint t)
+all-agree-push joint [] t = and-true (agrees joint t)
+all-agree-push joint (u ∷ ts) t = ap (λ x. agrees joint u && x) (all-agree-push joint ts t) ∙ sym (and-assoc (agrees joint u) (all_agree joint ts) (agrees joint t))
 
 all-true-push : (w : Situation ℕ ℕ) (v : ℕ → Bool) (ls : List (Literal ℕ ℕ)) (l : Literal ℕ ℕ) → all_true w v (literals (ls ++ l ∷ [])) ≡ (all_true w v (literals ls) && truth w v l)
 all-true-push w v [] l = and-true (truth w v l)
-  where
-    and-true : (b : Bool) → (b && true) ≡ b
-    and-true true = refl
-    and-true false = refl
 all-true-push w v (k ∷ ls) l = ap (λ x. truth w v k && x) (all-true-push w v ls l) ∙ sym (and-assoc (truth w v k) (all_true w v (literals ls)) (truth w v l))
 
--- the literals passed so far, as tests and others, and those to come, say what all literals say
-abbrev pub SaysSoFar : ℕ → List Test → List (Literal ℕ ℕ) → List (Literal ℕ ℕ) → List (Literal ℕ ℕ) → Type 0
-SaysSoFar n tests others rest all =
+-- the literals passed so far, as moves, tests and others, and those to come, say what all literals say
+abbrev pub SaysSoFar : ℕ → List MoveTest → List Test → List (Literal ℕ ℕ) → List (Literal ℕ ℕ) → List (Literal ℕ ℕ) → Type 0
+SaysSoFar n moves tests others rest all =
     (bits : List Bool) (joint : List ℕ)
-    → ((all_true (numbered (take n bits) joint) (bit (drop n bits)) (literals others) && all_pass bits tests) && all_true (numbered (take n bits) joint) (bit (drop n bits)) (literals rest))
+    → ((all_agree joint moves && (all_pass bits tests && all_true (numbered (take n bits) joint) (bit (drop n bits)) (literals others))) && all_true (numbered (take n bits) joint) (bit (drop n bits)) (literals rest))
     ≡ all_true (numbered (take n bits) joint) (bit (drop n bits)) (literals all)
 
-pub test-more : (n : ℕ) (tests : List Test) (others rest all : List (Literal ℕ ℕ)) (l : Literal ℕ ℕ) (t : Test) → SaysSoFar n tests others (l ∷ rest) all
-    → ((bits : List Bool) (joint : List ℕ) → passes bits t ≡ truth (numbered (take n bits) joint) (bit (drop n bits)) l) → SaysSoFar n (tests ++ t ∷ []) others rest all
-test-more n tests others rest all l t says is bits joint =
-    let w = numbered (take n bits) joint in
-    let v : ℕ → Bool = bit (drop n bits) in
-    let o = all_true w v (literals others) in
-    let p = all_pass bits tests in
-    let q = all_true w v (literals rest) in
-    ap (λ x. (o && x) && q) (all-pass-push bits tests t ∙ ap (λ x. p && x) (is bits joint))
-    ∙ ap (λ x. x && q) (sym (and-assoc o p (truth w v l))) ∙ and-assoc (o && p) (truth w v l) q ∙ says bits joint
+move-back : (m p o x q : Bool) → (((m && x) && (p && o)) && q) ≡ ((m && (p && o)) && (x && q))
+move-back false p o x q = refl
+move-back true p o true q = refl
+move-back true false o false q = refl
+move-back true true false false q = refl
+move-back true true true false q = refl
 
-pub other-more : (n : ℕ) (tests : List Test) (others rest all : List (Literal ℕ ℕ)) (l : Literal ℕ ℕ) → SaysSoFar n tests others (l ∷ rest) all → SaysSoFar n tests (others ++ l ∷ []) rest all
-other-more n tests others rest all l says bits joint =
+test-back : (m p o x q : Bool) → ((m && ((p && x) && o)) && q) ≡ ((m && (p && o)) && (x && q))
+test-back false p o x q = refl
+test-back true false o x q = refl
+test-back true true o true q = refl
+test-back true true false false q = refl
+test-back true true true false q = refl
+
+other-back : (m p o x q : Bool) → ((m && (p && (o && x))) && q) ≡ ((m && (p && o)) && (x && q))
+other-back false p o x q = refl
+other-back true false o x q = refl
+other-back true true false x q = refl
+other-back true true true x q = refl
+
+pub move-more : (n : ℕ) (moves : List MoveTest) (tests : List Test) (others rest all : List (Literal ℕ ℕ)) (l : Literal ℕ ℕ) (t : MoveTest) → SaysSoFar n moves tests others (l ∷ rest) all
+    → ((bits : List Bool) (joint : List ℕ) → agrees joint t ≡ truth (numbered (take n bits) joint) (bit (drop n bits)) l) → SaysSoFar n (moves ++ t ∷ []) tests others rest all
+move-more n moves tests others rest all l t says is bits joint =
     let w = numbered (take n bits) joint in
     let v : ℕ → Bool = bit (drop n bits) in
-    let o = all_true w v (literals others) in
+    let m = all_agree joint moves in
     let p = all_pass bits tests in
+    let o = all_true w v (literals others) in
     let q = all_true w v (literals rest) in
-    ap (λ x. (x && p) && q) (all-true-push w v others l) ∙ ap (λ x. x && q) (and-swap o (truth w v l) p) ∙ and-assoc (o && p) (truth w v l) q ∙ says bits joint
+    ap (λ x. (x && (p && o)) && q) (all-agree-push joint moves t ∙ ap (λ x. m && x) (is bits joint)) ∙ move-back m p o (truth w v l) q ∙ says bits joint
+
+pub test-more : (n : ℕ) (moves : List MoveTest) (tests : List Test) (others rest all : List (Literal ℕ ℕ)) (l : Literal ℕ ℕ) (t : Test) → SaysSoFar n moves tests others (l ∷ rest) all
+    → ((bits : List Bool) (joint : List ℕ) → passes bits t ≡ truth (numbered (take n bits) joint) (bit (drop n bits)) l) → SaysSoFar n moves (tests ++ t ∷ []) others rest all
+test-more n moves tests others rest all l t says is bits joint =
+    let w = numbered (take n bits) joint in
+    let v : ℕ → Bool = bit (drop n bits) in
+    let m = all_agree joint moves in
+    let p = all_pass bits tests in
+    let o = all_true w v (literals others) in
+    let q = all_true w v (literals rest) in
+    ap (λ x. (m && (x && o)) && q) (all-pass-push bits tests t ∙ ap (λ x. p && x) (is bits joint)) ∙ test-back m p o (truth w v l) q ∙ says bits joint
+
+pub other-more : (n : ℕ) (moves : List MoveTest) (tests : List Test) (others rest all : List (Literal ℕ ℕ)) (l : Literal ℕ ℕ) → SaysSoFar n moves tests others (l ∷ rest) all → SaysSoFar n moves tests (others ++ l ∷ []) rest all
+other-more n moves tests others rest all l says bits joint =
+    let w = numbered (take n bits) joint in
+    let v : ℕ → Bool = bit (drop n bits) in
+    let m = all_agree joint moves in
+    let p = all_pass bits tests in
+    let o = all_true w v (literals others) in
+    let q = all_true w v (literals rest) in
+    ap (λ x. (m && (p && x)) && q) (all-true-push w v others l) ∙ other-back m p o (truth w v l) q ∙ says bits joint
 
 -- a row is empty in both parts
 pub none-terms : (n m : ℕ) → take n (unset (n + m)) ≡ unset n
@@ -156,20 +182,20 @@ same-cut (suc m) n (b ∷ bits) e =
     rw (sym e) (record { terms = ap (λ xs. b ∷ xs) rest.terms; atoms = rest.atoms })
 
 -- the literal at this place is the next one
-pub says-next : (n : ℕ) (tests : List Test) (others : List (Literal ℕ ℕ)) (items : List CodeLiteral) (i : ℕ) (item : CodeLiteral) (all : List (Literal ℕ ℕ)) → i < length items → item ≡ get_or items i item
-    → SaysSoFar n tests others (map view (drop i items)) all → SaysSoFar n tests others (view item ∷ map view (drop (i + 1) items)) all
-says-next n tests others items i item all lt is says =
-    subst (λ (x : CodeLiteral). SaysSoFar n tests others (view x ∷ map view (drop (i + 1) items)) all) (sym is)
-    (subst (λ (xs : List CodeLiteral). SaysSoFar n tests others (map view xs) all) (drop_more items i item lt) says)
+pub says-next : (n : ℕ) (moves : List MoveTest) (tests : List Test) (others : List (Literal ℕ ℕ)) (items : List CodeLiteral) (i : ℕ) (item : CodeLiteral) (all : List (Literal ℕ ℕ)) → i < length items → item ≡ get_or items i item
+    → SaysSoFar n moves tests others (map view (drop i items)) all → SaysSoFar n moves tests others (view item ∷ map view (drop (i + 1) items)) all
+says-next n moves tests others items i item all lt is says =
+    subst (λ (x : CodeLiteral). SaysSoFar n moves tests others (view x ∷ map view (drop (i + 1) items)) all) (sym is)
+    (subst (λ (xs : List CodeLiteral). SaysSoFar n moves tests others (map view xs) all) (drop_more items i item lt) says)
 
 views-push : (ls : List CodeLiteral) (l : CodeLiteral) → map view (ls ++ l ∷ []) ≡ map view ls ++ view l ∷ []
 views-push [] l = refl
 views-push (k ∷ ls) l = ap (λ xs. view k ∷ xs) (views-push ls l)
 
-pub other-next : (n : ℕ) (tests : List Test) (others : List CodeLiteral) (rest all : List (Literal ℕ ℕ)) (l copied : CodeLiteral) → view copied ≡ view l
-    → SaysSoFar n tests (map view others) (view l ∷ rest) all → SaysSoFar n tests (map view (others ++ copied ∷ [])) rest all
-other-next n tests others rest all l copied same says =
-    subst (λ (ls : List (Literal ℕ ℕ)). SaysSoFar n tests ls rest all) (sym (views-push others copied ∙ ap (λ x. map view others ++ x ∷ []) same)) (other-more n tests (map view others) rest all (view l) says)
+pub other-next : (n : ℕ) (moves : List MoveTest) (tests : List Test) (others : List CodeLiteral) (rest all : List (Literal ℕ ℕ)) (l copied : CodeLiteral) → view copied ≡ view l
+    → SaysSoFar n moves tests (map view others) (view l ∷ rest) all → SaysSoFar n moves tests (map view (others ++ copied ∷ [])) rest all
+other-next n moves tests others rest all l copied same says =
+    subst (λ (ls : List (Literal ℕ ℕ)). SaysSoFar n moves tests ls rest all) (sym (views-push others copied ∙ ap (λ x. map view others ++ x ∷ []) same)) (other-more n moves tests (map view others) rest all (view l) says)
 
 rules-push : (rs : List CodeRule) (r : CodeRule) → rules_of (rs ++ r ∷ []) ≡ rules_of rs ++ rule_of r ∷ []
 rules-push [] r = refl

@@ -1,5 +1,5 @@
 //! Rows of bits in words.
-ghost use Rattle.std.specs.Prelude.{◌≡◌, ◌<◌, ◌+◌, ◌*◌, ℕ, IfOk, length, slice_set, take, drop, true};
+ghost use Rattle.std.specs.Prelude.{◌≡◌, ◌<◌, ◌+◌, ◌*◌, ◌≤◌, ℕ, IfOk, length, slice_set, take, drop, true};
 ghost use Rattle.ground_rules.specs.Numbered.{bit, unset};
 ghost use Rattle.packed_rules.specs.Bits.{bit_of, bits_of};
 
@@ -11,8 +11,8 @@ const WORD: usize = 64;
 /// A truth value for each place, 64 in a word. Contracts see the list of them.
 #[derive(Drop)]
 pub struct BitRow {
-    words: Vec<u64>,
-    size: usize,
+    pub(crate) words: Vec<u64>,
+    pub(crate) size: usize,
 }
 
 impl Model for BitRow {
@@ -40,6 +40,52 @@ fn raise(words: &mut [u64], place: usize)
     words[place / WORD] |= 1 << (place % WORD);
 }
 
+/// The value at this place of a row of so many values, false past the end.
+pub fn is_on(words: &[u64], size: usize, place: usize) -> bool
+    requires { size ≤ length words.now * 64 }
+    ensures { result ≡ bit (bits_of words.now size) place }
+{
+    if place < size {
+        test(words, place)
+    } else {
+        false
+    }
+}
+
+/// The value at this place of such a row before `end`, false past that.
+pub fn is_on_before(words: &[u64], size: usize, end: usize, place: usize) -> bool
+    requires { size ≤ length words.now * 64 }
+    ensures { result ≡ bit (take end (bits_of words.now size)) place }
+{
+    if place < end {
+        is_on(words, size, place)
+    } else {
+        false
+    }
+}
+
+/// The value at this place of such a row from `start` on, false past the end.
+pub fn is_on_after(words: &[u64], size: usize, start: usize, place: usize) -> bool
+    requires { size ≤ length words.now * 64 }
+    ensures { result ≡ bit (drop start (bits_of words.now size)) place }
+{
+    if start < size && place < size - start {
+        test(words, start + place)
+    } else {
+        false
+    }
+}
+
+/// Makes the value at this place of such a row from `start` on true, if there is one.
+pub fn turn_on_after(words: &mut [u64], size: usize, start: usize, place: usize)
+    requires { size ≤ length words.old * 64 }
+    ensures { bits_of words.new size ≡ slice_set (bits_of words.old size) (start + place) true }
+{
+    if start < size && place < size - start {
+        raise(words, start + place);
+    }
+}
+
 impl BitRow {
     /// So many values, all false.
     pub fn unset(alloc: Global, size: usize) -> Result<BitRow, AllocError>
@@ -53,11 +99,7 @@ impl BitRow {
     pub fn is_set(&self, place: usize) -> bool
         ensures { result ≡ bit self.now place }
     {
-        if place < self.size {
-            test(&self.words, place)
-        } else {
-            false
-        }
+        is_on(&self.words, self.size, place)
     }
 
     /// Makes the value at this place true, if there is one.
@@ -73,22 +115,14 @@ impl BitRow {
     pub fn is_set_before(&self, end: usize, place: usize) -> bool
         ensures { result ≡ bit (take end self.now) place }
     {
-        if place < end {
-            self.is_set(place)
-        } else {
-            false
-        }
+        is_on_before(&self.words, self.size, end, place)
     }
 
     /// The value at this place of the row from `start` on, false past the end.
     pub fn is_set_after(&self, start: usize, place: usize) -> bool
         ensures { result ≡ bit (drop start self.now) place }
     {
-        if start < self.size && place < self.size - start {
-            test(&self.words, start + place)
-        } else {
-            false
-        }
+        is_on_after(&self.words, self.size, start, place)
     }
 
     /// Makes the value at this place of the row before `end` true, if there is one.
@@ -98,15 +132,6 @@ impl BitRow {
     {
         if place < end {
             self.set(place);
-        }
-    }
-
-    /// Makes the value at this place of the row from `start` on true, if there is one.
-    pub fn set_after(&mut self, start: usize, place: usize)
-        ensures { self.new ≡ slice_set self.old (start + place) true }
-    {
-        if start < self.size && place < self.size - start {
-            raise(&mut self.words, start + place);
         }
     }
 }

@@ -1,9 +1,9 @@
 //! From numbered rules to rules by places.
-ghost use Rattle.std.specs.Prelude.{◌≡◌, IfOk, IfSome, map, true};
+ghost use Rattle.std.specs.Prelude.{◌≡◌, ℕ, IfOk, IfSome, map, true};
 ghost use Rattle.ground_rules.specs.Numbered.{view, rule_of, rules_of};
-ghost use Rattle.packed_rules.specs.Internal.PackedPass.{IsTestOf, IsPacked, ArePacked};
+ghost use Rattle.packed_rules.specs.Internal.PackedPass.{IsTestOf, IsMoveTestOf, IsPacked, ArePacked};
 
-use crate::rules::{PackedRule, Test};
+use crate::rules::{MoveTest, PackedRule, Test};
 use ground_rules::numbered::{Literal, Rule};
 use std::alloc::{AllocError, Global};
 
@@ -62,20 +62,56 @@ fn test_of(literal: &Literal, terms: usize) -> Option<Test>
     }
 }
 
+/// The test whether the role makes this move, if both have numbers of 32 bits.
+fn move_test_at(role: usize, term: usize) -> Option<MoveTest>
+    ensures { IfSome result (λ t. (t.role ≡ role) × (t.term ≡ term) × (t.value ≡ true)) }
+{
+    let role = u32::try_from(role).ok()?;
+    let term = u32::try_from(term).ok()?;
+    Some(MoveTest {
+        role,
+        term,
+        value: true,
+    })
+}
+
+/// The test that says what the literal says, if the literal asks for the move of one role.
+fn move_test_of(literal: &Literal) -> Option<MoveTest>
+    ensures { IfSome result (λ t. (terms : ℕ) → IsMoveTestOf terms (view literal.now) t) }
+{
+    match literal {
+        Literal::Does(role, term) => move_test_at(*role, *term),
+        Literal::Not(inner) => {
+            let asked = move_test_of(inner)?;
+            Some(MoveTest {
+                role: asked.role,
+                term: asked.term,
+                value: !asked.value,
+            })
+        }
+        _ => None,
+    }
+}
+
 fn pack_rule(alloc: Global, rule: &Rule, terms: usize) -> Result<PackedRule, AllocError>
     ensures { IfOk result (λ p. IsPacked terms p (rule_of rule.now)) }
 {
     let mut tests = Vec::new(alloc);
+    let mut moves = Vec::new(alloc);
     let mut others = Vec::new(alloc);
     for literal in &rule.body {
         match test_of(literal, terms) {
             Some(test) => tests.push(test)?,
-            None => others.push(copy(alloc, literal)?)?,
+            None => match move_test_of(literal) {
+                Some(test) => moves.push(test)?,
+                None => others.push(copy(alloc, literal)?)?,
+            },
         }
     }
     Ok(PackedRule {
         head: rule.head,
         tests,
+        moves,
         others,
     })
 }

@@ -8,6 +8,14 @@ pub struct Test {
     pub value: bool,
 }
 
+/// A role and the term of a move, and whether the role is asked to make that move or another.
+#[derive(Clone, Copy)]
+pub struct MoveTest {
+    pub role: u32,
+    pub term: u32,
+    pub value: bool,
+}
+
 /// A rule by places: a head and its literals.
 #[derive(Drop)]
 pub struct PackedRule {
@@ -15,6 +23,8 @@ pub struct PackedRule {
     pub head: usize,
     /// The literals that ask for the value at one place.
     pub tests: Vec<Test>,
-    /// The other literals, as those of moves.
+    /// The literals that ask for the move of one role.
+    pub moves: Vec<MoveTest>,
+    /// The other literals.
     pub others: Vec<Literal>,
 }

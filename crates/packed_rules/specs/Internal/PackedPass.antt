@@ -5,6 +5,7 @@ use Rattle.ground_rules.specs.Literals.{Literal, Rule}
 use Rattle.ground_rules.specs.Fit.{truth, all_true}
 use Rattle.ground_rules.specs.Numbered.{bit, numbered, views}
 use Rattle.packed_rules.specs.declared.rules.Test.{Test}
+use Rattle.packed_rules.specs.declared.rules.MoveTest.{MoveTest}
 use Rattle.packed_rules.specs.declared.rules.PackedRule.{PackedRule}
 
 -- the row has the value that is asked for
@@ -15,9 +16,17 @@ abbrev pub all_pass : List Bool → List Test → Bool
 all_pass bits [] = true
 all_pass bits (t ∷ ts) = passes bits t && all_pass bits ts
 
+-- the role makes the move, or does not, as is asked
+abbrev pub agrees : List ℕ → MoveTest → Bool
+agrees joint t = beq ((numbered [] joint).does t.role t.term) t.value
+
+abbrev pub all_agree : List ℕ → List MoveTest → Bool
+all_agree joint [] = true
+all_agree joint (t ∷ ts) = agrees joint t && all_agree joint ts
+
 -- the literals of the rule are true, in a row of so many terms and behind them the derived atoms
 abbrev pub fires : ℕ → List ℕ → List Bool → PackedRule → Bool
-fires terms joint bits r = all_true (numbered (take terms bits) joint) (bit (drop terms bits)) (views r.others.items) && all_pass bits r.tests.items
+fires terms joint bits r = all_agree joint r.moves.items && (all_pass bits r.tests.items && all_true (numbered (take terms bits) joint) (bit (drop terms bits)) (views r.others.items))
 
 -- the row after a pass over the rules, each of which sets its head where that is not set yet
 abbrev pub packed_after : ℕ → List ℕ → List Bool → List PackedRule → List Bool
@@ -27,6 +36,9 @@ packed_after terms joint bits (r ∷ rs) = packed_after terms joint (if not (bit
 -- the test asks what the literal says
 abbrev pub IsTestOf : ℕ → Literal ℕ ℕ → Test → Type 0
 IsTestOf terms l t = (bits : List Bool) (joint : List ℕ) → passes bits t ≡ truth (numbered (take terms bits) joint) (bit (drop terms bits)) l
+
+abbrev pub IsMoveTestOf : ℕ → Literal ℕ ℕ → MoveTest → Type 0
+IsMoveTestOf terms l t = (bits : List Bool) (joint : List ℕ) → agrees joint t ≡ truth (numbered (take terms bits) joint) (bit (drop terms bits)) l
 
 -- the rule by places says what the rule says
 pub record IsPacked (terms : ℕ) (p : PackedRule) (r : Rule ℕ ℕ) : Type 0 where

@@ -1,10 +1,7 @@
-use Rattle.std.proofs.Common.{false, sym, ◌∙◌}
-use Rattle.std.proofs.lemmas.List.{get_or-take}
-use Rattle.packed_rules.proofs.PackedPasses.{take-past}
+use Rattle.std.proofs.Common.{take, ap, ◌∙◌}
+use Rattle.ground_rules.specs.Numbered.{bit}
+use Rattle.packed_rules.specs.Bits.{bits_of}
 use Rattle.packed_rules.proofs.bits.BitRow.is_set_before.Goals as goal
 
-pub returns-then-place-end : goal.returns-then-place-end
-returns-then-place-end c = c.is_set.ensures ∙ sym (get_or-take c.args.end c.args.self.now c.args.place false c.if-place-end.true)
-
-pub returns-else-place-end : goal.returns-else-place-end
-returns-else-place-end c = sym (take-past c.args.end c.args.self.now c.args.place c.if-place-end.false)
+pub returns : goal.returns
+returns c = rw (← c.self.view_is) (c.is_on_before.ensures ∙ ap (λ ws. bit (take c.args.end (bits_of ws c.self.inside.size)) c.args.place) c.deref.ensures.value)
