@@ -6,8 +6,6 @@ use Rattle.match_record.proofs.trees.texts_into_tree.Given as goal
 
 abbrev pub invariant-loop-text : goal.invariant-loop-text
 invariant-loop-text l = record {
-  can_next : goal.iterator-loop-text.can_next l.text-iterator;
-  is_finite : goal.iterator-loop-text.is_finite l.text-iterator;
   len : into_iter_len l.text-iterator ≡ length (into_iter_items l.text-iterator);
   rest : map view l.values.items ++ map string (into_iter_items l.text-iterator) ≡ map string l.fn.texts.items;
 }
