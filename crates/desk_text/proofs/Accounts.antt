@@ -1,7 +1,6 @@
 -- An account that is made again grows line by line.
-use Rattle.std.proofs.Common.{◌≡◌, ℕ, ◌+◌, List, [], ◌∷◌, ◌++◌, map, length, refl, sym, ap, ◌∙◌, append_assoc, append-nil}
+use Rattle.std.proofs.Common.{◌≡◌, ℕ, ◌+◌, List, [], ◌∷◌, ◌++◌, map, refl, sym, ap, ◌∙◌, append_assoc, append-nil}
 use Rattle.std.proofs.lemmas.List.{map-append, length-append}
-use Rattle.call_history.specs.History.{IsLegalHistory, run}
 use Rattle.call_history.specs.declared.journal.Entry.{Entry}
 use Rattle.call_history.proofs.Histories.{run-snoc, IsLegalHistory-snoc}
 use Rattle.match_desk.specs.declared.call.Call.{Call}

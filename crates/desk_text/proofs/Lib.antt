@@ -1,4 +1,5 @@
 pub mod Accounts
+pub mod Escapes
 pub mod LineLemmas
 pub mod Pieces
 pub mod Records

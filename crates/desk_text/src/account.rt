@@ -1,6 +1,7 @@
 //! The account of a desk: its history as text, one line for each entry, so that anyone can make its calls again.
 ghost use Rattle.std.specs.Prelude.{◌≡◌, ◌<◌, ◌++◌, codes, OnOk};
 ghost use Rattle.std.specs.Fmt.{decimal};
+ghost use Rattle.std.specs.List.{list_all};
 ghost use Rattle.desk_text.specs.Words.{behind_spaces};
 ghost use Rattle.desk_text.specs.Account.{call_text, is_plain, hex_digit, escaped_byte, escaped, entry_text, history_text};
 
@@ -11,11 +12,11 @@ use match_desk::{Call, Reply};
 use std::alloc::{AllocError, Global};
 
 /// Writes a space and the number behind `out`.
-fn push_behind_space(alloc: Global, out: &mut Vec<u8>, number: u64) -> Result<(), AllocError>
+fn push_behind_space(out: &mut Vec<u8>, number: u64) -> Result<(), AllocError>
     ensures { OnOk result (out.new.items ≡ out.old.items ++ codes " " ++ decimal number) }
 {
     out.push(b' ')?;
-    push_number(alloc, out, number)
+    push_number(out, number)
 }
 
 /// Writes the texts behind `out`, each behind a space.
@@ -38,7 +39,7 @@ fn push_keyword(out: &mut Vec<u8>, keyword: &[u8], id: &Text) -> Result<(), Allo
 }
 
 /// Writes the script's line for the call, without its line feed, behind `out`.
-fn push_call(alloc: Global, out: &mut Vec<u8>, call: &Call) -> Result<(), AllocError>
+fn push_call(out: &mut Vec<u8>, call: &Call) -> Result<(), AllocError>
     ensures { OnOk result (out.new.items ≡ out.old.items ++ call_text call.now) }
 {
     match call {
@@ -51,15 +52,15 @@ fn push_call(alloc: Global, out: &mut Vec<u8>, call: &Call) -> Result<(), AllocE
             players,
         } => {
             push_keyword(out, b"strict ", id)?;
-            push_behind_space(alloc, out, *game as u64)?;
-            push_behind_space(alloc, out, u64::from(*start))?;
-            push_behind_space(alloc, out, u64::from(*play))?;
-            push_behind_space(alloc, out, u64::from(*strikes))?;
+            push_behind_space(out, *game as u64)?;
+            push_behind_space(out, u64::from(*start))?;
+            push_behind_space(out, u64::from(*play))?;
+            push_behind_space(out, u64::from(*strikes))?;
             push_behind_spaces(out, players.as_slice())
         }
         Call::Next { id, role } => {
             push_keyword(out, b"next ", id)?;
-            push_behind_space(alloc, out, *role as u64)
+            push_behind_space(out, *role as u64)
         }
         Call::Submit {
             id,
@@ -68,8 +69,8 @@ fn push_call(alloc: Global, out: &mut Vec<u8>, call: &Call) -> Result<(), AllocE
             text,
         } => {
             push_keyword(out, b"submit ", id)?;
-            push_behind_space(alloc, out, *role as u64)?;
-            push_behind_space(alloc, out, *round)?;
+            push_behind_space(out, *role as u64)?;
+            push_behind_space(out, *round)?;
             out.push(b' ')?;
             out.extend_from_slice(text.as_slice())
         }
@@ -80,8 +81,8 @@ fn push_call(alloc: Global, out: &mut Vec<u8>, call: &Call) -> Result<(), AllocE
             broken,
         } => {
             push_keyword(out, b"miss ", id)?;
-            push_behind_space(alloc, out, *role as u64)?;
-            push_behind_space(alloc, out, *round)?;
+            push_behind_space(out, *role as u64)?;
+            push_behind_space(out, *round)?;
             if *broken {
                 out.extend_from_slice(b" broken")
             } else {
@@ -126,14 +127,27 @@ fn push_escaped_byte(out: &mut Vec<u8>, byte: u8) -> Result<(), AllocError>
     Ok(())
 }
 
+fn are_plain(text: &[u8]) -> bool
+    ensures { result ≡ list_all is_plain text.now }
+{
+    text.iter().all(|byte| is_plain(*byte))
+}
+
 fn push_escaped(out: &mut Vec<u8>, text: &[u8]) -> Result<(), AllocError>
     ensures { OnOk result (out.new.items ≡ out.old.items ++ escaped text.now) }
 {
+    if are_plain(text) {
+        out.extend_from_slice(text)?;
+        return Ok(());
+    }
     for byte in text {
         push_escaped_byte(out, *byte)?;
     }
     Ok(())
 }
+
+/// The bytes of most calls with their replies are no more.
+const USUAL_LENGTH: usize = 128;
 
 /// Writes the line of an entry, without its line feed, behind `out`.
 pub(crate) fn push_entry(
@@ -143,15 +157,15 @@ pub(crate) fn push_entry(
 ) -> Result<(), AllocError>
     ensures { OnOk result (out.new.items ≡ out.old.items ++ entry_text entry.now) }
 {
-    let mut call = Vec::new(alloc);
-    push_call(alloc, &mut call, &entry.call)?;
-    let mut reply = Vec::new(alloc);
-    push_reply(alloc, &mut reply, &entry.reply)?;
-    push_number(alloc, out, u64::from(entry.line))?;
+    let mut told = Vec::with_capacity(alloc, USUAL_LENGTH)?;
+    push_call(&mut told, &entry.call)?;
+    let call_end = told.len();
+    push_reply(&mut told, &entry.reply)?;
+    push_number(out, u64::from(entry.line))?;
     out.push(b'\t')?;
-    push_escaped(out, &call)?;
+    push_escaped(out, &told[..call_end])?;
     out.push(b'\t')?;
-    push_escaped(out, &reply)
+    push_escaped(out, &told[call_end..])
 }
 
 /// Writes the lines of a history behind `out`, each with its line feed: the number of the desk's line that made the call, the call

@@ -5,17 +5,17 @@ ghost use Rattle.desk_text.specs.Words.{spaced};
 ghost use Rattle.desk_text.specs.ScriptLines.{joint_text, owed_text, due_text, status_text, refusal_word, refusal_text, reply_text};
 
 use game_core::{Text, Texts};
+use itoa::Buffer;
 use match_book::{Due, Owed, Status};
 use match_desk::{Refusal, Reply};
 use match_record::phase_text;
-use std::alloc::{AllocError, Global};
+use std::alloc::AllocError;
 
-pub(crate) fn push_number(alloc: Global, out: &mut Vec<u8>, number: u64) -> Result<(), AllocError>
+pub(crate) fn push_number(out: &mut Vec<u8>, number: u64) -> Result<(), AllocError>
     ensures { OnOk result (out.new.items ≡ out.old.items ++ decimal number) }
 {
-    let digits = format!(in alloc; "{number}")?;
-    out.extend_from_slice(digits.as_bytes())?;
-    Ok(())
+    let mut digits = Buffer::new();
+    out.extend_from_slice(digits.format(number).as_bytes())
 }
 
 fn push_spaced(out: &mut Vec<u8>, texts: &[Text]) -> Result<(), AllocError>
@@ -63,36 +63,36 @@ fn push_owed(out: &mut Vec<u8>, owed: &Owed) -> Result<(), AllocError>
     Ok(())
 }
 
-fn push_due(alloc: Global, out: &mut Vec<u8>, due: &Due) -> Result<(), AllocError>
+fn push_due(out: &mut Vec<u8>, due: &Due) -> Result<(), AllocError>
     ensures { OnOk result (out.new.items ≡ out.old.items ++ due_text due.now) }
 {
     match due {
         Due::Owe { round, owed } => {
             out.extend_from_slice(b"owe ")?;
-            push_number(alloc, out, *round)?;
+            push_number(out, *round)?;
             out.push(b' ')?;
             push_owed(out, owed)?;
         }
         Due::Hold { round } => {
             out.extend_from_slice(b"hold ")?;
-            push_number(alloc, out, *round)?;
+            push_number(out, *round)?;
         }
         Due::Over => out.extend_from_slice(b"over")?,
     }
     Ok(())
 }
 
-fn push_status(alloc: Global, out: &mut Vec<u8>, status: &Status) -> Result<(), AllocError>
+fn push_status(out: &mut Vec<u8>, status: &Status) -> Result<(), AllocError>
     ensures { OnOk result (out.new.items ≡ out.old.items ++ status_text status.now) }
 {
     out.extend_from_slice(b"status ")?;
     out.extend_from_slice(phase_text(status.phase))?;
     out.extend_from_slice(b" round ")?;
-    push_number(alloc, out, status.round)?;
+    push_number(out, status.round)?;
     out.extend_from_slice(b" turns ")?;
-    push_number(alloc, out, status.turns)?;
+    push_number(out, status.turns)?;
     out.extend_from_slice(b" substitutions ")?;
-    push_number(alloc, out, status.substitutions)
+    push_number(out, status.substitutions)
 }
 
 /// The word of a refusal, as replies and faults show it.
@@ -117,30 +117,30 @@ pub fn refusal_word(refusal: Refusal) -> &'static str
     }
 }
 
-fn push_refusal(alloc: Global, out: &mut Vec<u8>, refusal: Refusal) -> Result<(), AllocError>
+fn push_refusal(out: &mut Vec<u8>, refusal: Refusal) -> Result<(), AllocError>
     ensures { OnOk result (out.new.items ≡ out.old.items ++ refusal_text refusal) }
 {
     out.extend_from_slice(refusal_word(refusal).as_bytes())?;
     if let Refusal::Stale(round) = refusal {
         out.push(b' ')?;
-        push_number(alloc, out, round)?;
+        push_number(out, round)?;
     }
     Ok(())
 }
 
 /// Writes the reply's line, without its line feed, behind `out`.
-pub fn push_reply(alloc: Global, out: &mut Vec<u8>, reply: &Reply) -> Result<(), AllocError>
+pub fn push_reply(out: &mut Vec<u8>, reply: &Reply) -> Result<(), AllocError>
     ensures { OnOk result (out.new.items ≡ out.old.items ++ reply_text reply.now) }
 {
     match reply {
         Reply::Opened => out.extend_from_slice(b"opened")?,
-        Reply::Due(due) => push_due(alloc, out, due)?,
+        Reply::Due(due) => push_due(out, due)?,
         Reply::Taken => out.extend_from_slice(b"taken")?,
-        Reply::Status(status) => push_status(alloc, out, status)?,
+        Reply::Status(status) => push_status(out, status)?,
         Reply::Aborting => out.extend_from_slice(b"aborting")?,
         Reply::Refused(refusal) => {
             out.extend_from_slice(b"refused ")?;
-            push_refusal(alloc, out, *refusal)?;
+            push_refusal(out, *refusal)?;
         }
     }
     Ok(())

@@ -38,7 +38,7 @@ fn answer_line<O: Object<Call = Call, Reply = Reply>>(
         return Ok(false);
     };
     let reply = object.answer(alloc, &call)?;
-    push_reply(alloc, out, &reply)?;
+    push_reply(out, &reply)?;
     out.push(b'\n')?;
     object.apply(alloc, &call)?;
     Ok(true)

@@ -1,13 +1,15 @@
 -- What is found in JSON, and what is written there.
-use Rattle.std.proofs.Common.{◌≡◌, ℕ, zero, suc, ◌+◌, ◌<◌, ◌≤◌, Option, Some, None, List, [], ◌∷◌, ◌++◌, length, get_or, take, map, refl, sym, ap, ◌∙◌, subst, arith}
-use Rattle.std.specs.Prelude.{option_and_then, All}
+use Rattle.std.proofs.Common.{◌≡◌, ℕ, zero, suc, ◌+◌, ◌<◌, ◌≤◌, Option, Some, None, List, [], ◌∷◌, ◌++◌, length, get_or, take, map, refl, sym, ap, ◌∙◌, subst, append_assoc, append-nil, arith}
+use Rattle.std.specs.Borrow.{Bor}
+use Rattle.std.specs.Prelude.{option_and_then, option_copied, All}
 use Rattle.std.proofs.lemmas.List.{map-append, take_more, take_all, length-map}
 use Rattle.serde_json.specs.Data.{unsigned, negative, float, Data, null, boolean, number, string, array, object, Items}
 use Rattle.serde_json.specs.Find.{as_str, as_array}
 use Rattle.serde_json.specs.View.{view, items_of, items_view}
 use Rattle.serde_json.specs.declared.value.Value.{Value}
 use Rattle.match_record.specs.RecordTree.{as_whole, text_lists_tree, list_tree, texts_tree}
-use Rattle.match_record.specs.Internal.Shown.{Shows}
+use Rattle.match_record.specs.Internal.JsonValues.{data_in, data_of}
+use Rattle.match_record.specs.Internal.Shown.{AnyShape, Shows}
 
 -- ---- one value
 
@@ -115,6 +117,42 @@ member_more written vs i v xs zs x within at done shown pushed =
 
 pub members_all : {A : Type 0} (written : A → Data) (vs : List Value) (i : ℕ) (xs : List A) → length vs ≤ i → map view (take i vs) ≡ map written xs → map view vs ≡ map written xs
 members_all written vs i xs past done = ap (map view) (sym (take_all i vs past)) ∙ done
+
+-- a member behind those that are shown shows nothing, and so the list shows nothing
+pub none_behind : {A : Type 0} (written : A → Data) (done : List A) (d : Data) (more : List Data) (ys : List A) → map written done ++ d ∷ more ≡ map written ys → Shows written AnyShape (Some d) None → ⊥
+none_behind written [] d more [] is none = absurd cc
+none_behind written [] d more (y ∷ ys) is none =
+    let head : d ≡ written y = cc in
+    none y (ap Some head) tt
+none_behind written (x ∷ done) d more [] is none = absurd cc
+none_behind written (x ∷ done) d more (y ∷ ys) is none =
+    let tail : map written done ++ d ∷ more ≡ map written ys = cc in
+    none_behind written done d more ys tail none
+
+-- and where it shows a value, that is the next
+pub next_shown : {A : Type 0} (written : A → Data) (done now : List A) (x : A) (d : Data) (more all : List Data) → now ≡ done ++ x ∷ [] → Some d ≡ Some (written x) → map written done ++ d ∷ more ≡ all → map written now ++ more ≡ all
+next_shown written done now x d more all pushed shown was =
+    let one : d ≡ written x = cc in
+    ap (λ xs. map written xs ++ more) pushed ∙ ap (λ ds. ds ++ more) (map-append written done (x ∷ [])) ∙ append_assoc (map written done) (written x ∷ []) more ∙ ap (λ e. map written done ++ e ∷ more) (sym one) ∙ was
+
+-- the members of a list that is shown
+pub shown_members : {A : Type 0} (written : A → Data) (found : Option Data) (vs : List Value) (ys : List A) → found ≡ Some (array (items_view vs)) → found ≡ Some (list_tree (map written ys)) → map view vs ≡ map written ys
+shown_members written found vs ys is shown =
+    let trees : list_tree (map view vs) ≡ list_tree (map written ys) = cc in
+    list_tree_same (map view vs) (map written ys) trees
+
+-- none is left
+pub all_shown : {A : Type 0} (written : A → Data) (done : List A) (more : List Value) (all : List Data) → 0 ≡ length more → map written done ++ map view more ≡ all → all ≡ map written done
+all_shown written done [] all none was = sym was ∙ append-nil (map written done)
+all_shown written done (v ∷ more) all none was = absurd (omega arith)
+
+-- what is lent of a value that was taken out
+pub data_lent : (lent : Option (Bor Value)) (found : Option Value) → option_copied lent ≡ found → data_in lent ≡ data_of found
+data_lent None found is = ap data_of is
+data_lent (Some v) found is = ap data_of is
+
+pub shown_lent : {A : Type 0} (written : A → Data) (P : A → Type 0) (lent : Option (Bor Value)) (found : Option Value) (read : Option A) → option_copied lent ≡ found → Shows written P (data_in lent) read → Shows written P (data_of found) read
+shown_lent written P lent found read is shown = subst (λ d. Shows written P d read) (data_lent lent found is) shown
 
 -- as many values are written as members stand there
 pub shown_length : {A : Type 0} (written : A → Data) (found : Option Data) (vs : List Value) (ys : List A) → found ≡ Some (array (items_view vs)) → found ≡ Some (list_tree (map written ys)) → length vs ≡ length ys

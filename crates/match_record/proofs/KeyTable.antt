@@ -44,7 +44,7 @@ pub each_same : (A : Key → Type 0) (f : (key : Key) → A key) (ks : List Key)
 each_same A f [] = tt
 each_same A f (key ∷ more) = (refl, each_same A f more)
 
-each_and : (P Q R : Key → Type 0) → ((key : Key) → P key → Q key → R key) → (ks : List Key) → HoldsForEach P ks → HoldsForEach Q ks → HoldsForEach R ks
+pub each_and : (P Q R : Key → Type 0) → ((key : Key) → P key → Q key → R key) → (ks : List Key) → HoldsForEach P ks → HoldsForEach Q ks → HoldsForEach R ks
 each_and P Q R both [] held also = tt
 each_and P Q R both (key ∷ more) held also = (both key held.0 also.0, each_and P Q R both more held.1 also.1)
 

@@ -4,6 +4,7 @@ pub mod RecordParts
 pub mod ErrorWords
 pub mod JsonData
 pub mod KeyTable
+pub mod TakenKeys
 pub mod LawfulParts
 pub mod OneRecord
 pub mod RoleNumbers

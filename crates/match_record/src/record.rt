@@ -9,7 +9,9 @@ ghost use Rattle.match_record.specs.RecordParts.{each_role, parts_of};
 ghost use Rattle.match_record.specs.RecordTree.{goal_values_tree, key_tree, marks_tree, record_text, record_tree, text_lists_tree, texts_tree, whole_tree};
 
 use crate::record_parts::{Key, Version};
-use crate::trees::{cause_tree, phase_text, text_or_null, text_tree, texts_tree};
+use crate::trees::{
+    cause_tree, phase_text, text_into_tree, text_or_null, text_tree, texts_into_tree, texts_tree,
+};
 use game_core::{Game, Text};
 use match_book::Match;
 use serde_json::{Map, Value, put};
@@ -21,8 +23,9 @@ fn start_marks<G: Game>(alloc: Global, game: &G, held: &Match<G>) -> Result<Valu
     requires lawful { IsLawfulMatch (G.rules game.now) held.now.value }
     ensures { IfOk result (λ v. view v ≡ marks_tree held.now.value.start_marks) }
 {
-    let mut marks = Vec::new(alloc);
-    for role in 0..game.roles() {
+    let roles = game.roles();
+    let mut marks = Vec::with_capacity(alloc, roles)?;
+    for role in 0..roles {
         marks.push(text_or_null(alloc, held.start_mark(role))?)?;
     }
     Ok(Value::Array(marks))
@@ -34,8 +37,9 @@ fn end_marks<G: Game>(alloc: Global, game: &G, held: &Match<G>) -> Result<Value,
     requires lawful { IsLawfulMatch (G.rules game.now) held.now.value }
     ensures { IfOk result (λ v. view v ≡ marks_tree held.now.value.end_marks) }
 {
-    let mut marks = Vec::new(alloc);
-    for role in 0..game.roles() {
+    let roles = game.roles();
+    let mut marks = Vec::with_capacity(alloc, roles)?;
+    for role in 0..roles {
         marks.push(text_or_null(alloc, held.end_mark(role))?)?;
     }
     Ok(Value::Array(marks))
@@ -45,8 +49,9 @@ fn end_marks<G: Game>(alloc: Global, game: &G, held: &Match<G>) -> Result<Value,
 fn role_names<G: Game>(alloc: Global, game: &G) -> Result<Value, AllocError>
     ensures { IfOk result (λ v. view v ≡ texts_tree (each_role (G.rules game.now).roles (G.rules game.now).role_name)) }
 {
-    let mut names = Vec::new(alloc);
-    for role in 0..game.roles() {
+    let roles = game.roles();
+    let mut names = Vec::with_capacity(alloc, roles)?;
+    for role in 0..roles {
         names.push(text_tree(alloc, game.role_name(role))?)?;
     }
     Ok(Value::Array(names))
@@ -87,10 +92,11 @@ fn moves_at<G: Game>(
     requires turn { turn < length held.now.value.turns }
     ensures { IfOk result (λ v. Some (view v) ≡ option_map (λ t. texts_tree (map (G.rules game.now).move_text t.moves)) (slice_get held.now.value.turns turn)) }
 {
-    let mut moves = Vec::new(alloc);
-    for role in 0..game.roles() {
+    let roles = game.roles();
+    let mut moves = Vec::with_capacity(alloc, roles)?;
+    for role in 0..roles {
         let text = game.move_text(alloc, held.move_at(turn, role))?;
-        moves.push(text_tree(alloc, text.as_slice())?)?;
+        moves.push(text_into_tree(text))?;
     }
     Ok(Value::Array(moves))
 }
@@ -107,8 +113,9 @@ fn errors_at<G: Game>(
     requires turn { turn < length held.now.value.turns }
     ensures { IfOk result (λ v. Some (view v) ≡ option_map (λ t. texts_tree t.errors) (slice_get held.now.value.turns turn)) }
 {
-    let mut errors = Vec::new(alloc);
-    for role in 0..game.roles() {
+    let roles = game.roles();
+    let mut errors = Vec::with_capacity(alloc, roles)?;
+    for role in 0..roles {
         errors.push(text_tree(alloc, held.error_at(turn, role))?)?;
     }
     Ok(Value::Array(errors))
@@ -126,8 +133,9 @@ fn moves<G: Game>(alloc: Global, game: &G, held: &Match<G>) -> Result<Value, All
     requires lawful { IsLawfulMatch (G.rules game.now) held.now.value }
     ensures { IfOk result (λ v. view v ≡ text_lists_tree (parts_of (G.rules game.now) held.now.value).moves) }
 {
-    let mut moves = Vec::new(alloc);
-    for turn in 0..turns(held) {
+    let turns = turns(held);
+    let mut moves = Vec::with_capacity(alloc, turns)?;
+    for turn in 0..turns {
         moves.push(moves_at(alloc, game, held, turn)?)?;
     }
     Ok(Value::Array(moves))
@@ -139,8 +147,9 @@ fn errors<G: Game>(alloc: Global, game: &G, held: &Match<G>) -> Result<Value, Al
     requires lawful { IsLawfulMatch (G.rules game.now) held.now.value }
     ensures { IfOk result (λ v. view v ≡ text_lists_tree (parts_of (G.rules game.now) held.now.value).errors) }
 {
-    let mut errors = Vec::new(alloc);
-    for turn in 0..turns(held) {
+    let turns = turns(held);
+    let mut errors = Vec::with_capacity(alloc, turns)?;
+    for turn in 0..turns {
         errors.push(errors_at(alloc, game, held, turn)?)?;
     }
     Ok(Value::Array(errors))
@@ -152,7 +161,7 @@ fn state_tree<G: Game>(alloc: Global, game: &G, state: &G::State) -> Result<Valu
     ensures { IfOk result (λ v. view v ≡ texts_tree ((G.rules game.now).state_text state.now)) }
 {
     let texts = game.state_text(alloc, state)?;
-    texts_tree(alloc, texts.as_slice())
+    texts_into_tree(alloc, texts)
 }
 
 /// The texts of the state before the first turn and of the state after each turn.
@@ -160,9 +169,10 @@ fn states<G: Game>(alloc: Global, game: &G, held: &Match<G>) -> Result<Value, Al
     requires game { held.now.game ≡ game.now }
     ensures { IfOk result (λ v. view v ≡ text_lists_tree (parts_of (G.rules game.now) held.now.value).states) }
 {
-    let mut states = Vec::new(alloc);
+    let turns = turns(held);
+    let mut states = Vec::with_capacity(alloc, turns.saturating_add(1))?;
     states.push(state_tree(alloc, game, held.state_after(0))?)?;
-    for turn in 0..turns(held) {
+    for turn in 0..turns {
         states.push(state_tree(alloc, game, held.state_after(turn + 1))?)?;
     }
     Ok(Value::Array(states))
@@ -229,5 +239,7 @@ pub fn record_json<G: Game>(alloc: Global, game: &G, held: &Match<G>) -> Result<
     // This reader says that the match is lawful.
     let _state = held.state();
     let tree = record_tree(alloc, game, held)?;
-    Ok(Text::from_string(tree.to_string(alloc)?))
+    Ok(Text {
+        bytes: tree.to_vec(alloc)?,
+    })
 }

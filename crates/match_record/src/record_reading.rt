@@ -4,7 +4,7 @@ ghost use Rattle.serde_json.specs.Data.{Data, string};
 ghost use Rattle.serde_json.specs.View.{view};
 ghost use Rattle.game_core.specs.Play.{max_goal};
 ghost use Rattle.match_book.specs.Names.{is_clock, is_name, is_strikes};
-ghost use Rattle.match_record.specs.Internal.JsonValues.{data_in};
+ghost use Rattle.match_record.specs.Internal.JsonValues.{data_in, data_of};
 ghost use Rattle.match_record.specs.Internal.KeyReading.{IsReadInto, SayTheSame, keys_before};
 ghost use Rattle.match_record.specs.Internal.Shown.{AnyShape, Shows};
 ghost use Rattle.match_record.specs.LawfulRecord.{HasNoShape, IsFirstWithout, IsJson, IsShaped};
@@ -15,7 +15,7 @@ ghost use Rattle.match_record.specs.declared.record_parts.Version.TheVariants.{F
 ghost use Rattle.match_record.specs.declared.verify_fault.VerifyFault.TheVariants.{BadShape, Memory, NotJson};
 
 use crate::error_texts::are_errors;
-use crate::json_values::{FromJson, bytes_in, members_in, whole_in};
+use crate::json_values::{FromJson, bytes_in, into_object, members_in, whole_in};
 use crate::record_parts::{Goals, Key, Marks, RecordParts, TextLists, Version};
 use crate::record_words::{cause_in, mark_in, phase_in};
 use crate::verify_fault::VerifyFault;
@@ -144,10 +144,10 @@ fn strikes_in(version: Option<Version>, found: Option<&Value>) -> Option<u8>
 /// One error for each role in each turn.
 fn errors_in(
     alloc: Global,
-    found: Option<&Value>,
+    found: Option<Value>,
     roles: usize,
 ) -> Result<Option<TextLists>, AllocError>
-    ensures { IfOk result (λ o. Shows text_lists_tree (AreErrors roles) (data_in found.entry) o) }
+    ensures { IfOk result (λ o. Shows text_lists_tree (AreErrors roles) (data_of found) o) }
 {
     let Some(errors) = TextLists::value_in(alloc, found)? else {
         return Ok(None);
@@ -175,10 +175,10 @@ fn are_moves(turns: &[Texts], roles: usize) -> bool
 /// One text for each role in each turn, and not too many turns.
 fn moves_in(
     alloc: Global,
-    found: Option<&Value>,
+    found: Option<Value>,
     roles: usize,
 ) -> Result<Option<TextLists>, AllocError>
-    ensures { IfOk result (λ o. Shows text_lists_tree (AreMoves roles) (data_in found.entry) o) }
+    ensures { IfOk result (λ o. Shows text_lists_tree (AreMoves roles) (data_of found) o) }
 {
     let Some(moves) = TextLists::value_in(alloc, found)? else {
         return Ok(None);
@@ -199,10 +199,10 @@ fn are_players(names: &[Text], roles: usize) -> bool
 /// A lawful name for each role.
 fn players_in(
     alloc: Global,
-    found: Option<&Value>,
+    found: Option<Value>,
     roles: usize,
 ) -> Result<Option<Texts>, AllocError>
-    ensures { IfOk result (λ o. Shows texts_tree (ArePlayers roles) (data_in found.entry) o) }
+    ensures { IfOk result (λ o. Shows texts_tree (ArePlayers roles) (data_of found) o) }
 {
     let Some(players) = Texts::value_in(alloc, found)? else {
         return Ok(None);
@@ -233,9 +233,9 @@ fn are_role_names<G: Game>(game: &G, texts: &[Text]) -> bool
 fn roles_in<G: Game>(
     alloc: Global,
     game: &G,
-    found: Option<&Value>,
+    found: Option<Value>,
 ) -> Result<Option<Texts>, AllocError>
-    ensures { IfOk result (λ o. Shows texts_tree (λ names. names ≡ each_role (G.rules game.now).roles (G.rules game.now).role_name) (data_in found.entry) o) }
+    ensures { IfOk result (λ o. Shows texts_tree (λ names. names ≡ each_role (G.rules game.now).roles (G.rules game.now).role_name) (data_of found) o) }
 {
     let Some(names) = Texts::value_in(alloc, found)? else {
         return Ok(None);
@@ -260,47 +260,54 @@ fn keep<T: Drop>(part: &mut T, read: Option<T>) -> bool
     }
 }
 
-/// Reads what was found at a key in a record of this version, if it is of the key's shape, and says whether it is.
+/// Reads what was taken from a key in a record of this version, if it is of the key's shape, and says whether it is.
 fn read_into<G: Game>(
     alloc: Global,
     game: &G,
     key: Key,
     version: Option<Version>,
-    found: Option<&Value>,
+    found: Option<Value>,
     parts: &mut RecordParts,
 ) -> Result<bool, AllocError>
-    ensures read { IfOk result (IsReadInto (G.rules game.now) key version (data_in found.entry) parts.new) }
+    ensures read { IfOk result (IsReadInto (G.rules game.now) key version (data_of found) parts.new) }
     ensures kept { OnOk result (SayTheSame (keys_before key keys) parts.old parts.new) }
 {
     let roles = game.roles();
     Ok(match key {
-        Key::Cause => keep(&mut parts.cause, cause_in(found, roles)),
-        Key::EndMarks => keep(&mut parts.end_marks, marks_in(alloc, found, roles)?),
+        Key::Cause => keep(&mut parts.cause, cause_in(found.as_ref(), roles)),
+        Key::EndMarks => keep(
+            &mut parts.end_marks,
+            marks_in(alloc, found.as_ref(), roles)?,
+        ),
         Key::Errors => keep(&mut parts.errors, errors_in(alloc, found, roles)?),
-        Key::GoalValues => keep(&mut parts.goals, goals_in(alloc, found, roles)?),
-        Key::MatchId => keep(&mut parts.id, id_in(alloc, found)?),
+        Key::GoalValues => keep(&mut parts.goals, goals_in(alloc, found.as_ref(), roles)?),
+        Key::MatchId => keep(&mut parts.id, id_in(alloc, found.as_ref())?),
         Key::Moves => keep(&mut parts.moves, moves_in(alloc, found, roles)?),
-        Key::Phase => keep(&mut parts.phase, phase_in(found)),
-        Key::PlayClock => keep(&mut parts.play, clock_in(found)),
+        Key::Phase => keep(&mut parts.phase, phase_in(found.as_ref())),
+        Key::PlayClock => keep(&mut parts.play, clock_in(found.as_ref())),
         Key::Players => keep(&mut parts.players, players_in(alloc, found, roles)?),
         Key::Roles => keep(&mut parts.roles, roles_in(alloc, game, found)?),
-        Key::StartClock => keep(&mut parts.start, clock_in(found)),
-        Key::StartMarks => keep(&mut parts.start_marks, marks_in(alloc, found, roles)?),
+        Key::StartClock => keep(&mut parts.start, clock_in(found.as_ref())),
+        Key::StartMarks => keep(
+            &mut parts.start_marks,
+            marks_in(alloc, found.as_ref(), roles)?,
+        ),
         Key::States => keep(&mut parts.states, TextLists::value_in(alloc, found)?),
-        Key::Strikes => keep(&mut parts.strikes, strikes_in(version, found)),
-        Key::Version => keep(&mut parts.version, version_in(found)),
+        Key::Strikes => keep(&mut parts.strikes, strikes_in(version, found.as_ref())),
+        Key::Version => keep(&mut parts.version, version_in(found.as_ref())),
     })
 }
 
 /// What the keys of a tree hold, each of its shape.
-fn parts_in<G: Game>(alloc: Global, game: &G, tree: &Value) -> Result<RecordParts, VerifyFault>
-    ensures ok { IfOk result (λ p. Holds (view tree.now) p × ((key : Key) → IsShapedAt (G.rules game.now) key p)) }
-    ensures err { IfErr result (λ fault. (fault ≡ Memory) ⊎ ((key : Key) × (fault ≡ BadShape key) × IsFirstWithout (IsShaped (G.rules game.now) (view tree.now)) keys key)) }
+fn parts_in<G: Game>(alloc: Global, game: &G, tree: Value) -> Result<RecordParts, VerifyFault>
+    ensures ok { IfOk result (λ p. Holds (view tree) p × ((key : Key) → IsShapedAt (G.rules game.now) key p)) }
+    ensures err { IfErr result (λ fault. (fault ≡ Memory) ⊎ ((key : Key) × (fault ≡ BadShape key) × IsFirstWithout (IsShaped (G.rules game.now) (view tree)) keys key)) }
 {
     let version = version_in(tree.get(Key::Version.text()));
+    let mut members = into_object(alloc, tree);
     let mut parts = RecordParts::new(alloc);
     for key in Key::ALL {
-        let found = tree.get(key.text());
+        let found = members.remove(key.text());
         if !read_into(alloc, game, key, version, found, &mut parts)? {
             return Err(VerifyFault::BadShape(key));
         }
@@ -330,7 +337,7 @@ pub fn read_record<G: Game>(
     ensures err { IfErr result (HasNoShape (G.rules game.now) text.now) }
 {
     let tree = tree_of(alloc, text)?;
-    let parts = parts_in(alloc, game, &tree)?;
+    let parts = parts_in(alloc, game, tree)?;
     let turns = parts.moves.count();
     if parts.errors.count() != turns {
         return Err(VerifyFault::BadShape(Key::Errors));

@@ -146,8 +146,9 @@ fn recorded_joint<G: Game>(
     let Some(lists) = next_moves(alloc, game, state, strikes)? else {
         return Err(VerifyFault::WrongEnd);
     };
-    let mut joint = Vec::new(alloc);
-    for role in 0..game.roles() {
+    let roles = game.roles();
+    let mut joint = Vec::with_capacity(alloc, roles)?;
+    for role in 0..roles {
         let legal = lists[role].as_slice();
         let text = moves[role].as_slice();
         let error = errors[role].as_slice();

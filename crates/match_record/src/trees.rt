@@ -22,6 +22,17 @@ pub fn text_tree(alloc: Global, text: &[u8]) -> Result<Value, AllocError>
     }
 }
 
+/// A text of ASCII bytes, taken over.
+pub fn text_into_tree(text: Text) -> Value
+    requires { IsAscii text }
+    ensures { view result ≡ string text }
+{
+    match String::from_utf8(text.bytes) {
+        Ok(text) => Value::String(text),
+        Err(_) => unreachable!(),
+    }
+}
+
 /// The text, or null where there is none.
 pub fn text_or_null(alloc: Global, text: Option<&[u8]>) -> Result<Value, AllocError>
     requires { IfSome (option_copied text) IsAscii }
@@ -41,6 +52,18 @@ pub fn texts_tree(alloc: Global, texts: &[Text]) -> Result<Value, AllocError>
     let mut values = Vec::with_capacity(alloc, texts.len())?;
     for text in texts {
         values.push(text_tree(alloc, text.as_slice())?)?;
+    }
+    Ok(Value::Array(values))
+}
+
+/// The texts as a list, taken over.
+pub fn texts_into_tree(alloc: Global, texts: Vec<Text>) -> Result<Value, AllocError>
+    requires { All IsAscii texts.items }
+    ensures { IfOk result (λ v. view v ≡ texts_tree texts.items) }
+{
+    let mut values = Vec::with_capacity(alloc, texts.len())?;
+    for text in texts {
+        values.push(text_into_tree(text))?;
     }
     Ok(Value::Array(values))
 }

@@ -1,4 +1,4 @@
-use Rattle.std.proofs.Common.{rules, ◌≡◌, sym, subst}
+use Rattle.std.proofs.Common.{rules, ◌≡◌, subst}
 use Rattle.std.specs.Str.Lines.{lines}
 use Rattle.match_desk.specs.Steps.{reply, after}
 use Rattle.desk_text.specs.Script.{no_matches}

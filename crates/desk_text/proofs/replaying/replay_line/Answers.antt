@@ -1,4 +1,4 @@
-use Rattle.std.proofs.Common.{rules, ◌≡◌, ap, sym, ◌∙◌}
+use Rattle.std.proofs.Common.{rules, ◌≡◌}
 use Rattle.call_history.specs.declared.journal.Entry.{Entry}
 use Rattle.match_desk.specs.declared.call.Call.{Call}
 use Rattle.match_desk.specs.declared.call.Reply.{Reply}

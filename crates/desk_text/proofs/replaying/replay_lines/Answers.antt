@@ -1,4 +1,4 @@
-use Rattle.std.proofs.Common.{rules, ◌≡◌, ◌≤◌, ◌+◌, ◌∷◌, length, subst, sym, ◌∙◌, arith}
+use Rattle.std.proofs.Common.{◌∷◌, subst, arith}
 use Rattle.std.specs.Str.Lines.{lines}
 use Rattle.desk_text.proofs.Accounts.{IsAccountSoFar, account_goes_on}
 use Rattle.desk_text.proofs.replaying.replay_lines.Goals as goal

@@ -1,4 +1,4 @@
-use Rattle.std.proofs.Common.{◌≡◌, ◌≤◌, ◌+◌, length}
+use Rattle.std.proofs.Common.{◌≤◌, ◌+◌, length}
 use Rattle.std.specs.Str.Lines.{lines}
 use Rattle.desk_text.proofs.Accounts.{IsAccountSoFar}
 use Rattle.desk_text.proofs.replaying.replay_lines.Given as goal

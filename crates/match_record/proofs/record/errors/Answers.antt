@@ -15,5 +15,5 @@ loop-turn-preserved g c =
 pub returns : goal.returns
 returns g c =
     let turns = c.args.held.now.value.turns in
-    let past : length turns ≤ c.loop-turn.turn = omega (arith, c.loop-turn-test.false, c.turns-turn-end.ensures) in
+    let past : length turns ≤ c.loop-turn.turn = omega (arith, c.loop-turn-test.false, c.turns-turns.ensures) in
     text_lists_view (λ t. t.errors) turns c.loop-turn.errors (c.loop-turn.invariant ∙ ap (map (λ t. texts_tree t.errors)) (take_all c.loop-turn.turn turns past))

@@ -8,7 +8,7 @@ use Rattle.match_record.proofs.record.errors_at.Goals as goal
 pub text_tree-requires : goal.text_tree-requires
 text_tree-requires g c =
     let rules = g.G.Game.rules c.args.game.now in
-    let within : c.loop-role.role < rules.roles = omega (arith, c.roles-role-end.ensures, c.loop-role-test.true) in
+    let within : c.loop-role.role < rules.roles = omega (arith, c.roles-roles.ensures, c.loop-role-test.true) in
     error_is_ascii rules c.args.held.now.value.turns c.args.turn c.loop-role.role c.error_at.result.now c.requires.lawful.turns c.requires.turn within c.error_at.ensures
 
 pub loop-role-preserved : goal.loop-role-preserved
@@ -20,6 +20,6 @@ pub returns : goal.returns
 returns g c =
     let rules = g.G.Game.rules c.args.game.now in
     let turns = c.args.held.now.value.turns in
-    let all : rules.roles ≡ c.loop-role.role = omega (arith, c.loop-role-test.false, c.loop-role.auto.role-end, c.roles-role-end.ensures) in
+    let all : rules.roles ≡ c.loop-role.role = omega (arith, c.loop-role-test.false, c.loop-role.auto.role-end, c.roles-roles.ensures) in
     errors_view (λ t. t.errors) (slice_get turns c.args.turn) c.loop-role.errors
     (part_of-all (λ t. t.errors) string c.loop-role.role turns c.args.turn _ (λ t at. (turn-widths rules turns c.args.turn t c.requires.lawful.turns at).1 ∙ all) c.loop-role.invariant)

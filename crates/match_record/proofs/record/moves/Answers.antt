@@ -15,5 +15,5 @@ loop-turn-preserved g c =
 pub returns : goal.returns
 returns g c =
     let turns = c.args.held.now.value.turns in
-    let past : length turns ≤ c.loop-turn.turn = omega (arith, c.loop-turn-test.false, c.turns-turn-end.ensures) in
+    let past : length turns ≤ c.loop-turn.turn = omega (arith, c.loop-turn-test.false, c.turns-turns.ensures) in
     text_lists_view (λ t. map (g.G.Game.rules c.args.game.now).move_text t.moves) turns c.loop-turn.moves (c.loop-turn.invariant ∙ ap (map (λ t. texts_tree (map (g.G.Game.rules c.args.game.now).move_text t.moves))) (take_all c.loop-turn.turn turns past))

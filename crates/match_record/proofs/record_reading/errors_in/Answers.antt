@@ -1,14 +1,14 @@
 use Rattle.std.proofs.Common.{true≢false, sym, subst, ◌∙◌}
 use Rattle.match_record.specs.RecordParts.{AreErrors}
 use Rattle.match_record.specs.RecordTree.{text_lists_tree}
-use Rattle.match_record.specs.Internal.JsonValues.{data_in}
+use Rattle.match_record.specs.Internal.JsonValues.{data_of}
 use Rattle.match_record.specs.Internal.Shown.{Shows, AnyShape}
 use Rattle.match_record.proofs.JsonData.{other_shape, text_lists_injective}
 use Rattle.match_record.proofs.record_reading.errors_in.Goals as goal
 
 pub returns-else-branch : goal.returns-else-branch
 returns-else-branch c =
-    let found = data_in c.args.found in
+    let found = data_of c.args.found in
     let shown = subst (λ o. Shows text_lists_tree AnyShape found o) c.in-Some.is c.in_ok-errors.ensures in
     let same = c.as_slice.ensures.value ∙ c.errors.view_is in
     other_shape text_lists_tree text_lists_injective (AreErrors c.args.roles) found c.in-Some.errors shown.0

@@ -1,8 +1,12 @@
-use Rattle.std.proofs.Common.{take}
+use Rattle.std.proofs.Common.{take, drop}
 use Rattle.serde_json.specs.View.{view}
 use Rattle.match_record.specs.Internal.KeyReading.{HoldsForEach, IsReadAt}
 use Rattle.match_record.specs.RecordTree.{keys}
+use Rattle.match_record.proofs.TakenKeys.{IsLeft}
 use Rattle.match_record.proofs.record_reading.parts_in.Given as goal
 
 abbrev pub invariant-loop-key : goal.invariant-loop-key
-invariant-loop-key g l = HoldsForEach (IsReadAt (g.G.Game.rules l.game) (view l.tree) l.parts) (take l.key-index keys)
+invariant-loop-key g l = record {
+  read : HoldsForEach (IsReadAt (g.G.Game.rules l.game) (view l.fn.tree) l.parts) (take l.key-index keys);
+  left : HoldsForEach (IsLeft (view l.fn.tree) l.members) (drop l.key-index keys);
+}

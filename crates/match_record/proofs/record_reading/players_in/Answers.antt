@@ -1,14 +1,14 @@
 use Rattle.std.proofs.Common.{true≢false, sym, subst, ◌∙◌}
 use Rattle.match_record.specs.RecordParts.{ArePlayers}
 use Rattle.match_record.specs.RecordTree.{texts_tree}
-use Rattle.match_record.specs.Internal.JsonValues.{data_in}
+use Rattle.match_record.specs.Internal.JsonValues.{data_of}
 use Rattle.match_record.specs.Internal.Shown.{Shows, AnyShape}
 use Rattle.match_record.proofs.JsonData.{other_shape, texts_injective}
 use Rattle.match_record.proofs.record_reading.players_in.Goals as goal
 
 pub returns-else-are_players : goal.returns-else-are_players
 returns-else-are_players c =
-    let found = data_in c.args.found in
+    let found = data_of c.args.found in
     let shown = subst (λ o. Shows texts_tree AnyShape found o) c.in-Some.is c.in_ok-players.ensures in
     let same = c.as_slice.ensures in
     other_shape texts_tree texts_injective (ArePlayers c.args.roles) found c.in-Some.players shown.0

@@ -18,7 +18,7 @@ index-requires g c =
     let s = c.args.state.now in
     let role = c.loop-role.role in
     let lists = MatchOption-at_some (¬ (GoesOn game (is_retired_in c.args.strikes.now) s)) (λ lists. GoesOn game (is_retired_in c.args.strikes.now) s × AreLegalMoves game s lists.items) c.in-Some.lists c.in-Some.is c.in_ok-lists.ensures in
-    let within : role < game.roles = omega (arith, c.roles-role-end.ensures, c.loop-role-test.true) in
+    let within : role < game.roles = omega (arith, c.roles-roles.ensures, c.loop-role-test.true) in
     let many : vec_len c.in-Some.lists ≡ length c.in-Some.lists.items = c.in-Some.lists.ok.0 in
     omega (arith, many, lists.1.one_list)
 
@@ -28,7 +28,7 @@ recorded_move-requires-clause-moves g c =
     let s = c.args.state.now in
     let role = c.loop-role.role in
     let lists = MatchOption-at_some (¬ (GoesOn game (is_retired_in c.args.strikes.now) s)) (λ lists. GoesOn game (is_retired_in c.args.strikes.now) s × AreLegalMoves game s lists.items) c.in-Some.lists c.in-Some.is c.in_ok-lists.ensures in
-    let within : role < game.roles = omega (arith, c.roles-role-end.ensures, c.loop-role-test.true) in
+    let within : role < game.roles = omega (arith, c.roles-roles.ensures, c.loop-role-test.true) in
     let legal : c.as_slice-legal.result.now ≡ game.legal s role = c.as_slice-legal.ensures ∙ moves-at game s c.in-Some.lists.items role c.index.result.now lists.1 within c.index.ensures in
     subst (λ (ms : List g.row.G-Move.Denot). All (λ m. game.IsMove m) ms) (sym legal) ((g.met.G.Game.laws c.args.game.now).legal_are_moves s role c.requires.state within)
 
@@ -38,13 +38,13 @@ recorded_move-requires-clause-differ g c =
     let s = c.args.state.now in
     let role = c.loop-role.role in
     let lists = MatchOption-at_some (¬ (GoesOn game (is_retired_in c.args.strikes.now) s)) (λ lists. GoesOn game (is_retired_in c.args.strikes.now) s × AreLegalMoves game s lists.items) c.in-Some.lists c.in-Some.is c.in_ok-lists.ensures in
-    let within : role < game.roles = omega (arith, c.roles-role-end.ensures, c.loop-role-test.true) in
+    let within : role < game.roles = omega (arith, c.roles-roles.ensures, c.loop-role-test.true) in
     let legal : c.as_slice-legal.result.now ≡ game.legal s role = c.as_slice-legal.ensures ∙ moves-at game s c.in-Some.lists.items role c.index.result.now lists.1 within c.index.ensures in
     subst (λ (ms : List g.row.G-Move.Denot). AllPairs (λ m n. m ≢ n) ms) (sym legal) ((g.met.G.Game.laws c.args.game.now).legal_differ s role c.requires.state within)
 
 pub recorded_move-requires-clause-error : goal.recorded_move-requires-clause-error
 recorded_move-requires-clause-error g c =
-    let in_errors : c.loop-role.role < length c.args.errors.now = omega (arith, c.roles-role-end.ensures, c.loop-role-test.true, c.requires.errors) in
+    let in_errors : c.loop-role.role < length c.args.errors.now = omega (arith, c.roles-roles.ensures, c.loop-role-test.true, c.requires.errors) in
     let error : c.as_slice-error.result.now ≡ text_at c.args.errors.now c.loop-role.role = c.as_slice-error.ensures ∙ get_or_read c.args.errors.now c.loop-role.role c.index-errors-role.result in_errors c.index-errors-role.is [] in
     subst IsErrorText (sym error) (c.requires.error_texts c.loop-role.role [] in_errors)
 
@@ -54,7 +54,7 @@ returns-in-NoMove g c =
     let s = c.args.state.now in
     let role = c.loop-role.role in
     let lists = MatchOption-at_some (¬ (GoesOn game (is_retired_in c.args.strikes.now) s)) (λ lists. GoesOn game (is_retired_in c.args.strikes.now) s × AreLegalMoves game s lists.items) c.in-Some.lists c.in-Some.is c.in_ok-lists.ensures in
-    let within : role < game.roles = omega (arith, c.roles-role-end.ensures, c.loop-role-test.true) in
+    let within : role < game.roles = omega (arith, c.roles-roles.ensures, c.loop-role-test.true) in
     let in_moves : role < length c.args.moves.now = omega (arith, c.requires.moves) in
     let legal : c.as_slice-legal.result.now ≡ game.legal s role = c.as_slice-legal.ensures ∙ moves-at game s c.in-Some.lists.items role c.index.result.now lists.1 within c.index.ensures in
     let text : c.as_slice-text.result.now ≡ text_at c.args.moves.now role = c.as_slice-text.ensures ∙ get_or_read c.args.moves.now role c.index-moves-role.result in_moves c.index-moves-role.is [] in
@@ -70,7 +70,7 @@ returns-in-WrongError g c =
     let s = c.args.state.now in
     let role = c.loop-role.role in
     let lists = MatchOption-at_some (¬ (GoesOn game (is_retired_in c.args.strikes.now) s)) (λ lists. GoesOn game (is_retired_in c.args.strikes.now) s × AreLegalMoves game s lists.items) c.in-Some.lists c.in-Some.is c.in_ok-lists.ensures in
-    let within : role < game.roles = omega (arith, c.roles-role-end.ensures, c.loop-role-test.true) in
+    let within : role < game.roles = omega (arith, c.roles-roles.ensures, c.loop-role-test.true) in
     let in_moves : role < length c.args.moves.now = omega (arith, c.requires.moves) in
     let in_errors : role < length c.args.errors.now = omega (arith, c.requires.errors) in
     let legal : c.as_slice-legal.result.now ≡ game.legal s role = c.as_slice-legal.ensures ∙ moves-at game s c.in-Some.lists.items role c.index.result.now lists.1 within c.index.ensures in
@@ -89,7 +89,7 @@ returns-in-WrongRetired g c =
     let s = c.args.state.now in
     let role = c.loop-role.role in
     let lists = MatchOption-at_some (¬ (GoesOn game (is_retired_in c.args.strikes.now) s)) (λ lists. GoesOn game (is_retired_in c.args.strikes.now) s × AreLegalMoves game s lists.items) c.in-Some.lists c.in-Some.is c.in_ok-lists.ensures in
-    let within : role < game.roles = omega (arith, c.roles-role-end.ensures, c.loop-role-test.true) in
+    let within : role < game.roles = omega (arith, c.roles-roles.ensures, c.loop-role-test.true) in
     let in_moves : role < length c.args.moves.now = omega (arith, c.requires.moves) in
     let in_errors : role < length c.args.errors.now = omega (arith, c.requires.errors) in
     let legal : c.as_slice-legal.result.now ≡ game.legal s role = c.as_slice-legal.ensures ∙ moves-at game s c.in-Some.lists.items role c.index.result.now lists.1 within c.index.ensures in
@@ -109,7 +109,7 @@ loop-role-preserved g c =
     let s = c.args.state.now in
     let role = c.loop-role.role in
     let lists = MatchOption-at_some (¬ (GoesOn game (is_retired_in c.args.strikes.now) s)) (λ lists. GoesOn game (is_retired_in c.args.strikes.now) s × AreLegalMoves game s lists.items) c.in-Some.lists c.in-Some.is c.in_ok-lists.ensures in
-    let within : role < game.roles = omega (arith, c.roles-role-end.ensures, c.loop-role-test.true) in
+    let within : role < game.roles = omega (arith, c.roles-roles.ensures, c.loop-role-test.true) in
     let in_moves : role < length c.args.moves.now = omega (arith, c.requires.moves) in
     let in_errors : role < length c.args.errors.now = omega (arith, c.requires.errors) in
     let legal : c.as_slice-legal.result.now ≡ game.legal s role = c.as_slice-legal.ensures ∙ moves-at game s c.in-Some.lists.items role c.index.result.now lists.1 within c.index.ensures in
@@ -125,5 +125,5 @@ returns g c =
     let game = g.G.Game.rules c.args.game.now in
     let s = c.args.state.now in
     let lists = MatchOption-at_some (¬ (GoesOn game (is_retired_in c.args.strikes.now) s)) (λ lists. GoesOn game (is_retired_in c.args.strikes.now) s × AreLegalMoves game s lists.items) c.in-Some.lists c.in-Some.is c.in_ok-lists.ensures in
-    let all : c.loop-role.role ≡ game.roles = omega (arith, c.loop-role-test.false, c.loop-role.auto.role-end, c.roles-role-end.ensures) in
+    let all : c.loop-role.role ≡ game.roles = omega (arith, c.loop-role-test.false, c.loop-role.auto.role-end, c.roles-roles.ensures) in
     SoFar-all game (is_retired_in c.args.strikes.now) s c.args.moves.now c.args.errors.now c.loop-role.role c.loop-role.joint.items c.loop-role.invariant lists.0 all c.requires.moves
