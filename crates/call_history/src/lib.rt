@@ -5,6 +5,7 @@
 //! gives there, and the object is what the calls leave, in their order.
 #![tactic(auto)]
 
+mod bell;
 mod comparing;
 mod gathering;
 mod journal;
@@ -13,6 +14,7 @@ mod line;
 mod lock;
 mod lock_wire;
 mod object;
+mod pause;
 mod port;
 mod ring_desk;
 mod ring_line;
@@ -21,11 +23,13 @@ mod ring_wire;
 mod serving;
 mod wire;
 
+pub use bell::Bell;
 pub use journal::{CallFault, Entry, Journal, MAX_ENTRIES};
 pub use line::LockLine;
 pub use lock::{CloseFault, Closed, LockDesk, MAX_LINES, Unclosed, open_lock};
 pub use lock_wire::LockWire;
 pub use object::Object;
+pub use pause::Pause;
 pub use port::Port;
 pub use ring_desk::{DeskFault, RingCloseFault, RingDesk, RingUnclosed};
 pub use ring_line::{LineEnd, RingLine};

@@ -69,6 +69,7 @@ pub struct RingUnclosed<O: Object> {
 impl<O: Object> RingDesk<O> {
     ghost use Rattle.std.specs.Prelude.{◌≡◌, ◌≤◌, [], IfOk, IfErr, MatchResult, length, sum};
     ghost use Rattle.std.specs.List.{All};
+    ghost use mathlib.Core.List.{IsPrefix};
     ghost use Rattle.call_history.specs.Limits.{max_lines};
     ghost use Rattle.call_history.specs.History.{IsReplay};
     ghost use Rattle.call_history.specs.RingLines.{SamePorts, AreEndsOf};
@@ -123,6 +124,22 @@ impl<O: Object> RingDesk<O> {
         ensures fault { IfErr result (λ fault. StopsAt fault.line (fault.cause ≡ Full) self.new) }
     {
         serve_round(&mut self.journal, &mut self.ports)
+    }
+
+    /// Serves rounds until one serves nothing.
+    pub fn serve_all(&mut self) -> Result<(), DeskFault>
+        ensures lines { SamePorts self.old.ports self.new.ports }
+        ensures most { self.new.journal.most ≡ self.old.journal.most }
+        ensures opening { O.opening self.new.journal.object ≡ O.opening self.old.journal.object }
+        ensures history { IsPrefix self.old.journal.history self.new.journal.history }
+        ensures fault { IfErr result (λ fault. StopsAt fault.line (fault.cause ≡ Full) self.new) }
+    {
+        for _ in 0..u64::MAX {
+            if self.round()? == 0 {
+                break;
+            }
+        }
+        Ok(())
     }
 
     /// Closes the desk, where the ends of all its lines are handed in and all that they posted was served; else they and the desk

@@ -2,9 +2,11 @@
 ghost use Rattle.std.specs.Prelude.{◌≡◌, ◌⊎◌, ◌∷◌, ◌++◌, ◌≤◌, [], IfOk, IfErr, IfSome, IfNone, OnOk, OnErr, IsErr, IsTrue, IsFalse};
 ghost use Rattle.call_history.specs.RingLines.{posted_calls, taken_replies, SameLine};
 
+use crate::bell::Bell;
 use crate::object::Object;
 use crate::ring_line::RingLine;
 use crate::wire::{AskFault, Wire};
+use std::sync::Arc;
 use std::{hint, thread};
 
 /// One of so many tries in a row gives the processor to another thread.
@@ -15,12 +17,13 @@ const YIELD_EACH: u64 = 64;
 pub struct RingWire<O: Object> {
     line: RingLine<O>,
     turns: u64,
+    bell: Option<Arc<Bell>>,
     has_stalled: bool,
 }
 
 impl<O: Object> RingWire<O> {
-    /// A wire that makes the line's calls. Each try to post or to take is a turn; a call that got no reply in so many turns
-    /// stalls the wire.
+    /// A wire that makes the line's calls, on a desk whose thread doesn't sleep. Each try to post or to take is a turn; a call that
+    /// got no reply in so many turns stalls the wire.
     pub fn new(line: RingLine<O>, turns: u64) -> RingWire<O>
         ensures line { result.line ≡ line }
         ensures turns { result.turns ≡ turns }
@@ -29,6 +32,22 @@ impl<O: Object> RingWire<O> {
         RingWire {
             line,
             turns,
+            bell: None,
+            has_stalled: false,
+        }
+    }
+
+    /// The same, where the thread of the desk may sleep: each call that is posted rings this bell. A desk that makes no further call
+    /// stalls the wire too.
+    pub fn with_bell(line: RingLine<O>, turns: u64, bell: Arc<Bell>) -> RingWire<O>
+        ensures line { result.line ≡ line }
+        ensures turns { result.turns ≡ turns }
+        ensures going { IsFalse result.has_stalled }
+    {
+        RingWire {
+            line,
+            turns,
+            bell: Some(bell),
             has_stalled: false,
         }
     }
@@ -56,7 +75,8 @@ impl<O: Object> Wire for RingWire<O> {
     ghost same_line = { λ v w. SameLine v.line w.line };
 
     /// Posts the call and takes one reply: on a line that had taken as many replies as it posted calls, the reply to this call.
-    /// Where none comes in its turns it stalls, and from then on it does nothing more; a call that was posted stays posted.
+    /// Where none comes in its turns, or from a desk that has stopped, it stalls, and from then on it does nothing more; a call that
+    /// was posted stays posted.
     fn ask(&mut self, call: O::Call) -> Result<O::Reply, AskFault>
         ensures line { SameLine self.old.line self.new.line }
         ensures turns { self.new.turns ≡ self.old.turns }
@@ -75,10 +95,11 @@ impl<O: Object> Wire for RingWire<O> {
         }
         // Till the reply is there.
         self.has_stalled = true;
-        let Some(left) = post_within(&mut self.line, call, self.turns) else {
+        let Some(left) = post_within(&mut self.line, call, self.turns, &self.bell) else {
             return Err(AskFault::Stalled);
         };
-        let Some(reply) = take_within(&mut self.line, left) else {
+        ring(&self.bell);
+        let Some(reply) = take_within(&mut self.line, left, &self.bell) else {
             return Err(AskFault::Stalled);
         };
         self.has_stalled = false;
@@ -88,6 +109,19 @@ impl<O: Object> Wire for RingWire<O> {
     ghost same_line_refl = { λ w. Prim.search rules };
 
     ghost same_line_trans = { λ a b c ab bc. Prim.search rules };
+}
+
+fn ring(bell: &Option<Arc<Bell>>) {
+    if let Some(bell) = bell {
+        bell.ring();
+    }
+}
+
+fn has_stopped(bell: &Option<Arc<Bell>>) -> bool {
+    match bell {
+        Some(bell) => bell.has_stopped(),
+        None => false,
+    }
 }
 
 /// Lets a moment pass after so many tries. Most moments are shorter than a call takes: on a busy computer a thread that gives its
@@ -100,8 +134,13 @@ fn pause(tried: u64) {
     }
 }
 
-/// Tries to post a call in so many turns, and answers how many are left after the one that did.
-fn post_within<O: Object>(line: &mut RingLine<O>, call: O::Call, turns: u64) -> Option<u64>
+/// Tries to post a call in so many turns while the desk goes on, and answers how many are left after the one that did.
+fn post_within<O: Object>(
+    line: &mut RingLine<O>,
+    call: O::Call,
+    turns: u64,
+    bell: &Option<Arc<Bell>>,
+) -> Option<u64>
     ensures line { SameLine line.old line.new }
     ensures taken { taken_replies line.new ≡ taken_replies line.old }
     ensures some { IfSome result (λ left. (left ≤ turns) × (posted_calls line.new ≡ posted_calls line.old ++ call ∷ [])) }
@@ -113,13 +152,20 @@ fn post_within<O: Object>(line: &mut RingLine<O>, call: O::Call, turns: u64) -> 
             Ok(()) => return Some(turns - tried - 1),
             Err(back) => call = back,
         }
+        if has_stopped(bell) {
+            return None;
+        }
         pause(tried);
     }
     None
 }
 
-/// Tries to take a reply in so many turns.
-fn take_within<O: Object>(line: &mut RingLine<O>, turns: u64) -> Option<O::Reply>
+/// Tries to take a reply in so many turns while the desk goes on.
+fn take_within<O: Object>(
+    line: &mut RingLine<O>,
+    turns: u64,
+    bell: &Option<Arc<Bell>>,
+) -> Option<O::Reply>
     ensures line { SameLine line.old line.new }
     ensures posted { posted_calls line.new ≡ posted_calls line.old }
     ensures some { IfSome result (λ r. taken_replies line.new ≡ taken_replies line.old ++ r ∷ []) }
@@ -128,6 +174,10 @@ fn take_within<O: Object>(line: &mut RingLine<O>, turns: u64) -> Option<O::Reply
     for tried in 0..turns {
         if let Some(reply) = line.take() {
             return Some(reply);
+        }
+        if has_stopped(bell) {
+            // A reply that was not there before may have come before the desk stopped.
+            return line.take();
         }
         pause(tried);
     }

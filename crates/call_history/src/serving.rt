@@ -27,7 +27,7 @@ fn serve<O: Object>(
         (λ _. journal.new.history ≡ journal.old.history) }
     ensures fault { IfErr result (λ fault. IsSome port.new.kept × (fault ≡ CallFault.Full → length journal.new.history ≡ journal.new.most)) }
 {
-    if port.replies.slots() == 0 {
+    if port.replies.is_full() {
         return Ok(false);
     }
     let call = match port.kept.take() {

@@ -2,6 +2,7 @@ pub mod Briefs
 pub mod Handing
 pub mod Events
 pub mod AttendFaults
+pub mod RefereeFaults
 pub mod Steps
 pub mod Attending
 pub mod LineParts

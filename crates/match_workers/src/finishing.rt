@@ -1,7 +1,7 @@
 //! The end of a match's desk: its lines are finished, and it is closed.
 ghost use Rattle.std.specs.Prelude.{◌≡◌, [], IfOk, OnOk, length, map, All};
 ghost use Rattle.call_history.specs.Lines.{HasAll};
-ghost use Rattle.call_history.specs.RingLines.{SamePorts, AreEndsOf};
+ghost use Rattle.call_history.specs.RingLines.{AreEndsOf};
 ghost use Rattle.call_history.specs.RingClosing.{end_numbers, IsServed, TakesPrefix};
 ghost use Rattle.match_desk.specs.Headline.{HasHeadline};
 ghost use Rattle.match_workers.specs.Internal.LeftLines.{IsFinishedOf, AreFinishedOf};
@@ -10,7 +10,7 @@ ghost use Rattle.match_workers.specs.LineParts.{AreCounts};
 use crate::attend_fault::AttendFault;
 use crate::refereeing::RefereeFault;
 use crate::seat::Attended;
-use call_history::{Closed, DeskFault, LineEnd, Object, RingDesk, RingLine, RingWire};
+use call_history::{Closed, LineEnd, Object, RingDesk, RingLine, RingWire};
 use game_core::Game;
 use match_desk::Manager;
 use std::alloc::AllocError;
@@ -57,19 +57,6 @@ pub fn finish_all<O: Object + Drop>(
     Ok(Finished { lines, ends })
 }
 
-/// Serves what still waits.
-fn serve_rest<O: Object>(desk: &mut RingDesk<O>) -> Result<(), DeskFault>
-    ensures ports { SamePorts desk.old.ports desk.new.ports }
-    ensures opening { O.opening desk.new.journal.object ≡ O.opening desk.old.journal.object }
-{
-    for _ in 0..u64::MAX {
-        if desk.round()? == 0 {
-            break;
-        }
-    }
-    Ok(())
-}
-
 /// Serves what still waits on the desk of a match, and closes it.
 pub fn close_match<G: Game + Drop>(
     desk: RingDesk<Manager<G>>,
@@ -84,7 +71,7 @@ pub fn close_match<G: Game + Drop>(
     ensures made { IfOk result (λ c. AreCounts c.history.items c.made_by_line.items) }
 {
     let mut desk = desk;
-    serve_rest(&mut desk)?;
+    desk.serve_all()?;
     match desk.close(lines) {
         Ok(closed) => Ok(closed),
         Err(_) => Err(RefereeFault::Unclosed),

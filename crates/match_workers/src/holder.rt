@@ -1,11 +1,14 @@
 //! A desk over rings, in the thread that serves it.
-ghost use Rattle.std.specs.Prelude.{◌≡◌, ◌∷◌, ◌++◌, [], IfOk, OnOk};
+ghost use Rattle.std.specs.Prelude.{◌≡◌, ◌∷◌, ◌++◌, [], IfOk, OnOk, IsErrOf, MatchResult, length};
+ghost use Rattle.call_history.specs.Faults.{ask_fault};
 ghost use Rattle.call_history.specs.RingLines.{posted_calls, taken_replies, SameLine, SamePorts};
 
-use crate::pause::Pause;
-use call_history::{AskFault, DeskFault, Object, RingDesk, RingLine};
+use call_history::{AskFault, Bell, CallFault, DeskFault, Object, Pause, RingDesk, RingLine};
 use std::sync::Wait;
-use std::sync::atomic::{AtomicU64, Ordering};
+use std::time::Duration;
+
+/// The longest sleep of a desk's thread, in milliseconds: after so long a call that could not be made is tried again.
+const LONGEST_SLEEP: u64 = 1_000;
 
 /// A desk over rings, and the line of it that its own thread has.
 #[derive(Drop)]
@@ -21,6 +24,7 @@ pub fn ask_own<O: Object>(holder: &mut DeskHolder<O>, call: O::Call) -> Result<O
     ensures opening { O.opening holder.new.desk.journal.object ≡ O.opening holder.old.desk.journal.object }
     ensures call { OnOk result (posted_calls holder.new.line ≡ posted_calls holder.old.line ++ call ∷ []) }
     ensures reply { IfOk result (λ r. taken_replies holder.new.line ≡ taken_replies holder.old.line ++ r ∷ []) }
+    ensures full { IsErrOf result AskFault.Full → length holder.new.desk.journal.history ≡ holder.new.desk.journal.most }
 {
     if holder.line.post(call).is_err() {
         return Err(AskFault::Stalled);
@@ -34,32 +38,35 @@ pub fn ask_own<O: Object>(holder: &mut DeskHolder<O>, call: O::Call) -> Result<O
 }
 
 /// Why a round brought no reply.
-fn fault_of(served: Result<u64, DeskFault>) -> AskFault {
+fn fault_of(served: Result<u64, DeskFault>) -> AskFault
+    ensures { MatchResult served (λ _. result ≡ AskFault.Stalled) (λ fault. result ≡ ask_fault fault.cause) }
+{
     match served {
         Ok(_) => AskFault::Stalled,
         Err(fault) => AskFault::from(fault.cause),
     }
 }
 
-/// Serves the lines until so many workers have ended. A call that can't be made is tried again, round by round.
-pub fn serve_until<O: Object, R: Wait>(
-    rt: &R,
-    desk: &mut RingDesk<O>,
-    ended: &AtomicU64,
-    workers: u64,
-)
+/// Serves the lines until so many workers have ended. A call that can't be made is tried again, round by round; but over a full
+/// history no call can be made any more, and the workers are told so.
+pub fn serve_until<O: Object, R: Wait>(rt: &R, desk: &mut RingDesk<O>, bell: &Bell, workers: u64)
     ensures ports { SamePorts desk.old.ports desk.new.ports }
     ensures opening { O.opening desk.new.journal.object ≡ O.opening desk.old.journal.object }
 {
-    let mut pause = Pause::new();
+    let mut pause = Pause::new(bell, Duration::from_millis(LONGEST_SLEEP));
     for _ in rt.forever() {
-        let seen = ended.load(Ordering::SeqCst);
-        if seen >= workers {
+        if bell.left() >= workers {
             break;
         }
         match desk.round() {
-            Ok(0) | Err(_) => pause.rest(rt, ended, seen),
-            Ok(_) => pause = Pause::new(),
+            Ok(0) => pause.rest(rt),
+            Ok(_) => pause.end(),
+            Err(fault) => {
+                if fault.cause == CallFault::Full {
+                    bell.stop();
+                }
+                pause.rest(rt);
+            }
         }
     }
 }

@@ -8,7 +8,6 @@ mod attend_fault;
 mod attending;
 mod finishing;
 mod holder;
-mod pause;
 mod player;
 mod refereeing;
 mod seat;

@@ -1,5 +1,6 @@
 //! A whole match between players.
 ghost use Rattle.std.specs.Prelude.{◌≡◌, ◌∷◌, ◌++◌, [], ◌+◌, ◌<◌, map, IfOk, OnOk, length, vec_len};
+ghost use Rattle.call_history.specs.Faults.{ask_fault};
 ghost use Rattle.call_history.specs.Limits.{max_entries};
 ghost use Rattle.call_history.specs.RingLines.{posted_calls, taken_replies, SameLine, SamePorts, AreEndsOf as AreDeskEnds, IsLineOf, IsNewLine};
 ghost use Rattle.match_desk.specs.Headline.{HasHeadline};
@@ -9,6 +10,8 @@ ghost use Rattle.match_wire.specs.declared.brief.Brief.{Brief as Told};
 ghost use Rattle.match_workers.specs.Briefs.{AreRoleNames, IsBriefOf};
 ghost use Rattle.match_workers.specs.Ends.{AreEndsOf};
 ghost use Rattle.match_workers.specs.LineParts.{open_call, OpensMatch, AreRoleLines, AreCounts};
+ghost use Rattle.match_workers.specs.declared.refereeing.RefereeFault.TheVariants.{Memory as IsMemory};
+ghost use Rattle.match_workers.specs.RefereeFaults.{referee_fault};
 ghost use Rattle.match_workers.specs.Internal.LeftLines.{AreSeatLines, HasFinished, AreLeftLines};
 
 use crate::attend_fault::AttendFault;
@@ -17,7 +20,7 @@ use crate::holder::{DeskHolder, ask_own};
 use crate::player::Player;
 use crate::seats::{Attendance, attend_all, seat_players};
 use call_history::{
-    AskFault, CallFault, Closed, DeskFault, LineEnd, MAX_ENTRIES, Object, RingDesk, RingLine,
+    AskFault, Bell, CallFault, Closed, DeskFault, LineEnd, MAX_ENTRIES, Object, RingDesk, RingLine,
     RingWire, open_rings,
 };
 use game_core::{Game, Text, Texts};
@@ -26,7 +29,7 @@ use match_book::Setup;
 use match_desk::{Call, Manager, Refusal, Reply};
 use match_wire::Brief;
 use std::alloc::{AllocError, AllocFailed, Global};
-use std::sync::Wait;
+use std::sync::{Arc, Wait};
 use std::thread::Threads;
 use thiserror::Error;
 
@@ -51,6 +54,8 @@ pub enum RefereeFault {
 }
 
 impl From<AllocError> for RefereeFault {
+    ghost from_gives = { λ _ fault. fault ≡ IsMemory };
+
     fn from(_: AllocError) -> RefereeFault {
         RefereeFault::Memory
     }
@@ -63,6 +68,8 @@ impl<T: Drop> From<AllocFailed<T>> for RefereeFault {
 }
 
 impl From<AskFault> for RefereeFault {
+    ghost from_gives = { λ fault passed. passed ≡ referee_fault fault };
+
     fn from(fault: AskFault) -> RefereeFault {
         match fault {
             AskFault::Full => RefereeFault::Full,
@@ -73,6 +80,8 @@ impl From<AskFault> for RefereeFault {
 }
 
 impl From<DeskFault> for RefereeFault {
+    ghost from_gives = { λ fault passed. passed ≡ referee_fault (ask_fault fault.cause) };
+
     fn from(fault: DeskFault) -> RefereeFault {
         match fault.cause {
             CallFault::Full => RefereeFault::Full,
@@ -193,16 +202,17 @@ fn open_match<G: Game + Drop>(
     }
 }
 
-/// A wire over each line of a desk.
+/// A wire over each line of a desk, which rings this bell.
 fn wires_over<O: Object + Drop>(
     alloc: Global,
     lines: Vec<RingLine<O>>,
+    bell: &Arc<Bell>,
 ) -> Result<Vec<RingWire<O>>, AllocError>
     ensures { IfOk result (λ wires. map (λ w. w.line) wires.items ≡ lines.items) }
 {
     let mut wires = Vec::with_capacity(alloc, lines.len())?;
     for line in lines {
-        wires.push(RingWire::new(line, TURNS))?;
+        wires.push(RingWire::with_bell(line, TURNS, Arc::try_clone(bell)?))?;
     }
     Ok(wires)
 }
@@ -243,9 +253,10 @@ where
         lines: Vec::with_capacity(alloc, count + 1)?,
         ends: Vec::with_capacity(alloc, count)?,
     };
-    let wires = wires_over(alloc, others)?;
+    let bell = Arc::new(alloc, Bell::new())?;
+    let wires = wires_over(alloc, others, &bell)?;
     let seats = seat_players(alloc, &brief, wires, players)?;
-    let Attendance { holder, attended } = attend_all(rt, alloc, holder, seats, tries)?;
+    let Attendance { holder, attended } = attend_all(rt, alloc, &bell, holder, seats, tries)?;
     let DeskHolder { desk, line } = holder;
     let Finished { mut lines, ends } = finish_all(attended, room)?;
     lines.push(finish_line(line))?;

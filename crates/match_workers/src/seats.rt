@@ -1,5 +1,5 @@
 //! Roles of matches, each attended over a wire of its own in a thread of its own.
-ghost use Rattle.std.specs.Prelude.{◌≡◌, ◌<◌, ℕ, [], Some, length, slice_get, IfOk};
+ghost use Rattle.std.specs.Prelude.{◌≡◌, ◌<◌, ℕ, [], Some, length, map, slice_get, IfOk};
 ghost use Rattle.call_history.specs.RingLines.{SamePorts};
 ghost use Rattle.match_workers.specs.Internal.Seats.{AreSeatsOf, IsLeftBy, AreLeftBy};
 ghost use Rattle.match_workers.specs.Internal.Promises.{IsKept};
@@ -10,14 +10,13 @@ use crate::attending::attend;
 use crate::holder::{DeskHolder, ask_own, serve_until};
 use crate::player::Player;
 use crate::seat::{Attended, Seat};
-use call_history::{Object, Wire};
+use call_history::{Bell, Object, Wire};
 use match_book::Due;
 use match_desk::{Call, Reply};
 use match_wire::Brief;
 use std::alloc::{AllocError, Global};
 use std::snapshot::Snapshot;
 use std::sync::Wait;
-use std::sync::atomic::{AtomicU64, Ordering};
 use std::thread;
 use std::thread::{Promise, PromisedHandle, Threads};
 
@@ -88,7 +87,7 @@ fn attend_seat<P: Player + Drop, W: Wire<Call = Call, Reply = Reply>>(
     player: P,
     wire: W,
     tries: u64,
-    ended: &AtomicU64,
+    bell: &Bell,
 ) -> Attended<W>
     requires { role < length brief.now.roles }
     ensures { IsLeftBy W.Wire P.Player brief.now role tries player wire result }
@@ -96,7 +95,7 @@ fn attend_seat<P: Player + Drop, W: Wire<Call = Call, Reply = Reply>>(
     let mut player = player;
     let mut wire = wire;
     let end = attend(alloc, &mut wire, &mut player, brief, role, tries);
-    ended.fetch_add(1, Ordering::SeqCst);
+    bell.leave();
     Attended { wire, end }
 }
 
@@ -105,7 +104,8 @@ fn roles_of<'a, P, W>(
     alloc: Global,
     seats: &[Seat<'a, P, W>],
 ) -> Result<Vec<Unattended<'a>>, AllocError>
-    ensures { IfOk result (λ roles. length roles.items ≡ length seats.entry.now) }
+    ensures count { IfOk result (λ roles. length roles.items ≡ length seats.entry.now) }
+    ensures roles { IfOk result (λ roles. map (λ u. u.role) roles.items ≡ map (λ s. s.role) seats.entry.now) }
 {
     let mut roles = Vec::with_capacity(alloc, seats.len())?;
     for seat in seats {
@@ -164,14 +164,15 @@ fn join_seats<'a, P: Player, W: Wire<Call = Call, Reply = Reply> + Drop, R: Thre
     Ok(attended)
 }
 
-/// Attends each seat in a thread of its own, for so many tries at most, while the calling thread serves the desk. What the seats
-/// leave stands in their order.
+/// Attends each seat in a thread of its own, for so many tries at most, while the calling thread serves the desk: the seats' wires
+/// ring this bell. What the seats leave stands in their order.
 ///
 /// Where a thread can't be made no further one starts, and the matches of the seats that are left are aborted over the holder's
 /// line: a match waits for all its roles. Once those that run have ended, the answer is want of memory.
 pub fn attend_all<O, W, P, R>(
     rt: &R,
     alloc: Global,
+    bell: &Bell,
     holder: DeskHolder<O>,
     seats: Vec<Seat<'_, P, W>>,
     tries: u64,
@@ -186,8 +187,6 @@ where
     ensures opening { IfOk result (λ a. O.opening a.holder.desk.journal.object ≡ O.opening holder.desk.journal.object) }
     ensures left { IfOk result (λ a. AreLeftBy W.Wire P.Player tries seats.entry.items a.attended.items) }
 {
-    let count = AtomicU64::new(0);
-    let ended = &count;
     thread::scope(
         thread::scope_env(),
         rt,
@@ -220,7 +219,7 @@ where
                 let work = move || -> Attended<W>
                     requires { role < length brief.now.roles }
                     ensures { IsLeftBy W.Wire P.Player brief.entry.now role tries player wire result }
-                { attend_seat(alloc, brief, role, player, wire, tries, ended) };
+                { attend_seat(alloc, brief, role, player, wire, tries, bell) };
                 let Ok(handle) = scope.spawn_with(promise, work) else {
                     break;
                 };
@@ -229,13 +228,13 @@ where
             let started = handles.len();
             if started < count {
                 let _ = abort_without(alloc, &mut holder, &roles[started..]);
-                serve_until(rt, &mut holder.desk, ended, started as u64);
+                serve_until(rt, &mut holder.desk, bell, started as u64);
                 for handle in handles {
                     let _ = handle.join(rt);
                 }
                 return Err(AllocError);
             }
-            serve_until(rt, &mut holder.desk, ended, started as u64);
+            serve_until(rt, &mut holder.desk, bell, started as u64);
             let attended = join_seats(rt, handles, attended)?;
             Ok(Attendance { holder, attended })
         },

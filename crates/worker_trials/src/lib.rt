@@ -4,6 +4,10 @@
 #[cfg(test)]
 mod attending;
 #[cfg(test)]
+mod long_answers;
+#[cfg(test)]
 mod long_histories;
 #[cfg(test)]
 mod refereeing;
+#[cfg(test)]
+mod waiting;

@@ -1,5 +1,8 @@
-use Rattle.std.proofs.Common.{◌≡◌, length}
+use Rattle.std.proofs.Common.{◌≡◌, length, map, take}
 use Rattle.match_workers.proofs.seats.roles_of.Given as goal
 
 abbrev pub invariant-loop-seat : goal.invariant-loop-seat
-invariant-loop-seat g l = length l.roles.items ≡ l.seat-index
+invariant-loop-seat g l = record {
+  count : length l.roles.items ≡ l.seat-index;
+  roles : map (λ u. u.role) l.roles.items ≡ map (λ s. s.role) (take l.seat-index l.seats);
+}

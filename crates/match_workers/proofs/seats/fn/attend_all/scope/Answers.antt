@@ -36,7 +36,7 @@ loop-seat-preserved g c =
 pub slice_bounds-abort_without-count : goal.slice_bounds-abort_without-count
 slice_bounds-abort_without-count g c =
     let given = c.into_iter-seat-iterator.ensures.into_iter_gives in
-    omega (arith, c.loop-seat.invariant.left, c.len-started.ensures, c.loop-seat.handles.ok.0, c.deref.ensures.len, c.in_ok-roles.ensures, ap length c.as_slice.ensures.value, given.1, c.if-started-count.true, c.len-count.ensures)
+    omega (arith, c.loop-seat.invariant.left, c.len-started.ensures, c.loop-seat.handles.ok.0, c.deref.ensures.len, c.in_ok-roles.ensures.count, ap length c.as_slice.ensures.value, given.1, c.if-started-count.true, c.len-count.ensures)
 
 pub returns : goal.returns
 returns g c =

@@ -1,0 +1,63 @@
+//! How the thread of a desk over rings rests while no call comes.
+use crate::bell::Bell;
+use std::sync::Wait;
+use std::time::Duration;
+use std::{hint, thread};
+
+/// The first rests in a row only wait for a moment, which is about what a line needs for its next call.
+const SPINS: u32 = 64;
+
+/// After so many further rests that give the processor to another thread, it sleeps.
+const YIELDS: u32 = 8;
+
+/// The rests in a row of the thread that serves a desk: a call that comes soon is found soon, and a long wait takes no time of a
+/// processor.
+#[derive(Drop)]
+pub struct Pause<'a> {
+    bell: &'a Bell,
+    longest: Duration,
+    spins: u32,
+    yields: u32,
+    is_down: bool,
+}
+
+impl<'a> Pause<'a> {
+    /// Before the first rest. No sleep is longer than this, even where nobody rings.
+    pub fn new(bell: &'a Bell, longest: Duration) -> Pause<'a> {
+        Pause {
+            bell,
+            longest,
+            spins: SPINS,
+            yields: YIELDS,
+            is_down: false,
+        }
+    }
+
+    /// Rests once, after a look for calls that found none. The last look before a sleep comes after its caller lay down, so no ring is
+    /// missed.
+    pub fn rest<R: Wait>(&mut self, rt: &R) {
+        if self.spins > 0 {
+            self.spins -= 1;
+            hint::spin_loop();
+        } else if self.yields > 0 {
+            self.yields -= 1;
+            thread::yield_now();
+        } else if self.is_down {
+            self.is_down = false;
+            self.bell.sleep(rt, self.longest);
+        } else {
+            self.is_down = true;
+            self.bell.lie_down();
+        }
+    }
+
+    /// Ends the rests in a row: a call was found.
+    pub fn end(&mut self) {
+        self.spins = SPINS;
+        self.yields = YIELDS;
+        if self.is_down {
+            self.is_down = false;
+            self.bell.get_up();
+        }
+    }
+}
