@@ -4,11 +4,12 @@ PREFIX := /usr/local
 PROGRAM := bin/ggp_manager
 EDITED := $(if $(filter edits,$(firstword $(MAKECMDGOALS))),$(wordlist 2,$(words $(MAKECMDGOALS)),$(MAKECMDGOALS)))
 
-.PHONY: help demo match games build install check edits memory test $(EDITED)
+.PHONY: help demo match season games build install check edits memory test $(EDITED)
 
 help:
 	@echo 'make demo            a match of Countdown through the program, line by line'
 	@echo 'make match           a match over HTTP between two players on this computer, and its record'
+	@echo 'make season          the matches of a schedule over HTTP on this computer, and their account made again'
 	@echo 'make games           a match over HTTP of each game of examples/games/general, instantiated by gringo'
 	@echo 'make build           proves the program and leaves it at $(PROGRAM)'
 	@echo 'make install         puts the proved program into $(PREFIX)/bin (PREFIX=DIR: into DIR/bin)'
@@ -17,12 +18,15 @@ help:
 	@echo 'make memory          has each allocation of the calls, and of a match, refused in turn, and looks at what is left'
 	@echo 'make test            the gate: every proof from nothing, wrong edits, the tests, the programs'
 
-# The program that `demo`, `match` and `games` run is the proved one where it is up to date, else one that is not proved yet.
+# The program that `demo`, `match`, `season` and `games` run is the proved one where it is up to date, else one that is not proved yet.
 demo:
 	@program=$$(tools/program) && examples/side-by-side examples/games/countdown.script "$$program" desk --countdown 3
 
 match:
 	@program=$$(tools/program) && examples/play-a-match "$$program" examples/games/tictactoe.kif
+
+season:
+	@program=$$(tools/program) && examples/season/try "$$program"
 
 games:
 	@program=$$(tools/program) && tools/games "$$program"
