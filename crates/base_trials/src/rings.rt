@@ -7,8 +7,8 @@ ghost use Rattle.call_history.specs.RingLines.{IsLineOf, AreEndsOf};
 use crate::histories::{Register, check_replay};
 use crate::limits::Wanting;
 use call_history::{
-    AskFault, CallFault, DeskFault, LineEnd, MAX_ENTRIES, MAX_LINES, Object, RingCloseFault,
-    RingDesk, RingLine, RingUnclosed, RingWire, Wire, open_rings,
+    AskFault, CallFault, DeskFault, LineEnd, MAX_ENTRIES, Object, RingCloseFault, RingDesk,
+    RingLine, RingUnclosed, RingWire, Wire, open_rings,
 };
 use std::alloc::{AllocError, Global};
 use std::test::Fail;
@@ -228,59 +228,6 @@ fn wire_without_rounds_stalls(rt: HostRuntime) -> Result<(), Fail> {
     let closed = desk.close(ends).ok().ok_or("not closed")?;
     assert_eq!(rt; closed.history.len(), 1);
     assert_eq!(rt; closed.object.value, 7);
-    Ok(())
-}
-
-/// The ends of these lines, from the last to the first.
-#[tactic(auto, using(base_trials::proofs::LastElements::all_front, base_trials::proofs::LastElements::all_last))]
-fn finish_each<O: Object + Drop>(
-    alloc: Global,
-    desk: &RingDesk<O>,
-    lines: Vec<RingLine<O>>,
-) -> Result<Vec<LineEnd<O>>, AllocError>
-    requires { All (IsLineOf desk.now.ports) lines.items }
-    ensures { IfOk result (λ ends. AreEndsOf desk.now.ports ends.items) }
-{
-    let mut lines = lines;
-    let mut ends = Vec::new(alloc);
-    for _ in 0..MAX_LINES {
-        let Some(line) = lines.pop() else {
-            break;
-        };
-        ends = beside(desk, ends, line.finish())?;
-    }
-    Ok(ends)
-}
-
-#[test]
-#[tactic(auto, using(call_history::proofs::DeskLines::line_of_same, call_history::proofs::DeskLines::ends_of_ports, base_trials::proofs::LastElements::all_front, base_trials::proofs::LastElements::all_last))]
-fn desk_over_rings_has_four_thousand_lines(rt: HostRuntime) -> Result<(), Fail> {
-    let alloc = rt.alloc();
-    let (desk, mut lines) = open_lines(alloc, Register { value: 0 }, 10, MAX_LINES, 1)?;
-    assert_eq!(rt; lines.len(), 4_096);
-    let mut last = lines.pop().ok_or("no line")?;
-    assert_eq!(rt; last.number(), 4_095);
-    assert_eq!(rt; last.post(7), Ok(()));
-    let ends = finish_each(alloc, &desk, lines)?;
-    let Err(unclosed) = desk.close(ends) else {
-        return Err(Fail::from("closed without a line"));
-    };
-    let RingUnclosed { desk, ends, cause } = unclosed;
-    assert_eq!(rt; cause, RingCloseFault::MissingLine(4_095));
-    let ends = beside(&desk, ends, last.finish())?;
-    let Err(unclosed) = desk.close(ends) else {
-        return Err(Fail::from("closed with a call that waits"));
-    };
-    let RingUnclosed {
-        mut desk,
-        ends,
-        cause,
-    } = unclosed;
-    assert_eq!(rt; cause, RingCloseFault::Unserved(4_095));
-    assert_eq!(rt; desk.round(), Ok(1));
-    let closed = desk.close(ends).ok().ok_or("not closed")?;
-    assert_eq!(rt; closed.made_by_line.len(), 4_096);
-    assert_eq!(rt; closed.made_by_line.last().copied(), Some(1));
     Ok(())
 }
 

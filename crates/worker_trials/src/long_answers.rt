@@ -48,11 +48,11 @@ fn longest_answers_stand_in_the_history(rt: HostRuntime) -> Result<(), Fail> {
     assert_eq!(rt; players.len(), setup.players.as_slice().len());
     let refereed = referee(&rt, alloc, game, setup, Vec::new(alloc), players, TRIES)?;
     assert_eq!(rt; refereed.ends.as_slice(), [Ok(3), Ok(3)].as_slice());
-    let mut answers = 0;
+    let mut answers: u32 = 0;
     for entry in refereed.closed.history.iter() {
         if let Call::Submit { text, .. } = &entry.call {
             assert_eq!(rt; text.as_slice().len(), LONGEST);
-            answers += 1;
+            answers = answers.saturating_add(1);
         }
     }
     assert_eq!(rt; answers, 6);
