@@ -320,10 +320,10 @@ where
         let fixtures: Vec<Fixture<'_, LoggedPlayer<'_, H, P, &mut E>>> = fixtures(
             alloc, &logging, &plans,
         )?;
-        play_season(rt, alloc, &rules, &fixtures, plan.form, writer, &stream)?
+        play_season(rt, alloc, &rules, fixtures, plan.form, writer, &stream)?
     } else {
         let fixtures: Vec<Fixture<'_, P>> = fixtures(alloc, reach, &plans)?;
-        play_season(rt, alloc, &rules, &fixtures, plan.form, writer, &stream)?
+        play_season(rt, alloc, &rules, fixtures, plan.form, writer, &stream)?
     };
     match written {
         0 => Ok(()),

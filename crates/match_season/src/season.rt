@@ -101,11 +101,8 @@ impl<'a, P> Season<'_, 'a, P> {
     }
 }
 
-/// Plays the matches of a season by the rules that this text describes, each in threads of its own, and writes their records, each
-/// as soon as its turn has come, and then the accounts where they are wanted. How many matches have no record is answered.
-///
-/// Where no thread can be made that is want of memory, and no match was begun. After a failed write no further match begins.
-pub fn play_season<R, P, W: Write, E: Write + Send>(
+/// Plays the matches of these fixtures.
+fn play_fixtures<R, P, W: Write, E: Write + Send>(
     rt: &R,
     alloc: Global,
     rules: &[u8],
@@ -162,4 +159,24 @@ where
             written
         },
     )
+}
+
+/// Plays the matches of a season by the rules that this text describes, each in threads of its own, and writes their records, each
+/// as soon as its turn has come, and then the accounts where they are wanted. How many matches have no record is answered.
+///
+/// Where no thread can be made that is want of memory, and no match was begun. After a failed write no further match begins.
+pub fn play_season<R, P, W: Write, E: Write + Send>(
+    rt: &R,
+    alloc: Global,
+    rules: &[u8],
+    fixtures: Vec<Fixture<'_, P>>,
+    form: SeasonForm,
+    writer: &mut Counted<W>,
+    errors: &Mutex<E>,
+) -> Result<u64, SeasonFault>
+where
+    R: Threads + Wait + Sync,
+    P: Player + Drop + Send,
+{
+    play_fixtures(rt, alloc, rules, &fixtures, form, writer, errors)
 }
