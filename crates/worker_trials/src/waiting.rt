@@ -13,7 +13,7 @@ const THINKING: u64 = 20;
 
 /// How many seconds a match may take in which each player thinks 12 times. Where no call woke the desk it would take longer: its
 /// thread looks for calls once a second then.
-const LONGEST: u64 = 5;
+const LONGEST: u64 = 15;
 
 /// How often an attended role may ask what is due to it.
 const TRIES: u64 = 100_000;
