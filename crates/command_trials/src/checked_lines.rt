@@ -174,18 +174,30 @@ fn a_failed_write_leaves_a_prefix(rt: HostRuntime) -> Result<(), AllocError> {
     Ok(())
 }
 
+/// A line of so many blanks between two lawful records.
+fn around_blanks(alloc: Global, count: usize) -> Result<Vec<u8>, AllocError> {
+    let mut bytes = Vec::new(alloc);
+    bytes.extend_from_slice(good_record())?;
+    bytes.push(b'\n')?;
+    for _ in 0..count {
+        bytes.push(b' ')?;
+    }
+    bytes.push(b'\n')?;
+    bytes.extend_from_slice(good_record())?;
+    bytes.push(b'\n')?;
+    Ok(bytes)
+}
+
 #[test]
 fn a_line_too_long_ends_the_check(rt: HostRuntime) -> Result<(), AllocError> {
-    let good = good_record();
-    let blank = vec![in rt.alloc(); b' '; 16_777_216]?;
-    let longest = joined(rt.alloc(), &[good, b"\n", &blank, b"\n", good, b"\n"])?;
+    let longest = around_blanks(rt.alloc(), 16_777_216)?;
     let kept = Wanted {
         output: b"lawful\nnot lawful: json\nlawful\n",
         errors: b"ggp_manager: records not lawful 1\n",
         status: 1,
     };
     expect(&rt, rt.alloc(), &WORDS, &longest, kept)?;
-    let longer = joined(rt.alloc(), &[good, b"\n", &blank, b" \n", good, b"\n"])?;
+    let longer = around_blanks(rt.alloc(), 16_777_217)?;
     let refused = Wanted {
         output: b"lawful\n",
         errors: b"ggp_manager: input too long\n",
