@@ -5,6 +5,7 @@ use clap::error::ErrorKind;
 use clap::{Arg, ArgAction, ArgMatches, Command};
 use match_season::{MAX_MATCHES, MatchPlan, RecordOrder, SeasonForm};
 use network_players::{PlayerAddress, decimal, player_address};
+use player_check::CheckPlan;
 use std::alloc::{AllocError, AllocFailed, Global};
 
 /// What the command line asks for. Its texts are the words that it was read from.
@@ -24,6 +25,8 @@ pub enum Task<'a> {
     Replay(GameSource<'a>),
     /// To ask a player whether it is free.
     Info(PlayerAddress<'a>),
+    /// To check a player.
+    Check(PlayerTrial<'a>),
     /// To show this text: the help, or the version.
     Show(String),
 }
@@ -52,6 +55,14 @@ pub struct SeasonPlan<'a> {
     pub game: GameSource<'a>,
     pub strikes: u8,
     pub form: SeasonForm,
+    pub is_logged: bool,
+}
+
+/// The check of a player: its game, its matches, and whether each message is told on standard error.
+#[derive(Clone, Copy, Debug, PartialEq, Eq)]
+pub struct PlayerTrial<'a> {
+    pub game: GameSource<'a>,
+    pub plan: CheckPlan<'a>,
     pub is_logged: bool,
 }
 
@@ -170,6 +181,14 @@ fn strikes_option<'a>(alloc: Global) -> Arg<'a> {
     .default_value("0")
 }
 
+fn start_option<'a>(alloc: Global) -> Arg<'a> {
+    option(alloc, "start", "S", "The seconds for START").default_value("10")
+}
+
+fn play_option<'a>(alloc: Global) -> Arg<'a> {
+    option(alloc, "play", "S", "The seconds for every other message").default_value("10")
+}
+
 fn log_flag<'a>(alloc: Global) -> Arg<'a> {
     flag(
         alloc,
@@ -210,8 +229,8 @@ fn run_command<'a>(alloc: Global) -> Result<Command<'a>, AllocError> {
     );
     with_rules(alloc, command)?
         .arg(option(alloc, "id", "ID", "The match's id").required(true))?
-        .arg(option(alloc, "start", "S", "The seconds for START").default_value("10"))?
-        .arg(option(alloc, "play", "S", "The seconds for every other message").default_value("10"))?
+        .arg(start_option(alloc))?
+        .arg(play_option(alloc))?
         .arg(strikes_option(alloc))?
         .arg(log_flag(alloc))?
         .arg(flag(
@@ -229,16 +248,31 @@ fn run_command<'a>(alloc: Global) -> Result<Command<'a>, AllocError> {
         )
 }
 
+/// The option of one player.
+fn player_argument<'a>(alloc: Global) -> Arg<'a> {
+    Arg::new(alloc, "player")
+        .value_name("NAME@HOST:PORT")
+        .required(true)
+        .action(ArgAction::Set)
+        .help("The player")
+}
+
 fn info_command<'a>(alloc: Global) -> Result<Command<'a>, AllocError> {
     Command::new(alloc, "info")
         .about("Asks a player whether it is free")
-        .arg(
-            Arg::new(alloc, "player")
-                .value_name("NAME@HOST:PORT")
-                .required(true)
-                .action(ArgAction::Set)
-                .help("The player"),
-        )
+        .arg(player_argument(alloc))
+}
+
+fn check_command<'a>(alloc: Global) -> Result<Command<'a>, AllocError> {
+    let command = Command::new(alloc, "check").about(
+        "Plays a match with a player for each role, and prints what it answered and what that counted as",
+    );
+    with_game(alloc, command)?
+        .arg(start_option(alloc))?
+        .arg(play_option(alloc))?
+        .arg(strikes_option(alloc))?
+        .arg(log_flag(alloc))?
+        .arg(player_argument(alloc))
 }
 
 fn program<'a>(alloc: Global) -> Result<Command<'a>, AllocError> {
@@ -252,7 +286,8 @@ fn program<'a>(alloc: Global) -> Result<Command<'a>, AllocError> {
         .subcommand(season_command(alloc)?)?
         .subcommand(verify_command(alloc)?)?
         .subcommand(replay_command(alloc)?)?
-        .subcommand(info_command(alloc)?)
+        .subcommand(info_command(alloc)?)?
+        .subcommand(check_command(alloc)?)
 }
 
 /// Exactly one of `--rules` and `--rules-file` has to be there.
@@ -336,6 +371,19 @@ fn run_plan<'a>(alloc: Global, found: &ArgMatches<'a>) -> Result<RunPlan<'a>, Ar
     })
 }
 
+fn player_trial<'a>(found: &ArgMatches<'a>) -> Option<PlayerTrial<'a>> {
+    Some(PlayerTrial {
+        game: game_source(found)?,
+        plan: CheckPlan {
+            player: player_address(found.get_str("player")?)?,
+            start: seconds(found, "start")?,
+            play: seconds(found, "play")?,
+            strikes: strikes(found)?,
+        },
+        is_logged: found.get_flag("log"),
+    })
+}
+
 /// What the words after the program's name ask for.
 pub fn read_arguments<'a>(alloc: Global, words: &'a [&'a str]) -> Result<Task<'a>, ArgumentFault> {
     let found = match program(alloc)?.try_get_matches_from(words) {
@@ -356,6 +404,7 @@ pub fn read_arguments<'a>(alloc: Global, words: &'a [&'a str]) -> Result<Task<'a
             .get_str("player")
             .and_then(|word| player_address(word))
             .map(|player| Task::Info(player)),
+        Some(("check", found)) => player_trial(found).map(|trial| Task::Check(trial)),
         _ => None,
     };
     task.ok_or(ArgumentFault::WrongUse)

@@ -1,10 +1,12 @@
 //! The commands, over any streams, runtime and players.
 
-use crate::arguments::{ArgumentFault, GameSource, RunPlan, SeasonPlan, Task, read_arguments};
+use crate::arguments::{
+    ArgumentFault, GameSource, PlayerTrial, RunPlan, SeasonPlan, Task, read_arguments,
+};
 use crate::checking::{check_record, check_records};
 use crate::fault::Fault;
 use crate::replaying::replay_account;
-use crate::rules::{rules_text, season_rules};
+use crate::rules::{rules_text, told_rules};
 use crate::script::run_script;
 use crate::script_fault::ScriptFault;
 use desk_text::push_history;
@@ -18,6 +20,7 @@ use match_workers::Player;
 use network_players::{
     ContactFault, Explains, LoggedPlayer, Logging, PlayerAddress, Reach, contact,
 };
+use player_check::check_player;
 use std::alloc::Global;
 use std::fmt::Write as _;
 use std::io::{Read, Write};
@@ -135,6 +138,7 @@ where
             season::<H, P, S, R, W, E>(rt, alloc, reach, plan, reader, writer, errors)
         }
         Task::Info(player) => info(rt, alloc, &player, writer),
+        Task::Check(trial) => check::<H, P, S, W, E>(rt, alloc, reach, trial, writer, errors),
     }
 }
 
@@ -306,7 +310,7 @@ where
     P: Player + Explains + Drop + Send,
     S: Reach<P>,
 {
-    let rules = season_rules(rt, alloc, plan.game)?;
+    let rules = told_rules(rt, alloc, plan.game)?;
     drop(described_game(alloc, &rules)?);
     let input = read_to_end(alloc, reader, MAX_SCHEDULE)?;
     let plans = read_schedule(alloc, &input, plan.strikes)?;
@@ -350,4 +354,43 @@ fn info<N: Net + Clock, W: Write>(
     let answer = contact(rt, alloc, player, INFO_SECONDS, &info_message())?;
     let info = read_info(alloc, answer.as_slice())?;
     Ok(write_all(writer, info_line(info))?)
+}
+
+/// Checks a player, and prints its table.
+fn check<H, P, S, W: Write, E: Write + Send>(
+    rt: &H,
+    alloc: Global,
+    reach: &S,
+    trial: PlayerTrial<'_>,
+    writer: &mut Counted<W>,
+    errors: &mut E,
+) -> Result<(), Fault>
+where
+    H: Clock + Files + Threads + Wait + Sync,
+    P: Player + Explains + Drop + Send,
+    S: Reach<P>,
+{
+    let rules = told_rules(rt, alloc, trial.game)?;
+    let bad = if trial.is_logged {
+        let stream = Mutex::new(errors);
+        let logging = Logging {
+            rt,
+            reach,
+            stream: &stream,
+        };
+        check_player::<H, LoggedPlayer<'_, H, P, &mut E>, _, W>(
+            rt,
+            alloc,
+            &logging,
+            &trial.plan,
+            &rules,
+            writer,
+        )?
+    } else {
+        check_player::<H, P, S, W>(rt, alloc, reach, &trial.plan, &rules, writer)?
+    };
+    match bad {
+        0 => Ok(()),
+        count => Err(Fault::BadAnswers(count)),
+    }
 }

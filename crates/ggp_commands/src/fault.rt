@@ -5,6 +5,7 @@ use desk_text::refusal_word;
 use match_desk::Refusal;
 use match_record::VerifyFault;
 use match_season::{DescriptionFault, LineFault, MatchFault, ScheduleFault, SeasonFault};
+use player_check::CheckFault;
 use std::alloc::{AllocError, AllocFailed};
 use thiserror::Error;
 
@@ -60,6 +61,9 @@ pub enum Fault {
     /// So many lines of a script were bad. All output is there.
     #[error("bad lines {0}")]
     BadLines(u64),
+    /// So many answers of a player that was checked were not good. The whole table is output.
+    #[error("bad answers {0}")]
+    BadAnswers(u64),
 }
 
 impl Fault {
@@ -124,6 +128,16 @@ impl From<SeasonFault> for Fault {
         match fault {
             SeasonFault::WriteFault => Fault::WriteFault,
             SeasonFault::Memory => Fault::Memory,
+        }
+    }
+}
+
+impl From<CheckFault> for Fault {
+    fn from(fault: CheckFault) -> Fault {
+        match fault {
+            CheckFault::Match(fault) => Fault::from(fault),
+            CheckFault::WriteFault => Fault::WriteFault,
+            CheckFault::Memory => Fault::Memory,
         }
     }
 }

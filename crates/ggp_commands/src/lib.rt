@@ -1,5 +1,5 @@
 //! The commands of the program `ggp_manager`: a script on a desk, a match between players, the matches of a schedule, the check of
-//! a record, a question to a player.
+//! a record, a question to a player, the check of a player.
 //!
 //! `command` reads the words of a command line and does what they ask for, over any streams, any runtime and any
 //! players that can be reached; a fault is one line on the stream for errors and a status. `Sockets` reaches players

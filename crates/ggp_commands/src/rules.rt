@@ -75,8 +75,8 @@ pub fn rules_text<'a, F: Files>(
     }
 }
 
-/// The text of a season's game. That of Countdown is written here, since its players are told the rules.
-pub fn season_rules<'a, F: Files>(
+/// The text of a game whose players are told its rules: that of Countdown is written here.
+pub fn told_rules<'a, F: Files>(
     files: &F,
     alloc: Global,
     game: GameSource<'a>,

@@ -2,3 +2,4 @@ pub mod Games
 pub mod Matches
 pub mod Schedules
 pub mod Seasons
+pub mod RoleTurns

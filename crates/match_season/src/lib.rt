@@ -10,6 +10,7 @@ mod countdown_text;
 mod games;
 mod plan;
 mod playing;
+mod role_turns;
 mod schedule;
 mod season;
 mod season_output;
@@ -20,6 +21,7 @@ pub use plan::MatchPlan;
 pub use playing::{
     EndedMatch, Entrants, MatchFault, PlayedMatch, ended_match, entrants_of, played_match,
 };
+pub use role_turns::{RoleTurn, played_turns};
 pub use schedule::{LineFault, MAX_MATCHES, ScheduleFault, read_schedule};
 pub use season::{Fixture, SeasonForm, fixtures, play_season};
 pub use season_output::{RecordOrder, SeasonFault};

@@ -17,7 +17,7 @@ use kif_text::{Expr, copy};
 use match_book::{Phase, Setup};
 use match_desk::{Call, Manager, Refusal, Reply};
 use match_record::record_json;
-use match_workers::{Player, RefereeFault, referee};
+use match_workers::{Player, RefereeFault, Refereed, referee};
 use network_players::{Reach, Seat};
 use packed_rules::PackedGame;
 use std::alloc::{AllocError, AllocFailed, Global};
@@ -195,6 +195,25 @@ pub struct EndedMatch {
     ghost is_ended: { ∥ IsEndedMatch text account ∥₁ },
 }
 
+/// Referees a match between its entrants, by the rules that this text describes: what its desk leaves.
+pub(crate) fn refereed_match<R, P>(
+    rt: &R,
+    alloc: Global,
+    entrants: Entrants<P>,
+    rules: &[u8],
+) -> Result<Refereed<PackedGame>, MatchFault>
+where
+    R: Threads + Wait + Sync,
+    P: Player + Drop + Send,
+    ensures replayed { IfOk result (λ r. IsReplay (reply ⟦<PackedGame as Game>⟧.rules) (after ⟦<PackedGame as Game>⟧.rules) opening r.closed.object r.closed.history.items) }
+    ensures fails { IfErr result (RunFails rules.now) }
+{
+    let game = described_game(alloc, rules)?;
+    let sentences = copies(alloc, game.description())?;
+    let Entrants { setup, players } = entrants;
+    Ok(referee(rt, alloc, game, setup, sentences, players, MAX_TRIES)?)
+}
+
 /// Referees a match between its entrants, by the rules that this text describes.
 pub fn played_match<R, P>(
     rt: &R,
@@ -208,10 +227,7 @@ where
     ensures ended { IfOk result (λ played. (d : ManagerValue _ _) × IsEndedRecord ⟦<PackedGame as Game>⟧.rules d played.record × IsReplay (reply ⟦<PackedGame as Game>⟧.rules) (after ⟦<PackedGame as Game>⟧.rules) opening d played.history.items) }
     ensures fails { IfErr result (RunFails rules.now) }
 {
-    let game = described_game(alloc, rules)?;
-    let sentences = copies(alloc, game.description())?;
-    let Entrants { setup, players } = entrants;
-    let refereed = referee(rt, alloc, game, setup, sentences, players, MAX_TRIES)?;
+    let refereed = refereed_match(rt, alloc, entrants, rules)?;
     let record = ended_record(alloc, &refereed.closed.object)?;
     Ok(PlayedMatch {
         record,

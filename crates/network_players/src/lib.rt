@@ -15,6 +15,6 @@ mod socket_player;
 
 pub use addresses::{PlayerAddress, decimal, player_address};
 pub use contacting::{ContactFault, contact};
-pub use logging::{Explains, LoggedPlayer, Logging};
-pub use signal::Signal;
+pub use logging::{Explains, LoggedPlayer, Logging, Shown};
+pub use signal::{Pace, Signal, time_since};
 pub use socket_player::{Reach, Seat, SocketPlayer, Sockets, answer_of};

@@ -2,7 +2,8 @@
 
 use crate::addresses::PlayerAddress;
 use crate::contacting::ContactFault;
-use crate::socket_player::{Reach, Seat, time_since};
+use crate::signal::time_since;
+use crate::socket_player::{Reach, Seat};
 use match_book::Answer;
 use match_workers::Player;
 use std::alloc::{AllocError, Global};
@@ -26,8 +27,8 @@ const SHOWN: usize = 60;
 
 /// The beginning of a text that any bytes may be in: `?` stands for each that is not seen, and dots for what follows.
 #[derive(Drop)]
-struct Shown<'a> {
-    text: &'a [u8],
+pub struct Shown<'a> {
+    pub text: &'a [u8],
 }
 
 impl fmt::Display for Shown<'_> {
@@ -136,6 +137,12 @@ impl<H: Wait, P: Explains, E: Write> LoggedPlayer<'_, H, P, E> {
             stream: &mut *stream,
         }
         .write_str(line.as_str());
+    }
+}
+
+impl<H, P: Explains, E> Explains for LoggedPlayer<'_, H, P, E> {
+    fn why(&self) -> Option<ContactFault> {
+        self.player.why()
     }
 }
 

@@ -5,7 +5,7 @@ ghost use Rattle.network_players.specs.Contacts.{answer_of, contact_answer};
 use crate::addresses::PlayerAddress;
 use crate::contacting::{ContactFault, contact};
 use crate::logging::Explains;
-use crate::signal::{Signal, rest_after};
+use crate::signal::{Pace, Signal};
 use game_core::Text;
 use match_book::Answer;
 use match_wire::WireFault;
@@ -14,7 +14,7 @@ use std::alloc::{AllocError, Global};
 use std::io::ErrorKind;
 use std::net::Net;
 use std::sync::Wait;
-use std::time::{Clock, Duration, Instant};
+use std::time::Clock;
 
 /// Where a player sits.
 #[derive(Clone, Copy, Debug, PartialEq, Eq)]
@@ -48,40 +48,16 @@ pub struct Sockets<'a, H> {
 }
 
 /// A player on the network. Each message goes over a connection of its own.
+#[derive(Drop)]
 pub struct SocketPlayer<'a, H> {
     rt: &'a H,
-    signal: &'a Signal,
+    pace: Pace<'a>,
     alloc: Global,
     name: String,
     host: String,
     port: u16,
-    /// How many messages it was handed.
-    messages: u64,
-    /// What the signal said before the role last asked what is due.
-    seen: u64,
-    /// When the last message was answered, where the clock could be read.
-    answered: Option<Instant>,
     /// Why the last message brought no answer: none where it brought one.
     fault: Option<ContactFault>,
-}
-
-/// Whose player goes is attended no longer, since the match is over as a rule: so the others are woken.
-impl<H> Drop for SocketPlayer<'_, H> {
-    fn drop(self) {
-        let SocketPlayer {
-            rt: _,
-            signal,
-            alloc: _,
-            name: _,
-            host: _,
-            port: _,
-            messages,
-            seen: _,
-            answered: _,
-            fault: _,
-        } = self;
-        signal.raise(messages.saturating_add(1));
-    }
 }
 
 impl<'a, H: Net + Clock> Reach<SocketPlayer<'a, H>> for Sockets<'a, H> {
@@ -96,14 +72,11 @@ impl<'a, H: Net + Clock> Reach<SocketPlayer<'a, H>> for Sockets<'a, H> {
         let host = String::from_str(alloc, address.host)?;
         Ok(SocketPlayer {
             rt: self.rt,
-            signal,
+            pace: Pace::new(signal),
             alloc,
             name,
             host,
             port: address.port,
-            messages: 0,
-            seen: signal.latest(),
-            answered: None,
             fault: None,
         })
     }
@@ -137,14 +110,6 @@ fn contact_answer(reached: Result<Text, ContactFault>) -> Answer
     }
 }
 
-/// How long ago that was: no time where the clock can't be read.
-pub(crate) fn time_since(clock: &impl Clock, moment: Option<Instant>) -> Duration {
-    match moment {
-        Some(moment) => moment.elapsed(clock).unwrap_or(Duration::ZERO),
-        None => Duration::ZERO,
-    }
-}
-
 impl<H> Explains for SocketPlayer<'_, H> {
     fn why(&self) -> Option<ContactFault> {
         self.fault
@@ -158,24 +123,19 @@ impl<H: Net + Clock + Wait> Player for SocketPlayer<'_, H> {
     ghost handed = { λ p. None };
 
     fn ask(&mut self, seconds: u32, body: &[u8]) -> Answer {
-        self.messages = self.messages.saturating_add(1);
-        self.signal.raise(self.messages);
+        self.pace.begin();
         let address = PlayerAddress {
             name: self.name.as_str(),
             host: self.host.as_str(),
             port: self.port,
         };
         let reached = contact(self.rt, self.alloc, &address, seconds, body);
-        self.seen = self.signal.latest();
-        self.answered = Instant::now(self.rt).ok();
+        self.pace.end(self.rt);
         self.fault = reached.as_ref().err().copied();
         contact_answer(reached)
     }
 
     fn rest(&mut self) {
-        let most = rest_after(time_since(self.rt, self.answered));
-        self.signal.wait(self.rt, self.seen, most);
-        // Read before the role asks again: whatever is raised after that ends the next rest.
-        self.seen = self.signal.latest();
+        self.pace.rest(self.rt);
     }
 }

@@ -4,7 +4,7 @@ use Rattle.match_season.specs.declared.games.DescriptionFault.{DescriptionFault}
 use Rattle.match_season.specs.declared.games.DescriptionFault.TheVariants.{Memory, BadDescription}
 use Rattle.match_season.specs.Matches.{RunFails, description_fault}
 use Rattle.match_season.specs.Games.{DescribesNone}
-use Rattle.match_season.proofs.playing.played_match.Goals as goal
+use Rattle.match_season.proofs.playing.refereed_match.Goals as goal
 
 fails : (text : List ℕ) (fault : DescriptionFault) → (fault ≢ Memory → DescribesNone text) → RunFails text (description_fault fault)
 fails text Memory refused = tt

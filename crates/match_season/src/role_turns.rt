@@ -1,0 +1,87 @@
+//! A match, as one of its roles had it.
+ghost use Rattle.std.specs.Prelude.{◌≡◌, ◌<◌, IfOk, IfErr, length};
+ghost use Rattle.match_desk.specs.ManagerValue.{ManagerValue};
+ghost use Rattle.match_season.specs.Matches.{RunFails};
+ghost use Rattle.match_season.specs.RoleTurns.{AreTurnsOf, AreEndedTurns};
+
+use crate::playing::{Entrants, MatchFault, refereed_match};
+use game_core::{Game, Text};
+use match_book::{Match, Phase};
+use match_desk::Manager;
+use match_workers::Player;
+use packed_rules::PackedGame;
+use std::alloc::{AllocError, Global};
+use std::sync::Wait;
+use std::thread::Threads;
+
+/// A turn of a match, as one role had it.
+#[derive(Drop)]
+pub struct RoleTurn {
+    /// The text of the role's recorded move.
+    pub played: Text,
+    /// The error beside it: empty where the role's answer named the move.
+    pub error: Text,
+}
+
+/// The turns of a role in a match.
+fn turns_of<G: Game>(
+    alloc: Global,
+    game: &G,
+    held: &Match<G>,
+    role: usize,
+) -> Result<Vec<RoleTurn>, AllocError>
+    requires game { held.now.game ≡ game.now }
+    requires role { role < (G.rules game.now).roles }
+    ensures { IfOk result (λ told. AreTurnsOf (G.rules game.now) held.now.value.turns role told.items) }
+{
+    let count = held.status().turns as usize;
+    let mut turns = Vec::with_capacity(alloc, count)?;
+    for turn in 0..count {
+        let played = game.move_text(alloc, held.move_at(turn, role))?;
+        let error = Text::from_slice(alloc, held.error_at(turn, role))?;
+        turns.push(RoleTurn { played, error })?;
+    }
+    Ok(turns)
+}
+
+/// The turns of a role in the desk's match, where that has come to its end and has such a role.
+fn ended_turns<G: Game>(
+    alloc: Global,
+    manager: &Manager<G>,
+    role: usize,
+) -> Result<Vec<RoleTurn>, MatchFault>
+    ensures { IfOk result (λ told. AreEndedTurns G.rules manager.now role told.items) }
+{
+    if manager.matches() == 0 {
+        return Err(MatchFault::NotEnded);
+    }
+    let game = manager.game_of_match(0).unwrap();
+    let held = manager.match_at(0).unwrap();
+    if role >= game.roles() {
+        return Err(MatchFault::NotEnded);
+    }
+    match held.status().phase {
+        Phase::Finished | Phase::Aborted => Ok(turns_of(alloc, game, held, role)?),
+        Phase::Starting | Phase::Playing | Phase::Stopping | Phase::Aborting => {
+            Err(MatchFault::NotEnded)
+        }
+    }
+}
+
+/// Referees a match between its entrants, by the rules that this text describes: its turns, as this role had them.
+pub fn played_turns<R, P>(
+    rt: &R,
+    alloc: Global,
+    entrants: Entrants<P>,
+    rules: &[u8],
+    role: usize,
+) -> Result<Vec<RoleTurn>, MatchFault>
+where
+    R: Threads + Wait + Sync,
+    P: Player + Drop + Send,
+    ensures ended { IfOk result (λ told. (d : ManagerValue _ _) × AreEndedTurns ⟦<PackedGame as Game>⟧.rules d role told.items) }
+    ensures fails { IfErr result (RunFails rules.now) }
+{
+    let refereed = refereed_match(rt, alloc, entrants, rules)?;
+    ended_turns(alloc, &refereed.closed.object, role)
+}

@@ -1,0 +1,31 @@
+-- What an answer counted as.
+use Rattle.std.specs.Prelude.{◌==◌, ℕ, Bool, true, false, List, Option, Some, None, length, bytes_eq}
+use Rattle.match_book.specs.Judgement.{unreadable_text}
+use Rattle.player_check.specs.declared.watched.Brought.{Brought}
+use Rattle.player_check.specs.declared.watched.Brought.TheVariants.{Text, Silence, Break}
+use Rattle.player_check.specs.declared.table.Verdict.{Verdict}
+use Rattle.player_check.specs.declared.table.Verdict.TheVariants.{Taken, Legal, Illegal, NoMove, Late, Broken, Dropped}
+
+-- by whether the error is empty, and whether it says that the text was no expression
+abbrev pub judged_as : Bool → Bool → Verdict
+judged_as true b = Legal
+judged_as false true = NoMove
+judged_as false false = Illegal
+
+-- by the error beside the move of the turn, if one was recorded
+abbrev pub judged : Option (List ℕ) → Verdict
+judged None = Dropped
+judged (Some error) = judged_as (length error == 0) (bytes_eq error unreadable_text)
+
+abbrev pub verdict_of : Bool → Brought → Option (List ℕ) → Verdict
+verdict_of is_play Silence error = Late
+verdict_of is_play Break error = Broken
+verdict_of false Text error = Taken
+verdict_of true Text error = judged error
+
+-- nothing was wrong with the answer
+abbrev pub is_good : Verdict → Bool
+is_good Taken = true
+is_good Legal = true
+is_good Dropped = true
+is_good verdict = false

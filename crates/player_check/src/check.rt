@@ -1,0 +1,193 @@
+//! A match for each role of a game, in which the same player is watched.
+ghost use Rattle.std.specs.Prelude.{◌<◌};
+
+use crate::table::{HEADER, Row};
+use crate::watched::{Exchanges, Participant, Watching};
+use game_core::{Counted, Game};
+use match_season::{
+    DescriptionFault, Entrants, MatchFault, MatchPlan, RoleTurn, described_game, entrants_of,
+    played_turns,
+};
+use match_workers::Player;
+use network_players::{Explains, PlayerAddress, Reach, Signal};
+use std::alloc::{AllocError, AllocFailed, Global};
+use std::io::Write;
+use std::sync::{Mutex, Wait};
+use std::thread::Threads;
+use std::time::Clock;
+use thiserror::Error;
+use whole_streams::{WriteFault, write_all};
+
+/// The player that is checked, and the clocks and strikes of its matches.
+#[derive(Clone, Copy, Debug, PartialEq, Eq)]
+pub struct CheckPlan<'a> {
+    pub player: PlayerAddress<'a>,
+    pub start: u32,
+    pub play: u32,
+    pub strikes: u8,
+}
+
+/// Why a check came to no end. The table has the rows of the matches before.
+#[derive(Clone, Copy, Debug, PartialEq, Eq, Error)]
+pub enum CheckFault {
+    /// A match has no turns to tell.
+    #[error("{0}")]
+    Match(MatchFault),
+    /// The table can't be written.
+    #[error("write fault")]
+    WriteFault,
+    #[error("want of memory")]
+    Memory,
+}
+
+impl From<AllocError> for CheckFault {
+    fn from(_: AllocError) -> CheckFault {
+        CheckFault::Memory
+    }
+}
+
+impl<T: Drop> From<AllocFailed<T>> for CheckFault {
+    fn from(_: AllocFailed<T>) -> CheckFault {
+        CheckFault::Memory
+    }
+}
+
+impl From<MatchFault> for CheckFault {
+    fn from(fault: MatchFault) -> CheckFault {
+        CheckFault::Match(fault)
+    }
+}
+
+impl From<DescriptionFault> for CheckFault {
+    fn from(fault: DescriptionFault) -> CheckFault {
+        CheckFault::Match(MatchFault::from(fault))
+    }
+}
+
+impl From<WriteFault> for CheckFault {
+    fn from(_: WriteFault) -> CheckFault {
+        CheckFault::WriteFault
+    }
+}
+
+/// The name of the players that answer nothing.
+const NOBODY: &str = "nobody";
+
+/// The match in which the player has this role, among so many.
+fn match_plan<'a>(
+    alloc: Global,
+    plan: &CheckPlan<'a>,
+    id: &'a str,
+    role: usize,
+    roles: usize,
+) -> Result<MatchPlan<'a>, AllocError> {
+    let nobody = PlayerAddress {
+        name: NOBODY,
+        host: "",
+        port: 0,
+    };
+    let mut players = Vec::with_capacity(alloc, roles)?;
+    for place in 0..roles {
+        players.push(if place == role { plan.player } else { nobody })?;
+    }
+    Ok(MatchPlan {
+        id,
+        start: plan.start,
+        play: plan.play,
+        strikes: plan.strikes,
+        players,
+    })
+}
+
+/// Puts a row for each exchange behind the table: the turns belong to those that asked for a move, in their order. How many answers
+/// are not good is answered.
+fn push_rows(
+    alloc: Global,
+    table: &mut Vec<u8>,
+    role: &[u8],
+    exchanges: &Exchanges,
+    turns: &[RoleTurn],
+) -> Result<u64, AllocError> {
+    if exchanges.is_cut {
+        return Err(AllocError);
+    }
+    let mut bad: u64 = 0;
+    let mut turns = turns.iter();
+    for exchange in &exchanges.items {
+        let turn = if exchange.is_play { turns.next() } else { None };
+        let row = Row {
+            role,
+            exchange,
+            turn,
+        };
+        if !row.verdict().is_good() {
+            bad = bad.saturating_add(1);
+        }
+        table.extend_from_slice(format!(in alloc; "{row}")?.as_bytes())?;
+    }
+    Ok(bad)
+}
+
+/// Plays the match in which the player has this role, and puts its rows behind the table.
+fn check_role<H, P, S, G: Game>(
+    rt: &H,
+    alloc: Global,
+    reach: &S,
+    plan: &CheckPlan<'_>,
+    rules: &[u8],
+    game: &G,
+    role: usize,
+    table: &mut Vec<u8>,
+) -> Result<u64, CheckFault>
+where
+    H: Clock + Threads + Wait + Sync,
+    P: Player + Explains + Drop + Send,
+    S: Reach<P>,
+    requires { role < (G.rules game.now).roles }
+{
+    let id = format!(in alloc; "check-{role}")?;
+    let signal = Signal::new();
+    let exchanges = Mutex::new(Exchanges::new(alloc));
+    let watching = Watching {
+        rt,
+        reach,
+        role,
+        signal: &signal,
+        exchanges: &exchanges,
+    };
+    let match_plan = match_plan(alloc, plan, id.as_str(), role, game.roles())?;
+    let entrants: Entrants<Participant<'_, H, P>> = entrants_of(alloc, &watching, 0, &match_plan)?;
+    let turns = played_turns(rt, alloc, entrants, rules, role)?;
+    let exchanges = exchanges.lock(rt);
+    Ok(push_rows(alloc, table, game.role_name(role), &exchanges, &turns)?)
+}
+
+/// Plays a match for each role of the game that this text describes, one after another, and writes a row for each message to the
+/// player, once its match is over. How many of its answers were not good is answered.
+pub fn check_player<H, P, S, W: Write>(
+    rt: &H,
+    alloc: Global,
+    reach: &S,
+    plan: &CheckPlan<'_>,
+    rules: &[u8],
+    writer: &mut Counted<W>,
+) -> Result<u64, CheckFault>
+where
+    H: Clock + Threads + Wait + Sync,
+    P: Player + Explains + Drop + Send,
+    S: Reach<P>,
+{
+    let game = described_game(alloc, rules)?;
+    let mut table = Vec::new(alloc);
+    table.extend_from_slice(HEADER)?;
+    let mut bad: u64 = 0;
+    for role in 0..game.roles() {
+        let more = check_role::<H, P, S, _>(
+            rt, alloc, reach, plan, rules, &game, role, &mut table,
+        )?;
+        bad = bad.saturating_add(more);
+        write_all(writer, &table)?;
+        table.clear();
+    }
+    Ok(bad)
+}

@@ -1,0 +1,114 @@
+//! The table of what a player was handed, and what its answers counted as.
+ghost use Rattle.std.specs.Prelude.{◌≡◌, option_copied};
+ghost use Rattle.player_check.specs.Verdicts.{verdict_of};
+
+use crate::watched::{Brought, Exchange};
+use match_book::UNREADABLE;
+use match_season::RoleTurn;
+use network_players::Shown;
+use std::fmt;
+
+/// What stands above the columns.
+pub const HEADER: &[u8] = b"role\tmessage\tanswer\tverdict\tplayed\tms\tfault\n";
+
+/// What an answer counted as.
+#[derive(Clone, Copy, Debug, PartialEq, Eq)]
+pub enum Verdict {
+    /// An answer to a message that asks for no move.
+    Taken,
+    /// A legal move.
+    Legal,
+    /// A move, and no legal one.
+    Illegal,
+    /// A text that is no move.
+    NoMove,
+    /// None in time.
+    Late,
+    /// None that can be taken.
+    Broken,
+    /// One for a turn that was not recorded, since the match was aborted.
+    Dropped,
+}
+
+impl Verdict {
+    ghost use Rattle.player_check.specs.Verdicts.{is_good};
+
+    /// Whether nothing was wrong with the answer.
+    pub fn is_good(self) -> bool
+        ensures { result ≡ is_good self }
+    {
+        matches!(self, Verdict::Taken | Verdict::Legal | Verdict::Dropped)
+    }
+}
+
+impl fmt::Display for Verdict {
+    fn fmt<F: fmt::Write>(&self, f: &mut fmt::Formatter<F>) -> fmt::Result {
+        f.write_str(match self {
+            Verdict::Taken => "taken",
+            Verdict::Legal => "legal",
+            Verdict::Illegal => "not legal",
+            Verdict::NoMove => "no move",
+            Verdict::Late => "none in time",
+            Verdict::Broken => "broken",
+            Verdict::Dropped => "dropped",
+        })
+    }
+}
+
+/// What an answer counted as, by the error that its turn has, where it was given for a turn that was recorded.
+pub fn verdict_of(is_play: bool, brought: Brought, error: Option<&[u8]>) -> Verdict
+    ensures { result ≡ verdict_of is_play brought (option_copied error) }
+{
+    match (brought, error) {
+        (Brought::Silence, _) => Verdict::Late,
+        (Brought::Break, _) => Verdict::Broken,
+        (Brought::Text, _) if !is_play => Verdict::Taken,
+        (Brought::Text, None) => Verdict::Dropped,
+        (Brought::Text, Some(error)) if error.is_empty() => Verdict::Legal,
+        (Brought::Text, Some(error)) if error == UNREADABLE => Verdict::NoMove,
+        (Brought::Text, Some(_)) => Verdict::Illegal,
+    }
+}
+
+/// A row of the table.
+#[derive(Drop)]
+pub struct Row<'a> {
+    pub role: &'a [u8],
+    pub exchange: &'a Exchange,
+    /// The turn for which the answer was given, where one was recorded.
+    pub turn: Option<&'a RoleTurn>,
+}
+
+impl Row<'_> {
+    pub fn verdict(&self) -> Verdict {
+        let error = self.turn.map(|turn| turn.error.as_slice());
+        verdict_of(self.exchange.is_play, self.exchange.brought, error)
+    }
+}
+
+impl fmt::Display for Row<'_> {
+    fn fmt<F: fmt::Write>(&self, f: &mut fmt::Formatter<F>) -> fmt::Result {
+        let Exchange {
+            message,
+            is_play: _,
+            answer,
+            brought: _,
+            fault,
+            millis,
+        } = self.exchange;
+        let played: &[u8] = match self.turn {
+            Some(turn) => turn.played.as_slice(),
+            None => &[],
+        };
+        let (role, played) = (Shown { text: self.role }, Shown { text: played });
+        let verdict = self.verdict();
+        write!(
+            f,
+            "{role}\t{message}\t{answer}\t{verdict}\t{played}\t{millis}\t"
+        )?;
+        match fault {
+            Some(fault) => writeln!(f, "{fault}"),
+            None => writeln!(f),
+        }
+    }
+}

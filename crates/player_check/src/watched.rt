@@ -1,0 +1,160 @@
+//! A player that is watched, among players that answer nothing.
+
+use match_book::Answer;
+use match_workers::Player;
+use network_players::{
+    ContactFault, Explains, Pace, PlayerAddress, Reach, Seat, Shown, Signal, time_since,
+};
+use std::alloc::{AllocError, Global};
+use std::sync::{Mutex, Wait};
+use std::time::{Clock, Instant};
+
+/// What a message brought.
+#[derive(Clone, Copy, Debug, PartialEq, Eq)]
+pub enum Brought {
+    Text,
+    /// No answer in time.
+    Silence,
+    /// An answer that can't be taken, or no connection.
+    Break,
+}
+
+/// A message that the watched player was handed, and what it brought.
+#[derive(Drop)]
+pub struct Exchange {
+    /// The beginning of the message, as far as it can be seen.
+    pub message: String,
+    /// Whether it asks for a move.
+    pub is_play: bool,
+    /// The beginning of the answer's text: empty where there is none.
+    pub answer: String,
+    pub brought: Brought,
+    /// Why there is none, where that is known.
+    pub fault: Option<ContactFault>,
+    pub millis: u128,
+}
+
+/// The exchanges with the watched player, in their order.
+#[derive(Drop)]
+pub struct Exchanges {
+    pub items: Vec<Exchange>,
+    /// Whether one is left out for want of memory.
+    pub is_cut: bool,
+}
+
+impl Exchanges {
+    /// None yet.
+    pub fn new(alloc: Global) -> Exchanges {
+        Exchanges {
+            items: Vec::new(alloc),
+            is_cut: false,
+        }
+    }
+
+    fn keep(&mut self, exchange: Result<Exchange, AllocError>) {
+        let is_kept = match exchange {
+            Ok(exchange) => self.items.push(exchange).is_ok(),
+            Err(_) => false,
+        };
+        if !is_kept {
+            self.is_cut = true;
+        }
+    }
+}
+
+/// The beginning of a text, as far as it can be seen.
+fn shown(alloc: Global, text: &[u8]) -> Result<String, AllocError> {
+    format!(in alloc; "{}", Shown { text })
+}
+
+/// What the message brought, beside the time that it took and why there is no answer.
+fn exchange_of(
+    alloc: Global,
+    body: &[u8],
+    answer: &Answer,
+    fault: Option<ContactFault>,
+    millis: u128,
+) -> Result<Exchange, AllocError> {
+    let (text, brought) = match answer {
+        Answer::Text(text) => (text.as_slice(), Brought::Text),
+        Answer::Silent => (&[][..], Brought::Silence),
+        Answer::Broken => (&[][..], Brought::Break),
+    };
+    Ok(Exchange {
+        message: shown(alloc, body)?,
+        is_play: body.starts_with(b"(PLAY "),
+        answer: shown(alloc, text)?,
+        brought,
+        fault,
+        millis,
+    })
+}
+
+/// Reaches the watched player for its role, as another does, and players that answer nothing for the others.
+#[derive(Drop)]
+pub struct Watching<'a, H, S> {
+    pub rt: &'a H,
+    pub reach: &'a S,
+    /// The role of the watched player.
+    pub role: usize,
+    pub signal: &'a Signal,
+    pub exchanges: &'a Mutex<Exchanges>,
+}
+
+/// A player of a match in which one is watched.
+#[derive(Drop)]
+pub struct Participant<'a, H, P> {
+    rt: &'a H,
+    alloc: Global,
+    pace: Pace<'a>,
+    exchanges: &'a Mutex<Exchanges>,
+    /// The watched player: none where this one answers nothing.
+    watched: Option<P>,
+}
+
+impl<'a, H, P, S: Reach<P>> Reach<Participant<'a, H, P>> for Watching<'a, H, S> {
+    fn player(
+        &self,
+        alloc: Global,
+        seat: Seat<'_>,
+        address: &PlayerAddress<'_>,
+    ) -> Result<Participant<'a, H, P>, AllocError> {
+        let watched = if seat.role == self.role {
+            Some(self.reach.player(alloc, seat, address)?)
+        } else {
+            None
+        };
+        Ok(Participant {
+            rt: self.rt,
+            alloc,
+            pace: Pace::new(self.signal),
+            exchanges: self.exchanges,
+            watched,
+        })
+    }
+}
+
+impl<H: Clock + Wait, P: Player + Explains> Player for Participant<'_, H, P> {
+    ghost use Rattle.std.specs.Prelude.{None};
+
+    ghost handed = { λ p. None };
+
+    fn ask(&mut self, seconds: u32, body: &[u8]) -> Answer {
+        self.pace.begin();
+        let Some(player) = &mut self.watched else {
+            self.pace.end(self.rt);
+            return Answer::Silent;
+        };
+        let began = Instant::now(self.rt).ok();
+        let answer = player.ask(seconds, body);
+        let millis = time_since(self.rt, began).as_millis();
+        self.pace.end(self.rt);
+        let exchange = exchange_of(self.alloc, body, &answer, player.why(), millis);
+        self.exchanges.lock(self.rt).keep(exchange);
+        answer
+    }
+
+    fn rest(&mut self) {
+        self.pace.rest(self.rt);
+    }
+}
