@@ -1,7 +1,8 @@
-//! The lines of `run --log`.
+//! What is told of a match on standard error.
 use crate::example_games::COUNTDOWN_RULES;
-use crate::outcomes::{Outcome, outcome_with};
-use game_core::Text;
+use crate::outcomes::{Outcome, outcome_with, strings};
+use game_core::{Counted, Text};
+use ggp_commands::command;
 use match_book::Answer;
 use match_workers::Player;
 use network_players::{ContactFault, Explains, PlayerAddress, Reach, Seat};
@@ -79,20 +80,25 @@ impl Reach<ScriptedPlayer> for Scripted {
     }
 }
 
-pub fn played<H>(rt: &H, alloc: Global, flag: &str) -> Result<Outcome, AllocError>
-where
-    H: Net + Clock + Files + Threads + Wait + Sync,
-{
-    let words = [
+/// The words of a match between them, with this option.
+fn run_words(option: &str) -> [&str; 8] {
+    [
         "run",
         "--rules",
         COUNTDOWN_RULES,
         "--id",
         "m1",
-        flag,
+        option,
         "ann@host:1",
         "bob@host:2",
-    ];
+    ]
+}
+
+pub fn played<H>(rt: &H, alloc: Global, flag: &str) -> Result<Outcome, AllocError>
+where
+    H: Net + Clock + Files + Threads + Wait + Sync,
+{
+    let words = run_words(flag);
     outcome_with::<_, ScriptedPlayer, _>(rt, &Scripted, alloc, &words)
 }
 
@@ -135,5 +141,35 @@ fn each_message_is_told(rt: HostRuntime) -> Result<(), Fail> {
         }
         assert!(rt; told.next().is_none());
     }
+    Ok(())
+}
+
+/// What takes the line away that shows how far matches are.
+const CLEAR: &[u8] = b"\r\x1b[K";
+
+#[test]
+fn a_terminal_shows_how_far_matches_are(rt: HostRuntime) -> Result<(), Fail> {
+    let words = run_words("--strikes=0");
+    let words = strings(rt.alloc(), &words)?;
+    let mut input = Counted::new(b"".as_slice());
+    let mut output = Counted::new(Vec::new(rt.alloc()));
+    let mut errors = Vec::new(rt.alloc());
+    let status = command::<_, ScriptedPlayer, _, _, _, _>(
+        &rt,
+        rt.alloc(),
+        &Scripted,
+        &words,
+        &mut input,
+        &mut output,
+        &mut errors,
+        true,
+    );
+    assert_eq!(rt; status, 0);
+    let shown = errors.strip_prefix(CLEAR).ok_or("no line")?;
+    assert!(rt; shown.starts_with(b"matches open 1, over 0, turns 0"));
+    assert!(rt; shown.ends_with(CLEAR));
+    let plain = played(&rt, rt.alloc(), "--strikes=0")?;
+    assert!(rt; output.end() == plain.output);
+    assert!(rt; plain.errors.is_empty());
     Ok(())
 }

@@ -118,7 +118,9 @@ pub fn run_command<H, R: Read, W: Write, E: Write + Send>(
 where
     H: Net + Clock + Files + Threads + Wait + Sync,
 {
-    command::<_, SilentPlayer, _, _, _, _>(rt, alloc, &NoNetwork, words, reader, writer, errors)
+    command::<_, SilentPlayer, _, _, _, _>(
+        rt, alloc, &NoNetwork, words, reader, writer, errors, false,
+    )
 }
 
 /// Runs a command on what this stream gives, with players that never answer.
@@ -182,6 +184,7 @@ where
         &mut reader,
         &mut writer,
         &mut errors,
+        false,
     );
     Ok(Outcome {
         output: writer.end(),

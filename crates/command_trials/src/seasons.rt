@@ -444,6 +444,7 @@ fn no_match_begins_after_a_failed_write(rt: HostRuntime) -> Result<(), Fail> {
         &mut input,
         &mut output,
         &mut errors,
+        false,
     );
     let mut record = String::new(alloc);
     push_record(&mut record, "m0", "ann", "bob", "")?;

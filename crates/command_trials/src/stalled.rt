@@ -104,6 +104,7 @@ fn stalled_matches_have_no_record(rt: HostRuntime) -> Result<(), AllocError> {
         &mut input,
         &mut output,
         &mut errors,
+        false,
     );
     let outcome = Outcome {
         output: output.end(),

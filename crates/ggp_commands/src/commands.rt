@@ -18,7 +18,8 @@ use match_season::{
 use match_wire::{Info, WireFault, info_message, read_info};
 use match_workers::Player;
 use network_players::{
-    ContactFault, Explains, LoggedPlayer, Logging, PlayerAddress, Reach, contact,
+    ContactFault, Explains, LoggedPlayer, Logging, PlayerAddress, Progress, Reach, StatusStream,
+    Telling, contact,
 };
 use player_check::check_player;
 use std::alloc::Global;
@@ -79,8 +80,29 @@ impl From<ContactFault> for Fault {
     }
 }
 
+/// The stream for faults, and what is told on it of matches beside them.
+#[derive(Drop)]
+struct Console<'a, E> {
+    stream: Mutex<StatusStream<&'a mut E>>,
+    progress: Progress,
+    /// Whether the stream goes to a terminal.
+    is_terminal: bool,
+}
+
+impl<E> Console<'_, E> {
+    fn telling(&self, is_logged: bool) -> Telling<'_> {
+        if is_logged {
+            Telling::Messages
+        } else if self.is_terminal {
+            Telling::Progress(&self.progress)
+        } else {
+            Telling::Nothing
+        }
+    }
+}
+
 /// Does what the words after the program's name ask for, and answers the program's status. A fault
-/// is one line on `errors`; a failed write to `errors` is passed by.
+/// is one line on `errors`; a failed write to `errors` is passed by. Where that is a terminal it shows how far matches are.
 pub fn command<H, P, S, R: Read, W: Write, E: Write + Send>(
     rt: &H,
     alloc: Global,
@@ -89,13 +111,24 @@ pub fn command<H, P, S, R: Read, W: Write, E: Write + Send>(
     reader: &mut Counted<R>,
     writer: &mut Counted<W>,
     errors: &mut E,
+    is_terminal: bool,
 ) -> u8
 where
     H: Net + Clock + Files + Threads + Wait + Sync,
     P: Player + Explains + Drop + Send,
     S: Reach<P>,
 {
-    match perform::<H, P, S, R, W, E>(rt, alloc, reach, words, reader, writer, errors) {
+    let performed = perform::<H, P, S, R, W, E>(
+        rt,
+        alloc,
+        reach,
+        words,
+        reader,
+        writer,
+        errors,
+        is_terminal,
+    );
+    match performed {
         Ok(()) => 0,
         Err(fault) => {
             report(errors, fault);
@@ -118,6 +151,7 @@ fn perform<H, P, S, R: Read, W: Write, E: Write + Send>(
     reader: &mut Counted<R>,
     writer: &mut Counted<W>,
     errors: &mut E,
+    is_terminal: bool,
 ) -> Result<(), Fault>
 where
     H: Net + Clock + Files + Threads + Wait + Sync,
@@ -125,7 +159,32 @@ where
     S: Reach<P>,
 {
     let words: Vec<&str> = words.iter().map(|word| word.as_str()).collect(alloc)?;
-    match read_arguments(alloc, words.as_slice())? {
+    let task = read_arguments(alloc, words.as_slice())?;
+    let console = Console {
+        stream: Mutex::new(StatusStream::new(errors)),
+        progress: Progress::new(),
+        is_terminal,
+    };
+    let done = perform_task::<H, P, S, R, W, E>(rt, alloc, reach, task, reader, writer, &console);
+    console.stream.lock(rt).clear();
+    done
+}
+
+fn perform_task<H, P, S, R: Read, W: Write, E: Write + Send>(
+    rt: &H,
+    alloc: Global,
+    reach: &S,
+    task: Task<'_>,
+    reader: &mut Counted<R>,
+    writer: &mut Counted<W>,
+    console: &Console<'_, E>,
+) -> Result<(), Fault>
+where
+    H: Net + Clock + Files + Threads + Wait + Sync,
+    P: Player + Explains + Drop + Send,
+    S: Reach<P>,
+{
+    match task {
         Task::Show(text) => Ok(write_all(writer, text.as_bytes())?),
         Task::Desk(game) => for_game::<Desk, H, R, W>(rt, alloc, game, reader, writer),
         Task::Verify(game) => for_game::<Verify, H, R, W>(rt, alloc, game, reader, writer),
@@ -133,12 +192,12 @@ where
             rt, alloc, game, reader, writer,
         ),
         Task::Replay(game) => for_game::<Replay, H, R, W>(rt, alloc, game, reader, writer),
-        Task::Run(plan) => run::<H, P, S, W, E>(rt, alloc, reach, &plan, writer, errors),
+        Task::Run(plan) => run::<H, P, S, W, E>(rt, alloc, reach, &plan, writer, console),
         Task::Season(plan) => {
-            season::<H, P, S, R, W, E>(rt, alloc, reach, plan, reader, writer, errors)
+            season::<H, P, S, R, W, E>(rt, alloc, reach, plan, reader, writer, console)
         }
         Task::Info(player) => info(rt, alloc, &player, writer),
-        Task::Check(trial) => check::<H, P, S, W, E>(rt, alloc, reach, trial, writer, errors),
+        Task::Check(trial) => check::<H, P, S, W, E>(rt, alloc, reach, trial, writer, console),
     }
 }
 
@@ -246,7 +305,7 @@ fn run<H, P, S, W: Write, E: Write + Send>(
     reach: &S,
     run: &RunPlan<'_>,
     writer: &mut Counted<W>,
-    errors: &mut E,
+    console: &Console<'_, E>,
 ) -> Result<(), Fault>
 where
     H: Net + Clock + Files + Threads + Wait + Sync,
@@ -254,42 +313,22 @@ where
     S: Reach<P>,
 {
     let rules = rules_text(rt, alloc, run.rules)?;
-    let PlayedMatch { record, history } = if run.is_logged {
-        logged_match::<H, P, S, E>(rt, alloc, reach, &run.plan, &rules, errors)?
-    } else {
-        let entrants: Entrants<P> = entrants_of(alloc, reach, 0, &run.plan)?;
-        played_match(rt, alloc, entrants, &rules)?
+    let logging = Logging {
+        rt,
+        reach,
+        telling: console.telling(run.is_logged),
+        stream: &console.stream,
     };
+    let entrants: Entrants<LoggedPlayer<'_, H, P, &mut E>> = entrants_of(
+        alloc, &logging, 0, &run.plan,
+    )?;
+    let PlayedMatch { record, history } = played_match(rt, alloc, entrants, &rules)?;
     let mut output = record.bytes;
     output.push(b'\n')?;
     if run.has_history {
         push_history(alloc, &mut output, &history)?;
     }
     Ok(write_all(writer, &output)?)
-}
-
-/// Plays the match, and tells each message as it is answered.
-fn logged_match<H, P, S, E: Write + Send>(
-    rt: &H,
-    alloc: Global,
-    reach: &S,
-    plan: &MatchPlan<'_>,
-    rules: &[u8],
-    errors: &mut E,
-) -> Result<PlayedMatch, Fault>
-where
-    H: Clock + Threads + Wait + Sync,
-    P: Player + Explains + Drop + Send,
-    S: Reach<P>,
-{
-    let stream = Mutex::new(errors);
-    let logging = Logging {
-        rt,
-        reach,
-        stream: &stream,
-    };
-    let entrants: Entrants<LoggedPlayer<'_, H, P, &mut E>> = entrants_of(alloc, &logging, 0, plan)?;
-    Ok(played_match(rt, alloc, entrants, rules)?)
 }
 
 /// How many bytes a schedule has at most.
@@ -303,7 +342,7 @@ fn season<H, P, S, R: Read, W: Write, E: Write + Send>(
     plan: SeasonPlan<'_>,
     reader: &mut Counted<R>,
     writer: &mut Counted<W>,
-    errors: &mut E,
+    console: &Console<'_, E>,
 ) -> Result<(), Fault>
 where
     H: Clock + Files + Threads + Wait + Sync,
@@ -314,21 +353,24 @@ where
     drop(described_game(alloc, &rules)?);
     let input = read_to_end(alloc, reader, MAX_SCHEDULE)?;
     let plans = read_schedule(alloc, &input, plan.strikes)?;
-    let stream = Mutex::new(errors);
-    let written = if plan.is_logged {
-        let logging = Logging {
-            rt,
-            reach,
-            stream: &stream,
-        };
-        let fixtures: Vec<Fixture<'_, LoggedPlayer<'_, H, P, &mut E>>> = fixtures(
-            alloc, &logging, &plans,
-        )?;
-        play_season(rt, alloc, &rules, fixtures, plan.form, writer, &stream)?
-    } else {
-        let fixtures: Vec<Fixture<'_, P>> = fixtures(alloc, reach, &plans)?;
-        play_season(rt, alloc, &rules, fixtures, plan.form, writer, &stream)?
+    let logging = Logging {
+        rt,
+        reach,
+        telling: console.telling(plan.is_logged),
+        stream: &console.stream,
     };
+    let fixtures: Vec<Fixture<'_, LoggedPlayer<'_, H, P, &mut E>>> = fixtures(
+        alloc, &logging, &plans,
+    )?;
+    let written = play_season(
+        rt,
+        alloc,
+        &rules,
+        fixtures,
+        plan.form,
+        writer,
+        &console.stream,
+    )?;
     match written {
         0 => Ok(()),
         count => Err(Fault::NoRecords(count)),
@@ -363,7 +405,7 @@ fn check<H, P, S, W: Write, E: Write + Send>(
     reach: &S,
     trial: PlayerTrial<'_>,
     writer: &mut Counted<W>,
-    errors: &mut E,
+    console: &Console<'_, E>,
 ) -> Result<(), Fault>
 where
     H: Clock + Files + Threads + Wait + Sync,
@@ -371,24 +413,20 @@ where
     S: Reach<P>,
 {
     let rules = told_rules(rt, alloc, trial.game)?;
-    let bad = if trial.is_logged {
-        let stream = Mutex::new(errors);
-        let logging = Logging {
-            rt,
-            reach,
-            stream: &stream,
-        };
-        check_player::<H, LoggedPlayer<'_, H, P, &mut E>, _, W>(
-            rt,
-            alloc,
-            &logging,
-            &trial.plan,
-            &rules,
-            writer,
-        )?
-    } else {
-        check_player::<H, P, S, W>(rt, alloc, reach, &trial.plan, &rules, writer)?
+    let logging = Logging {
+        rt,
+        reach,
+        telling: console.telling(trial.is_logged),
+        stream: &console.stream,
     };
+    let bad = check_player::<H, LoggedPlayer<'_, H, P, &mut E>, _, W>(
+        rt,
+        alloc,
+        &logging,
+        &trial.plan,
+        &rules,
+        writer,
+    )?;
     match bad {
         0 => Ok(()),
         count => Err(Fault::BadAnswers(count)),

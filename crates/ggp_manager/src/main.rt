@@ -5,7 +5,7 @@ use game_core::Counted;
 use ggp_commands::{Fault, command, report};
 use match_season::MAX_MATCHES;
 use network_players::{Signal, SocketPlayer, Sockets};
-use std::io::ErrorKind;
+use std::io::{ErrorKind, IsTerminal};
 use std::process::ExitCode;
 use std::{env, io};
 
@@ -16,6 +16,7 @@ fn command_line(rt: &HostRuntime) -> io::Result<Vec<String>> {
 
 fn main(rt: HostRuntime) -> ExitCode {
     let mut errors = rt.stderr();
+    let is_terminal = errors.is_terminal();
     let words = match command_line(&rt) {
         Ok(words) => words,
         Err(error) => {
@@ -45,6 +46,7 @@ fn main(rt: HostRuntime) -> ExitCode {
         &mut reader,
         &mut writer,
         &mut errors,
+        is_terminal,
     );
     ExitCode::from(status)
 }

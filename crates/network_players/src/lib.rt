@@ -1,5 +1,5 @@
 //! Players that are reached over the network: their addresses, a message on a connection of its own with one deadline, the rest
-//! between two messages, and each message told on a stream.
+//! between two messages, and what is told of it on a stream.
 //!
 //! `Sockets` reaches players over HTTP; `Logging` reaches them as another `Reach` does, and tells what they are asked.
 //!
@@ -12,9 +12,11 @@ mod deadline;
 mod logging;
 mod signal;
 mod socket_player;
+mod status;
 
 pub use addresses::{PlayerAddress, decimal, player_address};
 pub use contacting::{ContactFault, contact};
-pub use logging::{Explains, LoggedPlayer, Logging, Shown};
+pub use logging::{Explains, LoggedPlayer, Logging, Shown, Telling};
 pub use signal::{Pace, Signal, time_since};
 pub use socket_player::{Reach, Seat, SocketPlayer, Sockets, answer_of};
+pub use status::{Progress, StatusStream};

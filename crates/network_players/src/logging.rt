@@ -1,9 +1,11 @@
-//! Matches that are told line by line, while they run: whoever reaches players through `Logging` reads each message with its answer.
+//! Matches that are told while they run: whoever reaches players through `Logging` reads each message with its answer, or how far the
+//! matches are.
 
 use crate::addresses::PlayerAddress;
 use crate::contacting::ContactFault;
 use crate::signal::time_since;
 use crate::socket_player::{Reach, Seat};
+use crate::status::{Progress, StatusStream};
 use match_book::Answer;
 use match_workers::Player;
 use std::alloc::{AllocError, Global};
@@ -70,12 +72,23 @@ impl fmt::Display for Brought<'_> {
     }
 }
 
-/// Reaches players as another does, and has each message to one told on a stream, as it is answered.
+/// What is told of the messages to players.
+#[derive(Clone, Copy)]
+pub enum Telling<'a> {
+    Nothing,
+    /// Each message with its answer, in a line, as it is answered.
+    Messages,
+    /// How far the matches are, in one line that is written anew.
+    Progress(&'a Progress),
+}
+
+/// Reaches players as another does, and has their messages told on a stream.
 #[derive(Drop)]
 pub struct Logging<'a, H, S, E> {
     pub rt: &'a H,
     pub reach: &'a S,
-    pub stream: &'a Mutex<E>,
+    pub telling: Telling<'a>,
+    pub stream: &'a Mutex<StatusStream<E>>,
 }
 
 /// A player whose messages are told on a stream.
@@ -90,7 +103,8 @@ pub struct LoggedPlayer<'a, H, P, E> {
     name: String,
     /// How many messages it was handed.
     messages: u64,
-    stream: &'a Mutex<E>,
+    telling: Telling<'a>,
+    stream: &'a Mutex<StatusStream<E>>,
 }
 
 impl<'a, H, P, S: Reach<P>, E> Reach<LoggedPlayer<'a, H, P, E>> for Logging<'a, H, S, E> {
@@ -110,6 +124,7 @@ impl<'a, H, P, S: Reach<P>, E> Reach<LoggedPlayer<'a, H, P, E>> for Logging<'a, 
             role: seat.role,
             name,
             messages: 0,
+            telling: self.telling,
             stream: self.stream,
         })
     }
@@ -140,6 +155,23 @@ impl<H: Wait, P: Explains, E: Write> LoggedPlayer<'_, H, P, E> {
     }
 }
 
+impl<H: Clock + Wait, P: Player + Explains, E: Write> LoggedPlayer<'_, H, P, E> {
+    ghost use Rattle.std.specs.Prelude.{◌≡◌, [], ◌∷◌};
+    ghost use Rattle.call_history.specs.Told.{told_with};
+
+    /// Hands the message over, and tells what it brought.
+    fn ask_and_tell(&mut self, seconds: u32, body: &[u8]) -> Answer
+        ensures { P.handed self.new.player ≡ told_with (P.handed self.old.player) (record { seconds = seconds; body = body.now; answer = result } ∷ []) }
+    {
+        self.messages = self.messages.saturating_add(1);
+        let began = Instant::now(self.rt).ok();
+        let answer = self.player.ask(seconds, body);
+        let millis = time_since(self.rt, began).as_millis();
+        self.tell(body, &answer, millis);
+        answer
+    }
+}
+
 impl<H, P: Explains, E> Explains for LoggedPlayer<'_, H, P, E> {
     fn why(&self) -> Option<ContactFault> {
         self.player.why()
@@ -150,12 +182,18 @@ impl<H: Clock + Wait, P: Player + Explains, E: Write> Player for LoggedPlayer<'_
     ghost handed = { λ p. P.handed p.player };
 
     fn ask(&mut self, seconds: u32, body: &[u8]) -> Answer {
-        self.messages = self.messages.saturating_add(1);
-        let began = Instant::now(self.rt).ok();
-        let answer = self.player.ask(seconds, body);
-        let millis = time_since(self.rt, began).as_millis();
-        self.tell(body, &answer, millis);
-        answer
+        match self.telling {
+            Telling::Nothing => self.player.ask(seconds, body),
+            Telling::Messages => self.ask_and_tell(seconds, body),
+            Telling::Progress(progress) => {
+                let answer = self.player.ask(seconds, body);
+                if self.role == 0 {
+                    progress.count(body);
+                    self.stream.lock(self.rt).show(self.rt, progress);
+                }
+                answer
+            }
+        }
     }
 
     fn rest(&mut self) {
