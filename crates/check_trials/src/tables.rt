@@ -78,16 +78,27 @@ fn expect_table(rt: &impl Abort, table: &[u8], rows: &[Row]) {
     assert!(rt; lines.next().is_none());
 }
 
+const RED_READY: Row = [
+    "red",
+    "(START check-0 red ((role red) (role blue) (init (turn red))..",
+    "READY",
+    "taken",
+    "",
+    "",
+];
+
+const BLUE_UNREACHED: Row = [
+    "blue",
+    "(START check-1 blue ((role red) (role blue) (init (turn red)..",
+    "",
+    "broken",
+    "",
+    "no connection",
+];
+
 /// The table of a good player in Countdown from three, where the other role takes one whenever it can.
 const GOOD: [Row; 9] = [
-    [
-        "red",
-        "(START check-0 red ((role red) (role blue) (init (turn red))..",
-        "READY",
-        "taken",
-        "",
-        "",
-    ],
+    RED_READY,
     [
         "red",
         "(PLAY check-0 NIL)",
@@ -203,14 +214,7 @@ const BAD: [Row; 10] = [
         "",
         "no connection",
     ],
-    [
-        "blue",
-        "(START check-1 blue ((role red) (role blue) (init (turn red)..",
-        "",
-        "broken",
-        "",
-        "no connection",
-    ],
+    BLUE_UNREACHED,
     [
         "blue",
         "(PLAY check-1 NIL)",
@@ -260,14 +264,7 @@ fn bad_answers_are_told_and_counted(rt: HostRuntime) -> Result<(), Fail> {
 /// The table of a player that is retired at its first substituted move, as the role beside it is: the match is aborted, and it is
 /// told so. As blue it is not reached.
 const RETIRED: [Row; 6] = [
-    [
-        "red",
-        "(START check-0 red ((role red) (role blue) (init (turn red))..",
-        "READY",
-        "taken",
-        "",
-        "",
-    ],
+    RED_READY,
     [
         "red",
         "(PLAY check-0 NIL)",
@@ -277,14 +274,7 @@ const RETIRED: [Row; 6] = [
         "",
     ],
     ["red", "(ABORT check-0)", "DONE", "taken", "", ""],
-    [
-        "blue",
-        "(START check-1 blue ((role red) (role blue) (init (turn red)..",
-        "",
-        "broken",
-        "",
-        "no connection",
-    ],
+    BLUE_UNREACHED,
     [
         "blue",
         "(PLAY check-1 NIL)",

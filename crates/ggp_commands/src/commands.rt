@@ -89,7 +89,7 @@ struct Console<'a, E> {
     is_terminal: bool,
 }
 
-impl<E> Console<'_, E> {
+impl<'a, E> Console<'a, E> {
     fn telling(&self, is_logged: bool) -> Telling<'_> {
         if is_logged {
             Telling::Messages
@@ -97,6 +97,21 @@ impl<E> Console<'_, E> {
             Telling::Progress(&self.progress)
         } else {
             Telling::Nothing
+        }
+    }
+
+    /// Reaches players as `reach` does, and tells of their messages what is wanted.
+    fn logging<'s, H, S>(
+        &'s self,
+        rt: &'s H,
+        reach: &'s S,
+        is_logged: bool,
+    ) -> Logging<'s, H, S, &'a mut E> {
+        Logging {
+            rt,
+            reach,
+            telling: self.telling(is_logged),
+            stream: &self.stream,
         }
     }
 }
@@ -313,12 +328,7 @@ where
     S: Reach<P>,
 {
     let rules = rules_text(rt, alloc, run.rules)?;
-    let logging = Logging {
-        rt,
-        reach,
-        telling: console.telling(run.is_logged),
-        stream: &console.stream,
-    };
+    let logging = console.logging(rt, reach, run.is_logged);
     let entrants: Entrants<LoggedPlayer<'_, H, P, &mut E>> = entrants_of(
         alloc, &logging, 0, &run.plan,
     )?;
@@ -353,12 +363,7 @@ where
     drop(described_game(alloc, &rules)?);
     let input = read_to_end(alloc, reader, MAX_SCHEDULE)?;
     let plans = read_schedule(alloc, &input, plan.strikes)?;
-    let logging = Logging {
-        rt,
-        reach,
-        telling: console.telling(plan.is_logged),
-        stream: &console.stream,
-    };
+    let logging = console.logging(rt, reach, plan.is_logged);
     let fixtures: Vec<Fixture<'_, LoggedPlayer<'_, H, P, &mut E>>> = fixtures(
         alloc, &logging, &plans,
     )?;
@@ -413,12 +418,7 @@ where
     S: Reach<P>,
 {
     let rules = told_rules(rt, alloc, trial.game)?;
-    let logging = Logging {
-        rt,
-        reach,
-        telling: console.telling(trial.is_logged),
-        stream: &console.stream,
-    };
+    let logging = console.logging(rt, reach, trial.is_logged);
     let bad = check_player::<H, LoggedPlayer<'_, H, P, &mut E>, _, W>(
         rt,
         alloc,
