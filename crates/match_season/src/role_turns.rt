@@ -1,5 +1,5 @@
 //! A match, as one of its roles had it.
-ghost use Rattle.std.specs.Prelude.{◌≡◌, ◌<◌, IfOk, IfErr, length};
+ghost use Rattle.std.specs.Prelude.{◌≡◌, ◌≢◌, ◌<◌, IfOk, IfErr, length};
 ghost use Rattle.match_desk.specs.ManagerValue.{ManagerValue};
 ghost use Rattle.match_season.specs.Matches.{RunFails};
 ghost use Rattle.match_season.specs.RoleTurns.{AreTurnsOf, AreEndedTurns};
@@ -50,7 +50,8 @@ fn ended_turns<G: Game>(
     manager: &Manager<G>,
     role: usize,
 ) -> Result<Vec<RoleTurn>, MatchFault>
-    ensures { IfOk result (λ told. AreEndedTurns G.rules manager.now role told.items) }
+    ensures ended { IfOk result (λ told. AreEndedTurns G.rules manager.now role told.items) }
+    ensures not_ended { IfErr result (λ fault. fault ≢ MatchFault.Memory → fault ≡ MatchFault.NotEnded) }
 {
     if manager.matches() == 0 {
         return Err(MatchFault::NotEnded);

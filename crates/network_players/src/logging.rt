@@ -13,7 +13,7 @@ use std::fmt;
 use std::fmt::Write as _;
 use std::io::Write;
 use std::sync::{Mutex, Wait};
-use std::time::{Clock, Instant};
+use std::time::{Clock, Duration, Instant};
 use whole_streams::Pieces;
 
 /// Who can say why the last message brought no answer.
@@ -130,11 +130,25 @@ impl<'a, H, P, S: Reach<P>, E> Reach<LoggedPlayer<'a, H, P, E>> for Logging<'a, 
     }
 }
 
-impl<H: Wait, P: Explains, E: Write> LoggedPlayer<'_, H, P, E> {
+impl<H: Clock + Wait, P: Explains, E: Write> LoggedPlayer<'_, H, P, E> {
+    /// Tells what is wanted of a message that was handed over then.
+    fn tell(&self, body: &[u8], answer: &Answer, began: Option<Instant>) {
+        match self.telling {
+            Telling::Nothing => {}
+            Telling::Messages => self.tell_message(body, answer, time_since(self.rt, began)),
+            Telling::Progress(progress) => {
+                if self.role == 0 {
+                    progress.count(body);
+                    self.stream.lock(self.rt).show(self.rt, progress);
+                }
+            }
+        }
+    }
+
     /// Tells in one line what a message brought. Where there is no memory for the line it is left out.
-    fn tell(&self, body: &[u8], answer: &Answer, millis: u128) {
+    fn tell_message(&self, body: &[u8], answer: &Answer, took: Duration) {
         let Ok(line) = format!(in self.alloc;
-            "{} role {} {} message {} {}: {}, {millis} ms\n",
+            "{} role {} {} message {} {}: {}, {} ms\n",
             self.id,
             self.role,
             self.name,
@@ -144,6 +158,7 @@ impl<H: Wait, P: Explains, E: Write> LoggedPlayer<'_, H, P, E> {
                 answer,
                 why: self.player.why(),
             },
+            took.as_millis(),
         ) else {
             return;
         };
@@ -152,23 +167,6 @@ impl<H: Wait, P: Explains, E: Write> LoggedPlayer<'_, H, P, E> {
             stream: &mut *stream,
         }
         .write_str(line.as_str());
-    }
-}
-
-impl<H: Clock + Wait, P: Player + Explains, E: Write> LoggedPlayer<'_, H, P, E> {
-    ghost use Rattle.std.specs.Prelude.{◌≡◌, [], ◌∷◌};
-    ghost use Rattle.call_history.specs.Told.{told_with};
-
-    /// Hands the message over, and tells what it brought.
-    fn ask_and_tell(&mut self, seconds: u32, body: &[u8]) -> Answer
-        ensures { P.handed self.new.player ≡ told_with (P.handed self.old.player) (record { seconds = seconds; body = body.now; answer = result } ∷ []) }
-    {
-        self.messages = self.messages.saturating_add(1);
-        let began = Instant::now(self.rt).ok();
-        let answer = self.player.ask(seconds, body);
-        let millis = time_since(self.rt, began).as_millis();
-        self.tell(body, &answer, millis);
-        answer
     }
 }
 
@@ -182,18 +180,11 @@ impl<H: Clock + Wait, P: Player + Explains, E: Write> Player for LoggedPlayer<'_
     ghost handed = { λ p. P.handed p.player };
 
     fn ask(&mut self, seconds: u32, body: &[u8]) -> Answer {
-        match self.telling {
-            Telling::Nothing => self.player.ask(seconds, body),
-            Telling::Messages => self.ask_and_tell(seconds, body),
-            Telling::Progress(progress) => {
-                let answer = self.player.ask(seconds, body);
-                if self.role == 0 {
-                    progress.count(body);
-                    self.stream.lock(self.rt).show(self.rt, progress);
-                }
-                answer
-            }
-        }
+        self.messages = self.messages.saturating_add(1);
+        let began = Instant::now(self.rt).ok();
+        let answer = self.player.ask(seconds, body);
+        self.tell(body, &answer, began);
+        answer
     }
 
     fn rest(&mut self) {

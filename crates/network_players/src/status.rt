@@ -49,8 +49,23 @@ impl Progress {
         let over = self.over.load(Ordering::SeqCst);
         let open = self.begun.load(Ordering::SeqCst).saturating_sub(over);
         let turns = self.turns.load(Ordering::SeqCst);
-        write!(line, "{CLEAR}matches open {open}, over {over}, turns {turns}")
+        write!(
+            line,
+            "{CLEAR}matches open {open}, over {over}, turns {turns}"
+        )
     }
+}
+
+/// Writes the text. A failed write is passed by.
+fn write_text<E: Write>(stream: &mut E, text: &str) {
+    let mut pieces = Pieces { stream };
+    let _ = pieces.write_str(text);
+}
+
+/// Writes the line anew. A failed write is passed by.
+fn show_progress<E: Write>(stream: &mut E, progress: &Progress) {
+    let mut pieces = Pieces { stream };
+    let _ = progress.push_line(&mut pieces);
 }
 
 /// A stream of messages, below which one line may stand: it is taken away before a message.
@@ -72,7 +87,7 @@ impl<E: Write> StatusStream<E> {
         }
     }
 
-    /// Writes the line anew, unless that was done a moment ago. A failed write is passed by.
+    /// Writes the line anew, unless that was done a moment ago.
     pub(crate) fn show(&mut self, clock: &impl Clock, progress: &Progress) {
         let period = Duration::from_millis(PERIOD_MILLIS);
         if self.shown_at.is_some() && time_since(clock, self.shown_at) < period {
@@ -80,19 +95,14 @@ impl<E: Write> StatusStream<E> {
         }
         self.shown_at = Instant::now(clock).ok();
         self.is_shown = true;
-        let _ = progress.push_line(&mut Pieces {
-            stream: &mut self.stream,
-        });
+        show_progress(&mut self.stream, progress);
     }
 
-    /// Takes the line away. A failed write is passed by.
+    /// Takes the line away.
     pub fn clear(&mut self) {
         if self.is_shown {
             self.is_shown = false;
-            let _ = Pieces {
-                stream: &mut self.stream,
-            }
-            .write_str(CLEAR);
+            write_text(&mut self.stream, CLEAR);
         }
     }
 }

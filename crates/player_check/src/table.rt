@@ -57,7 +57,7 @@ impl fmt::Display for Verdict {
 
 /// What an answer counted as, by the error that its turn has, where it was given for a turn that was recorded.
 pub fn verdict_of(is_play: bool, brought: Brought, error: Option<&[u8]>) -> Verdict
-    ensures { result ≡ verdict_of is_play brought (option_copied error) }
+    ensures { result ≡ verdict_of is_play brought (option_copied error.entry) }
 {
     match (brought, error) {
         (Brought::Silence, _) => Verdict::Late,
