@@ -170,3 +170,23 @@ fn pause_sleeps_for_its_time_where_nobody_rings(rt: HostRuntime) -> Result<(), F
     assert!(rt; began.elapsed(&rt)? >= Duration::from_millis(600));
     Ok(())
 }
+
+#[test]
+fn call_that_finds_no_room_wakes_nobody(rt: HostRuntime) -> Result<(), Fail> {
+    let alloc = rt.alloc();
+    let (_desk, mut lines) = open_lines(alloc, Register { value: 0 }, 10, 1, 1)?;
+    let mut line = lines.pop().ok_or("no line")?;
+    assert_eq!(rt; line.post(7), Ok(()));
+    let bell = Arc::new(alloc, Bell::new()).ok().ok_or("no memory")?;
+    let theirs = Arc::try_clone(&bell).ok().ok_or("no memory")?;
+    let mut pause = Pause::new(&bell, Duration::from_millis(300));
+    lie_down(&rt, &mut pause);
+    assert_eq!(rt;
+        RingWire::with_bell(line, 10, theirs).ask(8),
+        Err(AskFault::Stalled)
+    );
+    let began = Instant::now(&rt)?;
+    pause.rest(&rt);
+    assert!(rt; began.elapsed(&rt)? >= Duration::from_millis(200));
+    Ok(())
+}
