@@ -10,7 +10,7 @@ use std::sync::{Arc, Wait};
 use std::test::Fail;
 use std::thread;
 use std::thread::Threads;
-use std::time::{Clock, Duration};
+use std::time::{Clock, Duration, Instant};
 
 /// How many seconds a desk that nobody wakes would sleep: longer than a test may run.
 const LONGEST: u64 = 600;
@@ -107,19 +107,86 @@ fn desk_with_a_full_history_stalls_its_wires(rt: HostRuntime) -> Result<(), Fail
 #[test]
 fn wire_of_a_desk_that_has_stopped_tries_no_longer(rt: HostRuntime) -> Result<(), Fail> {
     let alloc = rt.alloc();
-    let (mut desk, mut lines) = open_lines(alloc, Register { value: 0 }, 10, 1, 1)?;
+    // The last call finds no room in its ring, or it is posted and waits for a reply.
+    for (room, posted) in [(1, 2), (2, 3)] {
+        let (mut desk, mut lines) = open_lines(alloc, Register { value: 0 }, 10, 1, room)?;
+        let mut line = lines.pop().ok_or("no line")?;
+        let bell = Arc::new(alloc, Bell::new()).ok().ok_or("no memory")?;
+        let theirs = Arc::try_clone(&bell).ok().ok_or("no memory")?;
+        assert_eq!(rt; line.post(7), Ok(()));
+        assert_eq!(rt; desk.round(), Ok(1));
+        assert!(rt; !bell.has_stopped());
+        bell.stop();
+        assert!(rt; bell.has_stopped());
+        let mut wire = RingWire::with_bell(line, u64::MAX, theirs);
+        // A reply that is there is taken all the same.
+        assert_eq!(rt; wire.ask(8), Ok(0));
+        assert_eq!(rt; wire.ask(9), Err(AskFault::Stalled));
+        assert_eq!(rt; wire.end().posted(), posted);
+    }
+    Ok(())
+}
+
+/// The last of so many rests in a row lies down, and the next one sleeps.
+const RESTS: u32 = 73;
+
+fn lie_down<R: Wait>(rt: &R, pause: &mut Pause<'_>) {
+    for _ in 0..RESTS {
+        pause.rest(rt);
+    }
+}
+
+#[test]
+fn pause_that_was_rung_or_ended_does_not_sleep(rt: HostRuntime) {
+    let bell = Bell::new();
+    let mut pause = Pause::new(&bell, Duration::from_secs(LONGEST));
+    for _ in 0..3 {
+        lie_down(&rt, &mut pause);
+        pause.end();
+    }
+    lie_down(&rt, &mut pause);
+    bell.ring();
+    pause.rest(&rt);
+    // Without an end it lies down at once.
+    pause.rest(&rt);
+    bell.leave();
+    pause.rest(&rt);
+    pause.rest(&rt);
+    bell.leave();
+    pause.rest(&rt);
+    assert_eq!(rt; bell.left(), 2);
+}
+
+#[test]
+fn pause_sleeps_for_its_time_where_nobody_rings(rt: HostRuntime) -> Result<(), Fail> {
+    let bell = Bell::new();
+    let mut pause = Pause::new(&bell, Duration::from_millis(200));
+    let began = Instant::now(&rt)?;
+    lie_down(&rt, &mut pause);
+    // Each second one of these sleeps.
+    for _ in 0..10 {
+        pause.rest(&rt);
+    }
+    assert!(rt; began.elapsed(&rt)? >= Duration::from_millis(600));
+    Ok(())
+}
+
+#[test]
+fn call_that_finds_no_room_wakes_nobody(rt: HostRuntime) -> Result<(), Fail> {
+    let alloc = rt.alloc();
+    let (_desk, mut lines) = open_lines(alloc, Register { value: 0 }, 10, 1, 1)?;
     let mut line = lines.pop().ok_or("no line")?;
+    assert_eq!(rt; line.post(7), Ok(()));
     let bell = Arc::new(alloc, Bell::new()).ok().ok_or("no memory")?;
     let theirs = Arc::try_clone(&bell).ok().ok_or("no memory")?;
-    assert_eq!(rt; line.post(7), Ok(()));
-    assert_eq!(rt; desk.round(), Ok(1));
-    assert!(rt; !bell.has_stopped());
-    bell.stop();
-    assert!(rt; bell.has_stopped());
-    let mut wire = RingWire::with_bell(line, u64::MAX, theirs);
-    // A reply that is there is taken all the same.
-    assert_eq!(rt; wire.ask(8), Ok(0));
-    assert_eq!(rt; wire.ask(9), Err(AskFault::Stalled));
-    assert_eq!(rt; wire.end().posted(), 2);
+    let mut pause = Pause::new(&bell, Duration::from_millis(300));
+    lie_down(&rt, &mut pause);
+    assert_eq!(rt;
+        RingWire::with_bell(line, 10, theirs).ask(8),
+        Err(AskFault::Stalled)
+    );
+    let began = Instant::now(&rt)?;
+    pause.rest(&rt);
+    assert!(rt; began.elapsed(&rt)? >= Duration::from_millis(200));
     Ok(())
 }

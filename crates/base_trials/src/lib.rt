@@ -13,3 +13,5 @@ mod histories;
 mod limits;
 #[cfg(test)]
 mod rings;
+#[cfg(test)]
+mod widest_desk;

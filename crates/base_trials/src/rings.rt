@@ -284,3 +284,19 @@ fn full_history_stops_the_last_rounds(rt: HostRuntime) -> Result<(), Fail> {
     assert_eq!(rt; (one.take(), one.take()), (Some(0), None));
     Ok(())
 }
+
+#[test]
+fn rings_have_a_thousand_slots(rt: HostRuntime) -> Result<(), Fail> {
+    let (mut desk, mut one, _other) = open_two(rt.alloc(), Register { value: 0 }, 2_000, 1_024)?;
+    for call in 1..1_025 {
+        assert_eq!(rt; one.post(call), Ok(()));
+    }
+    assert_eq!(rt; one.post(7), Err(7));
+    assert_eq!(rt; desk.serve_all(), Ok(()));
+    assert_eq!(rt; desk.journal().entries().len(), 1_024);
+    for reply in 0..1_024 {
+        assert_eq!(rt; one.take(), Some(reply));
+    }
+    assert_eq!(rt; one.take(), None);
+    Ok(())
+}

@@ -11,7 +11,7 @@ use std::time::{Clock, Duration, Instant};
 /// How many milliseconds a player thinks: the desk falls asleep meanwhile.
 const THINKING: u64 = 20;
 
-/// How many seconds a match may take in which each player thinks 12 times. Where no call woke the desk it would take longer: its
+/// How many seconds a match may take in which each player thinks 42 times. Where no call woke the desk it would take longer: its
 /// thread looks for calls once a second then.
 const LONGEST: u64 = 15;
 
@@ -66,12 +66,12 @@ fn two_thinkers<C>(clock: &C, alloc: Global) -> Result<Vec<ThinkingPlayer<'_, C>
 fn calls_wake_the_desk(rt: HostRuntime) -> Result<(), Fail> {
     let alloc = rt.alloc();
     let players = two_thinkers(&rt, alloc)?;
-    let game = Countdown::new(10).ok_or("no such game")?;
+    let game = Countdown::new(40).ok_or("no such game")?;
     let setup = setup(alloc, b"m", (1, 1), &[b"ann", b"bob"])?;
     assert_eq!(rt; players.len(), setup.players.as_slice().len());
     let began = Instant::now(&rt)?;
     let refereed = referee(&rt, alloc, game, setup, Vec::new(alloc), players, TRIES)?;
     assert!(rt; began.elapsed(&rt)? < Duration::from_secs(LONGEST));
-    assert_eq!(rt; refereed.ends.as_slice(), [Ok(12), Ok(12)].as_slice());
+    assert_eq!(rt; refereed.ends.as_slice(), [Ok(42), Ok(42)].as_slice());
     Ok(())
 }
