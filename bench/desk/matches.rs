@@ -306,13 +306,16 @@ impl<G: Game> Match<G> {
     }
 
     fn last_joint(&self, game: &G) -> String {
-        match self.turns.last() {
-            None => "NIL".to_string(),
-            Some(turn) => {
-                let texts: Vec<&str> = turn.moves.iter().map(|taken| game.move_text(taken)).collect();
-                format!("({})", texts.join(" "))
-            }
+        let Some(turn) = self.turns.last() else {
+            return "NIL".to_string();
+        };
+        let mut joint = String::with_capacity(64);
+        for taken in &turn.moves {
+            joint.push(if joint.is_empty() { '(' } else { ' ' });
+            joint.push_str(game.move_text(taken));
         }
+        joint.push(')');
+        joint
     }
 
     pub fn answer(&mut self, game: &G, role: usize, round: u64, answer: &Answer) -> Result<(), Refusal> {
