@@ -26,7 +26,7 @@ match:
 	@program=$$(tools/program) && examples/play-a-match "$$program" examples/games/tictactoe.kif
 
 season:
-	@program=$$(tools/program) && examples/season/try "$$program"
+	@program=$$(tools/program) && examples/season/try "$$program" && examples/season/crowd "$$program"
 
 games:
 	@program=$$(tools/program) && tools/games "$$program"
