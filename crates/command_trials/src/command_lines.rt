@@ -125,7 +125,7 @@ fn help_is_no_fault(rt: HostRuntime) -> Result<(), AllocError> {
 #[test]
 fn the_version_is_told(rt: HostRuntime) -> Result<(), AllocError> {
     for words in [["--version"], ["-V"]] {
-        let wanted = Wanted::output(b"ggp_manager 0.1.0 (rattle-kit-13b)\n");
+        let wanted = Wanted::output(b"ggp_manager 0.1.0 (rattle-kit-13f)\n");
         expect(&rt, rt.alloc(), &words, b"", wanted)?;
     }
     Ok(())
