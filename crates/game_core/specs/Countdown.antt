@@ -36,6 +36,10 @@ abbrev pub side_name : Side → List ℕ
 side_name Red = codes "red"
 side_name Blue = codes "blue"
 
+-- the term that says whose turn it is
+abbrev pub turn_text : Side → List ℕ
+turn_text side = codes "(turn " ++ side_name side ++ codes ")"
+
 -- the moves of the role on turn, at this heap
 abbrev pub takes : ℕ → List Take
 takes heap = if nat_le 2 heap then One ∷ (Two ∷ []) else (One ∷ [])
@@ -53,7 +57,7 @@ abbrev pub next_position : Position → List Take → Position
 next_position p joint = record { heap = p.heap - count_of (slice_index_or joint (role_of p.on_turn) Noop); on_turn = other_side p.on_turn }
 
 abbrev pub position_texts : Position → List (List ℕ)
-position_texts p = (codes "(heap " ++ decimal p.heap ++ codes ")") ∷ ((codes "(turn " ++ side_name p.on_turn ++ codes ")") ∷ [])
+position_texts p = (codes "(heap " ++ decimal p.heap ++ codes ")") ∷ (turn_text p.on_turn ∷ [])
 
 -- the role on turn has lost at an empty heap
 abbrev pub goal_at : Position → ℕ → Option ℕ

@@ -3,8 +3,8 @@ ghost use Rattle.std.specs.Prelude.{◌≡◌, ◌≤◌, ◌↔◌, IsSome, IfS
 ghost use Rattle.game_core.specs.Countdown.{max_heap};
 
 use crate::game::Game;
-use crate::text::Text;
 use std::alloc::{AllocError, Global};
+use std::borrow::CowSlice;
 
 const ROLES: usize = 2;
 
@@ -75,7 +75,7 @@ impl Take {
 }
 
 impl Side {
-    ghost use Rattle.game_core.specs.Countdown.{side_of, role_of, other_side, side_name};
+    ghost use Rattle.game_core.specs.Countdown.{side_of, role_of, other_side, side_name, turn_text};
 
     fn of_role(role: usize) -> Side
         ensures { result ≡ side_of role }
@@ -110,6 +110,16 @@ impl Side {
         match self {
             Side::Red => "red",
             Side::Blue => "blue",
+        }
+    }
+
+    /// The term that says whose turn it is.
+    fn term(self) -> &'static [u8]
+        ensures { result.now ≡ turn_text self }
+    {
+        match self {
+            Side::Red => b"(turn red)",
+            Side::Blue => b"(turn blue)",
         }
     }
 }
@@ -185,21 +195,23 @@ impl Game for Countdown {
         }
     }
 
-    fn move_text(&self, alloc: Global, taken: &Take) -> Result<Text, AllocError> {
+    fn move_text(&self, taken: &Take) -> &[u8] {
         match taken {
-            Take::Noop => Text::from_slice(alloc, b"noop"),
-            Take::One => Text::from_slice(alloc, b"(take 1)"),
-            Take::Two => Text::from_slice(alloc, b"(take 2)"),
+            Take::Noop => b"noop",
+            Take::One => b"(take 1)",
+            Take::Two => b"(take 2)",
         }
     }
 
-    fn state_text(&self, alloc: Global, state: &Position) -> Result<Vec<Text>, AllocError> {
+    fn state_text(
+        &self,
+        alloc: Global,
+        state: &Position,
+    ) -> Result<Vec<CowSlice<'_, u8, Global>>, AllocError> {
         let heap = format!(in alloc; "(heap {})", state.heap)?;
-        let side = state.on_turn.name();
-        let turn = format!(in alloc; "(turn {side})")?;
-        let mut texts = Vec::new(alloc);
-        texts.push(Text::from_string(heap))?;
-        texts.push(Text::from_string(turn))?;
+        let mut texts = Vec::with_capacity(alloc, 2)?;
+        texts.push(CowSlice::Owned(heap.into_bytes()))?;
+        texts.push(CowSlice::Borrowed(state.on_turn.term()))?;
         Ok(texts)
     }
 

@@ -1,9 +1,10 @@
 //! The trait of all games.
-ghost use Rattle.std.specs.Prelude.{◌≡◌, ◌<◌, IfOk};
+ghost use Rattle.std.specs.Prelude.{◌≡◌, ◌<◌, IfOk, map};
+ghost use Rattle.std.specs.Cow.{cow_slice_items};
 ghost use Rattle.game_core.specs.Play.{Rules, IsJoint, IsLawful};
 
-use crate::text::Text;
 use std::alloc::{AllocError, Global};
+use std::borrow::CowSlice;
 
 /// A game with simultaneous moves and full information, as GDL describes them: in each state that is
 /// not terminal each role makes one move, and all of them together lead to the next state.
@@ -70,14 +71,18 @@ pub trait Game {
         ensures { IfOk result (λ o. o ≡ (rules self.now).goal state.now role) };
 
     /// The move in canonical text, without capitals. Moves with equal texts are equal.
-    fn move_text(&self, alloc: Global, taken: &Self::Move) -> Result<Text, AllocError>
+    fn move_text(&self, taken: &Self::Move) -> &[u8]
         requires { (rules self.now).IsMove taken.now }
-        ensures { IfOk result (λ t. t ≡ (rules self.now).move_text taken.now) };
+        ensures { result.now ≡ (rules self.now).move_text taken.now };
 
-    /// The state's terms in canonical text, each once, in byte order.
-    fn state_text(&self, alloc: Global, state: &Self::State) -> Result<Vec<Text>, AllocError>
+    /// The state's terms in canonical text, each once, in byte order: lent where the game keeps them.
+    fn state_text(
+        &self,
+        alloc: Global,
+        state: &Self::State,
+    ) -> Result<Vec<CowSlice<'_, u8, Global>>, AllocError>
         requires { (rules self.now).IsState state.now }
-        ensures { IfOk result (λ v. v.items ≡ (rules self.now).state_text state.now) };
+        ensures { IfOk result (λ v. map cow_slice_items v.items ≡ (rules self.now).state_text state.now) };
 
     /// An equal state.
     fn copy_state(&self, alloc: Global, state: &Self::State) -> Result<Self::State, AllocError>

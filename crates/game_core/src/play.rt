@@ -47,12 +47,10 @@ fn is_legal<G: Game>(
     requires taken { (G.rules game.now).IsMove taken.now }
     ensures { IfOk result (λ b. IsTrue b ↔ Contains ((G.rules game.now).legal state.now role) taken.now) }
 {
-    let text = game.move_text(alloc, taken)?;
-    let wanted = text.as_slice();
+    let wanted = game.move_text(taken);
     let legal = game.legal(alloc, state, role)?;
     for other in &legal {
-        let other = game.move_text(alloc, other)?;
-        if other.as_slice() == wanted {
+        if game.move_text(other) == wanted {
             return Ok(true);
         }
     }

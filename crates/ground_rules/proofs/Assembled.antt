@@ -11,7 +11,6 @@ use Rattle.ground_rules.specs.declared.names.TermKind.TheVariants.{State, Move}
 use Rattle.ground_rules.specs.declared.lookups.StateHead.TheVariants.{Init as InitHead, Next as NextHead}
 use Rattle.ground_rules.specs.Internal.Bools.{and-left, and-right, or-left}
 use Rattle.ground_rules.specs.Internal.Names.{text-same}
-use Rattle.ground_rules.specs.Literals.{Rule}
 use Rattle.ground_rules.specs.Internal.TermTexts.{are_terms_in_any}
 use Rattle.ground_rules.specs.Described.{Description, is_among, role_names, are_different, IsGameOf}
 use Rattle.ground_rules.specs.Roles.{RoleTable}

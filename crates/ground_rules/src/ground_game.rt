@@ -8,9 +8,10 @@ use crate::row::Row;
 use crate::split::SplitRules;
 use crate::tables::{GroundMove, GroundState, choose, find_goal, mark, pick};
 use crate::vocabulary::Vocabulary;
-use game_core::{Game, Text};
+use game_core::Game;
 use kif_text::Expr;
 use std::alloc::{AllocError, Global};
+use std::borrow::CowSlice;
 
 /// The game of a ground description, with its rules in the order of a ranking.
 #[derive(Drop)]
@@ -86,12 +87,15 @@ impl Game for GroundGame {
         Ok(find_goal(self.vocabulary.roles[role].goals(), &state.kept))
     }
 
-    fn move_text(&self, alloc: Global, taken: &GroundMove) -> Result<Text, AllocError> {
-        let text = self.vocabulary.moves[taken.term].clone()?;
-        Ok(text)
+    fn move_text(&self, taken: &GroundMove) -> &[u8] {
+        self.vocabulary.moves[taken.term].as_slice()
     }
 
-    fn state_text(&self, alloc: Global, state: &GroundState) -> Result<Vec<Text>, AllocError> {
+    fn state_text(
+        &self,
+        alloc: Global,
+        state: &GroundState,
+    ) -> Result<Vec<CowSlice<'_, u8, Global>>, AllocError> {
         pick(alloc, &state.row, &self.vocabulary.states)
     }
 

@@ -1,11 +1,13 @@
 //! What a game looks up in a row of truth values.
-ghost use Rattle.std.specs.Prelude.{◌≡◌, length, IfOk};
+ghost use Rattle.std.specs.Prelude.{◌≡◌, length, map, IfOk};
+ghost use Rattle.std.specs.Cow.{cow_slice_items};
 ghost use Rattle.ground_rules.specs.Tables.{marked, chosen, only_goal, picked};
 ghost use Rattle.ground_rules.specs.Numbered.{unset};
 
 use crate::row::Row;
 use game_core::Text;
 use std::alloc::{AllocError, Global};
+use std::borrow::CowSlice;
 use std::marker::Model;
 
 /// A term and the derived atom that says something about it.
@@ -125,15 +127,19 @@ pub fn find_goal(heads: &[GoalHead], row: &Row) -> Option<u8>
     found
 }
 
-/// The texts of the terms that are set, in their order.
-pub fn pick(alloc: Global, row: &Row, texts: &[Text]) -> Result<Vec<Text>, AllocError>
+/// The texts of the terms that are set, in their order, lent.
+pub fn pick<'a>(
+    alloc: Global,
+    row: &Row,
+    texts: &'a [Text],
+) -> Result<Vec<CowSlice<'a, u8, Global>>, AllocError>
     requires { length row.now ≡ length texts.now }
-    ensures { IfOk result (λ v. v.items ≡ picked row.now texts.now) }
+    ensures { IfOk result (λ v. map cow_slice_items v.items ≡ picked row.now texts.now) }
 {
     let mut found = Vec::new(alloc);
     for (term, text) in texts.iter().enumerate() {
         if row.is_set(term) {
-            found.push(text.clone()?)?;
+            found.push(CowSlice::Borrowed(text.as_slice()))?;
         }
     }
     Ok(found)

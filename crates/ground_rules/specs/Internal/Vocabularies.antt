@@ -1,6 +1,5 @@
 -- What a vocabulary is made from.
 use Rattle.std.specs.Prelude.{◌≡◌, List, length}
-use Rattle.kif_text.specs.View.{view}
 use Rattle.kif_text.specs.declared.expr.Expr.{Expr}
 use Rattle.ground_rules.specs.declared.vocabulary.Vocabulary.{Vocabulary}
 use Rattle.ground_rules.specs.declared.sentence.Derived.TheVariants.{Terminal}

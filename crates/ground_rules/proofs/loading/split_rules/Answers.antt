@@ -1,4 +1,4 @@
-use Rattle.std.proofs.Common.{◌≡◌, ◌∙◌, List, [], false, length, ap, sym, subst}
+use Rattle.std.proofs.Common.{◌∙◌, List, [], false, length, ap, sym, subst}
 use Rattle.ground_rules.specs.declared.numbered.Rule.{Rule as CodeRule}
 use Rattle.ground_rules.specs.Numbered.{rules_of as numbered_rules, numbered, row_after, unset}
 use Rattle.ground_rules.specs.Internal.Exposed.{exposed_rules}

@@ -1,13 +1,11 @@
-use Rattle.std.proofs.Common.{◌≡◌, ◌∙◌, ap, sym, refl, List, ℕ, map, length, subst}
-use Rattle.game_core.specs.Expression.{Expression}
+use Rattle.std.proofs.Common.{ap, sym, List, map, length, subst}
 use Rattle.kif_text.specs.View.{view as expression, views}
 use Rattle.kif_text.specs.declared.expr.Expr.{Expr}
-use Rattle.ground_rules.specs.Literals.{Rule}
 use Rattle.ground_rules.specs.Roles.{RoleTable}
 use Rattle.ground_rules.specs.Numbered.{rules_of}
 use Rattle.ground_rules.specs.declared.ground_game.GroundGame.{GroundGame}
 use Rattle.ground_rules.specs.Internal.Resolved.{NameTable, table_of}
-use Rattle.ground_rules.specs.GroundGames.{sentences_of, tables_of}
+use Rattle.ground_rules.specs.GroundGames.{tables_of}
 use Rattle.ground_rules.specs.Internal.LoadedGameLaws.{loaded_game_laws}
 use Rattle.ground_rules.specs.Internal.Vocabularies.{IsVocabularyOf}
 use Rattle.ground_rules.specs.Loading.{AreSentences, description_of}

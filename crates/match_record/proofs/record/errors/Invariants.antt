@@ -1,7 +1,0 @@
-use Rattle.std.proofs.Common.{◌≡◌, map, take}
-use Rattle.serde_json.specs.View.{view}
-use Rattle.match_record.specs.RecordTree.{texts_tree}
-use Rattle.match_record.proofs.record.errors.Given as goal
-
-abbrev pub invariant-loop-turn : goal.invariant-loop-turn
-invariant-loop-turn g l = map view l.errors.items ≡ map (λ t. texts_tree t.errors) (take l.turn l.held.value.turns)

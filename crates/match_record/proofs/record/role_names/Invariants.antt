@@ -1,8 +1,0 @@
-use Rattle.std.proofs.Common.{◌≡◌, map}
-use Rattle.serde_json.specs.Data.{string}
-use Rattle.serde_json.specs.View.{view}
-use Rattle.match_record.specs.RecordParts.{each_role}
-use Rattle.match_record.proofs.record.role_names.Given as goal
-
-abbrev pub invariant-loop-role : goal.invariant-loop-role
-invariant-loop-role g l = map view l.names.items ≡ map string (each_role l.role (g.G.Game.rules l.game).role_name)
