@@ -1,10 +1,11 @@
 //! The judge of the answers in play.
-ghost use Rattle.std.specs.Prelude.{◌≡◌, IfOk, All};
+ghost use Rattle.std.specs.Prelude.{◌≡◌, IfOk, All, Some, []};
+ghost use Rattle.match_book.specs.AnswerReading.{answer_reading};
 ghost use Rattle.match_book.specs.Marks.{answer_lent};
-ghost use Rattle.match_book.specs.Judgement.{error_text, substitute, move_named, IsPlaceOf, taken_or_substituted, judged_answer};
+ghost use Rattle.match_book.specs.Judgement.{error_text, substitute, move_named, IsPlaceOf, taken_or_substituted, judged_reading, judged_answer};
 
 use crate::answer::{LentAnswer, Mark};
-use crate::answer_text::read_answer;
+use crate::answer_text::{MAX_ANSWER, read_answer};
 use game_core::{Game, Text};
 use std::alloc::{AllocError, Global};
 
@@ -75,26 +76,36 @@ pub fn substitute<G: Game>(
 }
 
 /// The place of the first move with this text, if there is one.
-pub fn place_of<G: Game>(
-    alloc: Global,
-    game: &G,
-    moves: &[G::Move],
-    wanted: &[u8],
-) -> Result<Option<usize>, AllocError>
+pub fn place_of<G: Game>(game: &G, moves: &[G::Move], wanted: &[u8]) -> Option<usize>
     requires { All (λ m. (G.rules game.now).IsMove m) moves.now }
-    ensures { IfOk result (λ o. IsPlaceOf (G.rules game.now) moves.now wanted.now o) }
+    ensures { IsPlaceOf (G.rules game.now) moves.now wanted.now result }
 {
     for (place, taken) in moves.iter().enumerate() {
-        let text = game.move_text(alloc, taken)?;
-        if text.as_slice() == wanted {
-            return Ok(Some(place));
+        if game.move_text(taken) == wanted {
+            return Some(place);
         }
     }
-    Ok(None)
+    None
 }
 
-/// The move with this text, or the first in its place.
-fn judge_text<G: Game>(
+/// A move that an answer names.
+fn take_named<G: Game>(
+    alloc: Global,
+    game: &G,
+    named: &G::Move,
+) -> Result<Option<Judgement<G::Move>>, AllocError>
+    requires { (G.rules game.now).IsMove named.now }
+    ensures { IfOk result (λ o. o ≡ Some (record { taken = named.now; error = [] })) }
+{
+    let taken = game.copy_move(alloc, named)?;
+    let error = Text {
+        bytes: Vec::new(alloc),
+    };
+    Ok(Some(Judgement { taken, error }))
+}
+
+/// The move with this text, which an answer is read as, or the first in its place.
+fn judge_reading<G: Game>(
     alloc: Global,
     game: &G,
     moves: &[G::Move],
@@ -103,13 +114,31 @@ fn judge_text<G: Game>(
     requires { All (λ m. (G.rules game.now).IsMove m) moves.now }
     ensures { IfOk result (λ o. o ≡ taken_or_substituted moves.now read (move_named (G.rules game.now) moves.now read)) }
 {
-    match place_of(alloc, game, moves, read.as_slice())? {
-        Some(place) => {
-            let taken = game.copy_move(alloc, &moves[place])?;
-            let error = Text::from_slice(alloc, b"")?;
-            Ok(Some(Judgement { taken, error }))
-        }
+    match place_of(game, moves, read.as_slice()) {
+        Some(place) => take_named(alloc, game, &moves[place]),
         None => substitute(alloc, game, moves, &Substitution::Illegal(read)),
+    }
+}
+
+/// What an answered text counts as. Most are a legal move's text as it stands, which is not read first: it would
+/// be read as itself.
+fn judge_text<G: Game>(
+    alloc: Global,
+    game: &G,
+    moves: &[G::Move],
+    answered: &[u8],
+) -> Result<Option<Judgement<G::Move>>, AllocError>
+    requires { All (λ m. (G.rules game.now).IsMove m) moves.now }
+    ensures { IfOk result (λ o. o ≡ judged_reading (G.rules game.now) moves.now (answer_reading answered.now)) }
+{
+    if answered.len() <= MAX_ANSWER {
+        if let Some(place) = place_of(game, moves, answered) {
+            return take_named(alloc, game, &moves[place]);
+        }
+    }
+    match read_answer(alloc, answered)? {
+        Some(read) => judge_reading(alloc, game, moves, read),
+        None => substitute(alloc, game, moves, &Substitution::Unreadable),
     }
 }
 
@@ -124,10 +153,7 @@ pub fn judge<G: Game>(
     ensures { IfOk result (λ o. o ≡ judged_answer (G.rules game.now) moves.now (answer_lent answer.now)) }
 {
     match answer {
-        LentAnswer::Text(text) => match read_answer(alloc, text.as_slice())? {
-            Some(read) => judge_text(alloc, game, moves, read),
-            None => substitute(alloc, game, moves, &Substitution::Unreadable),
-        },
+        LentAnswer::Text(text) => judge_text(alloc, game, moves, text.as_slice()),
         LentAnswer::Silent => substitute(alloc, game, moves, &Substitution::TimeOut),
         LentAnswer::Broken => substitute(alloc, game, moves, &Substitution::ConnectionError),
     }

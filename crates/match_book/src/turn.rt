@@ -151,9 +151,9 @@ pub fn move_texts<G: Game>(alloc: Global, game: &G, moves: &[G::Move]) -> Result
     requires { All (λ m. (G.rules game.now).IsMove m) moves.now }
     ensures { IfOk result (λ t. t ≡ map (G.rules game.now).move_text moves.now) }
 {
-    let mut items = Vec::new(alloc);
+    let mut items = Vec::with_capacity(alloc, moves.len())?;
     for taken in moves {
-        items.push(game.move_text(alloc, taken)?)?;
+        items.push(Text::from_slice(alloc, game.move_text(taken))?)?;
     }
     Ok(Texts { items })
 }
