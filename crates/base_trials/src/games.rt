@@ -77,7 +77,7 @@ fn describe<G: Game>(
         shown.extend_from_slice(game.role_name(role))?;
         for taken in &game.legal(alloc, &state, role)? {
             let taken = game.copy_move(alloc, taken)?;
-            shown.extend_from_slice(game.move_text(alloc, &taken)?.as_slice())?;
+            shown.extend_from_slice(game.move_text(&taken))?;
         }
         match game.goal(alloc, &state, role)? {
             Some(goal) => shown.push(goal)?,

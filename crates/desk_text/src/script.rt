@@ -11,7 +11,7 @@ use crate::script_lines::call_of;
 use call_history::Object;
 use game_core::Game;
 use match_desk::{Call, Manager, Reply};
-use match_record::record_json;
+use match_record::push_record;
 use std::alloc::{AllocError, Global};
 
 /// What is written for a script, and how many of its lines are bad.
@@ -78,8 +78,7 @@ pub fn push_records<G: Game>(
     for place in 0..manager.matches() {
         let game = manager.game_of_match(place).unwrap();
         let held = manager.match_at(place).unwrap();
-        let record = record_json(alloc, game, held)?;
-        out.extend_from_slice(record.as_slice())?;
+        push_record(alloc, out, game, held)?;
         out.push(b'\n')?;
     }
     Ok(())

@@ -3,8 +3,9 @@ ghost use Rattle.std.specs.Prelude.{◌<◌, All, IfOk};
 
 use crate::forms::packed;
 use crate::loading::load_text;
-use game_core::{Game, Joint, Text, play_list};
+use game_core::{Game, Joint, play_list};
 use std::alloc::Global;
+use std::borrow::CowSlice;
 use std::process::Abort;
 use std::test::Fail;
 
@@ -74,7 +75,7 @@ const BUTTONS: &str = "(role robot) (legal robot a) (legal robot b) (legal robot
 const ONE_MOVE: &str = "(role a) (legal a go) (init s) (next s)";
 
 /// The texts with a semicolon between them.
-fn joined(alloc: Global, texts: &[Text]) -> Result<String, Fail> {
+fn joined(alloc: Global, texts: &[CowSlice<'_, u8, Global>]) -> Result<String, Fail> {
     let mut line = String::new(alloc);
     for (place, text) in texts.iter().enumerate() {
         if place > 0 {
@@ -106,7 +107,7 @@ pub fn legal_line<G: Game>(
     let mut texts = Vec::new(alloc);
     let legal = game.legal(alloc, state, role)?;
     for place in 0..legal.len() {
-        texts.push(game.move_text(alloc, &legal[place])?)?;
+        texts.push(CowSlice::Borrowed(game.move_text(&legal[place])))?;
     }
     joined(alloc, &texts)
 }
@@ -126,8 +127,7 @@ fn legal_move<G: Game>(
 {
     let legal = game.legal(alloc, state, role)?;
     for place in 0..legal.len() {
-        let found = game.move_text(alloc, &legal[place])?;
-        if found.as_slice() == text.as_bytes() {
+        if game.move_text(&legal[place]) == text.as_bytes() {
             return Ok(game.copy_move(alloc, &legal[place])?);
         }
     }

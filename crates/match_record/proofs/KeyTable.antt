@@ -125,16 +125,6 @@ abbrev pub put_each : List Key → RecordParts → Members → Members
 put_each [] p ms = ms
 put_each (key ∷ more) p ms = put_each more p (put (key_text key) (key_tree key p) ms)
 
-put_more : (ks : List Key) (key : Key) (p : RecordParts) (ms : Members) → put_each (ks ++ key ∷ []) p ms ≡ put (key_text key) (key_tree key p) (put_each ks p ms)
-put_more [] key p ms = refl
-put_more (k ∷ ks) key p ms = put_more ks key p (put (key_text k) (key_tree k p) ms)
-
--- what the parts say at the key at the place i is put
-pub put_next : (i : ℕ) (d : Key) (p : RecordParts) (text : List ℕ) (value : Data) (ms ns : Members) → i < length keys → text ≡ key_text (get_or keys i d) → value ≡ key_tree (get_or keys i d) p → ms ≡ put_each (take i keys) p no_members → ns ≡ put text value ms
-    → ns ≡ put_each (take (i + 1) keys) p no_members
-put_next i d p text value ms ns below text_is value_is so_far pushed =
-    pushed ∙ (λ j. put (text_is j) (value_is j) (so_far j)) ∙ sym (ap (λ ks. put_each ks p no_members) (take_more keys i d below) ∙ put_more (take i keys) (get_or keys i d) p no_members)
-
 -- keys that are put in byte order stand in that order
 pub put_all : (p : RecordParts) → put_each keys p no_members ≡ members_at keys p
 put_all p = refl

@@ -6,6 +6,7 @@ pub mod JsonData
 pub mod KeyTable
 pub mod TakenKeys
 pub mod LawfulParts
+pub mod WrittenRecords
 pub mod OneRecord
 pub mod RoleNumbers
 pub mod RecordShapes

@@ -5,9 +5,7 @@ use Rattle.std.proofs.lemmas.List.{map-append, take_more, take_all, length-map}
 use Rattle.std.proofs.lemmas.Option.{slice_get-map, slice_get-get_or, get_or_from_slice_get, slice_get_within}
 use Rattle.serde_json.specs.Data.{Data, string, array, depth, items_depth, members_depth}
 use Rattle.serde_json.specs.Written.{has_float, items_have_float, members_have_float}
-use Rattle.serde_json.specs.View.{view, items_of}
-use Rattle.serde_json.specs.declared.value.Value.{Value, Array}
-use Rattle.serde_json.proofs.Views.{view-Array}
+use Rattle.serde_json.specs.View.{items_of}
 use Rattle.serde_json.specs.Read.{max_depth}
 use Rattle.game_core.specs.Play.{Rules}
 use Rattle.match_book.specs.Marks.{mark_text}
@@ -30,11 +28,8 @@ pub goals_from-more : (n : ℕ) (goal : ℕ → Option ℕ) → goals_from (n + 
 goals_from-more n goal = rw add-one refl
 
 -- and its goal
-pub goals-next : (n : ℕ) (goal : ℕ → Option ℕ) (o : Option ℕ) (vs ws : List Value) → map view vs ≡ map whole_tree (goals_from n goal) → o ≡ goal n
-    → map view ws ≡ map view vs ++ map whole_tree (option_to_list o) → map view ws ≡ map whole_tree (goals_from (n + 1) goal)
-goals-next n goal o vs ws done is pushed =
-    pushed ∙ ap (λ ds. ds ++ map whole_tree (option_to_list o)) done ∙ ap (λ p. map whole_tree (goals_from n goal) ++ map whole_tree (option_to_list p)) is
-    ∙ sym (ap (map whole_tree) (goals_from-more n goal) ∙ map-append whole_tree (goals_from n goal) (option_to_list (goal n)))
+pub goals-next : (n : ℕ) (goal : ℕ → Option ℕ) → map whole_tree (goals_from (n + 1) goal) ≡ map whole_tree (goals_from n goal) ++ map whole_tree (option_to_list (goal n))
+goals-next n goal = ap (map whole_tree) (goals_from-more n goal) ∙ map-append whole_tree (goals_from n goal) (option_to_list (goal n))
 
 -- ---- one member more
 
@@ -80,31 +75,9 @@ turn-widths {S} {M} g {strikes} turns k t lawful at =
     let turn = lawful k t (slice_get_within turns k t at) in
     subst (λ (u : Turn M). (length u.moves ≡ g.roles) × (length u.errors ≡ g.roles)) (get_or_from_slice_get turns k t t at) (turn.joint.width, turn.one_error)
 
--- ---- values in memory
-
-pub view_push : (vs ws : List Value) (v : Value) (d : Data) → ws ≡ vs ++ v ∷ [] → view v ≡ d → map view ws ≡ map view vs ++ d ∷ []
-view_push vs ws v d pushed is = ap (map view) pushed ∙ map-append view vs (v ∷ []) ∙ ap (λ e. map view vs ++ e ∷ []) is
-
-pub list_view : (v : Vec Value Global) (ds : List Data) → map view v.items ≡ ds → view (Array v) ≡ list_tree ds
-list_view v ds is = view-Array v ∙ ap (λ es. array (items_of es)) is
-
-map_twice : {A B C : Type 0} (f : B → C) (h : A → B) (xs : List A) → map (λ x. f (h x)) xs ≡ map f (map h xs)
+pub map_twice : {A B C : Type 0} (f : B → C) (h : A → B) (xs : List A) → map (λ x. f (h x)) xs ≡ map f (map h xs)
 map_twice f h [] = refl
 map_twice f h (x ∷ xs) = ap (λ ys. f (h x) ∷ ys) (map_twice f h xs)
-
--- one list of texts for each member
-pub text_lists_view : {A : Type 0} (f : A → List (List ℕ)) (xs : List A) (v : Vec Value Global) → map view v.items ≡ map (λ x. texts_tree (f x)) xs → view (Array v) ≡ text_lists_tree (map f xs)
-text_lists_view f xs v is = list_view v _ (is ∙ map_twice texts_tree f xs)
-
--- the texts of a turn's part, as one tree
-pub texts_view : {T A : Type 0} (part : T → List A) (f : A → List ℕ) (o : Option T) (v : Vec Value Global) → option_map (λ t. map (λ x. string (f x)) (part t)) o ≡ Some (map view v.items)
-    → Some (view (Array v)) ≡ option_map (λ t. texts_tree (map f (part t))) o
-texts_view part f None v is = absurd cc
-texts_view part f (Some t) v is = let same : map view v.items ≡ map (λ x. string (f x)) (part t) = cc in ap Some (list_view v _ (same ∙ map_twice string f (part t)))
-
-pub errors_view : {T : Type 0} (part : T → List (List ℕ)) (o : Option T) (v : Vec Value Global) → option_map (λ t. map string (part t)) o ≡ Some (map view v.items) → Some (view (Array v)) ≡ option_map (λ t. texts_tree (part t)) o
-errors_view part None v is = absurd cc
-errors_view part (Some t) v is = let same : map view v.items ≡ map string (part t) = cc in ap Some (list_view v _ same)
 
 -- ---- prefixes
 

@@ -18,12 +18,12 @@ mod record_reading;
 mod record_words;
 mod recorded_turn;
 mod replaying;
-mod trees;
 mod verify_fault;
 mod verifying;
+mod writing;
 
-pub use record::record_json;
+pub use record::{push_record, record_json};
 pub use record_parts::Key;
-pub use trees::phase_text;
 pub use verify_fault::VerifyFault;
 pub use verifying::verify;
+pub use writing::phase_text;

@@ -1,124 +1,127 @@
 //! The record of a match.
-ghost use Rattle.std.specs.Prelude.{◌≡◌, ◌<◌, ◌++◌, IfOk, OnOk, Some, length, map, option_map, option_to_list, slice_get};
+ghost use Rattle.std.specs.Prelude.{◌≡◌, ◌<◌, ◌++◌, IfOk, IfSome, OnOk, Some, length, option_map, option_to_list, map, slice_get};
+ghost use Rattle.serde_json.specs.Data.{Data};
 ghost use Rattle.serde_json.specs.Read.{read};
-ghost use Rattle.serde_json.specs.View.{view};
 ghost use Rattle.match_book.specs.Lawful.{IsLawfulMatch};
 ghost use Rattle.match_book.specs.Names.{IsLawfulSetup};
+ghost use Rattle.match_record.specs.Internal.Written.{HasAdded, IsWritten, each_tokens};
 ghost use Rattle.match_record.specs.LawfulRecord.{IsLawfulRecord};
 ghost use Rattle.match_record.specs.RecordParts.{each_role, parts_of};
 ghost use Rattle.match_record.specs.RecordTree.{goal_values_tree, key_tree, marks_tree, record_text, record_tree, text_lists_tree, texts_tree, whole_tree};
 
 use crate::record_parts::{Key, Version};
-use crate::trees::{
-    cause_tree, phase_text, text_into_tree, text_or_null, text_tree, texts_into_tree, texts_tree,
+use crate::writing::{
+    phase_text, write_cause, write_lent_texts, write_text, write_text_or_null, write_texts,
+    write_whole,
 };
 use game_core::{Game, Text};
+use json::Writer;
 use match_book::Match;
-use serde_json::{Map, Value, put};
 use std::alloc::{AllocError, Global};
+use std::mem;
 
 /// The marks of the answers to START.
-fn start_marks<G: Game>(alloc: Global, game: &G, held: &Match<G>) -> Result<Value, AllocError>
+fn write_start_marks<G: Game>(out: &mut Writer, game: &G, held: &Match<G>) -> Result<(), AllocError>
     requires game { held.now.game ≡ game.now }
     requires lawful { IsLawfulMatch (G.rules game.now) held.now.value }
-    ensures { IfOk result (λ v. view v ≡ marks_tree held.now.value.start_marks) }
+    ensures { OnOk result (IsWritten out.old out.new (marks_tree held.now.value.start_marks)) }
 {
-    let roles = game.roles();
-    let mut marks = Vec::with_capacity(alloc, roles)?;
-    for role in 0..roles {
-        marks.push(text_or_null(alloc, held.start_mark(role))?)?;
+    out.begin_array()?;
+    for role in 0..game.roles() {
+        write_text_or_null(out, held.start_mark(role))?;
     }
-    Ok(Value::Array(marks))
+    out.end_array()?;
+    Ok(())
 }
 
 /// The marks of the answers to STOP or ABORT.
-fn end_marks<G: Game>(alloc: Global, game: &G, held: &Match<G>) -> Result<Value, AllocError>
+fn write_end_marks<G: Game>(out: &mut Writer, game: &G, held: &Match<G>) -> Result<(), AllocError>
     requires game { held.now.game ≡ game.now }
     requires lawful { IsLawfulMatch (G.rules game.now) held.now.value }
-    ensures { IfOk result (λ v. view v ≡ marks_tree held.now.value.end_marks) }
+    ensures { OnOk result (IsWritten out.old out.new (marks_tree held.now.value.end_marks)) }
 {
-    let roles = game.roles();
-    let mut marks = Vec::with_capacity(alloc, roles)?;
-    for role in 0..roles {
-        marks.push(text_or_null(alloc, held.end_mark(role))?)?;
+    out.begin_array()?;
+    for role in 0..game.roles() {
+        write_text_or_null(out, held.end_mark(role))?;
     }
-    Ok(Value::Array(marks))
+    out.end_array()?;
+    Ok(())
 }
 
 /// The names of the roles.
-fn role_names<G: Game>(alloc: Global, game: &G) -> Result<Value, AllocError>
-    ensures { IfOk result (λ v. view v ≡ texts_tree (each_role (G.rules game.now).roles (G.rules game.now).role_name)) }
+fn write_role_names<G: Game>(out: &mut Writer, game: &G) -> Result<(), AllocError>
+    ensures { OnOk result (IsWritten out.old out.new (texts_tree (each_role (G.rules game.now).roles (G.rules game.now).role_name))) }
 {
-    let roles = game.roles();
-    let mut names = Vec::with_capacity(alloc, roles)?;
-    for role in 0..roles {
-        names.push(text_tree(alloc, game.role_name(role))?)?;
+    out.begin_array()?;
+    for role in 0..game.roles() {
+        write_text(out, game.role_name(role))?;
     }
-    Ok(Value::Array(names))
+    out.end_array()?;
+    Ok(())
 }
 
-/// Adds a goal, if there is one.
-fn push_goal(goals: &mut Vec<Value>, goal: Option<u8>) -> Result<(), AllocError>
-    ensures { OnOk result (map view goals.new.items ≡ map view goals.old.items ++ map whole_tree (option_to_list goal)) }
+/// A goal, if there is one.
+fn write_goal(out: &mut Writer, goal: Option<u8>) -> Result<(), AllocError>
+    ensures { OnOk result (HasAdded out.old out.new (each_tokens (map whole_tree (option_to_list goal)))) }
 {
     if let Some(goal) = goal {
-        goals.push(Value::from(goal))?;
+        write_whole(out, u64::from(goal))?;
     }
     Ok(())
 }
 
 /// The roles' goals: none before the match stops.
-fn goals<G: Game>(alloc: Global, game: &G, held: &Match<G>) -> Result<Value, AllocError>
+fn write_goals<G: Game>(out: &mut Writer, game: &G, held: &Match<G>) -> Result<(), AllocError>
     requires game { held.now.game ≡ game.now }
     requires lawful { IsLawfulMatch (G.rules game.now) held.now.value }
-    ensures { IfOk result (λ v. view v ≡ goal_values_tree (parts_of (G.rules game.now) held.now.value).goals) }
+    ensures { OnOk result (IsWritten out.old out.new (goal_values_tree (parts_of (G.rules game.now) held.now.value).goals)) }
 {
-    let mut goals = Vec::new(alloc);
+    out.begin_array()?;
     for role in 0..game.roles() {
-        push_goal(&mut goals, held.goal_of(role))?;
+        write_goal(out, held.goal_of(role))?;
     }
-    Ok(Value::Array(goals))
+    out.end_array()?;
+    Ok(())
 }
 
 /// The texts of the moves of a turn.
-fn moves_at<G: Game>(
-    alloc: Global,
+fn write_moves_at<G: Game>(
+    out: &mut Writer,
     game: &G,
     held: &Match<G>,
     turn: usize,
-) -> Result<Value, AllocError>
+) -> Result<(), AllocError>
     requires game { held.now.game ≡ game.now }
     requires lawful { IsLawfulMatch (G.rules game.now) held.now.value }
     requires turn { turn < length held.now.value.turns }
-    ensures { IfOk result (λ v. Some (view v) ≡ option_map (λ t. texts_tree (map (G.rules game.now).move_text t.moves)) (slice_get held.now.value.turns turn)) }
+    ensures { OnOk result (IfSome (option_map (λ t. texts_tree (map (G.rules game.now).move_text t.moves)) (slice_get held.now.value.turns turn)) (IsWritten out.old out.new)) }
 {
-    let roles = game.roles();
-    let mut moves = Vec::with_capacity(alloc, roles)?;
-    for role in 0..roles {
-        let text = game.move_text(alloc, held.move_at(turn, role))?;
-        moves.push(text_into_tree(text))?;
+    out.begin_array()?;
+    for role in 0..game.roles() {
+        write_text(out, game.move_text(held.move_at(turn, role)))?;
     }
-    Ok(Value::Array(moves))
+    out.end_array()?;
+    Ok(())
 }
 
 /// The errors of a turn.
-fn errors_at<G: Game>(
-    alloc: Global,
+fn write_errors_at<G: Game>(
+    out: &mut Writer,
     game: &G,
     held: &Match<G>,
     turn: usize,
-) -> Result<Value, AllocError>
+) -> Result<(), AllocError>
     requires game { held.now.game ≡ game.now }
     requires lawful { IsLawfulMatch (G.rules game.now) held.now.value }
     requires turn { turn < length held.now.value.turns }
-    ensures { IfOk result (λ v. Some (view v) ≡ option_map (λ t. texts_tree t.errors) (slice_get held.now.value.turns turn)) }
+    ensures { OnOk result (IfSome (option_map (λ t. texts_tree (t.errors)) (slice_get held.now.value.turns turn)) (IsWritten out.old out.new)) }
 {
-    let roles = game.roles();
-    let mut errors = Vec::with_capacity(alloc, roles)?;
-    for role in 0..roles {
-        errors.push(text_tree(alloc, held.error_at(turn, role))?)?;
+    out.begin_array()?;
+    for role in 0..game.roles() {
+        write_text(out, held.error_at(turn, role))?;
     }
-    Ok(Value::Array(errors))
+    out.end_array()?;
+    Ok(())
 }
 
 fn turns<G: Game>(held: &Match<G>) -> usize
@@ -128,101 +131,118 @@ fn turns<G: Game>(held: &Match<G>) -> usize
 }
 
 /// The texts of the moves of each recorded turn.
-fn moves<G: Game>(alloc: Global, game: &G, held: &Match<G>) -> Result<Value, AllocError>
+fn write_moves<G: Game>(out: &mut Writer, game: &G, held: &Match<G>) -> Result<(), AllocError>
     requires game { held.now.game ≡ game.now }
     requires lawful { IsLawfulMatch (G.rules game.now) held.now.value }
-    ensures { IfOk result (λ v. view v ≡ text_lists_tree (parts_of (G.rules game.now) held.now.value).moves) }
+    ensures { OnOk result (IsWritten out.old out.new (text_lists_tree (parts_of (G.rules game.now) held.now.value).moves)) }
 {
-    let turns = turns(held);
-    let mut moves = Vec::with_capacity(alloc, turns)?;
-    for turn in 0..turns {
-        moves.push(moves_at(alloc, game, held, turn)?)?;
+    out.begin_array()?;
+    for turn in 0..turns(held) {
+        write_moves_at(out, game, held, turn)?;
     }
-    Ok(Value::Array(moves))
+    out.end_array()?;
+    Ok(())
 }
 
 /// The errors of each recorded turn.
-fn errors<G: Game>(alloc: Global, game: &G, held: &Match<G>) -> Result<Value, AllocError>
+fn write_errors<G: Game>(out: &mut Writer, game: &G, held: &Match<G>) -> Result<(), AllocError>
     requires game { held.now.game ≡ game.now }
     requires lawful { IsLawfulMatch (G.rules game.now) held.now.value }
-    ensures { IfOk result (λ v. view v ≡ text_lists_tree (parts_of (G.rules game.now) held.now.value).errors) }
+    ensures { OnOk result (IsWritten out.old out.new (text_lists_tree (parts_of (G.rules game.now) held.now.value).errors)) }
 {
-    let turns = turns(held);
-    let mut errors = Vec::with_capacity(alloc, turns)?;
-    for turn in 0..turns {
-        errors.push(errors_at(alloc, game, held, turn)?)?;
+    out.begin_array()?;
+    for turn in 0..turns(held) {
+        write_errors_at(out, game, held, turn)?;
     }
-    Ok(Value::Array(errors))
+    out.end_array()?;
+    Ok(())
 }
 
 /// The texts of a state.
-fn state_tree<G: Game>(alloc: Global, game: &G, state: &G::State) -> Result<Value, AllocError>
+fn write_state<G: Game>(
+    alloc: Global,
+    out: &mut Writer,
+    game: &G,
+    state: &G::State,
+) -> Result<(), AllocError>
     requires { (G.rules game.now).IsState state.now }
-    ensures { IfOk result (λ v. view v ≡ texts_tree ((G.rules game.now).state_text state.now)) }
+    ensures { OnOk result (IsWritten out.old out.new (texts_tree ((G.rules game.now).state_text state.now))) }
 {
     let texts = game.state_text(alloc, state)?;
-    texts_into_tree(alloc, texts)
+    write_lent_texts(out, texts.as_slice())
 }
 
 /// The texts of the state before the first turn and of the state after each turn.
-fn states<G: Game>(alloc: Global, game: &G, held: &Match<G>) -> Result<Value, AllocError>
+fn write_states<G: Game>(
+    alloc: Global,
+    out: &mut Writer,
+    game: &G,
+    held: &Match<G>,
+) -> Result<(), AllocError>
     requires game { held.now.game ≡ game.now }
-    ensures { IfOk result (λ v. view v ≡ text_lists_tree (parts_of (G.rules game.now) held.now.value).states) }
+    ensures { OnOk result (IsWritten out.old out.new (text_lists_tree (parts_of (G.rules game.now) held.now.value).states)) }
 {
-    let turns = turns(held);
-    let mut states = Vec::with_capacity(alloc, turns.saturating_add(1))?;
-    states.push(state_tree(alloc, game, held.state_after(0))?)?;
-    for turn in 0..turns {
-        states.push(state_tree(alloc, game, held.state_after(turn + 1))?)?;
+    out.begin_array()?;
+    write_state(alloc, out, game, held.state_after(0))?;
+    for turn in 0..turns(held) {
+        write_state(alloc, out, game, held.state_after(turn + 1))?;
     }
-    Ok(Value::Array(states))
+    out.end_array()?;
+    Ok(())
 }
 
 /// What stands at a key of the record.
-fn value_at<G: Game>(
+fn write_value_at<G: Game>(
     alloc: Global,
+    out: &mut Writer,
     game: &G,
     held: &Match<G>,
     key: Key,
-) -> Result<Value, AllocError>
+) -> Result<(), AllocError>
     requires game { held.now.game ≡ game.now }
     requires lawful { IsLawfulMatch (G.rules game.now) held.now.value }
     requires setup { IsLawfulSetup held.now.value.setup }
-    ensures { IfOk result (λ v. view v ≡ key_tree key (parts_of (G.rules game.now) held.now.value)) }
+    ensures { OnOk result (IsWritten out.old out.new (key_tree key (parts_of (G.rules game.now) held.now.value))) }
 {
     let setup = held.setup();
     match key {
-        Key::Cause => cause_tree(alloc, held.cause()),
-        Key::EndMarks => end_marks(alloc, game, held),
-        Key::Errors => errors(alloc, game, held),
-        Key::GoalValues => goals(alloc, game, held),
-        Key::MatchId => text_tree(alloc, setup.id.as_slice()),
-        Key::Moves => moves(alloc, game, held),
-        Key::Phase => text_tree(alloc, phase_text(held.status().phase)),
-        Key::PlayClock => Ok(Value::from(setup.play)),
-        Key::Players => texts_tree(alloc, setup.players.as_slice()),
-        Key::Roles => role_names(alloc, game),
-        Key::StartClock => Ok(Value::from(setup.start)),
-        Key::StartMarks => start_marks(alloc, game, held),
-        Key::States => states(alloc, game, held),
-        Key::Strikes => Ok(Value::from(setup.strikes)),
-        Key::Version => Ok(Value::from(Version::Second.number())),
+        Key::Cause => write_cause(alloc, out, held.cause()),
+        Key::EndMarks => write_end_marks(out, game, held),
+        Key::Errors => write_errors(out, game, held),
+        Key::GoalValues => write_goals(out, game, held),
+        Key::MatchId => write_text(out, setup.id.as_slice()),
+        Key::Moves => write_moves(out, game, held),
+        Key::Phase => write_text(out, phase_text(held.status().phase)),
+        Key::PlayClock => write_whole(out, u64::from(setup.play)),
+        Key::Players => write_texts(out, setup.players.as_slice()),
+        Key::Roles => write_role_names(out, game),
+        Key::StartClock => write_whole(out, u64::from(setup.start)),
+        Key::StartMarks => write_start_marks(out, game, held),
+        Key::States => write_states(alloc, out, game, held),
+        Key::Strikes => write_whole(out, u64::from(setup.strikes)),
+        Key::Version => write_whole(out, u64::from(Version::Second.number())),
     }
 }
 
-/// The record as a tree.
-fn record_tree<G: Game>(alloc: Global, game: &G, held: &Match<G>) -> Result<Value, AllocError>
+/// The record as one object.
+fn write_record<G: Game>(
+    alloc: Global,
+    out: &mut Writer,
+    game: &G,
+    held: &Match<G>,
+) -> Result<(), AllocError>
     requires game { held.now.game ≡ game.now }
     requires lawful { IsLawfulMatch (G.rules game.now) held.now.value }
     requires setup { IsLawfulSetup held.now.value.setup }
-    ensures { IfOk result (λ v. view v ≡ record_tree (G.rules game.now) held.now.value) }
+    ensures { OnOk result (IsWritten out.old out.new (record_tree (G.rules game.now) held.now.value)) }
 {
-    let mut members = Map::new(alloc);
+    out.begin_object()?;
     for key in Key::ALL {
-        let value = value_at(alloc, game, held, key)?;
-        put(&mut members, alloc, key.text(), value)?;
+        out.key(key.text())?;
+        write_value_at(alloc, out, game, held, key)?;
     }
-    Ok(Value::Object(members))
+    out.end_object()?;
+    Ok(())
 }
 
 /// The record of a match as JSON text, in the second version: one object without white space, whose keys stand
@@ -238,8 +258,28 @@ pub fn record_json<G: Game>(alloc: Global, game: &G, held: &Match<G>) -> Result<
 {
     // This reader says that the match is lawful.
     let _state = held.state();
-    let tree = record_tree(alloc, game, held)?;
+    let mut out = Writer::new(Vec::new(alloc));
+    write_record(alloc, &mut out, game, held)?;
     Ok(Text {
-        bytes: tree.to_vec(alloc)?,
+        bytes: out.into_inner(),
     })
+}
+
+/// Writes what `record_json` gives behind `out`, in the memory of `out`.
+pub fn push_record<G: Game>(
+    alloc: Global,
+    out: &mut Vec<u8>,
+    game: &G,
+    held: &Match<G>,
+) -> Result<(), AllocError>
+    requires game { held.now.game ≡ game.now }
+    requires setup { IsLawfulSetup held.now.value.setup }
+    ensures { OnOk result (out.new.items ≡ out.old.items ++ record_text (G.rules game.now) held.now.value) }
+{
+    // This reader says that the match is lawful.
+    let _state = held.state();
+    let mut writer = Writer::new(mem::replace(out, Vec::new(alloc)));
+    let written = write_record(alloc, &mut writer, game, held);
+    *out = writer.into_inner();
+    written
 }

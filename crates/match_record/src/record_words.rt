@@ -8,7 +8,7 @@ ghost use Rattle.match_record.specs.RecordTree.{cause_text, cause_tree, mark_tre
 ghost use Rattle.match_record.specs.Internal.Shown.{AnyShape, Shows};
 
 use crate::json_values::{bytes_in, is_null};
-use crate::trees::phase_text;
+use crate::writing::phase_text;
 use game_core::numeral::plain_number;
 use match_book::{Cause, Mark, Phase};
 use serde_json::Value;

@@ -39,18 +39,13 @@ fn denied_answer(error: &[u8]) -> Option<&[u8]>
 }
 
 /// Whether the error says that the answer was the text of one of these moves.
-fn denies_one<G: Game>(
-    alloc: Global,
-    game: &G,
-    moves: &[G::Move],
-    error: &[u8],
-) -> Result<bool, AllocError>
+fn denies_one<G: Game>(game: &G, moves: &[G::Move], error: &[u8]) -> bool
     requires { All (λ m. (G.rules game.now).IsMove m) moves.now }
-    ensures { IfOk result (λ b. IsTrue b ↔ DeniesOne (G.rules game.now) moves.now error.now) }
+    ensures { IsTrue result ↔ DeniesOne (G.rules game.now) moves.now error.now }
 {
     match denied_answer(error) {
-        Some(read) => Ok(place_of(alloc, game, moves, read)?.is_some()),
-        None => Ok(false),
+        Some(read) => place_of(game, moves, read).is_some(),
+        None => false,
     }
 }
 
@@ -69,14 +64,14 @@ fn recorded_move<G: Game>(
     requires error { IsErrorText error.now }
     ensures { IfOk result (λ o. IsRecorded (G.rules game.now) is_retired moves.now text.now error.now o) }
 {
-    let Some(place) = place_of(alloc, game, moves, text)? else {
+    let Some(place) = place_of(game, moves, text) else {
         return Ok(RecordedMove::NoMove);
     };
     if !error.is_empty() {
         if place > 0 {
             return Ok(RecordedMove::WrongError);
         }
-        if denies_one(alloc, game, moves, error)? {
+        if denies_one(game, moves, error) {
             return Ok(RecordedMove::WrongError);
         }
     }

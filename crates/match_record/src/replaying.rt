@@ -1,5 +1,6 @@
 //! The check of a record against the game: its turns are replayed, and no state of it is trusted.
-ghost use Rattle.std.specs.Prelude.{◌≡◌, ◌≢◌, ◌<◌, ◌↔◌, IfOk, IfErr, OnOk, IsTrue, length};
+ghost use Rattle.std.specs.Prelude.{◌≡◌, ◌≢◌, ◌<◌, ◌↔◌, IfOk, IfErr, OnOk, IsTrue, length, map};
+ghost use Rattle.std.specs.Cow.{cow_slice_items};
 ghost use Rattle.match_record.specs.RecordTree.{HasShape};
 ghost use Rattle.match_record.specs.Replaying.{AreLawfulParts, IsFirstFault, ShowsState};
 ghost use Rattle.match_record.specs.Internal.ReplaySteps.{IsReplayAnswer};
@@ -12,9 +13,10 @@ use crate::verify_fault::VerifyFault;
 use game_core::{Game, Text};
 use match_book::{all_unstruck, count_retired, strikes_after};
 use std::alloc::{AllocError, Global};
+use std::borrow::CowSlice;
 
-fn are_same(texts: &[Text], others: &[Text]) -> bool
-    ensures { IsTrue result ↔ (texts.now ≡ others.now) }
+fn are_same(texts: &[CowSlice<'_, u8, Global>], others: &[Text]) -> bool
+    ensures { IsTrue result ↔ (map cow_slice_items texts.now ≡ others.now) }
 {
     if texts.len() != others.len() {
         return false;

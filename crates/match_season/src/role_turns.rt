@@ -37,7 +37,7 @@ fn turns_of<G: Game>(
     let count = held.status().turns as usize;
     let mut turns = Vec::with_capacity(alloc, count)?;
     for turn in 0..count {
-        let played = game.move_text(alloc, held.move_at(turn, role))?;
+        let played = Text::from_slice(alloc, game.move_text(held.move_at(turn, role)))?;
         let error = Text::from_slice(alloc, held.error_at(turn, role))?;
         turns.push(RoleTurn { played, error })?;
     }

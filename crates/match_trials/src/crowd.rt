@@ -1,9 +1,11 @@
 //! Games of up to sixteen roles.
-ghost use Rattle.std.specs.Prelude.{◌≤◌};
+ghost use Rattle.std.specs.Prelude.{◌≡◌, ◌≤◌, ◌<◌};
+ghost use Rattle.match_trials.specs.Crowd.{letter};
 
 use crate::lone::state_texts;
-use game_core::{Game, Text};
+use game_core::Game;
 use std::alloc::{AllocError, Global};
+use std::borrow::CowSlice;
 
 /// A game of the roles `a`, `b` and so on, with the states `s` and `u`: each joint move leads to `u`. The moves are
 /// `a` and `b`; those of the last role are `c` and `a` in `s`, and none in `u`.
@@ -16,6 +18,15 @@ pub struct Crowd {
     pub aimless: bool,
     pub ghost some: { 1 ≤ roles },
     pub ghost few: { roles ≤ 16 },
+}
+
+/// The text of a number below 16: `a` for 0.
+fn letter(number: usize) -> &'static [u8]
+    requires { number < 16 }
+    ensures { result.now ≡ letter number }
+{
+    let letters: &[u8] = b"abcdefghijklmnop";
+    &letters[number..number + 1]
 }
 
 impl Game for Crowd {
@@ -35,8 +46,7 @@ impl Game for Crowd {
     }
 
     fn role_name(&self, role: usize) -> &[u8] {
-        let letters: &[u8] = b"abcdefghijklmnop";
-        &letters[role..role + 1]
+        letter(role)
     }
 
     fn initial(&self, alloc: Global) -> Result<bool, AllocError> {
@@ -71,13 +81,15 @@ impl Game for Crowd {
         }
     }
 
-    fn move_text(&self, alloc: Global, taken: &u8) -> Result<Text, AllocError> {
-        let mut bytes = Vec::new(alloc);
-        bytes.push(b'a' + *taken)?;
-        Ok(Text { bytes })
+    fn move_text(&self, taken: &u8) -> &[u8] {
+        letter(usize::from(*taken))
     }
 
-    fn state_text(&self, alloc: Global, state: &bool) -> Result<Vec<Text>, AllocError> {
+    fn state_text(
+        &self,
+        alloc: Global,
+        state: &bool,
+    ) -> Result<Vec<CowSlice<'_, u8, Global>>, AllocError> {
         state_texts(alloc, *state)
     }
 

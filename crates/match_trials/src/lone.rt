@@ -1,9 +1,11 @@
 //! Small games of one role.
-ghost use Rattle.std.specs.Prelude.{◌≡◌, IfOk};
+ghost use Rattle.std.specs.Prelude.{◌≡◌, IfOk, map};
+ghost use Rattle.std.specs.Cow.{cow_slice_items};
 ghost use Rattle.match_trials.specs.Lone.{lone_texts};
 
-use game_core::{Game, Text};
+use game_core::Game;
 use std::alloc::{AllocError, Global};
+use std::borrow::CowSlice;
 
 /// A game of the role `a`, with the states `s` and `u`. In `s` the move `go` is legal, in `u` none.
 #[derive(Drop)]
@@ -66,11 +68,15 @@ impl Game for Lone {
         }
     }
 
-    fn move_text(&self, alloc: Global, taken: &u8) -> Result<Text, AllocError> {
-        Text::from_slice(alloc, b"go")
+    fn move_text(&self, taken: &u8) -> &[u8] {
+        b"go"
     }
 
-    fn state_text(&self, alloc: Global, state: &bool) -> Result<Vec<Text>, AllocError> {
+    fn state_text(
+        &self,
+        alloc: Global,
+        state: &bool,
+    ) -> Result<Vec<CowSlice<'_, u8, Global>>, AllocError> {
         state_texts(alloc, *state)
     }
 
@@ -84,14 +90,14 @@ impl Game for Lone {
 }
 
 /// The text of the first state is `s`, that of the second `u`.
-pub fn state_texts(alloc: Global, is_second: bool) -> Result<Vec<Text>, AllocError>
-    ensures { IfOk result (λ v. v.items ≡ lone_texts is_second) }
+pub fn state_texts(
+    alloc: Global,
+    is_second: bool,
+) -> Result<Vec<CowSlice<'static, u8, Global>>, AllocError>
+    ensures { IfOk result (λ v. map cow_slice_items v.items ≡ lone_texts is_second) }
 {
+    let text: &'static [u8] = if is_second { b"u" } else { b"s" };
     let mut texts = Vec::new(alloc);
-    if is_second {
-        texts.push(Text::from_slice(alloc, b"u")?)?;
-    } else {
-        texts.push(Text::from_slice(alloc, b"s")?)?;
-    }
+    texts.push(CowSlice::Borrowed(text))?;
     Ok(texts)
 }

@@ -310,8 +310,7 @@ fn turns_line<G: Game>(alloc: Global, game: &G, held: &Match<G>) -> Result<Strin
     let turns = held.status().turns as usize;
     for turn in 0..turns {
         for role in 0..game.roles() {
-            let text = game.move_text(alloc, held.move_at(turn, role))?;
-            push_ascii(&mut line, text.as_slice())?;
+            push_ascii(&mut line, game.move_text(held.move_at(turn, role)))?;
             line.push('/')?;
             push_ascii(&mut line, held.error_at(turn, role))?;
             line.push(' ')?;

@@ -1,5 +1,5 @@
 //! Games: loading a description, and playing a list of joint moves.
-use crate::pages::{show_bytes, show_texts};
+use crate::pages::show_bytes;
 use crate::trial::{Shown, Trial, Trials};
 use game_core::{Countdown, Game, Joint, PlayFault, Take, play_list};
 use ground_rules::{GroundGame, LoadFault, load};
@@ -69,12 +69,15 @@ fn show_played(alloc: Global, page: &mut String, turns: &[Joint<Take>]) -> Resul
 /// Shows a game's first state, its roles and their legal moves.
 fn show_game<G: Game>(alloc: Global, page: &mut String, game: &G) -> Result<(), AllocError> {
     let state = game.initial(alloc)?;
-    show_texts(page, game.state_text(alloc, &state)?.as_slice())?;
+    for text in &game.state_text(alloc, &state)? {
+        show_bytes(page, text.as_slice())?;
+        page.push(' ')?;
+    }
     for role in 0..game.roles() {
         show_bytes(page, game.role_name(role))?;
         page.push(' ')?;
         for legal in game.legal(alloc, &state, role)?.iter() {
-            show_bytes(page, game.move_text(alloc, legal)?.as_slice())?;
+            show_bytes(page, game.move_text(legal))?;
             page.push(' ')?;
         }
     }

@@ -1,5 +1,6 @@
 //! What a packed game looks up in a row.
-ghost use Rattle.std.specs.Prelude.{◌≡◌, ◌+◌, ◌<◌, ◌^◌, length, IfOk, take, drop};
+ghost use Rattle.std.specs.Prelude.{◌≡◌, ◌+◌, ◌<◌, ◌^◌, length, map, IfOk, take, drop};
+ghost use Rattle.std.specs.Cow.{cow_slice_items};
 ghost use Rattle.ground_rules.specs.Tables.{marked, chosen, only_goal, picked};
 ghost use Rattle.ground_rules.specs.Numbered.{unset};
 
@@ -9,6 +10,7 @@ use game_core::Text;
 use ground_rules::GroundMove;
 use ground_rules::tables::{GoalHead, Mention};
 use std::alloc::{AllocError, Global};
+use std::borrow::CowSlice;
 
 /// A row of so many terms and atoms in which the terms of the true mentions are set.
 pub fn mark(
@@ -64,15 +66,19 @@ pub fn find_goal(heads: &[GoalHead], state: &PackedState) -> Option<u8>
     found
 }
 
-/// The texts of the terms that are set, in their order.
-pub fn pick(alloc: Global, state: &PackedState, texts: &[Text]) -> Result<Vec<Text>, AllocError>
+/// The texts of the terms that are set, in their order, lent.
+pub fn pick<'a>(
+    alloc: Global,
+    state: &PackedState,
+    texts: &'a [Text],
+) -> Result<Vec<CowSlice<'a, u8, Global>>, AllocError>
     requires { length state.now.row ≡ length texts.now }
-    ensures { IfOk result (λ v. v.items ≡ picked state.now.row texts.now) }
+    ensures { IfOk result (λ v. map cow_slice_items v.items ≡ picked state.now.row texts.now) }
 {
     let mut found = Vec::new(alloc);
     for (term, text) in texts.iter().enumerate() {
         if state.has_term(term) {
-            found.push(text.clone()?)?;
+            found.push(CowSlice::Borrowed(text.as_slice()))?;
         }
     }
     Ok(found)

@@ -6,12 +6,13 @@ use crate::bits::BitRow;
 use crate::lookups::{choose, find_goal, mark, pick};
 use crate::packed_rules::PackedRules;
 use crate::state::PackedState;
-use game_core::{Game, Text};
+use game_core::Game;
 use ground_rules::tables::Mention;
 use ground_rules::vocabulary::Vocabulary;
 use ground_rules::{GroundGame, GroundMove};
 use kif_text::Expr;
 use std::alloc::{AllocError, Global};
+use std::borrow::CowSlice;
 
 /// The packed game of a ground description.
 #[derive(Drop)]
@@ -83,12 +84,15 @@ impl Game for PackedGame {
         Ok(find_goal(self.vocabulary.roles[role].goals(), state))
     }
 
-    fn move_text(&self, alloc: Global, taken: &GroundMove) -> Result<Text, AllocError> {
-        let text = self.vocabulary.moves[taken.term].clone()?;
-        Ok(text)
+    fn move_text(&self, taken: &GroundMove) -> &[u8] {
+        self.vocabulary.moves[taken.term].as_slice()
     }
 
-    fn state_text(&self, alloc: Global, state: &PackedState) -> Result<Vec<Text>, AllocError> {
+    fn state_text(
+        &self,
+        alloc: Global,
+        state: &PackedState,
+    ) -> Result<Vec<CowSlice<'_, u8, Global>>, AllocError> {
         pick(alloc, state, &self.vocabulary.states)
     }
 

@@ -1,6 +1,6 @@
-use Rattle.std.proofs.Common.{◌+◌, ◌++◌, ◌∷◌, [], ap, sym, ◌∙◌, take}
+use Rattle.std.proofs.Common.{◌+◌, ap, sym, ◌∙◌, take}
 use Rattle.std.specs.Prelude.{option_copied}
-use Rattle.game_core.specs.Bytes.{line_feed}
+use Rattle.match_record.specs.RecordTree.{record_text}
 use Rattle.desk_text.specs.Script.{records}
 use Rattle.desk_text.proofs.Records.{one_match, one_line}
 use Rattle.desk_text.proofs.script.push_records.Goals as goal
@@ -10,10 +10,10 @@ loop-place-preserved g c =
     let rules = g.G.Game.rules in
     let d = c.args.manager.now in
     let k = c.loop-place.place in
-    let here = one_match rules d k c.unwrap-game.result.now c.unwrap-held.result.now
+    let held = c.unwrap-held.result.now in
+    let here = one_match rules d k c.unwrap-game.result.now held
     (sym c.game_of_match.ensures ∙ ap option_copied c.unwrap-game.ensures)
     (sym c.match_at.ensures ∙ ap option_copied c.unwrap-held.ensures) in
-    let line = here ∙ ap (λ z. records rules d (take k d.matches) ++ (z ++ line_feed ∷ [])) (sym (c.as_slice.ensures ∙ c.in_ok-record.ensures.text)) in
-    one_line c.args.out.now.items (records rules d (take k d.matches)) c.as_slice.result.now (records rules d (take (k + 1) d.matches))
-    c.loop-place.out.items c.extend_from_slice.new.self.items c.push.new.self.items
-    c.loop-place.invariant c.in_ok-extend_from_slice.ensures.items c.in_ok-push.ensures.items line
+    one_line c.args.out.now.items (records rules d (take k d.matches)) (record_text (rules c.unwrap-game.result.now) held.value) (records rules d (take (k + 1) d.matches))
+    c.loop-place.out.items c.push_record.new.out.items c.push.new.self.items
+    c.loop-place.invariant c.in_ok-push_record.ensures c.in_ok-push.ensures.items here

@@ -1,27 +1,41 @@
-use Rattle.std.proofs.Common.{◌≡◌, ◌≤◌, false, ap, sym, subst, ◌∙◌, Some}
-use Rattle.serde_json.specs.Data.{depth}
-use Rattle.serde_json.specs.Read.{max_depth}
-use Rattle.serde_json.specs.Written.{has_float, compact_text}
+use Rattle.std.proofs.Common.{◌≡◌, ◌++◌, ap, sym, subst, ◌∙◌}
+use Rattle.std.specs.Str.{IsUtf8}
+use Rattle.json.specs.Lex.{tokens}
+use Rattle.json.specs.Print.{print}
 use Rattle.match_book.specs.Lawful.{IsLawfulMatch}
+use Rattle.match_record.specs.RecordTree.{record_text}
 use Rattle.match_record.proofs.LawfulParts.{records_are_lawful}
-use Rattle.match_record.proofs.RecordParts.{record_has_no_float, record_is_shallow}
+use Rattle.match_record.proofs.WrittenRecords.{text_written, tokens_written, record_text_reads}
 use Rattle.match_record.proofs.record.record_json.Goals as goal
 
 pub returns-clause-text : goal.returns-clause-text
 returns-clause-text g c =
-    c.in_ok-to_vec.ensures.text (subst (λ d. has_float d ≡ false) (sym c.in_ok-tree.ensures) (record_has_no_float (g.G.Game.rules c.args.game.now) c.args.held.now.value))
-    ∙ ap compact_text c.in_ok-tree.ensures
+    let rules = g.G.Game.rules c.args.game.now in
+    let m = c.args.held.now.value in
+    let behind_nothing = c.new-out.ensures.before ∙ c.new.ensures.items in
+    c.into_inner.ensures.items ∙ text_written rules m c.new-out.result c.write_record.new.out c.new-out.ensures.tokens c.in_ok-write_record.ensures ∙ ap (λ front. front ++ record_text rules m) behind_nothing
 
 pub returns-clause-reads_back : goal.returns-clause-reads_back
 returns-clause-reads_back g c =
-    c.in_ok-to_vec.ensures.reads_back (subst (λ d. depth d ≤ max_depth) (sym c.in_ok-tree.ensures) (record_is_shallow (g.G.Game.rules c.args.game.now) c.args.held.now.value))
-    ∙ ap Some c.in_ok-tree.ensures
+    let rules = g.G.Game.rules c.args.game.now in
+    let m = c.args.held.now.value in
+    let out = c.write_record.new.out in
+    let lawful = subst (λ game. IsLawfulMatch (g.G.Game.rules game) m) c.requires.game c.state-state.ensures.lawful in
+    let nothing = c.in_ok-write_record.ensures.before ∙ c.new-out.ensures.before ∙ c.new.ensures.items in
+    let printed : c.into_inner.result.items ≡ print out.tokens = c.into_inner.ensures.items ∙ ap (λ front. front ++ print out.tokens) nothing in
+    let same = ap tokens printed ∙ c.into_inner.ensures.reads_back ∙ tokens_written c.new-out.ensures.tokens c.in_ok-write_record.ensures in
+    record_text_reads rules (g.met.G.Game.laws c.args.game.now) m c.into_inner.result.items lawful c.requires.setup same
 
 pub returns-clause-lawful : goal.returns-clause-lawful
 returns-clause-lawful g c =
-    let lawful = subst (λ game. IsLawfulMatch (g.G.Game.rules game) c.args.held.now.value) c.requires.game c.state-state.ensures.lawful in
-    records_are_lawful (g.G.Game.rules c.args.game.now) c.in_ok-to_vec.field-0.items c.args.held.now.value lawful c.requires.setup
+    let rules = g.G.Game.rules c.args.game.now in
+    let m = c.args.held.now.value in
+    let out = c.write_record.new.out in
+    let lawful = subst (λ game. IsLawfulMatch (g.G.Game.rules game) m) c.requires.game c.state-state.ensures.lawful in
+    let nothing = c.in_ok-write_record.ensures.before ∙ c.new-out.ensures.before ∙ c.new.ensures.items in
+    let printed : c.into_inner.result.items ≡ print out.tokens = c.into_inner.ensures.items ∙ ap (λ front. front ++ print out.tokens) nothing in
+    records_are_lawful rules c.into_inner.result.items m lawful c.requires.setup
     (record {
-      utf8 = c.in_ok-to_vec.ensures.utf8;
+      utf8 = subst IsUtf8 (sym printed) c.into_inner.ensures.utf8;
       is_read = returns-clause-reads_back g c;
     })

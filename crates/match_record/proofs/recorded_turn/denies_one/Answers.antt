@@ -4,9 +4,9 @@ use Rattle.match_record.specs.Replaying.{DeniesOne}
 use Rattle.match_record.proofs.RecordedMoves.{denies-place}
 use Rattle.match_record.proofs.recorded_turn.denies_one.Goals as goal
 
-pub returns-in_ok-place_of-in-Some : goal.returns-in_ok-place_of-in-Some
-returns-in_ok-place_of-in-Some g c =
+pub returns-in-Some : goal.returns-in-Some
+returns-in-Some g c =
     let game = g.G.Game.rules c.args.game.now in
     let moves = c.args.moves.now in
     let e = c.args.error.now in
-    subst (λ (b : Bool). IsTrue b ↔ DeniesOne game moves e) (sym c.is_some.ensures) (denies-place game moves e c.in-Some.read.now c.in_ok-place_of-in-Some.field-0 c.in-Some.ensures c.in_ok-place_of-in-Some.ensures)
+    subst (λ (b : Bool). IsTrue b ↔ DeniesOne game moves e) (sym c.is_some.ensures) (denies-place game moves e c.in-Some.read.now c.place_of.result c.in-Some.ensures c.place_of.ensures)

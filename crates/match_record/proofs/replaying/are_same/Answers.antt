@@ -1,6 +1,46 @@
-use Rattle.std.proofs.Common.{arith, refl}
-use Rattle.std.proofs.lemmas.List.{same_lists}
+use Rattle.std.proofs.Common.{◌≡◌, ◌<◌, ◌≤◌, ◌∙◌, ◌++◌, ◌∷◌, [], ap, sym, arith, refl, length, map, take, get_or}
+use Rattle.std.specs.Cow.{cow_slice_items}
+use Rattle.std.proofs.lemmas.Bool.{true≢false}
+use Rattle.std.proofs.lemmas.List.{take_all, take_more, map-append, get_or-map}
+use Rattle.match_record.proofs.RecordShapes.{same_when_equal, apart_when_not}
 use Rattle.match_record.proofs.replaying.are_same.Goals as goal
 
+pub returns-then-ne : goal.returns-then-ne
+returns-then-ne c =
+    let texts = c.args.texts.now in
+    let place = c.loop-place.place in
+    let text = c.index-texts-place.result in
+    let other = c.index-others-place.result in
+    let differ = apart_when_not c.as_slice.result.now c.as_slice-in-loop-place.result.now (sym c.if-ne.ensures) in (
+      λ wrong. absurd (true≢false (sym wrong)),
+      λ same.
+          let there : cow_slice_items text ≡ other =
+          ap cow_slice_items c.index-texts-place.is ∙ sym (get_or-map cow_slice_items texts place text other c.loop-place-test.true) ∙ ap (λ ts. get_or ts place other) same ∙ sym c.index-others-place.is in
+          absurd (differ (c.as_slice.ensures.value ∙ there ∙ sym c.as_slice-in-loop-place.ensures)),
+    )
+
+pub loop-place-preserved : goal.loop-place-preserved
+loop-place-preserved c =
+    let texts = c.args.texts.now in
+    let others = c.args.others.now in
+    let place = c.loop-place.place in
+    let text = c.index-texts-place.result in
+    let other = c.index-others-place.result in
+    let within : place < length others = omega (arith, c.loop-place-test.true, c.if-texts-others.false) in
+    let equal = same_when_equal c.as_slice.result.now c.as_slice-in-loop-place.result.now (sym c.if-ne.ensures) in
+    let here : cow_slice_items (get_or texts place text) ≡ get_or others place other =
+    ap cow_slice_items (sym c.index-texts-place.is) ∙ sym c.as_slice.ensures.value ∙ equal ∙ c.as_slice-in-loop-place.ensures ∙ c.index-others-place.is in
+    ap (map cow_slice_items) (take_more texts place text c.loop-place-test.true)
+    ∙ map-append cow_slice_items (take place texts) (get_or texts place text ∷ [])
+    ∙ ap (λ t. map cow_slice_items (take place texts) ++ t ∷ []) here
+    ∙ ap (λ ts. ts ++ get_or others place other ∷ []) c.loop-place.invariant
+    ∙ sym (take_more others place other within)
+
 pub returns : goal.returns
-returns c = (λ _. same_lists c.args.texts.now c.args.others.now (omega arith) (λ k d lt. c.loop-place.invariant k d (omega arith)), λ _. refl)
+returns c =
+    let texts = c.args.texts.now in
+    let others = c.args.others.now in
+    let place = c.loop-place.place in
+    let past : length texts ≤ place = omega (arith, c.loop-place-test.false) in
+    let past_others : length others ≤ place = omega (arith, c.loop-place-test.false, c.if-texts-others.false) in
+    (λ _. ap (map cow_slice_items) (sym (take_all place texts past)) ∙ c.loop-place.invariant ∙ take_all place others past_others, λ _. refl)

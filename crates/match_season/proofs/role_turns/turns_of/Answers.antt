@@ -15,7 +15,7 @@ loop-turn-preserved g c =
     let all = c.push.new.self.items in
     let one : RoleTurn = record { played = c.in_ok-played.played; error = c.in_ok-error.error } in
     let told : IsTurnOf game turns role c.loop-turn.turn one = record {
-      played = ap (option_map game.move_text) c.move_at.ensures.taken ∙ ap Some (sym c.in_ok-played.ensures);
+      played = ap (option_map game.move_text) c.move_at.ensures.taken ∙ ap Some (sym (c.in_ok-played.ensures ∙ c.move_text.ensures));
       error = c.error_at.ensures ∙ ap Some (sym c.in_ok-error.ensures);
     } in
     let pushed = c.in_ok-push.ensures.items in

@@ -1,6 +1,6 @@
 use Rattle.std.proofs.Common.{◌≡◌, ℕ, zero, suc, ◌+◌, ◌-◌, ◌<◌, [], ◌∷◌, take, drop, arith, ap, ◌∙◌}
 use Rattle.std.specs.List.{range_with_len}
-use Rattle.match_trials.proofs.crowd.CrowdGame.role_name.Goals as goal
+use Rattle.match_trials.proofs.crowd.letter.Goals as goal
 
 still : (low : ℕ) → low ≡ low + 0
 still low = omega arith
@@ -16,5 +16,5 @@ one_of_range (suc n) low (suc k) lt = one_of_range n (low + 1) k (omega arith) �
 
 pub returns : goal.returns
 returns c =
-    let one : c.args.role + 1 - c.args.role ≡ 1 = omega arith in
-    rw one (one_of_range 16 97 c.args.role (omega (arith, c.requires, c.args.self.now.few)))
+    let one : c.args.number + 1 - c.args.number ≡ 1 = omega arith in
+    rw one (one_of_range 16 97 c.args.number (omega (arith, c.requires)))

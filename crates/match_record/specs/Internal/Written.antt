@@ -1,0 +1,41 @@
+-- What is written of a record, token by token.
+use Rattle.std.specs.Prelude.{◌≡◌, List, [], ◌∷◌, ◌++◌}
+use Rattle.json.specs.Token.{Token, begin_array, begin_object, key}
+use Rattle.json.specs.Tree.{json_tokens}
+use Rattle.json.specs.Written.{Written}
+use Rattle.serde_json.specs.Data.{Data}
+use Rattle.serde_json.specs.Written.{outline}
+use Rattle.match_record.specs.RecordTree.{key_text, key_tree}
+use Rattle.match_record.specs.declared.record_parts.Key.{Key}
+use Rattle.match_record.specs.declared.record_parts.RecordParts.{RecordParts}
+
+-- these tokens were written, and no others
+pub record HasAdded (old new : Written) (ts : List Token) : Type 0 where
+  pub before : new.before ≡ old.before
+  pub tokens : new.tokens ≡ old.tokens ++ ts
+
+-- the tokens of a value
+abbrev pub tokens_of : Data → List Token
+tokens_of d = json_tokens (outline d)
+
+-- the value was written, and nothing else
+abbrev pub IsWritten : Written → Written → Data → Type 0
+IsWritten old new d = HasAdded old new (tokens_of d)
+
+-- the tokens of values, one behind the other
+abbrev pub each_tokens : List Data → List Token
+each_tokens [] = []
+each_tokens (d ∷ ds) = tokens_of d ++ each_tokens ds
+
+-- a list was begun, and these are its members so far
+abbrev pub HasBegun : Written → Written → List Data → Type 0
+HasBegun old new ds = HasAdded old new (begin_array ∷ each_tokens ds)
+
+-- the tokens of what these parts say at each key
+abbrev pub member_tokens : List Key → RecordParts → List Token
+member_tokens [] p = []
+member_tokens (at ∷ more) p = key (key_text at) ∷ (tokens_of (key_tree at p) ++ member_tokens more p)
+
+-- an object was begun, and says at these keys what the parts say
+abbrev pub HasMembers : Written → Written → List Key → RecordParts → Type 0
+HasMembers old new keys p = HasAdded old new (begin_object ∷ member_tokens keys p)

@@ -1,0 +1,103 @@
+//! The parts of a record, written as JSON.
+ghost use Rattle.std.specs.Prelude.{◌≡◌, All, IfSome, OnOk, map, option_copied};
+ghost use Rattle.std.specs.Cow.{cow_slice_items};
+ghost use Rattle.std.specs.Str.{IsAscii};
+ghost use Rattle.serde_json.specs.Data.{string};
+ghost use Rattle.match_record.specs.Internal.Written.{IsWritten};
+ghost use Rattle.match_record.specs.RecordTree.{phase_text, cause_tree, texts_tree, text_or_null, whole_tree};
+
+use game_core::Text;
+use json::Writer;
+use match_book::{Cause, Phase};
+use std::alloc::{AllocError, Global};
+use std::borrow::CowSlice;
+use std::str::from_utf8_unchecked;
+
+/// A text of ASCII bytes.
+pub fn write_text(out: &mut Writer, text: &[u8]) -> Result<(), AllocError>
+    requires { IsAscii text.now }
+    ensures { OnOk result (IsWritten out.old out.new (string text.now)) }
+{
+    // ASCII is UTF-8, which is proved here, and so not tested.
+    let text = unsafe { from_utf8_unchecked(text) };
+    out.string(text)?;
+    Ok(())
+}
+
+/// The text, or null where there is none.
+pub fn write_text_or_null(out: &mut Writer, text: Option<&[u8]>) -> Result<(), AllocError>
+    requires { IfSome (option_copied text) IsAscii }
+    ensures { OnOk result (IsWritten out.old out.new (text_or_null (option_copied text.entry))) }
+{
+    match text {
+        Some(text) => write_text(out, text)?,
+        None => out.null()?,
+    }
+    Ok(())
+}
+
+/// The texts as a list.
+pub fn write_texts(out: &mut Writer, texts: &[Text]) -> Result<(), AllocError>
+    requires { All IsAscii texts.now }
+    ensures { OnOk result (IsWritten out.old out.new (texts_tree texts.now)) }
+{
+    out.begin_array()?;
+    for text in texts {
+        write_text(out, text.as_slice())?;
+    }
+    out.end_array()?;
+    Ok(())
+}
+
+/// The lent texts as a list.
+pub fn write_lent_texts(
+    out: &mut Writer,
+    texts: &[CowSlice<'_, u8, Global>],
+) -> Result<(), AllocError>
+    requires { All IsAscii (map cow_slice_items texts.now) }
+    ensures { OnOk result (IsWritten out.old out.new (texts_tree (map cow_slice_items texts.now))) }
+{
+    out.begin_array()?;
+    for text in texts {
+        write_text(out, text.as_slice())?;
+    }
+    out.end_array()?;
+    Ok(())
+}
+
+/// A whole number.
+pub fn write_whole(out: &mut Writer, number: u64) -> Result<(), AllocError>
+    ensures { OnOk result (IsWritten out.old out.new (whole_tree number)) }
+{
+    out.u64(number)?;
+    Ok(())
+}
+
+/// The phase's word in replies and records.
+pub fn phase_text(phase: Phase) -> &'static [u8]
+    ensures { result.now ≡ phase_text phase }
+{
+    match phase {
+        Phase::Starting => b"starting",
+        Phase::Playing => b"playing",
+        Phase::Stopping => b"stopping",
+        Phase::Finished => b"finished",
+        Phase::Aborting => b"aborting",
+        Phase::Aborted => b"aborted",
+    }
+}
+
+/// Why the match is aborted: null where it is not.
+pub fn write_cause(alloc: Global, out: &mut Writer, cause: Option<Cause>) -> Result<(), AllocError>
+    ensures { OnOk result (IsWritten out.old out.new (cause_tree cause)) }
+{
+    match cause {
+        None => out.null()?,
+        Some(Cause::Asked) => out.string("asked")?,
+        Some(Cause::NoLegal(role)) => out.string(&format!(in alloc; "nolegal {role}")?)?,
+        Some(Cause::NoGoal(role)) => out.string(&format!(in alloc; "nogoal {role}")?)?,
+        Some(Cause::TooLong) => out.string("toolong")?,
+        Some(Cause::AllRetired) => out.string("allretired")?,
+    }
+    Ok(())
+}
