@@ -1,5 +1,5 @@
 -- A desk over rings, and what its rounds do.
-use Rattle.std.specs.Prelude.{◌≡◌, ◌⊎◌, ℕ, ◌<◌, List, [], ◌∷◌, ◌++◌, length, None, IsSome, slice_index_or, option_to_list}
+use Rattle.std.specs.Prelude.{◌≡◌, ◌↔◌, ◌⊎◌, ℕ, ◌<◌, List, [], ◌∷◌, ◌++◌, length, None, IsSome, slice_index_or, option_to_list}
 use Rattle.std.specs.List.{All}
 use Rattle.rtrb.specs.Ring.{sent, received, known_items, known_free}
 use Rattle.call_history.specs.declared.journal.Entry.{Entry}
@@ -52,8 +52,8 @@ abbrev pub Visits : {C R : Type 0} → (before after : List (Entry C R)) → Lis
 Visits {C} {R} before after ports bound = (i : ℕ) (p : Port C R) → i < bound
     → IsIdle (slice_index_or ports i p) ⊎ (length (part i before) < length (part i after))
 
--- A round stopped at this line, whose call the desk keeps; where the history was the cause, it is full.
+-- A round stopped at this line, whose call the desk keeps; the history was the cause exactly where it is full.
 pub record StopsAt {S C R : Type 0} (line : ℕ) (for_full : Type 0) (desk : RingDeskValue S C R) : Type 0 where
   pub within : line < length desk.ports
   pub kept : (p : Port C R) → IsSome (slice_index_or desk.ports line p).kept
-  pub is_full : for_full → length desk.journal.history ≡ desk.journal.most
+  pub is_full : for_full ↔ (length desk.journal.history ≡ desk.journal.most)

@@ -1,5 +1,5 @@
 //! The rounds of a desk over rings.
-ghost use Rattle.std.specs.Prelude.{◌≡◌, ◌≤◌, length, IfOk, IfErr, MatchResult, MatchBool, IsSome, IsFalse};
+ghost use Rattle.std.specs.Prelude.{◌≡◌, ◌≤◌, ◌↔◌, length, IfOk, IfErr, OnErr, MatchResult, MatchBool, IsSome, IsFalse};
 ghost use Rattle.call_history.specs.Limits.{max_lines};
 ghost use Rattle.call_history.specs.Parts.{part};
 ghost use Rattle.call_history.specs.RingLines.{SamePort, SamePorts};
@@ -28,7 +28,8 @@ fn serve<O: Object>(
         (λ did. MatchBool did (GainsOne line journal.old.history journal.new.history) (journal.new.history ≡ journal.old.history))
         (λ _. journal.new.history ≡ journal.old.history) }
     ensures idle { IfOk result (λ did. IsFalse did → IsIdle port.new) }
-    ensures fault { IfErr result (λ fault. IsSome port.new.kept × (fault ≡ CallFault.Full → length journal.new.history ≡ journal.new.most)) }
+    ensures kept { OnErr result (IsSome port.new.kept) }
+    ensures fault { IfErr result (λ fault. (fault ≡ CallFault.Full) ↔ (length journal.new.history ≡ journal.new.most)) }
 {
     if port.replies.is_full() {
         return Ok(false);
