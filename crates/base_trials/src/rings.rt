@@ -271,17 +271,28 @@ fn all_that_waits_is_served(rt: HostRuntime) -> Result<(), Fail> {
 }
 
 #[test]
+#[tactic(auto, using(call_history::proofs::DeskLines::line_of_same))]
 fn full_history_stops_the_last_rounds(rt: HostRuntime) -> Result<(), Fail> {
-    let (mut desk, mut one, _other) = open_two(rt.alloc(), Register { value: 0 }, 1, 2)?;
-    assert_eq!(rt; one.post(7), Ok(()));
-    assert_eq!(rt; one.post(8), Ok(()));
-    let stopped = DeskFault {
-        line: 0,
+    let alloc = rt.alloc();
+    let (mut desk, mut one, mut other) = open_two(alloc, Register { value: 0 }, 3, 2)?;
+    assert_eq!(rt; (one.post(7), one.post(9)), (Ok(()), Ok(())));
+    assert_eq!(rt; (other.post(8), other.post(10)), (Ok(()), Ok(())));
+    let stopped = |served| DeskFault {
+        line: 1,
         cause: CallFault::Full,
-        served: 0,
+        served,
     };
-    assert_eq!(rt; desk.serve_all(), Err(stopped));
-    assert_eq!(rt; (one.take(), one.take()), (Some(0), None));
+    // How many the round that stopped had served.
+    assert_eq!(rt; desk.serve_all(), Err(stopped(1)));
+    assert_eq!(rt; desk.serve_all(), Err(stopped(0)));
+    assert_eq!(rt; (one.take(), one.take()), (Some(0), Some(8)));
+    assert_eq!(rt; (other.take(), other.take()), (Some(7), None));
+    // The fault tells of the history. Only who closes the desk all the same is told of the line.
+    let ends = both(alloc, &desk, one.finish(), other.finish())?;
+    let Err(unclosed) = desk.close(ends) else {
+        return Err(Fail::from("closed with a call that is kept"));
+    };
+    assert_eq!(rt; unclosed.cause, RingCloseFault::Unserved(1));
     Ok(())
 }
 

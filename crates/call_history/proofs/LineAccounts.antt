@@ -1,5 +1,5 @@
 -- What serving one line does to the account of all lines.
-use Rattle.std.proofs.Common.{◌≡◌, ℕ, ◌+◌, ◌<◌, ◌≢◌, List, [], ◌∷◌, ◌++◌, length, get_or, set, refl, sym, subst, arith, rules, ⊎_elim, true, false}
+use Rattle.std.proofs.Common.{◌≡◌, ℕ, ◌+◌, ◌<◌, ◌≤◌, ◌⊎◌, ◌≢◌, List, [], ◌∷◌, ◌++◌, length, get_or, set, refl, sym, subst, arith, rules, ⊎_elim, inl, inr, true, false, Result, Ok, Err, MatchResult, IfOk}
 use Rattle.std.proofs.lemmas.Grind.{common_steps}
 use Rattle.std.proofs.lemmas.Bool.Decides.{eqb_tells}
 use Rattle.std.proofs.lemmas.List.{get_or-set_other}
@@ -8,7 +8,8 @@ use Rattle.call_history.specs.declared.journal.Entry.{Entry}
 use Rattle.call_history.specs.declared.port.Port.{Port}
 use Rattle.call_history.specs.Parts.{part}
 use Rattle.call_history.specs.RingLines.{SamePort, SamePorts}
-use Rattle.call_history.specs.Rounds.{Serves, IsAccount, Gains, GainsOne}
+use Rattle.std.specs.List.{All}
+use Rattle.call_history.specs.Rounds.{Serves, IsAccount, IsIdle, Gains, GainsOne, Visits}
 
 pub part_other : {C R : Type 0} (i : ℕ) (h : List (Entry C R)) (e : Entry C R) → e.line ≢ i → part i (h ++ e ∷ []) ≡ part i h
 part_other i h e ne = grind (arith, common_steps)
@@ -79,3 +80,60 @@ accounts_with {C} {R} h h' ps i q e before s =
 
 pub gains_with : {C R : Type 0} (h h' h'' : List (Entry C R)) (i n : ℕ) → Gains h h' i n → h'' ≡ h' → Gains h h'' (i + 1) n
 gains_with {C} {R} h h' h'' i n g e = let P : List (Entry C R) → Type 0 = λ x. Gains h x (i + 1) n in subst P (sym e) (gains_skip h h' i n g)
+
+-- the j-th after a change at i
+pub get_set : {X : Type 0} (P : X → Type 0) (xs : List X) (i j : ℕ) (y d : X) → i < length xs → (j ≡ i → P y) → (j ≢ i → P (get_or xs j d)) → P (get_or (set xs i y) j d)
+get_set {X} P xs i j y d lt at other =
+    ⊎_elim
+    (λ (e : (eqb j i ≡ true) × (j ≡ i)).
+    let here : get_or (set xs i y) j d ≡ y = grind (arith, common_steps, e.1) in subst P (sym here) (at e.1))
+    (λ (n : (eqb j i ≡ false) × (j ≢ i)). subst P (sym (get_or-set_other xs i j y d n.1)) (other n.1))
+    (eqb_tells j i)
+
+-- a part of the history never gets shorter
+pub part_grows : {C R : Type 0} (i : ℕ) (h more : List (Entry C R)) → length (part i h) ≤ length (part i (h ++ more))
+part_grows i h more = grind (arith, common_steps)
+
+pub part_gains : {C R : Type 0} (i : ℕ) (h : List (Entry C R)) (e : Entry C R) → e.line ≡ i → length (part i (h ++ e ∷ [])) ≡ length (part i h) + 1
+part_gains i h e is = grind (arith, common_steps, is)
+
+pub visits_one : {C R : Type 0} (h h' h'' : List (Entry C R)) (ps : List (Port C R)) (i n : ℕ) (q : Port C R)
+    → i < length ps → Gains h h' i n → GainsOne i h' h'' → Visits h h' ps i → Visits h h'' (set ps i q) (i + 1)
+visits_one {C} {R} h h' h'' ps i n q lt gains one visited = λ j p below.
+    let H : List (Entry C R) → Type 0 = λ x. length (part j h) ≤ length (part j x) in
+    let grown : length (part j h) ≤ length (part j h') = subst H (sym gains.behind) (part_grows j h gains.gained) in
+    let G : List (Entry C R) → Type 0 = λ x. length (part j h') ≤ length (part j x) in
+    let kept : length (part j h') ≤ length (part j h'') = subst G (sym one.behind) (part_grows j h' (one.entry ∷ [])) in
+    get_set (λ x. IsIdle x ⊎ (length (part j h) < length (part j h''))) ps i j q p lt
+    (λ at.
+    let line : one.entry.line ≡ j = grind (arith, one.line_is, at) in
+    let E : List (Entry C R) → Type 0 = λ x. length (part j x) ≡ length (part j h') + 1 in
+    let more : length (part j h'') ≡ length (part j h') + 1 = subst E (sym one.behind) (part_gains j h' one.entry line) in
+    inr (omega (arith, grown, more)))
+    (λ apart. ⊎_elim (λ idle. inl idle) (λ less. inr (omega (arith, less, kept))) (visited j p (omega (arith, below, apart))))
+
+pub visits_idle : {C R : Type 0} (h h' h'' : List (Entry C R)) (ps : List (Port C R)) (i : ℕ) (q : Port C R)
+    → i < length ps → h'' ≡ h' → IsIdle q → Visits h h' ps i → Visits h h'' (set ps i q) (i + 1)
+visits_idle {C} {R} h h' h'' ps i q lt same idle visited =
+    let V : List (Entry C R) → Type 0 = λ x. Visits h x (set ps i q) (i + 1) in
+    subst V (sym same) (λ j p below.
+    get_set (λ x. IsIdle x ⊎ (length (part j h) < length (part j h'))) ps i j q p lt
+    (λ at. inl idle)
+    (λ apart. visited j p (omega (arith, below, apart))))
+
+pub visits_stop : {C R : Type 0} (h h' h'' : List (Entry C R)) (ps : List (Port C R)) (i : ℕ) (q : Port C R)
+    → i < length ps → h'' ≡ h' → Visits h h' ps i → Visits h h'' (set ps i q) i
+visits_stop {C} {R} h h' h'' ps i q lt same visited =
+    let V : List (Entry C R) → Type 0 = λ x. Visits h x (set ps i q) i in
+    subst V (sym same) (λ j p below.
+    get_set (λ x. IsIdle x ⊎ (length (part j h) < length (part j h'))) ps i j q p lt
+    (λ at. absurd (omega (arith, below, at)))
+    (λ apart. visited j p below))
+
+-- a round that serves nothing leaves each line idle
+pub idle_after : {C R F : Type 0} (served : Result ℕ F) (h h' : List (Entry C R)) (ps : List (Port C R)) (bound : ℕ) (P Q : F → Type 0) → length ps ≡ bound
+    → MatchResult served (λ n. Gains h h' bound n) P → MatchResult served (λ _. Visits h h' ps bound) Q → IfOk served (λ n. n ≡ 0 → All IsIdle ps)
+idle_after (Ok n) h h' ps bound P Q count gains visited = λ none i p below.
+    let same : length (part i h') ≡ length (part i h) = grind (arith, common_steps, gains.behind, gains.count_is, none) in
+    ⊎_elim (λ idle. idle) (λ less. absurd (omega (arith, less, same))) (visited i p (omega (arith, below, count)))
+idle_after (Err fault) h h' ps bound P Q count gains visited = tt

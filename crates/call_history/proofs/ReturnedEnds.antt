@@ -14,15 +14,7 @@ use Rattle.call_history.specs.Lines.{has_number}
 use Rattle.call_history.specs.RingLines.{SamePort, SamePorts, SameLine, IsPortOf, AreEndsOf}
 use Rattle.call_history.specs.RingClosing.{end_numbers, IsServed, IsUnserved, TakesPrefix, SameEnd, SameEnds, IsLowestUnserved}
 use Rattle.call_history.specs.Parts.{part, calls_of, replies_of}
-
--- the j-th after a change at i
-pub get_set : {X : Type 0} (P : X → Type 0) (xs : List X) (i j : ℕ) (y d : X) → i < length xs → (j ≡ i → P y) → (j ≢ i → P (get_or xs j d)) → P (get_or (set xs i y) j d)
-get_set {X} P xs i j y d lt at other =
-    ⊎_elim
-    (λ (e : (eqb j i ≡ true) × (j ≡ i)).
-    let here : get_or (set xs i y) j d ≡ y = grind (arith, common_steps, e.1) in subst P (sym here) (at e.1))
-    (λ (n : (eqb j i ≡ false) × (j ≢ i)). subst P (sym (get_or-set_other xs i j y d n.1)) (other n.1))
-    (eqb_tells j i)
+use Rattle.call_history.proofs.LineAccounts.{get_set}
 
 module _ {O C R : Type 0} {G : Ghosts O C R} where
   pub same_end_trans : (a b c : LineEnd O C R G) → SameEnd a b → SameEnd b c → SameEnd a c

@@ -1,7 +1,7 @@
 -- A desk over rings, and what its rounds do.
-use Rattle.std.specs.Prelude.{◌≡◌, ℕ, ◌<◌, List, [], ◌∷◌, ◌++◌, length, None, IsSome, slice_index_or, option_to_list}
+use Rattle.std.specs.Prelude.{◌≡◌, ◌↔◌, ◌⊎◌, ℕ, ◌<◌, List, [], ◌∷◌, ◌++◌, length, None, IsSome, slice_index_or, option_to_list}
 use Rattle.std.specs.List.{All}
-use Rattle.rtrb.specs.Ring.{sent, received}
+use Rattle.rtrb.specs.Ring.{sent, received, known_items, known_free}
 use Rattle.call_history.specs.declared.journal.Entry.{Entry}
 use Rattle.call_history.specs.declared.port.Port.{Port}
 use Rattle.call_history.specs.History.{Recorded}
@@ -43,8 +43,17 @@ pub record GainsOne {C R : Type 0} (line : ℕ) (before after : List (Entry C R)
   pub behind : after ≡ before ++ entry ∷ []
   pub line_is : entry.line ≡ line
 
--- A round stopped at this line, whose call the desk keeps; where the history was the cause, it is full.
+-- The desk can do nothing more for the line: it found no room for a reply, or else it keeps no call and found none that waits.
+abbrev pub IsIdle : {C R : Type 0} → Port C R → Type 0
+IsIdle port = (known_free port.replies ≡ 0) ⊎ ((port.kept ≡ None) × (known_items port.calls ≡ []))
+
+-- Each line below this bound was visited: its part of the history gained an entry, or else it is idle.
+abbrev pub Visits : {C R : Type 0} → (before after : List (Entry C R)) → List (Port C R) → ℕ → Type 0
+Visits {C} {R} before after ports bound = (i : ℕ) (p : Port C R) → i < bound
+    → IsIdle (slice_index_or ports i p) ⊎ (length (part i before) < length (part i after))
+
+-- A round stopped at this line, whose call the desk keeps; the history was the cause exactly where it is full.
 pub record StopsAt {S C R : Type 0} (line : ℕ) (for_full : Type 0) (desk : RingDeskValue S C R) : Type 0 where
   pub within : line < length desk.ports
   pub kept : (p : Port C R) → IsSome (slice_index_or desk.ports line p).kept
-  pub is_full : for_full → length desk.journal.history ≡ desk.journal.most
+  pub is_full : for_full ↔ (length desk.journal.history ≡ desk.journal.most)

@@ -35,7 +35,8 @@ impl<O: Object> Model for RingDesk<O> {
     ghost invariant = { λ d. IsAccount d.journal.history d.ports.items
         × (length d.found.items ≡ length d.ports.items)
         × (length d.made_by_line.items ≡ length d.ports.items)
-        × (length d.ports.items ≤ max_lines) };
+        × (length d.ports.items ≤ max_lines)
+        × (length d.journal.history ≤ d.journal.most) };
 }
 
 /// Why a round stopped: at this line, whose call is kept for the next round. The calls that were served before it stand.
@@ -67,13 +68,13 @@ pub struct RingUnclosed<O: Object> {
 }
 
 impl<O: Object> RingDesk<O> {
-    ghost use Rattle.std.specs.Prelude.{◌≡◌, ◌≤◌, [], IfOk, IfErr, MatchResult, length, sum};
+    ghost use Rattle.std.specs.Prelude.{◌≡◌, ◌≤◌, [], IfOk, IfErr, OnOk, MatchResult, length, sum};
     ghost use Rattle.std.specs.List.{All};
     ghost use mathlib.Core.List.{IsPrefix};
     ghost use Rattle.call_history.specs.Limits.{max_lines};
     ghost use Rattle.call_history.specs.History.{IsReplay};
     ghost use Rattle.call_history.specs.RingLines.{SamePorts, AreEndsOf};
-    ghost use Rattle.call_history.specs.Rounds.{IsAccount, IsUnused, Gains, StopsAt};
+    ghost use Rattle.call_history.specs.Rounds.{IsAccount, IsUnused, IsIdle, Gains, Visits, StopsAt};
     ghost use Rattle.call_history.specs.RingClosing.{IsClosed, IsCauseOf, HandsBack};
     ghost use Rattle.call_history.specs.declared.journal.CallFault.TheVariants.{Full};
 
@@ -121,25 +122,34 @@ impl<O: Object> RingDesk<O> {
         ensures gains { MatchResult result
             (λ served. Gains self.old.journal.history self.new.journal.history (length self.old.ports) served)
             (λ fault. Gains self.old.journal.history self.new.journal.history fault.line fault.served) }
+
+        // No line is left out, of those before the one at which it stops.
+        ensures visits { MatchResult result
+            (λ _. Visits self.old.journal.history self.new.journal.history self.new.ports (length self.old.ports))
+            (λ fault. Visits self.old.journal.history self.new.journal.history self.new.ports fault.line) }
+        ensures idle { IfOk result (λ served. served ≡ 0 → All IsIdle self.new.ports) }
         ensures fault { IfErr result (λ fault. StopsAt fault.line (fault.cause ≡ Full) self.new) }
+
+        // What the type keeps.
+        ensures within { length self.new.journal.history ≤ self.new.journal.most }
     {
         serve_round(&mut self.journal, &mut self.ports)
     }
 
-    /// Serves rounds until one serves nothing.
+    /// Serves rounds until one serves nothing. Each of the others makes the history longer, so there is an end.
     pub fn serve_all(&mut self) -> Result<(), DeskFault>
         ensures lines { SamePorts self.old.ports self.new.ports }
         ensures most { self.new.journal.most ≡ self.old.journal.most }
         ensures opening { O.opening self.new.journal.object ≡ O.opening self.old.journal.object }
         ensures history { IsPrefix self.old.journal.history self.new.journal.history }
+        ensures idle { OnOk result (All IsIdle self.new.ports) }
         ensures fault { IfErr result (λ fault. StopsAt fault.line (fault.cause ≡ Full) self.new) }
     {
-        for _ in 0..u64::MAX {
+        loop {
             if self.round()? == 0 {
-                break;
+                return Ok(());
             }
         }
-        Ok(())
     }
 
     /// Closes the desk, where the ends of all its lines are handed in and all that they posted was served; else they and the desk

@@ -1,9 +1,9 @@
 //! The rounds of a desk over rings.
-ghost use Rattle.std.specs.Prelude.{◌≡◌, ◌≤◌, length, IfErr, MatchResult, MatchBool, IsSome};
+ghost use Rattle.std.specs.Prelude.{◌≡◌, ◌≤◌, ◌↔◌, length, IfOk, IfErr, OnErr, MatchResult, MatchBool, IsSome, IsFalse};
 ghost use Rattle.call_history.specs.Limits.{max_lines};
 ghost use Rattle.call_history.specs.Parts.{part};
 ghost use Rattle.call_history.specs.RingLines.{SamePort, SamePorts};
-ghost use Rattle.call_history.specs.Rounds.{Serves, IsAccount, Gains, GainsOne, StopsAt};
+ghost use Rattle.call_history.specs.Rounds.{Serves, IsAccount, IsIdle, Gains, GainsOne, Visits, StopsAt};
 
 use crate::journal::{CallFault, Journal};
 use crate::object::Object;
@@ -17,15 +17,19 @@ fn serve<O: Object>(
     port: &mut Port<O::Call, O::Reply>,
     line: u32,
 ) -> Result<bool, CallFault>
-    requires { Serves (part line journal.old.history) port.old }
+    requires serves { Serves (part line journal.old.history) port.old }
+    requires within { length journal.old.history ≤ journal.old.most }
     ensures serves { Serves (part line journal.new.history) port.new }
     ensures same { SamePort port.old port.new }
     ensures most { journal.new.most ≡ journal.old.most }
+    ensures within { length journal.new.history ≤ journal.new.most }
     ensures opening { O.opening journal.new.object ≡ O.opening journal.old.object }
     ensures gains { MatchResult result
         (λ did. MatchBool did (GainsOne line journal.old.history journal.new.history) (journal.new.history ≡ journal.old.history))
         (λ _. journal.new.history ≡ journal.old.history) }
-    ensures fault { IfErr result (λ fault. IsSome port.new.kept × (fault ≡ CallFault.Full → length journal.new.history ≡ journal.new.most)) }
+    ensures idle { IfOk result (λ did. IsFalse did → IsIdle port.new) }
+    ensures kept { OnErr result (IsSome port.new.kept) }
+    ensures fault { IfErr result (λ fault. (fault ≡ CallFault.Full) ↔ (length journal.new.history ≡ journal.new.most)) }
 {
     if port.replies.is_full() {
         return Ok(false);
@@ -56,13 +60,18 @@ pub(crate) fn serve_round<O: Object>(
 ) -> Result<u64, DeskFault>
     requires account { IsAccount journal.old.history ports.old.items }
     requires lines { length ports.old.items ≤ max_lines }
+    requires within { length journal.old.history ≤ journal.old.most }
     ensures account { IsAccount journal.new.history ports.new.items }
     ensures same { SamePorts ports.old.items ports.new.items }
     ensures most { journal.new.most ≡ journal.old.most }
+    ensures within { length journal.new.history ≤ journal.new.most }
     ensures opening { O.opening journal.new.object ≡ O.opening journal.old.object }
     ensures gains { MatchResult result
         (λ served. Gains journal.old.history journal.new.history (length ports.old.items) served)
         (λ fault. Gains journal.old.history journal.new.history fault.line fault.served) }
+    ensures visits { MatchResult result
+        (λ _. Visits journal.old.history journal.new.history ports.new.items (length ports.old.items))
+        (λ fault. Visits journal.old.history journal.new.history ports.new.items fault.line) }
     ensures fault { IfErr result (λ fault. StopsAt fault.line (fault.cause ≡ CallFault.Full) (record { journal = journal.new; ports = ports.new.items })) }
 {
     let mut served = 0;

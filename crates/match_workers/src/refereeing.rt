@@ -45,7 +45,7 @@ pub enum RefereeFault {
     /// The desk did not close.
     #[error("the desk did not close")]
     Unclosed,
-    /// The desk's history was full before the match was opened.
+    /// The desk's history was full: before the match was opened, or at the closing, while calls still waited.
     #[error("the history is full")]
     Full,
     /// Want of memory, or of a thread.

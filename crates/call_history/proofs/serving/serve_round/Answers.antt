@@ -3,7 +3,7 @@ use Rattle.std.proofs.lemmas.List.{get_or_read}
 use Rattle.call_history.specs.declared.port.Port.{Port}
 use Rattle.call_history.specs.RingLines.{SamePort}
 use Rattle.call_history.specs.Rounds.{GainsOne}
-use Rattle.call_history.proofs.LineAccounts.{accounts_by, accounts_with, same_ports_set, gains_with, gains_one}
+use Rattle.call_history.proofs.LineAccounts.{accounts_by, accounts_with, same_ports_set, gains_with, gains_one, visits_one, visits_idle}
 use Rattle.call_history.proofs.serving.serve_round.Goals as goal
 use Rattle.call_history.proofs.serving.serve_round.Goals.{then-did, else-did}
 
@@ -25,9 +25,11 @@ loop-i-preserved g c =
             account = accounts_by _ _ _ _ _ lt adds c.loop-i.invariant.account c.in-Ok.ensures.serves;
             same = same;
             most = c.in-Ok.ensures.most ∙ c.loop-i.invariant.most;
+            within = c.in-Ok.ensures.within;
             opening = c.in-Ok.ensures.opening ∙ c.loop-i.invariant.opening;
             few = omega (arith, c.loop-i.invariant.few);
             gains = gains_one _ _ _ _ _ c.loop-i.invariant.gains adds;
+            visits = visits_one _ _ _ _ _ _ _ lt c.loop-i.invariant.gains adds c.loop-i.invariant.visits;
           }))
       | else-did w ↦
           (let none : c.serve.new.journal.history ≡ c.loop-i.journal.history = (rw w.if-did.false at c.in-Ok.ensures.gains) in
@@ -35,8 +37,10 @@ loop-i-preserved g c =
             account = accounts_with _ _ _ _ _ none c.loop-i.invariant.account c.in-Ok.ensures.serves;
             same = same;
             most = c.in-Ok.ensures.most ∙ c.loop-i.invariant.most;
+            within = c.in-Ok.ensures.within;
             opening = c.in-Ok.ensures.opening ∙ c.loop-i.invariant.opening;
             few = omega (arith, c.loop-i.invariant.few);
             gains = gains_with _ _ _ _ _ c.loop-i.invariant.gains none;
+            visits = visits_idle _ _ _ _ _ _ lt none (c.in-Ok.ensures.idle w.if-did.false) c.loop-i.invariant.visits;
           }))
     ]

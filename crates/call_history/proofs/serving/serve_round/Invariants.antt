@@ -1,6 +1,6 @@
-use Rattle.std.proofs.Common.{◌≡◌, ◌≤◌}
+use Rattle.std.proofs.Common.{◌≡◌, ◌≤◌, length}
 use Rattle.call_history.specs.RingLines.{SamePorts}
-use Rattle.call_history.specs.Rounds.{IsAccount, Gains}
+use Rattle.call_history.specs.Rounds.{IsAccount, Gains, Visits}
 use Rattle.call_history.proofs.serving.serve_round.Given as goal
 
 abbrev pub invariant-loop-i : goal.invariant-loop-i
@@ -8,7 +8,9 @@ invariant-loop-i g l = record {
   account : IsAccount l.journal.history l.ports.items;
   same : SamePorts l.initial.ports.items l.ports.items;
   most : l.journal.most ≡ l.initial.journal.most;
+  within : length l.journal.history ≤ l.journal.most;
   opening : g.O.Object.opening l.journal.object ≡ g.O.Object.opening l.initial.journal.object;
   few : l.served ≤ l.i;
   gains : Gains l.initial.journal.history l.journal.history l.i l.served;
+  visits : Visits l.initial.journal.history l.journal.history l.ports.items l.i;
 }

@@ -1,4 +1,4 @@
-use Rattle.std.proofs.Common.{◌≡◌}
+use Rattle.std.proofs.Common.{◌≡◌, ◌-◌, length}
 use mathlib.Core.List.{IsPrefix}
 use Rattle.call_history.specs.RingLines.{SamePorts}
 use Rattle.call_history.proofs.ring_desk.RingDesk.serve_all.Given as goal
@@ -10,3 +10,6 @@ invariant-loop g l = record {
   opening : g.O.Object.opening l.self.journal.object ≡ g.O.Object.opening l.initial.self.journal.object;
   history : IsPrefix l.initial.self.journal.history l.self.journal.history;
 }
+
+abbrev pub decreases-loop : goal.decreases-loop
+decreases-loop g l = l.self.journal.most - length l.self.journal.history
