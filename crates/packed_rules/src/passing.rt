@@ -110,7 +110,7 @@ fn fires(
 }
 
 /// Sets the head of each rule whose literals are true, one rule after the other. The literals of a
-/// rule are the first of those that are left.
+/// rule are the first of those that are left. Nearly all rules have tests alone.
 fn sweep(table: &RuleTable, words: &mut [u64], size: usize, terms: usize, joint: &[usize])
     requires size { size ≤ length words.old * 64 }
     requires cut { IsCut table.now }
@@ -121,14 +121,20 @@ fn sweep(table: &RuleTable, words: &mut [u64], size: usize, terms: usize, joint:
     let mut others = table.others.as_slice();
     for rule in &table.rules {
         let (own_tests, later_tests) = tests.split_at(rule.tests);
-        let (own_moves, later_moves) = moves.split_at(rule.moves);
-        let (own_others, later_others) = others.split_at(rule.others);
-        if fires(own_tests, own_moves, own_others, words, size, terms, joint) {
-            turn_on_after(words, size, terms, rule.head);
+        if rule.moves == 0 && rule.others == 0 {
+            if all_pass(own_tests, words, size) {
+                turn_on_after(words, size, terms, rule.head);
+            }
+        } else {
+            let (own_moves, later_moves) = moves.split_at(rule.moves);
+            let (own_others, later_others) = others.split_at(rule.others);
+            if fires(own_tests, own_moves, own_others, words, size, terms, joint) {
+                turn_on_after(words, size, terms, rule.head);
+            }
+            moves = later_moves;
+            others = later_others;
         }
         tests = later_tests;
-        moves = later_moves;
-        others = later_others;
     }
 }
 
