@@ -1,7 +1,7 @@
 -- A pass over rules by places is the pass over the rules.
-use Rattle.std.proofs.Common.{ℕ, zero, suc, ◌+◌, ◌<◌, ◌≤◌, ◌≡◌, Bool, true, false, not, ◌&&◌, if◌then◌else◌, List, [], ◌∷◌, ◌++◌, length, take, drop, set, get_or, map, refl, sym, ap, ◌∙◌, arith, subst, get_or-set_same, get_or-set_other, length-set, replicate}
+use Rattle.std.proofs.Common.{ℕ, zero, suc, ◌+◌, ◌<◌, ◌≤◌, ◌≡◌, Bool, true, false, not, ◌&&◌, if◌then◌else◌, List, [], ◌∷◌, ◌++◌, length, take, drop, set, get_or, map, refl, sym, ap, ◌∙◌, arith, subst, get_or-set_same, get_or-set_other, length-set, length-drop, length-append, replicate}
 use Rattle.std.proofs.Math.Bool.{beq}
-use Rattle.std.proofs.lemmas.List.{take-set-le, drop-set-add, drop_more, take_more, take-replicate}
+use Rattle.std.proofs.lemmas.List.{take-set-le, drop-set-add, drop_more, take_more, take-replicate, take-append-le, drop-append-le}
 use Rattle.ground_rules.specs.declared.numbered.Literal.{Literal as CodeLiteral}
 use Rattle.ground_rules.specs.declared.numbered.Rule.{Rule as CodeRule}
 use Rattle.ground_rules.specs.Literals.{Literal, Literals, literals, End, More, Rule}
@@ -9,6 +9,8 @@ use Rattle.ground_rules.specs.Fit.{Situation, truth, all_true}
 use Rattle.ground_rules.specs.Numbered.{bit, numbered, row_after, unset, view, rule_of, rules_of}
 use Rattle.packed_rules.specs.declared.rules.Test.{Test}
 use Rattle.packed_rules.specs.declared.rules.MoveTest.{MoveTest}
+use Rattle.packed_rules.specs.declared.rules.RuleSize.{RuleSize}
+use Rattle.packed_rules.specs.Internal.PlacedRules.{PlacedRule, placed, placed_rules, AreCut}
 use Rattle.packed_rules.specs.declared.rules.PackedRule.{PackedRule}
 use Rattle.packed_rules.specs.Internal.PackedPass.{passes, all_pass, agrees, all_agree, fires, packed_after, IsPacked, ArePacked}
 
@@ -26,41 +28,33 @@ take-past (suc n) [] i le = none i
 take-past (suc n) (x ∷ xs) zero le = absurd (omega (arith, le))
 take-past (suc n) (x ∷ xs) (suc i) le = take-past n xs i (omega (arith, le))
 
--- what is set already stays as it is
-set-again : (xs : List Bool) (i : ℕ) → bit xs i ≡ true → set xs i true ≡ xs
-set-again [] i h = refl
-set-again (x ∷ xs) zero h = ap (λ y. y ∷ xs) (sym h)
-set-again (x ∷ xs) (suc i) h = ap (λ ys. x ∷ ys) (set-again xs i h)
-
 -- the row after one rule
-abbrev pub stepped : ℕ → List ℕ → List Bool → PackedRule → List Bool
-stepped n joint bits p = if not (bit (drop n bits) p.head) && fires n joint bits p then set bits (n + p.head) true else bits
+abbrev pub stepped : ℕ → List ℕ → List Bool → PlacedRule → List Bool
+stepped n joint bits p = if fires n joint bits p then set bits (n + p.head) true else bits
 
 step-terms : (n : ℕ) (bits : List Bool) (h : ℕ) (test : Bool) → take n (if test then set bits (n + h) true else bits) ≡ take n bits
 step-terms n bits h true = take-set-le n bits (n + h) true (omega arith)
 step-terms n bits h false = refl
 
-step-atoms : (n : ℕ) (bits : List Bool) (h : ℕ) (old test : Bool) → bit (drop n bits) h ≡ old → drop n (if not old && test then set bits (n + h) true else bits) ≡ (if test then set (drop n bits) h true else drop n bits)
-step-atoms n bits h true true is = sym (set-again (drop n bits) h is)
-step-atoms n bits h true false is = refl
-step-atoms n bits h false true is = drop-set-add n bits h true
-step-atoms n bits h false false is = refl
+step-atoms : (n : ℕ) (bits : List Bool) (h : ℕ) (test : Bool) → drop n (if test then set bits (n + h) true else bits) ≡ (if test then set (drop n bits) h true else drop n bits)
+step-atoms n bits h true = drop-set-add n bits h true
+step-atoms n bits h false = refl
 
 -- the pass leaves the terms, and sets the derived atoms that the pass over the rules sets
 pub record IsPass (n : ℕ) (joint : List ℕ) (bits after : List Bool) (rs : List (Rule ℕ ℕ)) : Type 0 where
   pub terms : take n after ≡ take n bits
   pub atoms : drop n after ≡ row_after (numbered (take n bits) joint) (drop n bits) rs
 
-pub packed-pass : (n : ℕ) (joint : List ℕ) (bits : List Bool) (ps : List PackedRule) (rs : List (Rule ℕ ℕ)) → ArePacked n ps rs → IsPass n joint bits (packed_after n joint bits ps) rs
+pub packed-pass : (n : ℕ) (joint : List ℕ) (bits : List Bool) (ps : List PlacedRule) (rs : List (Rule ℕ ℕ)) → ArePacked n ps rs → IsPass n joint bits (packed_after n joint bits ps) rs
 packed-pass n joint bits [] [] are = record { terms = refl; atoms = refl }
 packed-pass n joint bits [] (r ∷ rs) are = absurd are
 packed-pass n joint bits (p ∷ ps) [] are = absurd are
 packed-pass n joint bits (p ∷ ps) (r ∷ rs) are =
     let next = stepped n joint bits p in
     let w = numbered (take n bits) joint in
-    let terms : take n next ≡ take n bits = step-terms n bits p.head (not (bit (drop n bits) p.head) && fires n joint bits p) in
+    let terms : take n next ≡ take n bits = step-terms n bits p.head (fires n joint bits p) in
     let atoms : drop n next ≡ (if all_true w (bit (drop n bits)) r.body then set (drop n bits) r.head true else drop n bits) =
-    step-atoms n bits p.head (bit (drop n bits) p.head) (fires n joint bits p) refl
+    step-atoms n bits p.head (fires n joint bits p)
     ∙ ap (λ (t : Bool). if t then set (drop n bits) p.head true else drop n bits) (are.0.body bits joint)
     ∙ ap (λ (h : ℕ). if all_true w (bit (drop n bits)) r.body then set (drop n bits) h true else drop n bits) are.0.head in
     let rest = packed-pass n joint next ps rs are.1 in
@@ -70,7 +64,7 @@ packed-pass n joint bits (p ∷ ps) (r ∷ rs) are =
     }
 
 -- one more rule
-pub packed-push : (n : ℕ) (ps : List PackedRule) (rs : List (Rule ℕ ℕ)) (p : PackedRule) (r : Rule ℕ ℕ) → ArePacked n ps rs → IsPacked n p r → ArePacked n (ps ++ p ∷ []) (rs ++ r ∷ [])
+pub packed-push : (n : ℕ) (ps : List PlacedRule) (rs : List (Rule ℕ ℕ)) (p : PlacedRule) (r : Rule ℕ ℕ) → ArePacked n ps rs → IsPacked n p r → ArePacked n (ps ++ p ∷ []) (rs ++ r ∷ [])
 packed-push n [] [] p r are is = (is, tt)
 packed-push n [] (q ∷ rs) p r are is = absurd are
 packed-push n (q ∷ ps) [] p r are is = absurd are
@@ -201,12 +195,61 @@ rules-push : (rs : List CodeRule) (r : CodeRule) → rules_of (rs ++ r ∷ []) �
 rules-push [] r = refl
 rules-push (q ∷ rs) r = ap (λ xs. rule_of q ∷ xs) (rules-push rs r)
 
+take-all : {X : Type 0} (n : ℕ) (xs : List X) → n ≡ length xs → take n xs ≡ xs
+take-all n xs e = rw e (all xs)
+  where
+    all : {X : Type 0} (xs : List X) → take (length xs) xs ≡ xs
+    all [] = refl
+    all (x ∷ xs) = ap (λ ys. x ∷ ys) (all xs)
+
+-- one more rule, whose literals stand behind all others
+pub placed-push : (ss : List RuleSize) (s : RuleSize) (ts us : List Test) (ms ns : List MoveTest) (os ps : List CodeLiteral) → AreCut ss ts ms os → s.tests ≡ length us → s.moves ≡ length ns → s.others ≡ length ps
+    → placed_rules (ss ++ s ∷ []) (ts ++ us) (ms ++ ns) (os ++ ps) ≡ placed_rules ss ts ms os ++ record { head = s.head; tests = us; moves = ns; others = ps } ∷ []
+placed-push [] s [] us [] ns [] ps cut e f g = rw (take-all s.tests us e, take-all s.moves ns f, take-all s.others ps g) refl
+placed-push [] s (t ∷ ts) us ms ns os ps cut e f g = absurd (omega (arith, cut.0))
+placed-push [] s [] us (m ∷ ms) ns os ps cut e f g = absurd (omega (arith, cut.1))
+placed-push [] s [] us [] ns (o ∷ os) ps cut e f g = absurd (omega (arith, cut.2))
+placed-push (q ∷ ss) s ts us ms ns os ps cut e f g =
+    rw (take-append-le q.tests ts us cut.0, take-append-le q.moves ms ns cut.1, take-append-le q.others os ps cut.2, drop-append-le q.tests ts us cut.0, drop-append-le q.moves ms ns cut.1, drop-append-le q.others os ps cut.2)
+    (ap (λ (rs : List PlacedRule). record { head = q.head; tests = take q.tests ts; moves = take q.moves ms; others = take q.others os } ∷ rs) (placed-push ss s (drop q.tests ts) us (drop q.moves ms) ns (drop q.others os) ps cut.3 e f g))
+
+pub cut-push : (ss : List RuleSize) (s : RuleSize) (ts us : List Test) (ms ns : List MoveTest) (os ps : List CodeLiteral) → AreCut ss ts ms os → s.tests ≡ length us → s.moves ≡ length ns → s.others ≡ length ps → AreCut (ss ++ s ∷ []) (ts ++ us) (ms ++ ns) (os ++ ps)
+cut-push [] s [] us [] ns [] ps cut e f g =
+    (omega (arith, e), omega (arith, f), omega (arith, g), (omega (arith, e, length-drop s.tests us), omega (arith, f, length-drop s.moves ns), omega (arith, g, length-drop s.others ps)))
+cut-push [] s (t ∷ ts) us ms ns os ps cut e f g = absurd (omega (arith, cut.0))
+cut-push [] s [] us (m ∷ ms) ns os ps cut e f g = absurd (omega (arith, cut.1))
+cut-push [] s [] us [] ns (o ∷ os) ps cut e f g = absurd (omega (arith, cut.2))
+cut-push (q ∷ ss) s ts us ms ns os ps cut e f g = (
+  omega (arith, cut.0, length-append ts us),
+  omega (arith, cut.1, length-append ms ns),
+  omega (arith, cut.2, length-append os ps),
+  rw (drop-append-le q.tests ts us cut.0, drop-append-le q.moves ms ns cut.1, drop-append-le q.others os ps cut.2) (cut-push ss s (drop q.tests ts) us (drop q.moves ms) ns (drop q.others os) ps cut.3 e f g),
+)
+
+pub cut-next : (sizes : List RuleSize) (i : ℕ) (s : RuleSize) (ts : List Test) (ms : List MoveTest) (os : List CodeLiteral) → i < length sizes → s ≡ get_or sizes i s → AreCut (drop i sizes) ts ms os → AreCut (s ∷ drop (i + 1) sizes) ts ms os
+cut-next sizes i s ts ms os lt is cut =
+    subst (λ (x : RuleSize). AreCut (x ∷ drop (i + 1) sizes) ts ms os) (sym is) (subst (λ (xs : List RuleSize). AreCut xs ts ms os) (drop_more sizes i s lt) cut)
+
 -- one more rule of the code
-pub packed-next : (n : ℕ) (ps : List PackedRule) (rules : List CodeRule) (i : ℕ) (rule : CodeRule) (p : PackedRule) → i < length rules → rule ≡ get_or rules i rule → IsPacked n p (rule_of rule)
+pub packed-next : (n : ℕ) (ps : List PlacedRule) (rules : List CodeRule) (i : ℕ) (rule : CodeRule) (p : PlacedRule) → i < length rules → rule ≡ get_or rules i rule → IsPacked n p (rule_of rule)
     → ArePacked n ps (rules_of (take i rules)) → ArePacked n (ps ++ p ∷ []) (rules_of (take (i + 1) rules))
 packed-next n ps rules i rule p lt is packed are =
     subst (λ (rs : List (Rule ℕ ℕ)). ArePacked n (ps ++ p ∷ []) rs) (sym (ap rules_of (take_more rules i rule lt) ∙ rules-push (take i rules) (get_or rules i rule)))
     (packed-push n ps (rules_of (take i rules)) p (rule_of (get_or rules i rule)) are (subst (λ (r : CodeRule). IsPacked n p (rule_of r)) is packed))
+
+-- one more rule of the code, with the row of its size behind the others, and its literals behind all literals
+pub table-next : (n : ℕ) (rules : List CodeRule) (i : ℕ) (rule : CodeRule) (p : PackedRule) (t m o : ℕ) (ss ss' : List RuleSize) (ts ts' : List Test) (ms ms' : List MoveTest) (os os' : List CodeLiteral) → i < length rules → rule ≡ get_or rules i rule → IsPacked n (placed p) (rule_of rule)
+    → t ≡ length p.tests.items → m ≡ length p.moves.items → o ≡ length p.others.items → ss' ≡ ss ++ record { head = p.head; tests = t; moves = m; others = o } ∷ [] → ts' ≡ ts ++ p.tests.items → ms' ≡ ms ++ p.moves.items → os' ≡ os ++ p.others.items
+    → AreCut ss ts ms os → ArePacked n (placed_rules ss ts ms os) (rules_of (take i rules)) → ArePacked n (placed_rules ss' ts' ms' os') (rules_of (take (i + 1) rules))
+table-next n rules i rule p t m o ss ss' ts ts' ms ms' os os' lt is packed e f g a b c d cut are =
+    let size : RuleSize = record { head = p.head; tests = t; moves = m; others = o } in
+    rw (a, b, c, d, placed-push ss size ts p.tests.items ms p.moves.items os p.others.items cut e f g) (packed-next n (placed_rules ss ts ms os) rules i rule (placed p) lt is packed are)
+
+pub table-cut : (p : PackedRule) (t m o : ℕ) (ss ss' : List RuleSize) (ts ts' : List Test) (ms ms' : List MoveTest) (os os' : List CodeLiteral) → t ≡ length p.tests.items → m ≡ length p.moves.items → o ≡ length p.others.items
+    → ss' ≡ ss ++ record { head = p.head; tests = t; moves = m; others = o } ∷ [] → ts' ≡ ts ++ p.tests.items → ms' ≡ ms ++ p.moves.items → os' ≡ os ++ p.others.items → AreCut ss ts ms os → AreCut ss' ts' ms' os'
+table-cut p t m o ss ss' ts ts' ms ms' os os' e f g a b c d cut =
+    let size : RuleSize = record { head = p.head; tests = t; moves = m; others = o } in
+    rw (a, b, c, d) (cut-push ss size ts p.tests.items ms p.moves.items os p.others.items cut e f g)
 
 begun-at : (n atoms : ℕ) (none first second : List Bool) (rest turn : List (Rule ℕ ℕ)) → none ≡ unset (n + atoms) → take n first ≡ take n none → drop n first ≡ row_after (numbered (take n none) []) (drop n none) rest
     → drop n second ≡ row_after (numbered (take n first) []) (drop n first) turn → drop n second ≡ row_after (numbered (unset n) []) (row_after (numbered (unset n) []) (unset atoms) rest) turn

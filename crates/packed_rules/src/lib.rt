@@ -13,6 +13,7 @@ mod packed_game;
 mod packed_rules;
 mod packing;
 mod passing;
+mod rule_table;
 mod rules;
 mod state;
 

@@ -6,7 +6,7 @@ ghost use Rattle.packed_rules.specs.PackedTables.{rest_of, turn_of};
 use crate::bits::BitRow;
 use crate::packing::pack_rules;
 use crate::passing::pass;
-use crate::rules::PackedRule;
+use crate::rule_table::RuleTable;
 use ground_rules::split::SplitRules;
 use std::alloc::{AllocError, Global};
 use std::marker::Model;
@@ -18,15 +18,15 @@ use std::snapshot::Snapshot;
 pub struct PackedRules {
     /// How many terms a state's row has.
     terms: usize,
-    rest: Vec<PackedRule>,
-    turn: Vec<PackedRule>,
+    rest: RuleTable,
+    turn: RuleTable,
     plain: Snapshot<SplitRules>,
 }
 
 impl Model for PackedRules {
     ghost use Rattle.ground_rules.specs.Numbered.{rules_of};
     ghost use Rattle.packed_rules.specs.PackedTables.{PackedTable};
-    ghost use Rattle.packed_rules.specs.Internal.PackedPass.{ArePacked};
+    ghost use Rattle.packed_rules.specs.Internal.PackedPass.{IsPackedTable};
     ghost use Rattle.std.specs.Coded.{codes};
     ghost use Rattle.ground_rules.specs.contracts.numbered.Literal as literal;
 
@@ -36,7 +36,7 @@ impl Model for PackedRules {
 
     ghost view = { λ p. record { terms = p.terms; plain = p.plain.value } };
 
-    ghost invariant = { λ p. ArePacked p.terms p.rest.items (rules_of p.plain.value.rest.items) × ArePacked p.terms p.turn.items (rules_of p.plain.value.turn.items) };
+    ghost invariant = { λ p. IsPackedTable p.terms p.rest (rules_of p.plain.value.rest.items) × IsPackedTable p.terms p.turn (rules_of p.plain.value.turn.items) };
 }
 
 impl PackedRules {

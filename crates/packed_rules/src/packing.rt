@@ -1,9 +1,11 @@
 //! From numbered rules to rules by places.
-ghost use Rattle.std.specs.Prelude.{◌≡◌, ℕ, IfOk, IfSome, map, true};
+ghost use Rattle.std.specs.Prelude.{◌≡◌, ℕ, ◌++◌, IfOk, IfSome, OnOk, map, true};
 ghost use Rattle.ground_rules.specs.Numbered.{view, rule_of, rules_of};
-ghost use Rattle.packed_rules.specs.Internal.PackedPass.{IsTestOf, IsMoveTestOf, IsPacked, ArePacked};
+ghost use Rattle.packed_rules.specs.Internal.PackedPass.{IsTestOf, IsMoveTestOf, IsPacked, IsPackedTable};
+ghost use Rattle.packed_rules.specs.Internal.PlacedRules.{placed};
 
-use crate::rules::{MoveTest, PackedRule, Test};
+use crate::rule_table::RuleTable;
+use crate::rules::{MoveTest, PackedRule, RuleSize, Test};
 use ground_rules::numbered::{Literal, Rule};
 use std::alloc::{AllocError, Global};
 
@@ -94,7 +96,7 @@ fn move_test_of(literal: &Literal) -> Option<MoveTest>
 }
 
 fn pack_rule(alloc: Global, rule: &Rule, terms: usize) -> Result<PackedRule, AllocError>
-    ensures { IfOk result (λ p. IsPacked terms p (rule_of rule.now)) }
+    ensures { IfOk result (λ p. IsPacked terms (placed p) (rule_of rule.now)) }
 {
     let mut tests = Vec::new(alloc);
     let mut moves = Vec::new(alloc);
@@ -116,17 +118,40 @@ fn pack_rule(alloc: Global, rule: &Rule, terms: usize) -> Result<PackedRule, All
     })
 }
 
-/// The rules by the places of a row with so many terms, in their order.
-pub fn pack_rules(
-    alloc: Global,
-    rules: &[Rule],
-    terms: usize,
-) -> Result<Vec<PackedRule>, AllocError>
-    ensures { IfOk result (λ v. ArePacked terms v.items (rules_of rules.now)) }
+/// Moves the items of one list behind those of another.
+fn append<T: Drop>(items: Vec<T>, into: &mut Vec<T>) -> Result<(), AllocError>
+    ensures { OnOk result (into.new.items ≡ into.old.items ++ items.items) }
 {
-    let mut packed = Vec::with_capacity(alloc, rules.len())?;
-    for rule in rules {
-        packed.push(pack_rule(alloc, rule, terms)?)?;
+    for item in items {
+        into.push(item)?;
     }
-    Ok(packed)
+    Ok(())
+}
+
+/// The rules by the places of a row with so many terms, in their order.
+pub fn pack_rules(alloc: Global, rules: &[Rule], terms: usize) -> Result<RuleTable, AllocError>
+    ensures { IfOk result (λ t. IsPackedTable terms t (rules_of rules.now)) }
+{
+    let mut sizes = Vec::with_capacity(alloc, rules.len())?;
+    let mut tests = Vec::new(alloc);
+    let mut moves = Vec::new(alloc);
+    let mut others = Vec::new(alloc);
+    for rule in rules {
+        let packed = pack_rule(alloc, rule, terms)?;
+        sizes.push(RuleSize {
+            head: packed.head,
+            tests: packed.tests.len(),
+            moves: packed.moves.len(),
+            others: packed.others.len(),
+        })?;
+        append(packed.tests, &mut tests)?;
+        append(packed.moves, &mut moves)?;
+        append(packed.others, &mut others)?;
+    }
+    Ok(RuleTable {
+        rules: sizes,
+        tests,
+        moves,
+        others,
+    })
 }

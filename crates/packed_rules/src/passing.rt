@@ -3,10 +3,11 @@ ghost use Rattle.std.specs.Prelude.{◌≡◌, ◌≤◌, ◌*◌, [], length, t
 ghost use Rattle.ground_rules.specs.Fit.{truth, any_true, all_true};
 ghost use Rattle.ground_rules.specs.Numbered.{bit, numbered, view, views};
 ghost use Rattle.packed_rules.specs.Bits.{bits_of};
-ghost use Rattle.packed_rules.specs.Internal.PackedPass.{all_pass, all_agree, fires, packed_after};
+ghost use Rattle.packed_rules.specs.Internal.PackedPass.{all_pass, all_agree, all_fire, packed_after, rules_in, IsCut};
 
 use crate::bits::{BitRow, is_on, is_on_after, is_on_before, turn_on_after};
-use crate::rules::{MoveTest, PackedRule, Test};
+use crate::rule_table::RuleTable;
+use crate::rules::{MoveTest, Test};
 use ground_rules::numbered::Literal;
 
 /// Whether the literal is true, by a row of so many values, of which so many are terms and the others
@@ -90,33 +91,60 @@ fn all_agree(tests: &[MoveTest], joint: &[usize]) -> bool
     true
 }
 
-fn fires(rule: &PackedRule, words: &[u64], size: usize, terms: usize, joint: &[usize]) -> bool
+/// Whether the literals of a rule are all true. Its tests come first, since they fail most often.
+fn fires(
+    tests: &[Test],
+    moves: &[MoveTest],
+    others: &[Literal],
+    words: &[u64],
+    size: usize,
+    terms: usize,
+    joint: &[usize],
+) -> bool
     requires { size ≤ length words.now * 64 }
-    ensures { result ≡ fires terms joint.now (bits_of words.now size) rule.now }
+    ensures { result ≡ all_fire terms joint.now (bits_of words.now size) tests.now moves.now others.now }
 {
-    all_agree(&rule.moves, joint)
-        && all_pass(&rule.tests, words, size)
-        && all_hold(&rule.others, words, size, terms, joint)
+    all_pass(tests, words, size)
+        && all_agree(moves, joint)
+        && all_hold(others, words, size, terms, joint)
 }
 
-/// Sets the head of each rule whose literals are true, one rule after the other.
-fn sweep(rules: &[PackedRule], words: &mut [u64], size: usize, terms: usize, joint: &[usize])
-    requires { size ≤ length words.old * 64 }
-    ensures { bits_of words.new size ≡ packed_after terms joint.now (bits_of words.old size) rules.now }
+/// Sets the head of each rule whose literals are true, one rule after the other. The literals of a
+/// rule are the first of those that are left. Nearly all rules have tests alone.
+fn sweep(table: &RuleTable, words: &mut [u64], size: usize, terms: usize, joint: &[usize])
+    requires size { size ≤ length words.old * 64 }
+    requires cut { IsCut table.now }
+    ensures { bits_of words.new size ≡ packed_after terms joint.now (bits_of words.old size) (rules_in table.now) }
 {
-    for rule in rules {
-        if !is_on_after(words, size, terms, rule.head) && fires(rule, words, size, terms, joint) {
-            turn_on_after(words, size, terms, rule.head);
+    let mut tests = table.tests.as_slice();
+    let mut moves = table.moves.as_slice();
+    let mut others = table.others.as_slice();
+    for rule in &table.rules {
+        let (own_tests, later_tests) = tests.split_at(rule.tests);
+        if rule.moves == 0 && rule.others == 0 {
+            if all_pass(own_tests, words, size) {
+                turn_on_after(words, size, terms, rule.head);
+            }
+        } else {
+            let (own_moves, later_moves) = moves.split_at(rule.moves);
+            let (own_others, later_others) = others.split_at(rule.others);
+            if fires(own_tests, own_moves, own_others, words, size, terms, joint) {
+                turn_on_after(words, size, terms, rule.head);
+            }
+            moves = later_moves;
+            others = later_others;
         }
+        tests = later_tests;
     }
 }
 
 /// The row after a pass over the rules. The loop goes over the words themselves, which is faster.
-pub fn pass(rules: &[PackedRule], bits: BitRow, terms: usize, joint: &[usize]) -> BitRow
-    ensures { result ≡ packed_after terms joint.now bits rules.now }
+pub fn pass(table: &RuleTable, bits: BitRow, terms: usize, joint: &[usize]) -> BitRow
+    requires { IsCut table.now }
+    ensures { result ≡ packed_after terms joint.now bits (rules_in table.now) }
 {
     let mut bits = bits;
     let size = bits.size;
-    sweep(rules, &mut bits.words, size, terms, joint);
+    sweep(table, &mut bits.words, size, terms, joint);
     bits
 }

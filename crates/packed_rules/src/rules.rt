@@ -16,7 +16,7 @@ pub struct MoveTest {
     pub value: bool,
 }
 
-/// A rule by places: a head and its literals.
+/// A rule by places with lists of its own, as it is packed.
 #[derive(Drop)]
 pub struct PackedRule {
     /// The number of its derived atom.
@@ -27,4 +27,14 @@ pub struct PackedRule {
     pub moves: Vec<MoveTest>,
     /// The other literals.
     pub others: Vec<Literal>,
+}
+
+/// The head of a rule by places, and how many literals of each kind it has.
+#[derive(Clone, Copy)]
+pub struct RuleSize {
+    /// The number of its derived atom.
+    pub head: usize,
+    pub tests: usize,
+    pub moves: usize,
+    pub others: usize,
 }

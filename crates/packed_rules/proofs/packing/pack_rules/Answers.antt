@@ -1,14 +1,15 @@
-use Rattle.std.proofs.Common.{List, ◌+◌, take, sym, subst}
-use Rattle.ground_rules.specs.Numbered.{rules_of}
-use Rattle.packed_rules.specs.declared.rules.PackedRule.{PackedRule}
-use Rattle.packed_rules.specs.Internal.PackedPass.{ArePacked}
-use Rattle.packed_rules.proofs.PackedPasses.{packed-next}
+use Rattle.std.proofs.Common.{◌≡◌, length, ◌∙◌}
+use Rattle.packed_rules.proofs.PackedPasses.{table-next, table-cut}
 use Rattle.packed_rules.proofs.packing.pack_rules.Goals as goal
 
 pub loop-rule-preserved : goal.loop-rule-preserved
 loop-rule-preserved c =
-    let n = c.args.terms in
-    let rules = c.args.rules.now in
-    let i = c.loop-rule.rule-index in
-    subst (λ (ps : List PackedRule). ArePacked n ps (rules_of (take (i + 1) rules))) (sym c.in_ok-push.ensures.items)
-    (packed-next n c.loop-rule.packed.items rules i c.rule-item.result c.in_ok-pack_rule.field-0 c.loop-rule-test.true c.rule-item.is c.in_ok-pack_rule.ensures c.loop-rule.invariant)
+    let p = c.in_ok-packed.packed in
+    let l = c.loop-rule in
+    let tests : c.len.result ≡ length p.tests.items = c.len.ensures ∙ p.tests.ok.0 in
+    let moves : c.len-in-loop-rule.result ≡ length p.moves.items = c.len-in-loop-rule.ensures ∙ p.moves.ok.0 in
+    let others : c.len-in-loop-rule-2.result ≡ length p.others.items = c.len-in-loop-rule-2.ensures ∙ p.others.ok.0 in
+    record {
+      cut = table-cut p _ _ _ l.sizes.items _ l.tests.items _ l.moves.items _ l.others.items _ tests moves others c.in_ok-push.ensures.items c.in_ok-append.ensures c.in_ok-append-2.ensures c.in_ok-append-3.ensures l.invariant.cut;
+      packed = table-next c.args.terms c.args.rules.now l.rule-index c.rule-item.result p _ _ _ l.sizes.items _ l.tests.items _ l.moves.items _ l.others.items _ c.loop-rule-test.true c.rule-item.is c.in_ok-packed.ensures tests moves others c.in_ok-push.ensures.items c.in_ok-append.ensures c.in_ok-append-2.ensures c.in_ok-append-3.ensures l.invariant.cut l.invariant.packed;
+    }
