@@ -1,9 +1,9 @@
 -- The lists of a record, member by member, and its tree: no floats, and three levels.
-use Rattle.std.proofs.Common.{◌≡◌, ℕ, zero, suc, ◌+◌, ◌<◌, ◌≤◌, false, Option, Some, None, List, [], ◌∷◌, ◌++◌, length, take, map, refl, sym, ap, ◌∙◌, subst, arith, add-one, Vec, Global}
+use Rattle.std.proofs.Common.{◌≡◌, ℕ, zero, suc, ◌+◌, ◌<◌, ◌≤◌, false, Option, Some, None, List, [], ◌∷◌, ◌++◌, length, take, map, refl, sym, ap, ◌∙◌, subst, arith, add-one}
 use Rattle.std.specs.Prelude.{slice_get, slice_index_or, option_map, option_and_then, option_to_list}
 use Rattle.std.proofs.lemmas.List.{map-append, take_more, take_all, length-map}
 use Rattle.std.proofs.lemmas.Option.{slice_get-map, slice_get-get_or, get_or_from_slice_get, slice_get_within}
-use Rattle.serde_json.specs.Data.{Data, string, array, depth, items_depth, members_depth}
+use Rattle.serde_json.specs.Data.{string, depth, items_depth, members_depth}
 use Rattle.serde_json.specs.Written.{has_float, items_have_float, members_have_float}
 use Rattle.serde_json.specs.View.{items_of}
 use Rattle.serde_json.specs.Read.{max_depth}
@@ -14,7 +14,7 @@ use Rattle.match_book.specs.Lawful.{AreLawful}
 use Rattle.match_book.specs.declared.answer.Mark.{Mark}
 use Rattle.match_book.specs.declared.turn.Turn.{Turn}
 use Rattle.match_record.specs.RecordParts.{each_role, goals_from, parts_of, prefixes}
-use Rattle.match_record.specs.RecordTree.{list_tree, texts_tree, text_lists_tree, text_or_null, cause_text, mark_tree, whole_tree, key_tree, keys, members_at, record_tree}
+use Rattle.match_record.specs.RecordTree.{texts_tree, text_or_null, cause_text, mark_tree, whole_tree, key_tree, keys, members_at, record_tree}
 use Rattle.match_record.specs.declared.record_parts.Key.{Key}
 use Rattle.match_record.specs.declared.record_parts.Key.TheVariants.{Cause as AtCause, EndMarks, Errors, GoalValues, MatchId, Moves, Phase as AtPhase, PlayClock, Players, Roles, StartClock, StartMarks, States, Strikes, Version as AtVersion}
 use Rattle.match_record.specs.declared.record_parts.RecordParts.{RecordParts}

@@ -1,5 +1,5 @@
 -- What is written of a record, member by member, and what is read of it again.
-use Rattle.std.proofs.Common.{◌≡◌, ℕ, zero, suc, ◌+◌, ◌<◌, ◌≤◌, ◌^◌, true, Option, Some, None, Ok, List, [], ◌∷◌, ◌++◌, length, map, take, get_or, refl, sym, ap, ◌∙◌, subst, append_assoc, append-nil, arith, decimal, codes, lit<}
+use Rattle.std.proofs.Common.{◌≡◌, ℕ, zero, suc, ◌+◌, ◌<◌, ◌≤◌, ◌^◌, true, Option, Some, None, Ok, List, [], ◌∷◌, ◌++◌, length, map, take, get_or, refl, sym, ap, ◌∙◌, subst, append_assoc, append-nil, arith}
 use Rattle.std.specs.Prelude.{option_map, option_and_then, slice_get, All, IfSome}
 use Rattle.std.proofs.lemmas.Bool.Decides.{nat_tests}
 use Rattle.std.proofs.lemmas.List.{take_all, take_more, map-append}
@@ -11,10 +11,10 @@ use Rattle.json.specs.Tree as tree
 use Rattle.json.specs.Tree.{json_tokens, items_tokens, members_tokens}
 use Rattle.json.specs.Written.{Written, Writes}
 use Rattle.json.proofs.Printed.Trees.{value-json_tokens}
-use Rattle.serde_json.specs.Data.{Data, Items, Members, null, boolean, number, string, array, object, item, no_items, member, no_members, unsigned, negative, float, depth, items_depth, members_depth, put}
-use Rattle.serde_json.specs.Read.{read, of_json, of_items, of_members, max_depth, number_of}
+use Rattle.serde_json.specs.Data.{Data, Items, Members, null, boolean, number, string, array, object, item, no_items, member, no_members, depth, items_depth, members_depth, put}
+use Rattle.serde_json.specs.Read.{read, of_json, of_items, of_members, max_depth}
 use Rattle.serde_json.specs.View.{items_of}
-use Rattle.serde_json.specs.Written.{outline, items_outline, members_outline, number_text}
+use Rattle.serde_json.specs.Written.{outline, items_outline, members_outline}
 use Rattle.serde_json.proofs.Texts.{print-outline}
 use Rattle.serde_json.proofs.Numbers.{number_of-decimal}
 use Rattle.game_core.specs.Play.{Rules, IsLawful, max_goal}
@@ -24,8 +24,8 @@ use Rattle.match_book.specs.Marks.{mark_text}
 use Rattle.match_book.specs.Names.{is_clock, is_strikes, max_clock, max_strikes, IsLawfulSetup}
 use Rattle.match_book.specs.declared.answer.Mark.{Mark}
 use Rattle.match_record.specs.Internal.Written.{HasAdded, IsWritten, HasBegun, HasMembers, tokens_of, each_tokens, member_tokens}
-use Rattle.match_record.specs.RecordParts.{AreGoals, parts_of}
-use Rattle.match_record.specs.RecordTree.{list_tree, texts_tree, text_lists_tree, text_or_null, cause_text, mark_tree, whole_tree, key_text, key_tree, keys, members_at, version_tree, record_tree, record_text, HasShape}
+use Rattle.match_record.specs.RecordParts.{parts_of}
+use Rattle.match_record.specs.RecordTree.{list_tree, texts_tree, text_or_null, cause_text, mark_tree, whole_tree, key_text, key_tree, keys, members_at, version_tree, record_tree, record_text, HasShape}
 use Rattle.match_record.specs.declared.record_parts.Key.{Key}
 use Rattle.match_record.specs.declared.record_parts.Key.TheVariants.{Cause as AtCause, EndMarks, Errors, GoalValues, MatchId, Moves, Phase as AtPhase, PlayClock, Players, Roles, StartClock, StartMarks, States, Strikes, Version as AtVersion}
 use Rattle.match_record.specs.declared.record_parts.RecordParts.{RecordParts}

@@ -1,4 +1,4 @@
-use Rattle.std.proofs.Common.{◌<◌, ◌≤◌, arith, length, map, subst}
+use Rattle.std.proofs.Common.{◌<◌, ◌≤◌, arith, length, subst}
 use Rattle.match_record.specs.Internal.Written.{IsWritten}
 use Rattle.match_record.specs.RecordTree.{list_tree, texts_tree}
 use Rattle.match_record.proofs.RecordParts.{map_twice}

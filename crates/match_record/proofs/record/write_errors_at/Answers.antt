@@ -1,8 +1,6 @@
-use Rattle.std.proofs.Common.{◌≡◌, ◌<◌, sym, subst, ◌∙◌, arith}
+use Rattle.std.proofs.Common.{◌≡◌, ◌<◌, ◌∙◌, arith}
 use Rattle.std.specs.Prelude.{slice_get}
-use Rattle.std.specs.Str.{IsAscii}
 use Rattle.serde_json.specs.Data.{string}
-use Rattle.match_record.specs.Internal.Written.{IsWritten}
 use Rattle.match_record.proofs.Ascii.{error_is_ascii}
 use Rattle.match_record.proofs.RecordParts.{turn-widths}
 use Rattle.match_record.proofs.WrittenRecords.{one_added, part_begun, part_more, part_written}

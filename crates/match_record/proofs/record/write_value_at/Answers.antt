@@ -2,9 +2,8 @@ use Rattle.std.proofs.Common.{ap, ◌∙◌, sym, subst}
 use Rattle.std.specs.Prelude.{All, OnOk}
 use Rattle.std.specs.Str.{IsAscii}
 use Rattle.serde_json.specs.Data.{string}
-use Rattle.match_book.specs.Phase.{cause, phase}
 use Rattle.match_record.specs.Internal.Written.{IsWritten}
-use Rattle.match_record.specs.RecordTree.{cause_tree, phase_tree, texts_tree, whole_tree}
+use Rattle.match_record.specs.RecordTree.{texts_tree, whole_tree}
 use Rattle.match_record.proofs.Ascii.{name_is_ascii, names_are_ascii, phase_is_ascii}
 use Rattle.match_record.proofs.record.write_value_at.Goals as goal
 

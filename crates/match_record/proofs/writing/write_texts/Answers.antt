@@ -1,4 +1,4 @@
-use Rattle.std.proofs.Common.{arith, length, refl, subst, sym}
+use Rattle.std.proofs.Common.{arith, length, refl, subst}
 use Rattle.std.proofs.lemmas.Option.{slice_get_read}
 use Rattle.serde_json.specs.Data.{string}
 use Rattle.match_record.specs.Internal.Written.{IsWritten}
