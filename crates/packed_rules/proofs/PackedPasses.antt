@@ -1,18 +1,17 @@
 -- A pass over rules by places is the pass over the rules.
-use Rattle.std.proofs.Common.{ℕ, zero, suc, ◌+◌, ◌<◌, ◌≤◌, ◌≡◌, Bool, true, false, not, ◌&&◌, if◌then◌else◌, List, [], ◌∷◌, ◌++◌, length, take, drop, set, get_or, map, refl, sym, ap, ◌∙◌, arith, subst, get_or-set_same, get_or-set_other, length-set, length-drop, length-append, replicate}
-use Rattle.std.proofs.Math.Bool.{beq}
+use Rattle.std.proofs.Common.{ℕ, zero, suc, ◌+◌, ◌<◌, ◌≤◌, ◌≡◌, Bool, true, false, ◌&&◌, if◌then◌else◌, List, [], ◌∷◌, ◌++◌, length, take, drop, set, get_or, map, refl, sym, ap, ◌∙◌, arith, subst, length-drop, length-append}
 use Rattle.std.proofs.lemmas.List.{take-set-le, drop-set-add, drop_more, take_more, take-replicate, take-append-le, drop-append-le}
 use Rattle.ground_rules.specs.declared.numbered.Literal.{Literal as CodeLiteral}
 use Rattle.ground_rules.specs.declared.numbered.Rule.{Rule as CodeRule}
-use Rattle.ground_rules.specs.Literals.{Literal, Literals, literals, End, More, Rule}
+use Rattle.ground_rules.specs.Literals.{Literal, literals, Rule}
 use Rattle.ground_rules.specs.Fit.{Situation, truth, all_true}
 use Rattle.ground_rules.specs.Numbered.{bit, numbered, row_after, unset, view, rule_of, rules_of}
 use Rattle.packed_rules.specs.declared.rules.Test.{Test}
 use Rattle.packed_rules.specs.declared.rules.MoveTest.{MoveTest}
 use Rattle.packed_rules.specs.declared.rules.RuleSize.{RuleSize}
-use Rattle.packed_rules.specs.Internal.PlacedRules.{PlacedRule, placed, placed_rules, AreCut}
+use Rattle.packed_rules.specs.Internal.PlacedRules.{PlacedRule, placed, placed_rules, AreCut, AreTestsCut}
 use Rattle.packed_rules.specs.declared.rules.PackedRule.{PackedRule}
-use Rattle.packed_rules.specs.Internal.PackedPass.{passes, all_pass, agrees, all_agree, fires, packed_after, IsPacked, ArePacked}
+use Rattle.packed_rules.specs.Internal.PackedPass.{passes, all_pass, agrees, all_agree, fires, packed_after, tests_after, IsPacked, ArePacked}
 
 pub take-past : (n : ℕ) (xs : List Bool) (i : ℕ) → n ≤ i → bit (take n xs) i ≡ false
 take-past zero xs i le = none i
@@ -89,6 +88,32 @@ all-agree-push joint (u ∷ ts) t = ap (λ x. agrees joint u && x) (all-agree-pu
 all-true-push : (w : Situation ℕ ℕ) (v : ℕ → Bool) (ls : List (Literal ℕ ℕ)) (l : Literal ℕ ℕ) → all_true w v (literals (ls ++ l ∷ [])) ≡ (all_true w v (literals ls) && truth w v l)
 all-true-push w v [] l = and-true (truth w v l)
 all-true-push w v (k ∷ ls) l = ap (λ x. truth w v k && x) (all-true-push w v ls l) ∙ sym (and-assoc (truth w v k) (all_true w v (literals ls)) (truth w v l))
+
+take-none : {X : Type 0} (n : ℕ) → take n (let xs : List X = [] in xs) ≡ []
+take-none zero = refl
+take-none (suc n) = refl
+
+drop-none : {X : Type 0} (n : ℕ) → drop n (let xs : List X = [] in xs) ≡ []
+drop-none zero = refl
+drop-none (suc n) = refl
+
+-- rules that have no literals but their tests
+only-tests : (n : ℕ) (joint : List ℕ) (bits : List Bool) (ss : List RuleSize) (ts : List Test) → packed_after n joint bits (placed_rules ss ts [] []) ≡ tests_after n bits ss ts
+only-tests n joint bits [] ts = refl
+only-tests n joint bits (s ∷ ss) ts =
+    let next : List Bool = if all_pass bits (take s.tests ts) then set bits (n + s.head) true else bits in
+    rw (take-none {X = MoveTest} s.moves, take-none {X = CodeLiteral} s.others, drop-none {X = MoveTest} s.moves, drop-none {X = CodeLiteral} s.others, and-true (all_pass bits (take s.tests ts))) (only-tests n joint next ss (drop s.tests ts))
+
+none-left : {X : Type 0} (xs : List X) → length xs ≡ 0 → xs ≡ []
+none-left [] e = refl
+none-left (x ∷ xs) e = absurd (omega (arith, e))
+
+pub only-tests-in : (n : ℕ) (joint : List ℕ) (bits : List Bool) (ss : List RuleSize) (ts : List Test) (ms : List MoveTest) (os : List CodeLiteral) → length ms ≡ 0 → length os ≡ 0 → tests_after n bits ss ts ≡ packed_after n joint bits (placed_rules ss ts ms os)
+only-tests-in n joint bits ss ts ms os e f = rw (none-left ms e, none-left os f) (sym (only-tests n joint bits ss ts))
+
+pub tests-cut : (ss : List RuleSize) (ts : List Test) (ms : List MoveTest) (os : List CodeLiteral) → AreCut ss ts ms os → AreTestsCut ss ts
+tests-cut [] ts ms os cut = tt
+tests-cut (s ∷ ss) ts ms os cut = (cut.0, tests-cut ss (drop s.tests ts) (drop s.moves ms) (drop s.others os) cut.3)
 
 -- the literals passed so far, as moves, tests and others, and those to come, say what all literals say
 abbrev pub SaysSoFar : ℕ → List MoveTest → List Test → List (Literal ℕ ℕ) → List (Literal ℕ ℕ) → List (Literal ℕ ℕ) → Type 0

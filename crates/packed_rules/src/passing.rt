@@ -3,11 +3,12 @@ ghost use Rattle.std.specs.Prelude.{◌≡◌, ◌≤◌, ◌*◌, [], length, t
 ghost use Rattle.ground_rules.specs.Fit.{truth, any_true, all_true};
 ghost use Rattle.ground_rules.specs.Numbered.{bit, numbered, view, views};
 ghost use Rattle.packed_rules.specs.Bits.{bits_of};
-ghost use Rattle.packed_rules.specs.Internal.PackedPass.{all_pass, all_agree, all_fire, packed_after, rules_in, IsCut};
+ghost use Rattle.packed_rules.specs.Internal.PlacedRules.{AreTestsCut};
+ghost use Rattle.packed_rules.specs.Internal.PackedPass.{all_pass, all_agree, all_fire, packed_after, tests_after, rules_in, IsCut};
 
 use crate::bits::{BitRow, is_on, is_on_after, is_on_before, turn_on_after};
 use crate::rule_table::RuleTable;
-use crate::rules::{MoveTest, Test};
+use crate::rules::{MoveTest, RuleSize, Test};
 use ground_rules::numbered::Literal;
 
 /// Whether the literal is true, by a row of so many values, of which so many are terms and the others
@@ -110,7 +111,7 @@ fn fires(
 }
 
 /// Sets the head of each rule whose literals are true, one rule after the other. The literals of a
-/// rule are the first of those that are left. Nearly all rules have tests alone.
+/// rule are the first of those that are left.
 fn sweep(table: &RuleTable, words: &mut [u64], size: usize, terms: usize, joint: &[usize])
     requires size { size ≤ length words.old * 64 }
     requires cut { IsCut table.now }
@@ -138,6 +139,36 @@ fn sweep(table: &RuleTable, words: &mut [u64], size: usize, terms: usize, joint:
     }
 }
 
+/// Sets the head of each rule whose tests pass, one rule after the other. A loop that knows of no
+/// other literals is twice as fast.
+fn sweep_tests(rules: &[RuleSize], tests: &[Test], words: &mut [u64], size: usize, terms: usize)
+    requires size { size ≤ length words.old * 64 }
+    requires cut { AreTestsCut rules.now tests.now }
+    ensures { bits_of words.new size ≡ tests_after terms (bits_of words.old size) rules.now tests.now }
+{
+    let mut left = tests;
+    for rule in rules {
+        let (own, later) = left.split_at(rule.tests);
+        if all_pass(own, words, size) {
+            turn_on_after(words, size, terms, rule.head);
+        }
+        left = later;
+    }
+}
+
+/// Sets the heads of the table's rules, by tests alone where the rules ask for nothing else.
+fn sweep_table(table: &RuleTable, words: &mut [u64], size: usize, terms: usize, joint: &[usize])
+    requires size { size ≤ length words.old * 64 }
+    requires cut { IsCut table.now }
+    ensures { bits_of words.new size ≡ packed_after terms joint.now (bits_of words.old size) (rules_in table.now) }
+{
+    if table.moves.len() == 0 && table.others.len() == 0 {
+        sweep_tests(&table.rules, &table.tests, words, size, terms);
+    } else {
+        sweep(table, words, size, terms, joint);
+    }
+}
+
 /// The row after a pass over the rules. The loop goes over the words themselves, which is faster.
 pub fn pass(table: &RuleTable, bits: BitRow, terms: usize, joint: &[usize]) -> BitRow
     requires { IsCut table.now }
@@ -145,6 +176,6 @@ pub fn pass(table: &RuleTable, bits: BitRow, terms: usize, joint: &[usize]) -> B
 {
     let mut bits = bits;
     let size = bits.size;
-    sweep(table, &mut bits.words, size, terms, joint);
+    sweep_table(table, &mut bits.words, size, terms, joint);
     bits
 }

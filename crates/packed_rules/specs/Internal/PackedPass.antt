@@ -7,6 +7,7 @@ use Rattle.ground_rules.specs.Fit.{truth, all_true}
 use Rattle.ground_rules.specs.Numbered.{bit, numbered, views}
 use Rattle.packed_rules.specs.declared.rules.Test.{Test}
 use Rattle.packed_rules.specs.declared.rules.MoveTest.{MoveTest}
+use Rattle.packed_rules.specs.declared.rules.RuleSize.{RuleSize}
 use Rattle.packed_rules.specs.declared.rule_table.RuleTable.{RuleTable}
 use Rattle.packed_rules.specs.Internal.PlacedRules.{PlacedRule, placed_rules, AreCut}
 
@@ -45,6 +46,11 @@ IsCut t = AreCut t.rules.items t.tests.items t.moves.items t.others.items
 abbrev pub packed_after : ℕ → List ℕ → List Bool → List PlacedRule → List Bool
 packed_after terms joint bits [] = bits
 packed_after terms joint bits (r ∷ rs) = packed_after terms joint (if fires terms joint bits r then slice_set bits (terms + r.head) true else bits) rs
+
+-- the row after a pass over rules of these sizes that have no literals but their tests
+abbrev pub tests_after : ℕ → List Bool → List RuleSize → List Test → List Bool
+tests_after terms bits [] ts = bits
+tests_after terms bits (s ∷ ss) ts = tests_after terms (if all_pass bits (take s.tests ts) then slice_set bits (terms + s.head) true else bits) ss (drop s.tests ts)
 
 -- the test asks what the literal says
 abbrev pub IsTestOf : ℕ → Literal ℕ ℕ → Test → Type 0

@@ -25,3 +25,8 @@ placed_rules (s ∷ ss) ts ms os = record { head = s.head; tests = take s.tests 
 abbrev pub AreCut : List RuleSize → List Test → List MoveTest → List CodeLiteral → Type 0
 AreCut [] ts ms os = (length ts ≡ 0) × (length ms ≡ 0) × (length os ≡ 0)
 AreCut (s ∷ ss) ts ms os = (s.tests ≤ length ts) × (s.moves ≤ length ms) × (s.others ≤ length os) × AreCut ss (drop s.tests ts) (drop s.moves ms) (drop s.others os)
+
+-- the rules of these sizes find their tests
+abbrev pub AreTestsCut : List RuleSize → List Test → Type 0
+AreTestsCut [] ts = Unit {0}
+AreTestsCut (s ∷ ss) ts = (s.tests ≤ length ts) × AreTestsCut ss (drop s.tests ts)

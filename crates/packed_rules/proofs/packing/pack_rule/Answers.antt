@@ -1,6 +1,6 @@
-use Rattle.std.proofs.Common.{◌+◌, map, drop, get_or}
+use Rattle.std.proofs.Common.{◌+◌, map, drop}
 use Rattle.ground_rules.specs.Numbered.{view}
-use Rattle.packed_rules.specs.Internal.PackedPass.{IsTestOf, IsMoveTestOf}
+use Rattle.packed_rules.specs.Internal.PackedPass.{IsTestOf}
 use Rattle.packed_rules.proofs.PackedPasses.{says-next, test-more, move-more, other-next}
 use Rattle.packed_rules.proofs.packing.pack_rule.Goals as goal
 use Rattle.packed_rules.proofs.packing.pack_rule.Goals.{in-Some+in_ok-push-in-Some, in-None+in-Some-move_test_of+in_ok-push-in-Some-move_test_of, in-None+in-None-move_test_of+in_ok-copy-in-None-move_test_of+in_ok-push-in-None-move_test_of}
