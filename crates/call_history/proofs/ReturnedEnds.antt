@@ -1,10 +1,8 @@
 -- Ends that come back to their desk, compared one after another.
-use Rattle.std.proofs.Common.{◌≡◌, ℕ, ◌+◌, ◌<◌, ◌≤◌, ◌≢◌, List, [], ◌∷◌, ◌++◌, length, get_or, set, refl, sym, ◌∙◌, ap, subst, arith, rules, ⊎_elim, true, false, min, Option, Some, None, MatchOption, zero, suc, inl, inr}
+use Rattle.std.proofs.Common.{◌≡◌, ℕ, ◌+◌, ◌<◌, ◌≤◌, List, [], ◌∷◌, ◌++◌, length, get_or, set, refl, sym, ◌∙◌, ap, subst, arith, rules, ⊎_elim, true, min, Option, Some, None, MatchOption, zero, suc, inl, inr}
 use Rattle.std.proofs.lemmas.Grind.{common_steps}
 use Rattle.std.proofs.lemmas.Bool.{cases_lt}
 use Rattle.std.proofs.lemmas.Bool.Decides.{eqb_tells}
-use Rattle.std.proofs.lemmas.List.{get_or-set_other}
-use Rattle.std.proofs.Math.Dec.{eqb}
 use Rattle.call_history.specs.declared.journal.Entry.{Entry}
 use Rattle.call_history.specs.declared.port.Port.{Port}
 use Rattle.call_history.specs.declared.ring_line.RingLine.{RingLine}
