@@ -2,3 +2,4 @@
 pub mod LeftLines
 pub mod Seats
 pub mod Promises
+pub mod Closings

@@ -1,9 +1,11 @@
 //! The end of a match's desk: its lines are finished, and it is closed.
-ghost use Rattle.std.specs.Prelude.{◌≡◌, [], IfOk, OnOk, length, map, All};
+ghost use Rattle.std.specs.Prelude.{◌≡◌, [], IfOk, IfErr, OnOk, length, map, All};
 ghost use Rattle.call_history.specs.Lines.{HasAll};
 ghost use Rattle.call_history.specs.RingLines.{AreEndsOf};
 ghost use Rattle.call_history.specs.RingClosing.{end_numbers, IsServed, TakesPrefix};
 ghost use Rattle.match_desk.specs.Headline.{HasHeadline};
+ghost use Rattle.match_workers.specs.Internal.Closings.{WasIdle};
+ghost use Rattle.match_workers.specs.declared.refereeing.RefereeFault.TheVariants.{Unclosed as IsUnclosed};
 ghost use Rattle.match_workers.specs.Internal.LeftLines.{IsFinishedOf, AreFinishedOf};
 ghost use Rattle.match_workers.specs.LineParts.{AreCounts};
 
@@ -69,6 +71,9 @@ pub fn close_match<G: Game + Drop>(
     ensures served { IfOk result (λ c. All (IsServed c.history.items) lines.items) }
     ensures replies { IfOk result (λ c. All (TakesPrefix c.history.items) lines.items) }
     ensures made { IfOk result (λ c. AreCounts c.history.items c.made_by_line.items) }
+
+    // What still waits is served before: else a full history would be told as a desk that is unclosed.
+    ensures unclosed { IfErr result (λ fault. fault ≡ IsUnclosed → WasIdle desk lines.items) }
 {
     let mut desk = desk;
     desk.serve_all()?;

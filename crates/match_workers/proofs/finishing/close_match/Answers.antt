@@ -1,9 +1,20 @@
-use Rattle.std.proofs.Common.{◌∙◌, subst}
+use Rattle.std.proofs.Common.{◌≡◌, ◌∙◌, sym, subst}
+use Rattle.std.proofs.lemmas.Result.{err_from_is_err_and}
+use Rattle.call_history.specs.Faults.{ask_fault}
+use Rattle.call_history.specs.declared.journal.CallFault.{CallFault}
+use Rattle.call_history.specs.declared.journal.CallFault.TheVariants.{Full, Memory}
 use Rattle.call_history.specs.Lines.{HasAll}
 use Rattle.call_history.specs.RingClosing.{end_numbers}
 use Rattle.call_history.proofs.DeskLines.{ends_of_ports}
 use Rattle.match_desk.proofs.FollowedHistories.{replay-headline}
+use Rattle.match_workers.specs.RefereeFaults.{referee_fault}
+use Rattle.match_workers.specs.declared.refereeing.RefereeFault.TheVariants.{Unclosed}
 use Rattle.match_workers.proofs.finishing.close_match.Goals as goal
+
+-- a fault of the last rounds is told as what it is
+never_unclosed : (cause : CallFault) → referee_fault (ask_fault cause) ≡ Unclosed → ⊥
+never_unclosed Full is = cc
+never_unclosed Memory is = cc
 
 pub close-requires : goal.close-requires
 close-requires g c = record { lines = ends_of_ports _ _ _ c.serve_all.ensures.lines c.requires.lines }
@@ -15,3 +26,22 @@ returns-in-Ok-clause-headline g c =
 
 pub returns-in-Ok-clause-all : goal.returns-in-Ok-clause-all
 returns-in-Ok-clause-all g c = subst (λ n. HasAll (end_numbers c.args.lines.items) n) c.serve_all.ensures.lines.count c.in-Ok.ensures.closed.has_all
+
+pub returns-clause-unclosed : goal.returns-clause-unclosed
+returns-clause-unclosed g c is = record {
+  last = c.serve_all.new.self;
+  ports = c.serve_all.ensures.lines;
+  history = c.serve_all.ensures.history;
+  idle = c.in_ok-serve_all.ensures.idle;
+  after = c.in-Err.field-0.desk;
+  journal = c.in-Err.ensures.back.journal;
+  left = c.in-Err.field-0.ends.items;
+  ends_are = c.in-Err.ensures.back.ends_are;
+  cause = c.in-Err.field-0.cause;
+  is_cause = c.in-Err.ensures.cause;
+}
+
+pub returns-in_err-serve_all-clause-unclosed : goal.returns-in_err-serve_all-clause-unclosed
+returns-in_err-serve_all-clause-unclosed g c =
+    let p = err_from_is_err_and c.from_residual.result c.from_residual.ensures.1 in
+    rw p.1 (λ is. absurd (never_unclosed c.in_err-serve_all.field-0.0.cause (sym p.2 ∙ is)))
