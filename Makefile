@@ -2,9 +2,10 @@
 
 PREFIX := /usr/local
 PROGRAM := bin/ggp_manager
-EDITED := $(if $(filter edits,$(firstword $(MAKECMDGOALS))),$(wordlist 2,$(words $(MAKECMDGOALS)),$(MAKECMDGOALS)))
+# The names of crates behind `edits` and `trials`.
+NAMED := $(if $(filter edits trials,$(firstword $(MAKECMDGOALS))),$(wordlist 2,$(words $(MAKECMDGOALS)),$(MAKECMDGOALS)))
 
-.PHONY: help demo match season games build install check edits memory test $(EDITED)
+.PHONY: help demo match season games build install check trials edits memory test $(NAMED)
 
 help:
 	@echo 'make demo            a match of Countdown through the program, line by line'
@@ -14,9 +15,10 @@ help:
 	@echo 'make build           proves the program and leaves it at $(PROGRAM)'
 	@echo 'make install         puts the proved program into $(PREFIX)/bin (PREFIX=DIR: into DIR/bin)'
 	@echo 'make check           proves every crate; what has not changed is not proved again'
+	@echo 'make trials [NAME..] compiles the tests (all, or those of the named crates) and runs them'
 	@echo 'make edits [NAME..]  tries the wrong edits of the crates (all, or those named): the prover must refuse each'
 	@echo 'make memory          has each allocation of the calls, and of a match, refused in turn, and looks at what is left'
-	@echo 'make test            the gate: every proof from nothing, wrong edits, the tests, the programs'
+	@echo 'make test            the gate: the tests, every proof from nothing, wrong edits, the programs'
 
 # The program that `demo`, `match`, `season` and `games` run is the proved one where it is up to date, else one that is not proved yet.
 demo:
@@ -41,14 +43,17 @@ install: build
 check:
 	@tools/prove check
 
+trials:
+	@tools/trials $(NAMED)
+
 edits:
-	@tools/edits $(EDITED)
+	@tools/edits $(NAMED)
 
 memory:
 	@tools/memory
 
-# The names behind `edits` are no targets of their own.
-$(EDITED): ; @:
+# These names are no targets of their own.
+$(NAMED): ; @:
 
 test:
 	@.ci/gate

@@ -40,7 +40,7 @@ def wait_for_program(folder, compiling, who):
     return found
 
 
-def compile_unproved(crate, kept, flags=(), arguments=(), given=b""):
+def compile_unproved(crate, kept, flags=(), arguments=(), given=b"", top=TOP):
     """Compiles a program crate with these flags of `rt try`, and copies it to `kept` while it runs with these arguments, on what it
     is given: it has to run for a second or more. Returns whether it was compiled; if not, it prints the last lines of `rt try`."""
     room_of = os.path.dirname(kept)
@@ -50,7 +50,7 @@ def compile_unproved(crate, kept, flags=(), arguments=(), given=b""):
             it.write(given)
         call = ["rt", "try", "--steps", "1", *flags, "--", *arguments]
         with open(f"{room}/given", "rb") as stdin, open(f"{room}/log", "w+", errors="replace") as log:
-            how = {"cwd": f"{TOP}/crates/{crate}", "env": {**os.environ, "TMPDIR": room}, "stdin": stdin}
+            how = {"cwd": f"{top}/crates/{crate}", "env": {**os.environ, "TMPDIR": room}, "stdin": stdin}
             compiling = subprocess.Popen(call, **how, stdout=log, stderr=log)
             try:
                 found = wait_for_program(room, compiling, crate)

@@ -17,7 +17,7 @@ import subprocess
 import sys
 
 RECORDS = pathlib.Path(__file__).resolve().parent
-TRIALS = RECORDS.parent.parent / "crates/record_trials/src"
+TRIALS = RECORDS.parent.parent / "trials/record_trials/src"
 ROLES = ["red", "blue"]
 KEYS = (
     "cause endMarks errors goalValues matchId moves phase playClock players roles startClock startMarks states strikes version"
@@ -328,9 +328,9 @@ def files():
         heap, text = int(path.stem.split("-")[1]), path.read_text().removesuffix("\n")
         rows.append((heap, text, word(heap, text)))
         yield path.with_suffix(".word"), rows[-1][2] + "\n"
-    yield TRIALS / "example_records.rt", table("The example records.", "EXAMPLE_RECORDS", rows)
+    yield TRIALS / "example_records.rt.trial", table("The example records.", "EXAMPLE_RECORDS", rows)
     rows = [(heap, text, word(heap, text)) for heap, text in random_records(1, 2, 7)]
-    yield TRIALS / "random_records.rt", table("Records of random matches, and each of them changed in one place.", "RANDOM_RECORDS", rows)
+    yield TRIALS / "random_records.rt.trial", table("Records of random matches, and each of them changed in one place.", "RANDOM_RECORDS", rows)
 
 
 def compare(program):

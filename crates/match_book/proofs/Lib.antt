@@ -9,3 +9,4 @@ pub mod LawfulTurns
 pub mod LawfulMatches
 pub mod KeptMatches
 pub mod AnswerLaws
+mod StrictMatches

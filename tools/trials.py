@@ -1,0 +1,39 @@
+"""The crates of trials/, which are compiled and not proved, in a room of their own: there they stand as crates beside copies of the others."""
+import os
+import shutil
+
+from crates import TOP
+
+TRIALS = f"{TOP}/trials"
+ENDING = ".trial"
+
+
+def lines_of(file):
+    with open(file, encoding="utf-8") as lines:
+        return [it for it in lines.read().splitlines() if it.partition("#")[0].strip()]
+
+
+def trials():
+    """Returns the names of the crates of trials/, in the order of trials.txt."""
+    return [it.partition(":")[0].split()[0] for it in lines_of(f"{TRIALS}/trials.txt")]
+
+
+def files_of(folder):
+    """Yields the paths of a crate's sources and definitions, from its folder."""
+    for part in ("src", "specs"):
+        for at, _, files in os.walk(f"{folder}/{part}"):
+            yield from (os.path.relpath(f"{at}/{it}", folder) for it in sorted(files))
+
+
+def lay_out(room):
+    """Lays copies of the repository's crates out in a folder, and beside them those of trials/, each file of which loses its last ending."""
+    os.makedirs(f"{room}/.git")
+    shutil.copy(f"{TOP}/HANDLES", room)
+    with open(f"{room}/crates.txt", "w", encoding="utf-8") as it:
+        it.write("\n".join([*lines_of(f"{TOP}/crates.txt"), *lines_of(f"{TRIALS}/trials.txt"), ""]))
+    for top in (f"{TOP}/crates", TRIALS):
+        for name in sorted(os.listdir(top)):
+            for file in files_of(f"{top}/{name}"):
+                copy = f"{room}/crates/{name}/{file.removesuffix(ENDING)}"
+                os.makedirs(os.path.dirname(copy), exist_ok=True)
+                shutil.copy(f"{top}/{name}/{file}", copy)
