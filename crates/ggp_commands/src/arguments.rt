@@ -94,8 +94,8 @@ impl From<clap::Error> for ArgumentFault {
     }
 }
 
-/// The program's version, and the kit's that proved it.
-const VERSION: &str = "0.1.0 (rattle-kit-13f)";
+/// The program's version.
+const VERSION: &str = "0.1.0";
 
 fn option<'a>(alloc: Global, name: &'a str, value: &'a str, help: &'a str) -> Arg<'a> {
     Arg::new(alloc, name)
