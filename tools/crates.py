@@ -7,7 +7,7 @@ import subprocess
 TOP = os.path.dirname(os.path.dirname(os.path.realpath(__file__)))
 PROGRAM = "ggp_manager"
 PARTS = ("src", "specs", "proofs")
-# The kits with which the gate passes.
+# The kits with which the gate has to pass.
 KITS = ("rattle-kit-13b", "rattle-kit-13f")
 
 
