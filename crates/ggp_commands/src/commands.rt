@@ -11,11 +11,12 @@ use crate::script::run_script;
 use crate::script_fault::ScriptFault;
 use desk_text::push_history;
 use game_core::{Countdown, Counted, Game};
+use http_exchange::WireFault;
+use match_messages::{Info, info_message, read_info};
 use match_season::{
     Entrants, Fixture, MatchPlan, PlayedMatch, described_game, entrants_of, fixtures, play_season,
     played_match, read_schedule,
 };
-use match_wire::{Info, WireFault, info_message, read_info};
 use match_workers::Player;
 use network_players::{
     ContactFault, Explains, LoggedPlayer, Logging, PlayerAddress, Progress, Reach, StatusStream,

@@ -1,3 +1,4 @@
+pub mod NamesAreAtoms
 pub mod RoleTests
 pub mod NamedMoves
 pub mod AnswerReadings

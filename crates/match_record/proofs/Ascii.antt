@@ -24,7 +24,7 @@ use Rattle.match_book.specs.declared.phase.Phase.{Phase}
 use Rattle.match_book.specs.declared.phase.Phase.TheVariants.{Starting, Playing, Stopping, Finished, Aborting, Aborted}
 use Rattle.match_book.specs.declared.turn.Turn.{Turn}
 use Rattle.match_record.specs.RecordTree.{phase_text}
-use Rattle.match_record.proofs.Names.{name_is_atom}
+use Rattle.match_book.proofs.NamesAreAtoms.{name_is_atom}
 
 small_byte : (b : ℕ) → nat_lt b 128 ≡ true → b < 128
 small_byte b is = grind (arith, nat_tests)

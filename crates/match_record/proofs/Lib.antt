@@ -1,4 +1,3 @@
-pub mod Names
 pub mod Ascii
 pub mod RecordParts
 pub mod ErrorWords

@@ -1,38 +1,13 @@
-//! What passes between the referee and the players: messages, and the HTTP exchanges that carry them.
+//! All that leaves a match, by one path: its messages, the HTTP exchanges that carry them, its record and the check of it.
 //!
-//! The messages are those of the Stanford GGP communication specification: `message` writes one, and
-//! `read_message` reads it as a player does. Players are HTTP servers: `exchange` sends one a request and
-//! reads its reply, over any stream; `take_request` and `give_reply` are a player's side. A body is taken
-//! only where it is whole, within the limits, and framed by one length or by the end of the stream; each
-//! other outcome has a name.
-//!
-//! The record of a match and its check are those of `match_record`, and are handed on from there.
-//!
-//! Free functions take the allocator first.
+//! Nothing is made here. `match_messages`, `http_exchange`, `match_record` and `record_check` have what is handed on, and
+//! the crates of this repository stand on those that they need.
 #![tactic(auto)]
 
-mod body_length;
-mod brief;
-mod clock;
-mod exchanging;
-mod head;
-mod http_text;
-mod info;
 pub mod laws;
-mod look;
-mod messages;
-mod numeral;
-mod reading;
-mod receiving;
-mod sending;
-mod wire_fault;
-mod writing;
 
-pub use brief::Brief;
-pub use exchanging::{exchange, give_reply, take_request};
-pub use info::{Info, read_info};
+pub use http_exchange::{WireFault, exchange, give_reply, take_request};
+pub use match_messages::{
+    Brief, Info, Message, MessageFault, info_message, message, read_info, read_message,
+};
 pub use match_record::{Key, VerifyFault, phase_text, record_json, verify};
-pub use messages::{Message, MessageFault};
-pub use reading::read_message;
-pub use wire_fault::WireFault;
-pub use writing::{info_message, message};

@@ -8,8 +8,8 @@ use Rattle.match_book.specs.declared.due.Owed.{Owed}
 use Rattle.match_desk.specs.declared.call.Call.{Call}
 use Rattle.match_desk.specs.declared.call.Reply.{Reply}
 use Rattle.match_desk.specs.declared.call.Reply.TheVariants.{Taken}
-use Rattle.match_wire.specs.declared.brief.Brief.{Brief}
-use Rattle.match_wire.specs.MessageText.{message_text}
+use Rattle.match_messages.specs.declared.brief.Brief.{Brief}
+use Rattle.match_messages.specs.MessageText.{message_text}
 use Rattle.match_workers.specs.declared.attend_fault.AttendFault.{AttendFault}
 use Rattle.match_workers.specs.declared.attend_fault.AttendFault.TheVariants.{Memory}
 use Rattle.match_workers.specs.Handing.{Handed, seconds_for}

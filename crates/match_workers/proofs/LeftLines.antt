@@ -16,7 +16,7 @@ use Rattle.call_history.proofs.ReturnedEnds.{port_of_same}
 use Rattle.call_history.proofs.NewLines.{before_last, at_last}
 use Rattle.match_desk.specs.declared.call.Call.{Call}
 use Rattle.match_desk.specs.declared.call.Reply.{Reply}
-use Rattle.match_wire.specs.declared.brief.Brief.{Brief}
+use Rattle.match_messages.specs.declared.brief.Brief.{Brief}
 use Rattle.match_workers.specs.declared.attend_fault.AttendFault.{AttendFault}
 use Rattle.match_workers.specs.declared.player.Player as Player
 use Rattle.match_workers.specs.declared.seat.Attended.{Attended}

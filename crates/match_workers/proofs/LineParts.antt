@@ -20,7 +20,7 @@ use Rattle.match_book.specs.declared.setup.Setup.{Setup}
 use Rattle.match_desk.specs.declared.call.Call.{Call}
 use Rattle.match_desk.specs.declared.call.Reply.{Reply}
 use Rattle.match_desk.specs.declared.call.Reply.TheVariants.{Opened}
-use Rattle.match_wire.specs.declared.brief.Brief.{Brief}
+use Rattle.match_messages.specs.declared.brief.Brief.{Brief}
 use Rattle.match_workers.specs.declared.attend_fault.AttendFault.{AttendFault}
 use Rattle.match_workers.specs.Handing.{Handed}
 use Rattle.match_workers.specs.Events.{telling}

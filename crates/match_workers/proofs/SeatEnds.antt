@@ -4,7 +4,7 @@ use Rattle.std.specs.Prelude.{slice_get}
 use Rattle.call_history.specs.declared.wire.Wire as Wire
 use Rattle.match_desk.specs.declared.call.Call.{Call}
 use Rattle.match_desk.specs.declared.call.Reply.{Reply}
-use Rattle.match_wire.specs.declared.brief.Brief.{Brief}
+use Rattle.match_messages.specs.declared.brief.Brief.{Brief}
 use Rattle.match_workers.specs.declared.attend_fault.AttendFault.{AttendFault}
 use Rattle.match_workers.specs.Events.{Telling}
 use Rattle.match_workers.specs.Attending.{Attends, StopsEarly}

@@ -5,7 +5,7 @@ use Rattle.call_history.specs.Told.{told_with}
 use Rattle.call_history.specs.declared.wire.AskFault.{AskFault}
 use Rattle.match_desk.specs.declared.call.Call.{Call}
 use Rattle.match_desk.specs.declared.call.Reply.{Reply}
-use Rattle.match_wire.specs.declared.brief.Brief.{Brief}
+use Rattle.match_messages.specs.declared.brief.Brief.{Brief}
 use Rattle.match_workers.specs.declared.attend_fault.AttendFault.{AttendFault}
 use Rattle.match_workers.specs.declared.attend_fault.AttendFault.TheVariants.{Stalled, Memory}
 use Rattle.match_workers.specs.Events.{Event, makes, takes, message_in, Telling, telling_with}

@@ -3,7 +3,7 @@ use Rattle.std.specs.Prelude.{◌≡◌, ℕ, ◌<◌, List, [], length, slice_i
 use Rattle.game_core.specs.Play.{Rules}
 use Rattle.kif_text.specs.declared.expr.Expr.{Expr}
 use Rattle.match_book.specs.declared.setup.Setup.{Setup}
-use Rattle.match_wire.specs.declared.brief.Brief.{Brief}
+use Rattle.match_messages.specs.declared.brief.Brief.{Brief}
 
 -- the names of the game's roles, in their order
 pub record AreRoleNames {S M : Type 0} (g : Rules S M) (names : List (List ℕ)) : Type 0 where

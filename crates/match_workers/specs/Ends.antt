@@ -5,7 +5,7 @@ use Rattle.call_history.specs.declared.journal.Entry.{Entry}
 use Rattle.call_history.specs.Parts.{part, calls_of, replies_of}
 use Rattle.match_desk.specs.declared.call.Call.{Call}
 use Rattle.match_desk.specs.declared.call.Reply.{Reply}
-use Rattle.match_wire.specs.declared.brief.Brief.{Brief}
+use Rattle.match_messages.specs.declared.brief.Brief.{Brief}
 use Rattle.match_workers.specs.declared.attend_fault.AttendFault.{AttendFault}
 use Rattle.match_workers.specs.Handing.{Handed}
 use Rattle.match_workers.specs.Events.{Telling, telling}

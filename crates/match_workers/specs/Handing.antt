@@ -3,7 +3,7 @@ use Rattle.std.specs.Prelude.{ℕ, List}
 use Rattle.match_book.specs.declared.due.Owed.{Owed}
 use Rattle.match_book.specs.declared.due.Owed.TheVariants.{Start, Play, Stop, Abort}
 use Rattle.match_book.specs.declared.answer.Answer.{Answer}
-use Rattle.match_wire.specs.declared.brief.Brief.{Brief}
+use Rattle.match_messages.specs.declared.brief.Brief.{Brief}
 
 -- a message handed to a player with these seconds, and what the player answered
 pub record Handed : Type 0 where

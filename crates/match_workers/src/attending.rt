@@ -16,7 +16,7 @@ use crate::player::Player;
 use call_history::Wire;
 use match_book::{Answer, Due, Owed};
 use match_desk::{Call, Refusal, Reply};
-use match_wire::{Brief, message};
+use match_messages::{Brief, message};
 use std::alloc::{AllocError, Global};
 
 /// Asks what is due to the role.

@@ -6,7 +6,7 @@ ghost use Rattle.call_history.specs.RingLines.{posted_calls, taken_replies, Same
 ghost use Rattle.match_desk.specs.Headline.{HasHeadline};
 ghost use Rattle.match_desk.specs.ManagerValue.{opening};
 ghost use Rattle.match_desk.specs.declared.call.Reply.TheVariants.{Opened as IsOpened};
-ghost use Rattle.match_wire.specs.declared.brief.Brief.{Brief as Told};
+ghost use Rattle.match_messages.specs.declared.brief.Brief.{Brief as Told};
 ghost use Rattle.match_workers.specs.Briefs.{AreRoleNames, IsBriefOf};
 ghost use Rattle.match_workers.specs.Ends.{AreEndsOf};
 ghost use Rattle.match_workers.specs.LineParts.{open_call, OpensMatch, AreRoleLines, AreCounts};
@@ -27,7 +27,7 @@ use game_core::{Game, Text, Texts};
 use kif_text::Expr;
 use match_book::Setup;
 use match_desk::{Call, Manager, Refusal, Reply};
-use match_wire::Brief;
+use match_messages::Brief;
 use std::alloc::{AllocError, AllocFailed, Global};
 use std::sync::{Arc, Wait};
 use std::thread::Threads;

@@ -2,7 +2,7 @@
 ghost use Rattle.std.specs.Prelude.{◌<◌, length};
 
 use crate::attend_fault::AttendFault;
-use match_wire::Brief;
+use match_messages::Brief;
 
 /// A role of a match, with its player and its wire to the desk.
 #[derive(Drop)]

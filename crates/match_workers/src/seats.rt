@@ -13,7 +13,7 @@ use crate::seat::{Attended, Seat};
 use call_history::{Bell, Object, Wire};
 use match_book::Due;
 use match_desk::{Call, Reply};
-use match_wire::Brief;
+use match_messages::Brief;
 use std::alloc::{AllocError, Global};
 use std::snapshot::Snapshot;
 use std::sync::Wait;

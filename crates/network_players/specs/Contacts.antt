@@ -4,8 +4,8 @@ use Rattle.std.specs.declared.io.ErrorKind.{ErrorKind}
 use Rattle.std.specs.declared.io.ErrorKind.TheVariants.{WouldBlock, TimedOut, OutOfMemory}
 use Rattle.match_book.specs.declared.answer.Answer.{Answer}
 use Rattle.match_book.specs.declared.answer.Answer.TheVariants.{Text, Silent, Broken}
-use Rattle.match_wire.specs.declared.wire_fault.WireFault.{WireFault}
-use Rattle.match_wire.specs.declared.wire_fault.WireFault.TheVariants.{ReadFault}
+use Rattle.http_exchange.specs.declared.wire_fault.WireFault.{WireFault}
+use Rattle.http_exchange.specs.declared.wire_fault.WireFault.TheVariants.{ReadFault}
 use Rattle.network_players.specs.declared.contacting.ContactFault.{ContactFault}
 use Rattle.network_players.specs.declared.contacting.ContactFault.TheVariants.{NoAddress, NoConnection, Late, NoClock, Memory, Exchange}
 

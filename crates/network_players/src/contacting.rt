@@ -5,7 +5,7 @@ ghost use Rattle.network_players.specs.Contacts.{step_fault, exchange_fault};
 use crate::addresses::PlayerAddress;
 use crate::deadline::{Deadline, TimedStream};
 use game_core::{Counted, Text};
-use match_wire::{WireFault, exchange};
+use http_exchange::{WireFault, exchange};
 use std::alloc::Global;
 use std::io::ErrorKind;
 use std::net::{Net, TcpStream, ToSocketAddrs};

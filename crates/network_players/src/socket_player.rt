@@ -8,7 +8,7 @@ use crate::logging::Explains;
 use crate::signal::{Pace, Signal};
 use game_core::Text;
 use match_book::Answer;
-use match_wire::WireFault;
+use http_exchange::WireFault;
 use match_workers::Player;
 use std::alloc::{AllocError, Global};
 use std::io::ErrorKind;

@@ -1,0 +1,105 @@
+-- The heads of messages, by the grammar of `httparse`, and what they say of the body.
+use Rattle.std.specs.Prelude.{◌≡◌, ℕ, ◌<◌, ◌≤◌, ◌⊎◌, ◌==◌, nat_le, if◌then◌else◌, List, ◌++◌, length, take, map, codes, Option, Some, None}
+use Rattle.std.specs.Str.{bytes_eq}
+use Rattle.httparse.specs.Grammar.{ResponseHead, ReadsResponse, MayBecomeResponse, print_response, status_code, RequestHead, ReadsRequest, MayBecomeRequest, print_request}
+use Rattle.httparse.specs.Spans.{name_and_value}
+use Rattle.http_exchange.specs.BodyLength.{Header, BodyLength, unsaid, said, wrong, body_length}
+use Rattle.http_exchange.specs.declared.head.HttpKind.{HttpKind}
+use Rattle.http_exchange.specs.declared.head.HttpKind.TheVariants.{Reply, Request}
+use Rattle.http_exchange.specs.declared.head.Head.{Head}
+use Rattle.http_exchange.specs.declared.head.Head.TheVariants.{Unfinished, Whole, Refused}
+use Rattle.http_exchange.specs.declared.wire_fault.FrameFault.{FrameFault}
+use Rattle.http_exchange.specs.declared.wire_fault.FrameFault.TheVariants.{BadHead, BadStatus, BadLength, TooLong}
+
+-- how many bytes a head takes at most
+abbrev pub max_head : ℕ
+max_head = 16384
+
+-- how many fields a head has at most
+abbrev pub max_fields : ℕ
+max_fields = 64
+
+-- how many bytes a body has at most
+abbrev pub max_body : HttpKind → ℕ
+max_body Reply = 65536
+max_body Request = 2097152
+
+-- the status of a reply that is taken
+abbrev pub good_status : ℕ
+good_status = 200
+
+-- the method of a request that is taken
+abbrev pub post : List ℕ
+post = codes "POST"
+
+-- What is read of a head: how many bytes it takes, why its first line is refused, if it is, and its
+-- fields.
+pub record Parts : Type 0 where
+  pub size : ℕ
+  pub refusal : Option FrameFault
+  pub fields : List Header
+
+abbrev pub reply_parts : ResponseHead → Parts
+reply_parts head = record {
+  size = length (print_response head);
+  refusal = if status_code head == good_status then None else Some BadStatus;
+  fields = map name_and_value head.fields;
+}
+
+abbrev pub request_parts : RequestHead → Parts
+request_parts head = record {
+  size = length (print_request head);
+  refusal = if bytes_eq head.method post then None else Some BadHead;
+  fields = map name_and_value head.fields;
+}
+
+-- the bytes are a head with these parts, and then the rest
+abbrev pub Reads : HttpKind → List ℕ → Parts → List ℕ → Type 0
+Reads Reply bytes parts rest = (head : ResponseHead) × ReadsResponse bytes head rest × (parts ≡ reply_parts head)
+Reads Request bytes parts rest = (head : RequestHead) × ReadsRequest bytes head rest × (parts ≡ request_parts head)
+
+-- no head stands at the front of the bytes
+abbrev pub HasNoHead : HttpKind → List ℕ → Type 0
+HasNoHead kind bytes = (parts : Parts) (rest : List ℕ) → ¬ (Reads kind bytes parts rest)
+
+-- some bytes can follow that make the bytes a head; or they end inside a request's target, which is
+-- judged at its end
+abbrev pub MayBecomeHead : HttpKind → List ℕ → Type 0
+MayBecomeHead Reply bytes = MayBecomeResponse bytes
+MayBecomeHead Request bytes = MayBecomeRequest bytes
+
+-- whatever bytes follow, no head with few enough fields stands at the front
+abbrev pub IsHopeless : HttpKind → List ℕ → Type 0
+IsHopeless kind bytes =
+    (more : List ℕ) (parts : Parts) (rest : List ℕ) → Reads kind (bytes ++ more) parts rest
+    → max_fields < length parts.fields
+
+-- the body behind a head of this size, by what the fields say of its length: without one a reply's
+-- body runs to the end of the stream
+abbrev pub framed_by : HttpKind → ℕ → BodyLength → Head
+framed_by kind size wrong = Refused BadLength
+framed_by kind size (said n) =
+    if nat_le n (max_body kind) then Whole (record { start = size; length = Some n }) else Refused TooLong
+framed_by Reply size unsaid = Whole (record { start = size; length = None })
+framed_by Request size unsaid = Refused BadLength
+
+abbrev pub unless_refused : Option FrameFault → Head → Head
+unless_refused None head = head
+unless_refused (Some refusal) head = Refused refusal
+
+-- what a whole head says: its first line is looked at first, then its fields
+abbrev pub framed : HttpKind → Parts → Head
+framed kind parts = unless_refused parts.refusal (framed_by kind parts.size (body_length parts.fields))
+
+-- the part of the bytes in which a head may stand
+abbrev pub front : List ℕ → List ℕ
+front bytes = take max_head bytes
+
+-- What the bytes so far say of the head. The three cases exclude one another, but for bytes that begin
+-- a head and are hopeless, of which only the refusal is said.
+abbrev pub HeadIs : HttpKind → List ℕ → Head → Type 0
+HeadIs kind bytes head =
+    ((parts : Parts) × (rest : List ℕ) × Reads kind (front bytes) parts rest × (length parts.fields ≤ max_fields)
+    × (head ≡ framed kind parts))
+    ⊎ ((IsHopeless kind (front bytes) × (head ≡ Refused BadHead))
+    ⊎ (HasNoHead kind (front bytes) × MayBecomeHead kind (front bytes) × (head ≡ Unfinished)))

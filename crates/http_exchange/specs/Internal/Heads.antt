@@ -1,0 +1,37 @@
+-- What is known of a message while it is read.
+use Rattle.std.specs.Prelude.{◌≡◌, ℕ, ◌≤◌, ◌⊎◌, Bool, List, Option, Some, None, ⊤}
+use Rattle.std.specs.Str.Parse.{digits_value}
+use Rattle.game_core.specs.Numerals.{are_digits}
+use Rattle.http_exchange.specs.BodyLength.{BodyLength, unsaid, said, writes_number}
+use Rattle.http_exchange.specs.HttpHead.{HeadIs}
+use Rattle.http_exchange.specs.declared.head.HttpKind.{HttpKind}
+use Rattle.http_exchange.specs.declared.head.Head.{Head}
+use Rattle.http_exchange.specs.declared.head.Head.TheVariants.{Unfinished, Whole, Refused}
+use Rattle.http_exchange.specs.declared.look.Look.{Look}
+use Rattle.http_exchange.specs.declared.look.Look.TheVariants as looks
+
+-- the length that digits give, if there are any
+abbrev pub length_of : Option (List ℕ) → BodyLength
+length_of None = unsaid
+length_of (Some digits) = said (digits_value 10 digits)
+
+-- the value is digits, and of the same number as the one before it
+abbrev pub agrees : Option (List ℕ) → List ℕ → Bool
+agrees None value = are_digits value
+agrees (Some before) value = writes_number (digits_value 10 before) value
+
+-- nothing is known of the head, or this is what the bytes say of it
+abbrev pub IsKnown : HttpKind → List ℕ → Head → Type 0
+IsKnown kind bytes head = (head ≡ Unfinished) ⊎ HeadIs kind bytes head
+
+-- a body behind the head begins within so many bytes
+abbrev pub StartsWithin : ℕ → Head → Type 0
+StartsWithin have Unfinished = ⊤
+StartsWithin have (Refused refusal) = ⊤
+StartsWithin have (Whole frame) = frame.start ≤ have
+
+-- a body that is found lies within so many bytes
+abbrev pub BodyWithin : ℕ → Look → Type 0
+BodyWithin have looks.More = ⊤
+BodyWithin have (looks.Body start end) = (start ≤ end) × (end ≤ have)
+BodyWithin have (looks.Refused refusal) = ⊤

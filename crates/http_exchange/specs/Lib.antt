@@ -1,0 +1,9 @@
+pub mod BodyLength
+pub mod HttpText
+pub mod HttpHead
+pub mod Looks
+pub mod Carried
+pub mod WireFaults
+pub mod Exchange
+pub mod WireLaws
+pub mod Internal

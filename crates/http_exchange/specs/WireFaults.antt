@@ -1,0 +1,44 @@
+-- What each fault of reading or writing a message says.
+use Rattle.std.specs.Prelude.{◌≡◌, ◌≢◌, ◌⊎◌, ℕ, ◌<◌, Bool, false, List, [], ⊤}
+use Rattle.std.specs.declared.io.ErrorKind.TheVariants.{Interrupted}
+use Rattle.game_core.specs.Counting.{Counting, CallsMade, last_count, max_stream_calls}
+use Rattle.http_exchange.specs.Looks.{Looks}
+use Rattle.http_exchange.specs.declared.head.HttpKind.{HttpKind}
+use Rattle.http_exchange.specs.declared.look.Look.TheVariants.{More, Refused}
+use Rattle.http_exchange.specs.declared.wire_fault.FrameFault.{FrameFault}
+use Rattle.http_exchange.specs.declared.wire_fault.FrameFault.TheVariants as refusals
+use Rattle.http_exchange.specs.declared.wire_fault.WireFault.{WireFault}
+use Rattle.http_exchange.specs.declared.wire_fault.WireFault.TheVariants.{WriteFault, ReadFault, BadHead, BadStatus, BadLength, TooLong, CutShort, TooManyReads, Memory}
+
+-- the fault of a message that is refused
+abbrev pub fault_of : FrameFault → WireFault
+fault_of refusals.BadHead = BadHead
+fault_of refusals.BadStatus = BadStatus
+fault_of refusals.BadLength = BadLength
+fault_of refusals.TooLong = TooLong
+fault_of refusals.CutShort = CutShort
+
+-- a failure was counted, but at the last count
+abbrev pub HasFailed : ℕ → ℕ → Type 0
+HasFailed old new = new < last_count → old < new
+
+-- nothing was given yet, or what was given asks for more
+abbrev pub WantsMore : HttpKind → List ℕ → Type 0
+WantsMore kind given = (given ≡ []) ⊎ Looks kind given false More
+
+-- What a fault of reading says of the bytes given, of the stream's end and of its counts before and after:
+-- each but the first three is that of a refusal.
+abbrev pub ReadStops : {S : Type 0} → HttpKind → WireFault → List ℕ → Bool → Counting S → Counting S → Type 0
+ReadStops kind (ReadFault cause) given ended old new =
+    (cause ≢ Interrupted) × (ended ≡ false) × WantsMore kind given × HasFailed old.faults new.faults
+ReadStops kind TooManyReads given ended old new =
+    (ended ≡ false) × WantsMore kind given × CallsMade max_stream_calls old.calls new.calls
+ReadStops kind Memory given ended old new = ⊤
+ReadStops kind fault given ended old new =
+    (refusal : FrameFault) × (fault ≡ fault_of refusal) × Looks kind given ended (Refused refusal)
+
+-- what a fault of writing says of the stream's counts before and after
+abbrev pub WriteStops : {S : Type 0} → WireFault → Counting S → Counting S → Type 0
+WriteStops WriteFault old new = HasFailed old.faults new.faults
+WriteStops TooManyReads old new = CallsMade max_stream_calls old.calls new.calls
+WriteStops fault old new = ⊥

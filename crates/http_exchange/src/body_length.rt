@@ -1,0 +1,65 @@
+//! What the fields of a head say of the length of the body.
+ghost use Rattle.std.specs.Prelude.{◌≡◌, All, IsTrue, IfOk, IfSome, MatchResult, map, length};
+ghost use Rattle.std.specs.Char.{to_ascii_lowercase};
+ghost use Rattle.std.specs.Option.{option_copied};
+ghost use Rattle.httparse.specs.Spans.{IsHeaderWithin, header_bytes};
+ghost use Rattle.game_core.specs.Numerals.{are_digits};
+ghost use Rattle.http_exchange.specs.BodyLength.{body_length, has_name, wrong};
+ghost use Rattle.http_exchange.specs.Internal.Heads.{agrees, length_of};
+
+use crate::numeral::is_same_number;
+use crate::wire_fault::FrameFault;
+use game_core::numeral::are_digits;
+use httparse::spans::HeaderSpan;
+
+const CONTENT_LENGTH: &[u8] = b"content-length";
+
+const TRANSFER_ENCODING: &[u8] = b"transfer-encoding";
+
+/// Whether a name is this one, which is in small letters, in any ASCII case.
+fn has_name(name: &[u8], small: &[u8]) -> bool
+    requires { map to_ascii_lowercase small.now ≡ small.now }
+    ensures { result ≡ has_name small.now name.now }
+{
+    name.eq_ignore_ascii_case(small)
+}
+
+/// Whether a value is digits, and of the same number as the one before it.
+fn agrees(before: Option<&[u8]>, value: &[u8]) -> bool
+    requires { IfSome (option_copied before) (λ digits. IsTrue (are_digits digits)) }
+    ensures { result ≡ agrees (option_copied before.entry) value.now }
+{
+    match before {
+        None => are_digits(value),
+        Some(before) => are_digits(value) && is_same_number(before, value),
+    }
+}
+
+/// The digits of the length that the fields agree on, none where no field gives one.
+pub(crate) fn said_length<'b>(
+    buf: &'b [u8],
+    headers: &[HeaderSpan],
+) -> Result<Option<&'b [u8]>, FrameFault>
+    requires { All (IsHeaderWithin (length buf.now)) headers.now }
+    ensures value { MatchResult result
+        (λ said. body_length (map (header_bytes buf.now) headers.now) ≡ length_of (option_copied said))
+        (λ refusal. (refusal ≡ FrameFault.BadLength) × (body_length (map (header_bytes buf.now) headers.now) ≡ wrong)) }
+    ensures numeral { IfOk result (λ said. IfSome (option_copied said) (λ digits. IsTrue (are_digits digits))) }
+{
+    let mut said = None;
+    for header in headers {
+        let name = header.name.of(buf);
+        if has_name(name, TRANSFER_ENCODING) {
+            return Err(FrameFault::BadLength);
+        }
+        if !has_name(name, CONTENT_LENGTH) {
+            continue;
+        }
+        let value = header.value.of(buf);
+        if !agrees(said, value) {
+            return Err(FrameFault::BadLength);
+        }
+        said = Some(value);
+    }
+    Ok(said)
+}

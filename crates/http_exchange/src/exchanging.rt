@@ -1,0 +1,64 @@
+//! An exchange with a player, and a player's side of it.
+ghost use Rattle.std.specs.Prelude.{◌≡◌, ◌⊎◌, IfOk, OnOk, IfErr};
+ghost use Rattle.game_core.specs.Counting.{Counting};
+ghost use Rattle.http_exchange.specs.Exchange.{BreaksOff, TakesBody, TakesNone, WritesText};
+ghost use Rattle.http_exchange.specs.HttpText.{reply_text, request_text};
+
+use crate::head::HttpKind;
+use crate::http_text::{reply_text, request_text};
+use crate::receiving::receive;
+use crate::sending::send;
+use crate::wire_fault::WireFault;
+use game_core::{Counted, Text};
+use std::alloc::Global;
+use std::io::{Read, Write};
+
+/// Sends a player a request with that body, and answers the body of the reply.
+///
+/// The player's name goes into the head as it is, so it may hold no line end. Whatever follows the
+/// body of the reply is ignored, and may have been read. What the stream took is not flushed.
+pub fn exchange<S: Read + Write>(
+    alloc: Global,
+    stream: &mut Counted<S>,
+    player: &[u8],
+    body: &[u8],
+) -> Result<Text, WireFault>
+    // Between writing and reading there is a state of the stream in which exactly the request was written.
+    ensures carries { IfOk result (λ reply. (sent : Counting S)
+        × WritesText S.contents stream.old sent (request_text player.now body.now)
+        × TakesBody HttpKind.Reply S.remaining sent stream.new reply) }
+    ensures fails { IfErr result (λ fault.
+        ((fault ≡ WireFault.Memory) × (stream.new ≡ stream.old))
+        ⊎ (BreaksOff S.contents stream.old stream.new (request_text player.now body.now) fault
+        ⊎ ((sent : Counting S)
+        × WritesText S.contents stream.old sent (request_text player.now body.now)
+        × TakesNone HttpKind.Reply S.remaining sent stream.new fault))) }
+{
+    let text = request_text(alloc, player, body)?;
+    send(stream, &text)?;
+    receive(alloc, stream, HttpKind::Reply)
+}
+
+/// Reads a request, and answers its body. Whatever follows the body is ignored, and may have been read.
+/// It writes nothing: all that it asks of the stream is to be read.
+pub fn take_request<S: Read>(alloc: Global, stream: &mut Counted<S>) -> Result<Text, WireFault>
+    ensures carries { IfOk result (λ body. TakesBody HttpKind.Request S.remaining stream.old stream.new body) }
+    ensures fails { IfErr result (λ fault. TakesNone HttpKind.Request S.remaining stream.old stream.new fault) }
+{
+    receive(alloc, stream, HttpKind::Request)
+}
+
+/// Writes the reply with that body. What the stream took is not flushed.
+pub fn give_reply<S: Write>(
+    alloc: Global,
+    stream: &mut Counted<S>,
+    body: &[u8],
+) -> Result<(), WireFault>
+    ensures written { OnOk result (WritesText S.contents stream.old stream.new (reply_text body.now)) }
+    ensures fails { IfErr result (λ fault.
+        ((fault ≡ WireFault.Memory) × (stream.new ≡ stream.old))
+        ⊎ BreaksOff S.contents stream.old stream.new (reply_text body.now) fault) }
+{
+    let text = reply_text(alloc, body)?;
+    send(stream, &text)
+}

@@ -1,0 +1,152 @@
+//! What the head of a message says of the body after it.
+ghost use Rattle.std.specs.Prelude.{◌≡◌, ◌<◌, ◌^◌, All, map, length};
+ghost use Rattle.httparse.specs.Spans.{IsHeaderWithin, header_bytes};
+ghost use Rattle.http_exchange.specs.BodyLength.{body_length};
+ghost use Rattle.http_exchange.specs.HttpHead.{HeadIs, framed_by, front, max_body};
+ghost use Rattle.http_exchange.specs.Internal.Heads.{IsKnown, StartsWithin};
+
+use crate::body_length::said_length;
+use crate::wire_fault::FrameFault;
+use game_core::numeral::number_up_to;
+use httparse::Status;
+use httparse::spans::{EMPTY_HEADER_SPAN, HeaderSpan, parse_request, parse_response};
+
+/// Which message is read.
+#[derive(Clone, Copy, Debug, PartialEq, Eq)]
+pub enum HttpKind {
+    Reply,
+    Request,
+}
+
+/// Where a body begins in the bytes, and how long it is, if the head says so. Else it runs to the end
+/// of the stream.
+#[derive(Clone, Copy, Debug, PartialEq, Eq)]
+pub struct Frame {
+    pub start: usize,
+    pub length: Option<usize>,
+}
+
+/// What the bytes so far say of the head.
+#[derive(Clone, Copy, Debug, PartialEq, Eq)]
+pub enum Head {
+    /// More bytes can make them a head.
+    Unfinished,
+    Whole(Frame),
+    Refused(FrameFault),
+}
+
+/// How many bytes a head takes at most.
+pub(crate) const MAX_HEAD: usize = 16_384;
+
+/// How many fields a head has at most.
+const MAX_FIELDS: usize = 64;
+
+/// The status of a reply that is taken.
+const GOOD_STATUS: u16 = 200;
+
+/// The method of a request that is taken.
+const POST: &[u8] = b"POST";
+
+/// How many bytes the body of a reply has at most.
+pub(crate) const MAX_REPLY_BODY: usize = 65_536;
+
+/// How many bytes the body of a request has at most.
+const MAX_REQUEST_BODY: usize = 2_097_152;
+
+fn max_body(kind: HttpKind) -> usize
+    ensures value { result ≡ max_body kind }
+    ensures small { result < 2 ^ 32 }
+{
+    match kind {
+        HttpKind::Reply => MAX_REPLY_BODY,
+        HttpKind::Request => MAX_REQUEST_BODY,
+    }
+}
+
+/// What a head of this size says of the body behind it, by its fields.
+fn framed(kind: HttpKind, size: usize, buf: &[u8], headers: &[HeaderSpan]) -> Head
+    requires { All (IsHeaderWithin (length buf.now)) headers.now }
+    ensures { result ≡ framed_by kind size (body_length (map (header_bytes buf.now) headers.now)) }
+{
+    match said_length(buf, headers) {
+        Err(refusal) => Head::Refused(refusal),
+        Ok(None) => match kind {
+            HttpKind::Reply => Head::Whole(Frame {
+                start: size,
+                length: None,
+            }),
+            HttpKind::Request => Head::Refused(FrameFault::BadLength),
+        },
+        Ok(Some(digits)) => match number_up_to(digits, max_body(kind)) {
+            Some(length) => Head::Whole(Frame {
+                start: size,
+                length: Some(length),
+            }),
+            None => Head::Refused(FrameFault::TooLong),
+        },
+    }
+}
+
+/// The part of the bytes in which a head may stand.
+fn front_of(bytes: &[u8]) -> &[u8]
+    ensures { result.now ≡ front bytes.now }
+{
+    &bytes[..bytes.len().min(MAX_HEAD)]
+}
+
+fn reply_head(bytes: &[u8]) -> Head
+    ensures { HeadIs HttpKind.Reply bytes.now result }
+{
+    let text = front_of(bytes);
+    let mut headers = [EMPTY_HEADER_SPAN; MAX_FIELDS];
+    match parse_response(text, &mut headers) {
+        Ok(Status::Complete(head)) => {
+            if head.code != GOOD_STATUS {
+                return Head::Refused(FrameFault::BadStatus);
+            }
+            framed(HttpKind::Reply, head.len, text, &headers[..head.headers])
+        }
+        Ok(Status::Partial) => Head::Unfinished,
+        Err(_) => Head::Refused(FrameFault::BadHead),
+    }
+}
+
+fn request_head(bytes: &[u8]) -> Head
+    ensures { HeadIs HttpKind.Request bytes.now result }
+{
+    let text = front_of(bytes);
+    let mut headers = [EMPTY_HEADER_SPAN; MAX_FIELDS];
+    match parse_request(text, &mut headers) {
+        Ok(Status::Complete(head)) => {
+            if head.method.of(text) != POST {
+                return Head::Refused(FrameFault::BadHead);
+            }
+            framed(HttpKind::Request, head.len, text, &headers[..head.headers])
+        }
+        Ok(Status::Partial) => Head::Unfinished,
+        Err(_) => Head::Refused(FrameFault::BadHead),
+    }
+}
+
+/// What the bytes so far say of the head.
+fn head_at(kind: HttpKind, bytes: &[u8]) -> Head
+    ensures { HeadIs kind bytes.now result }
+{
+    match kind {
+        HttpKind::Reply => reply_head(bytes),
+        HttpKind::Request => request_head(bytes),
+    }
+}
+
+/// What the bytes so far say of the head, where this was said of some prefix of them: only an unfinished
+/// head is looked at again.
+pub(crate) fn head_after(kind: HttpKind, before: Head, bytes: &[u8]) -> Head
+    requires { IsKnown kind bytes.now before }
+    ensures head { HeadIs kind bytes.now result }
+    ensures starts { StartsWithin (length bytes.now) result }
+{
+    match before {
+        Head::Unfinished => head_at(kind, bytes),
+        known => known,
+    }
+}

@@ -1,0 +1,22 @@
+//! HTTP exchanges, one message each, over any stream.
+//!
+//! A player is an HTTP server: `exchange` sends it a request and reads its reply; `take_request` and
+//! `give_reply` are a player's side. A body is taken only where it is whole, within the limits, and framed
+//! by one length or by the end of the stream; each other outcome has a name.
+//!
+//! Free functions take the allocator first.
+#![tactic(auto)]
+
+mod body_length;
+mod exchanging;
+mod head;
+mod http_text;
+pub mod laws;
+mod look;
+mod numeral;
+mod receiving;
+mod sending;
+mod wire_fault;
+
+pub use exchanging::{exchange, give_reply, take_request};
+pub use wire_fault::WireFault;

@@ -1,0 +1,73 @@
+//! The reading of a message, one read after another.
+ghost use Rattle.std.specs.Prelude.{◌≡◌, ◌<◌, ◌≤◌, List, ℕ, length, slice_range, IfOk, IfErr};
+ghost use Rattle.http_exchange.specs.Exchange.{TakesBody, TakesNone};
+ghost use Rattle.http_exchange.specs.Internal.Reads.{ReadsOnce, ReadOnceFails};
+
+use crate::head::{Head, HttpKind, head_after};
+use crate::look::{Look, look_past};
+use crate::wire_fault::WireFault;
+use game_core::{Counted, MAX_STREAM_CALLS, Text};
+use std::alloc::{AllocError, Global};
+use std::io::{ErrorKind, Read};
+
+/// How many bytes a read is given room for.
+const READ_SIZE: usize = 4_096;
+
+/// One call of `read`. Whether the stream has ended is answered.
+fn read_once<S: Read>(
+    stream: &mut Counted<S>,
+    bytes: &mut Vec<u8>,
+    chunk: &mut [u8],
+) -> Result<bool, WireFault>
+    requires { 0 < length chunk.old }
+    ensures read { IfOk result (λ ended. ReadsOnce S.remaining stream.old stream.new bytes.old.items bytes.new.items ended) }
+    ensures fails { IfErr result (λ fault. ReadOnceFails S.remaining stream.old stream.new fault) }
+{
+    match stream.read(chunk) {
+        Ok(0) => Ok(true),
+        Ok(count) => {
+            bytes.extend_from_slice(&chunk[..count])?;
+            Ok(false)
+        }
+        Err(error) => {
+            let kind = error.kind();
+            if kind == ErrorKind::Interrupted {
+                return Ok(false);
+            }
+            Err(WireFault::ReadFault(kind))
+        }
+    }
+}
+
+/// A copy of the part of the bytes that is the body.
+fn body_of(alloc: Global, bytes: &[u8], start: usize, end: usize) -> Result<Text, AllocError>
+    requires ordered { start ≤ end }
+    requires within { end ≤ length bytes.now }
+    ensures { IfOk result (λ body. body ≡ slice_range bytes.now start end) }
+{
+    Text::from_slice(alloc, &bytes[start..end])
+}
+
+/// Reads a message, and answers its body. What follows the body may have been read too.
+pub(crate) fn receive<S: Read>(
+    alloc: Global,
+    stream: &mut Counted<S>,
+    kind: HttpKind,
+) -> Result<Text, WireFault>
+    ensures body { IfOk result (λ body. TakesBody kind S.remaining stream.old stream.new body) }
+    ensures fails { IfErr result (λ fault. TakesNone kind S.remaining stream.old stream.new fault) }
+{
+    let mut bytes = Vec::new(alloc);
+    let mut chunk = [0; READ_SIZE];
+    let mut head = Head::Unfinished;
+    for call in 0..MAX_STREAM_CALLS {
+        let ended = read_once(stream, &mut bytes, &mut chunk)?;
+        head = head_after(kind, head, &bytes);
+        match look_past(head, bytes.len(), ended) {
+            Look::More => {}
+            Look::Body(start, end) => return Ok(body_of(alloc, &bytes, start, end)?),
+            Look::Refused(refusal) => return Err(WireFault::from(refusal)),
+        }
+    }
+    Err(WireFault::TooManyReads)
+}

@@ -1,0 +1,52 @@
+//! The writing of a message, one write after another.
+ghost use Rattle.std.specs.Prelude.{◌≡◌, ◌<◌, ◌≤◌, length, take, IfOk, OnOk, OnErr, IfErr, []};
+ghost use Rattle.std.specs.Io.KnownBytes.{Appends};
+ghost use Rattle.game_core.specs.Counting.{one_more};
+ghost use Rattle.http_exchange.specs.Exchange.{BreaksOff, WritesText};
+ghost use Rattle.http_exchange.specs.WireFaults.{HasFailed};
+
+use crate::wire_fault::WireFault;
+use game_core::{Counted, MAX_STREAM_CALLS};
+use std::io::{ErrorKind, Write};
+
+/// One call of `write`. How many bytes it took is answered, none where it was
+/// interrupted.
+fn write_once<S: Write>(stream: &mut Counted<S>, rest: &[u8]) -> Result<usize, WireFault>
+    requires { 0 < length rest.now }
+    ensures bound { IfOk result (λ taken. taken ≤ length rest.now) }
+    ensures bytes { IfOk result (λ taken. Appends (S.contents stream.old.stream) (S.contents stream.new.stream) (take taken rest.now)) }
+    ensures called { stream.new.calls ≡ one_more stream.old.calls }
+    ensures fault { IfErr result (λ fault. fault ≡ WireFault.WriteFault) }
+    ensures nothing { OnErr result (Appends (S.contents stream.old.stream) (S.contents stream.new.stream) []) }
+    ensures failed { OnErr result (HasFailed stream.old.faults stream.new.faults) }
+    ensures kept { stream.old.faults ≤ stream.new.faults }
+{
+    match stream.write(rest) {
+        Ok(0) => Err(WireFault::WriteFault),
+        Ok(count) => Ok(count),
+        Err(error) => {
+            if error.kind() == ErrorKind::Interrupted {
+                return Ok(0);
+            }
+            Err(WireFault::WriteFault)
+        }
+    }
+}
+
+/// Writes all bytes of a text. A write that was interrupted is repeated.
+pub(crate) fn send<S: Write>(stream: &mut Counted<S>, text: &[u8]) -> Result<(), WireFault>
+    ensures whole { OnOk result (WritesText S.contents stream.old stream.new text.now) }
+    ensures breaks { IfErr result (λ fault. BreaksOff S.contents stream.old stream.new text.now fault) }
+{
+    let mut taken = 0;
+    for call in 0..MAX_STREAM_CALLS {
+        if taken == text.len() {
+            return Ok(());
+        }
+        taken += write_once(stream, &text[taken..])?;
+    }
+    if taken == text.len() {
+        return Ok(());
+    }
+    Err(WireFault::TooManyReads)
+}

@@ -1,0 +1,4 @@
+pub mod Forms
+pub mod Printed
+pub mod Clocks
+pub mod ReadBack

@@ -1,0 +1,95 @@
+-- The texts of messages are read back.
+use Rattle.std.proofs.Common.{◌≡◌, ℕ, List, [], ◌∷◌, Option, Some, None, Ok, refl, ap, ◌∙◌, lit<, codes}
+use Rattle.game_core.specs.Expression.{Expressions, none, more, IsAtom, HasAtoms}
+use Rattle.game_core.specs.Canonical.{canonical, members, later}
+use Rattle.kif_text.specs.Reading.{reading}
+use Rattle.kif_text.proofs.Readings.{canonical_reads_back}
+use Rattle.match_book.specs.declared.due.Owed.{Owed}
+use Rattle.match_book.specs.declared.due.Owed.TheVariants.{Start, Play, Stop, Abort}
+use Rattle.match_messages.specs.declared.brief.Brief.{Brief}
+use Rattle.match_messages.specs.MessageValue.{MessageValue, info, start, play, stop, abort, message_form, moves_form, folded_message}
+use Rattle.match_messages.specs.MessageText.{as_printed, message_text}
+use Rattle.match_messages.specs.MessageReading.{message_in, message_reading, in_expression}
+use Rattle.match_messages.specs.MessageLaws.{AreMoves, IsLawfulMessage, MessagesReadBack, HaveTexts, Says, OwedMessagesReadBack}
+use Rattle.match_book.proofs.NamesAreAtoms.{name_is_atom}
+use Rattle.match_messages.proofs.Clocks.{clock_is_atom, clock_of-decimal}
+
+-- ---- the form of a lawful message has atoms
+
+info_word : IsAtom (codes "INFO")
+info_word = (lit< tt, (refl, (refl, (refl, (refl, tt)))))
+
+start_word : IsAtom (codes "START")
+start_word = (lit< tt, (refl, (refl, (refl, (refl, (refl, tt))))))
+
+play_word : IsAtom (codes "PLAY")
+play_word = (lit< tt, (refl, (refl, (refl, (refl, tt)))))
+
+stop_word : IsAtom (codes "STOP")
+stop_word = (lit< tt, (refl, (refl, (refl, (refl, tt)))))
+
+abort_word : IsAtom (codes "ABORT")
+abort_word = (lit< tt, (refl, (refl, (refl, (refl, (refl, tt))))))
+
+nil_word : IsAtom (codes "NIL")
+nil_word = (lit< tt, (refl, (refl, (refl, tt))))
+
+moves_have_atoms : (moves : Option Expressions) → AreMoves moves → HasAtoms (moves_form moves)
+moves_have_atoms None are = nil_word
+moves_have_atoms (Some none) are = tt
+moves_have_atoms (Some (more x xs)) are = are
+
+form_has_atoms : (m : MessageValue) → IsLawfulMessage m → HasAtoms (message_form m)
+form_has_atoms info is = (info_word, tt)
+form_has_atoms (start id role rules s p) is = (start_word, (name_is_atom id is.0, (is.1, (is.2, (clock_is_atom s is.3, (clock_is_atom p is.4, tt))))))
+form_has_atoms (play id moves) is = (play_word, (name_is_atom id is.0, (moves_have_atoms moves is.1, tt)))
+form_has_atoms (stop id moves) is = (stop_word, (name_is_atom id is.0, (moves_have_atoms moves is.1, tt)))
+form_has_atoms (abort id) is = (abort_word, (name_is_atom id is, tt))
+
+-- ---- the form of a lawful message is read as the message
+
+form_is_read : (m : MessageValue) → IsLawfulMessage m → message_in (message_form m) ≡ Ok (folded_message m)
+form_is_read info is = refl
+form_is_read (start id role rules s p) is = rw (is.0, clock_of-decimal s is.3, clock_of-decimal p is.4) refl
+form_is_read (play id None) is = rw (is.0) refl
+form_is_read (play id (Some none)) is = absurd is.1
+form_is_read (play id (Some (more x xs))) is = rw (is.0) refl
+form_is_read (stop id None) is = rw (is.0) refl
+form_is_read (stop id (Some none)) is = absurd is.1
+form_is_read (stop id (Some (more x xs))) is = rw (is.0) refl
+form_is_read (abort id) is = rw is refl
+
+pub messages_read_back : MessagesReadBack
+messages_read_back m is =
+    let found : reading (canonical (message_form m)) ≡ Some (message_form m) = canonical_reads_back (message_form m) (form_has_atoms m is.lawful, is.shallow) is.short in
+    ap in_expression found ∙ form_is_read m is.lawful
+
+-- ---- the text of an owed message is the text of what it says
+
+later_printed : (xs : Expressions) (texts : List (List ℕ)) → HaveTexts xs texts → later (as_printed texts) ≡ later xs
+later_printed none [] have = refl
+later_printed none (t ∷ ts) have = absurd have
+later_printed (more x xs) [] have = absurd have
+later_printed (more x xs) (t ∷ ts) have = rw (have.0, later_printed xs ts have.1) refl
+
+members_printed : (xs : Expressions) (texts : List (List ℕ)) → HaveTexts xs texts → members (as_printed texts) ≡ members xs
+members_printed none [] have = refl
+members_printed none (t ∷ ts) have = absurd have
+members_printed (more x xs) [] have = absurd have
+members_printed (more x xs) (t ∷ ts) have = rw (have.0, later_printed xs ts have.1) refl
+
+text_is : (b : Brief) (role : ℕ) (owed : Owed) (m : MessageValue) → Says b role owed m → message_text b role owed ≡ canonical (message_form m)
+text_is b role Start (start id name rules s p) says = rw (says.0, says.1, says.2, says.3, says.4) refl
+text_is b role (Play None) (play id None) says = rw (says.0) refl
+text_is b role (Play (Some texts)) (play id (Some moves)) says = rw (says.0, members_printed moves texts says.1) refl
+text_is b role (Stop None) (stop id None) says = rw (says.0) refl
+text_is b role (Stop (Some texts)) (stop id (Some moves)) says = rw (says.0, members_printed moves texts says.1) refl
+text_is b role Abort (abort id) says = rw says refl
+text_is b role (Play None) (play id (Some moves)) says = absurd says.1
+text_is b role (Play (Some texts)) (play id None) says = absurd says.1
+text_is b role (Stop None) (stop id (Some moves)) says = absurd says.1
+text_is b role (Stop (Some texts)) (stop id None) says = absurd says.1
+text_is b role owed m says = absurd says
+
+pub owed_messages_read_back : OwedMessagesReadBack
+owed_messages_read_back b role owed m says is = ap message_reading (text_is b role owed m says) ∙ messages_read_back m is

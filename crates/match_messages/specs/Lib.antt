@@ -1,0 +1,7 @@
+pub mod Clock
+pub mod MessageValue
+pub mod MessageText
+pub mod MessageReading
+pub mod InfoReading
+pub mod MessageLaws
+pub mod Internal

@@ -1,0 +1,63 @@
+-- Laws of messages.
+use Rattle.std.specs.Prelude.{◌≡◌, ℕ, ◌≤◌, true, List, [], ◌∷◌, length, Option, Some, None, slice_index_or, Ok}
+use Rattle.game_core.specs.Expression.{Expressions, none, more, HasAtoms, AllHaveAtoms, depth, max_depth}
+use Rattle.game_core.specs.Canonical.{canonical}
+use Rattle.kif_text.specs.Spelling.{max_length}
+use Rattle.kif_text.specs.View.{views}
+use Rattle.match_book.specs.Names.{is_name, is_clock}
+use Rattle.match_book.specs.declared.due.Owed.{Owed}
+use Rattle.match_book.specs.declared.due.Owed.TheVariants.{Start, Play, Stop, Abort}
+use Rattle.match_messages.specs.declared.brief.Brief.{Brief}
+use Rattle.match_messages.specs.MessageValue.{MessageValue, info, start, play, stop, abort, message_form, folded_message}
+use Rattle.match_messages.specs.MessageText.{message_text}
+use Rattle.match_messages.specs.MessageReading.{message_reading}
+
+-- no moves, or at least one, and none with an atom that no text spells
+abbrev pub AreMoves : Option Expressions → Type 0
+AreMoves None = Unit {0}
+AreMoves (Some none) = ⊥
+AreMoves (Some (more x xs)) = AllHaveAtoms (more x xs)
+
+-- a message with a lawful id and lawful clocks, whose expressions have atoms that some text spells
+abbrev pub IsLawfulMessage : MessageValue → Type 0
+IsLawfulMessage info = Unit {0}
+IsLawfulMessage (start id role rules s p) = (is_name id ≡ true) × HasAtoms role × AllHaveAtoms rules × (is_clock s ≡ true) × (is_clock p ≡ true)
+IsLawfulMessage (play id moves) = (is_name id ≡ true) × AreMoves moves
+IsLawfulMessage (stop id moves) = (is_name id ≡ true) × AreMoves moves
+IsLawfulMessage (abort id) = is_name id ≡ true
+
+-- a message whose text is within the limits of length and depth
+pub record IsSayable (m : MessageValue) : Type 0 where
+  pub lawful : IsLawfulMessage m
+  pub short : length (canonical (message_form m)) ≤ max_length
+  pub shallow : depth (message_form m) ≤ max_depth
+
+-- a message's text is read back as the message, with role, rules and moves folded
+abbrev pub MessagesReadBack : Type 0
+MessagesReadBack = (m : MessageValue) → IsSayable m → message_reading (canonical (message_form m)) ≡ Ok (folded_message m)
+
+-- the expressions have these texts
+abbrev pub HaveTexts : Expressions → List (List ℕ) → Type 0
+HaveTexts none [] = Unit {0}
+HaveTexts none (t ∷ ts) = ⊥
+HaveTexts (more x xs) [] = ⊥
+HaveTexts (more x xs) (t ∷ ts) = (t ≡ canonical x) × HaveTexts xs ts
+
+-- no moves, or moves with these texts
+abbrev pub MovesHaveTexts : Option Expressions → Option (List (List ℕ)) → Type 0
+MovesHaveTexts None None = Unit {0}
+MovesHaveTexts None (Some texts) = ⊥
+MovesHaveTexts (Some moves) None = ⊥
+MovesHaveTexts (Some moves) (Some texts) = HaveTexts moves texts
+
+-- the owed message says this to the role: an expression stands for the name of the role, and for the text of each move
+abbrev pub Says : Brief → ℕ → Owed → MessageValue → Type 0
+Says b role Start (start id name rules s p) = (id ≡ b.id) × (slice_index_or b.roles role [] ≡ canonical name) × (rules ≡ views b.rules.items) × (s ≡ b.start) × (p ≡ b.play)
+Says b role (Play texts) (play id moves) = (id ≡ b.id) × MovesHaveTexts moves texts
+Says b role (Stop texts) (stop id moves) = (id ≡ b.id) × MovesHaveTexts moves texts
+Says b role Abort (abort id) = id ≡ b.id
+Says b role owed m = ⊥
+
+-- the text of an owed message is read back as what it says, with role, rules and moves folded
+abbrev pub OwedMessagesReadBack : Type 0
+OwedMessagesReadBack = (b : Brief) (role : ℕ) (owed : Owed) (m : MessageValue) → Says b role owed m → IsSayable m → message_reading (message_text b role owed) ≡ Ok (folded_message m)

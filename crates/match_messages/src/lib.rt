@@ -1,0 +1,21 @@
+//! The messages of a match, by the Stanford GGP communication specification.
+//!
+//! `message` writes what is due to a role as the referee sends it, `read_message` reads it as a player does,
+//! and `read_info` reads what a player answers to `info_message`.
+//!
+//! Free functions take the allocator first.
+#![tactic(auto)]
+
+mod brief;
+mod clock;
+mod info;
+pub mod laws;
+mod messages;
+mod reading;
+mod writing;
+
+pub use brief::Brief;
+pub use info::{Info, read_info};
+pub use messages::{Message, MessageFault};
+pub use reading::read_message;
+pub use writing::{info_message, message};

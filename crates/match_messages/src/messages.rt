@@ -1,0 +1,66 @@
+//! Messages, as a player reads them.
+ghost use Rattle.std.specs.Prelude.{◌≡◌};
+ghost use Rattle.match_messages.specs.declared.messages.MessageFault.TheVariants.{Memory};
+
+use game_core::Text;
+use kif_text::Expr;
+use std::alloc::{AllocError, AllocFailed};
+use thiserror::Error;
+
+/// What a message says. Role, rules and moves are without capitals, the id is as it was sent. The moves are
+/// those of the last turn, in the order of the roles: `None` before the first turn.
+#[derive(Drop)]
+pub enum Message {
+    Info,
+    Start {
+        id: Text,
+        role: Expr,
+        rules: Vec<Expr>,
+        start: u32,
+        play: u32,
+    },
+    Play {
+        id: Text,
+        moves: Option<Vec<Expr>>,
+    },
+    Stop {
+        id: Text,
+        moves: Option<Vec<Expr>>,
+    },
+    Abort {
+        id: Text,
+    },
+}
+
+/// Why a text is no message: the first of these that holds.
+#[derive(Clone, Copy, Debug, PartialEq, Eq, Error)]
+pub enum MessageFault {
+    /// The text is not one expression within the limits of length and depth.
+    #[error("the text is not one expression")]
+    Unreadable,
+    /// The expression is none of the messages.
+    #[error("the expression is no message")]
+    BadMessage,
+    /// A clock of START is not a number from 1 to 86,400.
+    #[error("a clock is out of range")]
+    BadClock,
+    /// Want of memory.
+    #[error("want of memory")]
+    Memory,
+}
+
+impl From<AllocError> for MessageFault {
+    ghost from_gives = { λ _ fault. fault ≡ Memory };
+
+    fn from(_: AllocError) -> MessageFault {
+        MessageFault::Memory
+    }
+}
+
+impl<T: Drop> From<AllocFailed<T>> for MessageFault {
+    ghost from_gives = { λ _ fault. fault ≡ Memory };
+
+    fn from(_: AllocFailed<T>) -> MessageFault {
+        MessageFault::Memory
+    }
+}

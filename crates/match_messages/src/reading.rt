@@ -1,0 +1,225 @@
+//! Messages read from their texts.
+ghost use Rattle.std.specs.Prelude.{◌≡◌, map, option_copied, option_map, IfOk};
+ghost use Rattle.game_core.specs.Bytes.{lower};
+ghost use Rattle.game_core.specs.Expression.{folded, all_folded};
+ghost use Rattle.kif_text.specs.View.{view, views};
+ghost use Rattle.match_messages.specs.MessageReading.{is_word, id_in, members_in, moves_in, info_in, start_of, start_in, id_and_moves, abort_of, abort_in, message_of, message_in, message_reading, Gives};
+ghost use Rattle.match_messages.specs.Internal.MessageParts.{GivesMoves, GivesIdAndMoves};
+
+use crate::clock::clock_in;
+use crate::messages::{Message, MessageFault};
+use game_core::Text;
+use kif_text::{Expr, KifFault, copy, fold, read_one};
+use match_book::is_name;
+use std::alloc::{AllocError, Global};
+
+/// Whether this is the word, which is given in small letters, in any case.
+fn is_word(expr: &Expr, small: &[u8]) -> bool
+    requires { map lower small.now ≡ small.now }
+    ensures { result ≡ is_word small.now (view expr.now) }
+{
+    match expr {
+        Expr::Atom(word) => word.as_slice().eq_ignore_ascii_case(small),
+        Expr::List(_) => false,
+    }
+}
+
+/// The lawful id that an expression is.
+fn id_in(expr: &Expr) -> Option<&Text>
+    ensures { option_copied result ≡ id_in (view expr.now) }
+{
+    match expr {
+        Expr::Atom(word) => {
+            if is_name(word.as_slice()) {
+                Some(word)
+            } else {
+                None
+            }
+        }
+        Expr::List(_) => None,
+    }
+}
+
+/// The members of a list.
+fn members_in(expr: &Expr) -> Option<&[Expr]>
+    ensures { option_map (λ v. views v.now) result ≡ members_in (view expr.now) }
+{
+    match expr {
+        Expr::Atom(_) => None,
+        Expr::List(members) => Some(members.as_slice()),
+    }
+}
+
+fn folded(alloc: Global, expr: &Expr) -> Result<Expr, AllocError>
+    ensures { IfOk result (λ x. view x ≡ folded (view expr.now)) }
+{
+    let mut folded = copy(alloc, expr)?;
+    fold(&mut folded);
+    Ok(folded)
+}
+
+fn all_folded(alloc: Global, exprs: &[Expr]) -> Result<Vec<Expr>, AllocError>
+    ensures { IfOk result (λ v. views v.items ≡ all_folded (views exprs.now)) }
+{
+    let mut all = Vec::with_capacity(alloc, exprs.len())?;
+    for expr in exprs {
+        all.push(folded(alloc, expr)?)?;
+    }
+    Ok(all)
+}
+
+/// The moves that an expression is: none for `NIL` and for the empty list.
+#[tactic(auto, using(crate::proofs::Forms::moves_listed))]
+fn moves_in(alloc: Global, expr: &Expr) -> Result<Option<Vec<Expr>>, MessageFault>
+    ensures { GivesMoves result (moves_in (view expr.now)) }
+{
+    let Some(moves) = members_in(expr) else {
+        return if is_word(expr, b"nil") {
+            Ok(None)
+        } else {
+            Err(MessageFault::BadMessage)
+        };
+    };
+    if moves.is_empty() {
+        return Ok(None);
+    }
+    Ok(Some(all_folded(alloc, moves)?))
+}
+
+/// START of an id, a role, rules and both clocks. The clocks are looked at last.
+fn start_of(
+    alloc: Global,
+    id: Option<&Text>,
+    role: &Expr,
+    rules: Option<&[Expr]>,
+    start: Option<u32>,
+    play: Option<u32>,
+) -> Result<Message, MessageFault>
+    ensures { Gives result (start_of (option_copied id.entry) (view role.now) (option_map (λ v. views v.now) rules.entry) start play) }
+{
+    let (Some(id), Some(rules)) = (id, rules) else {
+        return Err(MessageFault::BadMessage);
+    };
+    let (Some(start), Some(play)) = (start, play) else {
+        return Err(MessageFault::BadClock);
+    };
+    Ok(Message::Start {
+        id: id.copy(alloc)?,
+        role: folded(alloc, role)?,
+        rules: all_folded(alloc, rules)?,
+        start,
+        play,
+    })
+}
+
+/// `(START id role (sentence ..) start play)`
+fn start_in(alloc: Global, members: &[Expr]) -> Result<Message, MessageFault>
+    ensures { Gives result (start_in (views members.now)) }
+{
+    match members {
+        [id, role, rules, start, play] => start_of(
+            alloc,
+            id_in(id),
+            role,
+            members_in(rules),
+            clock_in(start),
+            clock_in(play),
+        ),
+        _ => Err(MessageFault::BadMessage),
+    }
+}
+
+/// The id and the moves of PLAY or STOP.
+fn id_and_moves(alloc: Global, members: &[Expr]) -> Result<(Text, Option<Vec<Expr>>), MessageFault>
+    ensures { GivesIdAndMoves result (id_and_moves (views members.now)) }
+{
+    let [id, moves] = members else {
+        return Err(MessageFault::BadMessage);
+    };
+    let Some(id) = id_in(id) else {
+        return Err(MessageFault::BadMessage);
+    };
+    let moves = moves_in(alloc, moves)?;
+    Ok((id.copy(alloc)?, moves))
+}
+
+/// ABORT of an id.
+fn abort_of(alloc: Global, id: Option<&Text>) -> Result<Message, MessageFault>
+    ensures { Gives result (abort_of (option_copied id.entry)) }
+{
+    match id {
+        Some(id) => Ok(Message::Abort {
+            id: id.copy(alloc)?,
+        }),
+        None => Err(MessageFault::BadMessage),
+    }
+}
+
+/// `(ABORT id)`
+fn abort_in(alloc: Global, members: &[Expr]) -> Result<Message, MessageFault>
+    ensures { Gives result (abort_in (views members.now)) }
+{
+    match members {
+        [id] => abort_of(alloc, id_in(id)),
+        _ => Err(MessageFault::BadMessage),
+    }
+}
+
+/// `(INFO)`
+fn info_in(members: &[Expr]) -> Result<Message, MessageFault>
+    ensures { Gives result (info_in (views members.now)) }
+{
+    match members {
+        [] => Ok(Message::Info),
+        _ => Err(MessageFault::BadMessage),
+    }
+}
+
+/// The message of a keyword and the members behind it.
+fn message_of(alloc: Global, keyword: &Expr, rest: &[Expr]) -> Result<Message, MessageFault>
+    ensures { Gives result (message_of (view keyword.now) (views rest.now)) }
+{
+    if is_word(keyword, b"info") {
+        info_in(rest)
+    } else if is_word(keyword, b"start") {
+        start_in(alloc, rest)
+    } else if is_word(keyword, b"play") {
+        let (id, moves) = id_and_moves(alloc, rest)?;
+        Ok(Message::Play { id, moves })
+    } else if is_word(keyword, b"stop") {
+        let (id, moves) = id_and_moves(alloc, rest)?;
+        Ok(Message::Stop { id, moves })
+    } else if is_word(keyword, b"abort") {
+        abort_in(alloc, rest)
+    } else {
+        Err(MessageFault::BadMessage)
+    }
+}
+
+/// The message that an expression is: the atom `INFO` stands for the list of it.
+fn message_in(alloc: Global, expr: &Expr) -> Result<Message, MessageFault>
+    ensures { Gives result (message_in (view expr.now)) }
+{
+    let Some(members) = members_in(expr) else {
+        return if is_word(expr, b"info") {
+            Ok(Message::Info)
+        } else {
+            Err(MessageFault::BadMessage)
+        };
+    };
+    match members.split_first() {
+        Some((keyword, rest)) => message_of(alloc, keyword, rest),
+        None => Err(MessageFault::BadMessage),
+    }
+}
+
+/// Reads a message, with keywords and `NIL` in any ASCII case.
+pub fn read_message(alloc: Global, text: &[u8]) -> Result<Message, MessageFault>
+    ensures { Gives result (message_reading text.now) }
+{
+    match read_one(alloc, text) {
+        Ok(expr) => message_in(alloc, &expr),
+        Err(KifFault::Memory) => Err(MessageFault::Memory),
+        Err(_) => Err(MessageFault::Unreadable),
+    }
+}

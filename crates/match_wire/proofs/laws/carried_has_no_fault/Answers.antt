@@ -1,5 +1,0 @@
-use Rattle.match_wire.proofs.Found as proved
-use Rattle.match_wire.proofs.laws.carried_has_no_fault.Goals as goal
-
-pub returns : goal.returns
-returns g c = proved.carried_has_no_fault _

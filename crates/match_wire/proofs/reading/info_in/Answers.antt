@@ -1,5 +1,0 @@
-use Rattle.match_wire.proofs.Forms.{info_many}
-use Rattle.match_wire.proofs.reading.info_in.Goals as goal
-
-pub returns-in_default : goal.returns-in_default
-returns-in_default c = info_many c.args.members.now c.in_default.len_at_least
