@@ -12,7 +12,7 @@ use httparse::Status;
 use httparse::spans::{EMPTY_HEADER_SPAN, HeaderSpan, parse_request, parse_response};
 
 /// Which message is read.
-#[derive(Clone, Copy, Debug, PartialEq, Eq)]
+#[derive(Clone, Copy)]
 pub enum HttpKind {
     Reply,
     Request,
@@ -20,14 +20,14 @@ pub enum HttpKind {
 
 /// Where a body begins in the bytes, and how long it is, if the head says so. Else it runs to the end
 /// of the stream.
-#[derive(Clone, Copy, Debug, PartialEq, Eq)]
+#[derive(Clone, Copy)]
 pub struct Frame {
     pub start: usize,
     pub length: Option<usize>,
 }
 
 /// What the bytes so far say of the head.
-#[derive(Clone, Copy, Debug, PartialEq, Eq)]
+#[derive(Clone, Copy)]
 pub enum Head {
     /// More bytes can make them a head.
     Unfinished,

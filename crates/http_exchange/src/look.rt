@@ -8,7 +8,7 @@ use crate::head::{Frame, Head, MAX_HEAD, MAX_REPLY_BODY};
 use crate::wire_fault::FrameFault;
 
 /// What is said of the bytes so far.
-#[derive(Clone, Copy, Debug, PartialEq, Eq)]
+#[derive(Clone, Copy)]
 pub enum Look {
     More,
     /// The body is whole: where it begins and where it ends.

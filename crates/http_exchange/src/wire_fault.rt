@@ -52,7 +52,7 @@ impl From<AllocError> for WireFault {
 }
 
 /// Why the bytes of a message are refused.
-#[derive(Clone, Copy, Debug, PartialEq, Eq)]
+#[derive(Clone, Copy)]
 pub enum FrameFault {
     BadHead,
     BadStatus,

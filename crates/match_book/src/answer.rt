@@ -28,7 +28,7 @@ pub enum LentAnswer<'a> {
 }
 
 /// What is kept of an answer to START, STOP or ABORT, whatever the answer says.
-#[derive(Clone, Copy, Debug, PartialEq, Eq)]
+#[derive(Clone, Copy)]
 pub enum Mark {
     /// There was an answer.
     Clear,
@@ -37,7 +37,7 @@ pub enum Mark {
 }
 
 /// Why an answer is refused: the first of these that holds. A refused answer changes nothing.
-#[derive(Clone, Copy, Debug, PartialEq, Eq)]
+#[derive(Clone, Copy)]
 pub enum AnswerRefusal {
     /// The game has no such role.
     NoRole,

@@ -18,7 +18,7 @@ pub enum Cause {
 }
 
 /// The phase of a match, leaving open whether every role has answered STOP or ABORT.
-#[derive(Clone, Copy, Debug, PartialEq, Eq)]
+#[derive(Clone, Copy)]
 pub enum Stage {
     Starting,
     Playing,

@@ -9,7 +9,7 @@ use game_core::Text;
 use std::alloc::{AllocError, Global};
 
 /// What is kept of a role's substitutions.
-#[derive(Clone, Copy, Debug, PartialEq, Eq)]
+#[derive(Clone, Copy)]
 pub struct RoleStrikes {
     /// In how many turns in a row, up to the last, the role's move was substituted.
     pub in_a_row: usize,
