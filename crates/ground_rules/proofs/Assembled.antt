@@ -5,20 +5,21 @@ use Rattle.std.proofs.lemmas.Bool.Decides.{nat_tests}
 use Rattle.game_core.specs.Expression.{Expression}
 use Rattle.game_core.specs.Play.{max_roles, IsLawful}
 use Rattle.kif_text.specs.View.{expressions}
-use Rattle.ground_rules.specs.declared.sentence.Derived.{Derived}
-use Rattle.ground_rules.specs.declared.sentence.Derived.TheVariants.{Legal, Terminal}
+use Rattle.rule_sentences.specs.declared.sentence.Derived.{Derived}
+use Rattle.rule_sentences.specs.declared.sentence.Derived.TheVariants.{Legal, Terminal}
 use Rattle.ground_rules.specs.declared.names.TermKind.TheVariants.{State, Move}
 use Rattle.ground_rules.specs.declared.lookups.StateHead.TheVariants.{Init as InitHead, Next as NextHead}
 use Rattle.ground_rules.specs.Internal.Bools.{and-left, and-right, or-left}
 use Rattle.ground_rules.specs.Internal.Names.{text-same}
 use Rattle.ground_rules.specs.Internal.TermTexts.{are_terms_in_any}
-use Rattle.ground_rules.specs.Described.{Description, is_among, role_names, are_different, IsGameOf}
+use Rattle.rule_sentences.specs.Descriptions.{Description, is_among, role_names, are_different}
+use Rattle.ground_rules.specs.Described.{IsGameOf}
 use Rattle.ground_rules.specs.Roles.{RoleTable}
 use Rattle.ground_rules.specs.Internal.TableTests.{are_roles, names}
-use Rattle.ground_rules.specs.Sizes.{have_few_moves}
+use Rattle.rule_sentences.specs.Sizes.{have_few_moves}
 use Rattle.ground_rules.specs.Internal.Resolved.{NameTable, atom_number, role_table, state_mentions, head_terms}
 use Rattle.ground_rules.specs.LoadedGame.{GameTables, loaded_game}
-use Rattle.ground_rules.specs.Loading.{description_of}
+use Rattle.rule_sentences.specs.SentenceFaults.{description_of}
 use Rattle.ground_rules.specs.Internal.GameParts.{AreGameParts, AreNamesOf, IsTableOf}
 use Rattle.ground_rules.proofs.GameOf.{EachIs, each-new, heads-stand, picked-in, game-of}
 use Rattle.ground_rules.proofs.Mentions.{AreIn, texts_by, legal_pick, legal-picks}

@@ -8,7 +8,7 @@ use Rattle.std.proofs.lemmas.Bool.Decides.{Decides-ltb}
 use Rattle.std.proofs.lemmas.List.Sorted.{sorted_far, ranks_by, Contains-permutation, IsPermutation-sym}
 use Rattle.ground_rules.specs.Internal.Bools.{and-both, or-left, or-right, bool-same}
 use Rattle.ground_rules.specs.Internal.Names.{text-sound, text-same, number-same}
-use Rattle.ground_rules.specs.Described.{is_among, with_new, with_all_new}
+use Rattle.rule_sentences.specs.Descriptions.{is_among, with_new, with_all_new}
 use Rattle.ground_rules.specs.Internal.TableTests.{comes_before, comes_before_all, are_in_order}
 use Rattle.ground_rules.proofs.NameLists.{among-any}
 

@@ -3,15 +3,15 @@ use Rattle.std.proofs.Common.{◌≡◌, ℕ, zero, suc, ◌+◌, ◌<◌, ◌�
 use Rattle.std.specs.List.{list_any}
 use Rattle.std.specs.List.Sorted.{IsPermutation}
 use Rattle.std.proofs.lemmas.List.Sorted.{IsPermutation-map}
-use Rattle.ground_rules.specs.declared.sentence.Derived.{Derived}
-use Rattle.ground_rules.specs.declared.sentence.Derived.TheVariants.{Role, Init, Next, Legal, Goal, Terminal, Other}
+use Rattle.rule_sentences.specs.declared.sentence.Derived.{Derived}
+use Rattle.rule_sentences.specs.declared.sentence.Derived.TheVariants.{Role, Init, Next, Legal, Goal, Terminal, Other}
 use Rattle.ground_rules.specs.Internal.Bools.{and-left, and-right, and-both, or-left, or-right}
 use Rattle.ground_rules.specs.Internal.Names.{number-sound, number-same, derived-sound}
-use Rattle.ground_rules.specs.Literals.{Literal, Literals, Holds, InState, Does, Distinct, Not, Or, End, More, Rule, AtomsAre, AllAtomsAre}
-use Rattle.ground_rules.specs.Sentences.{TextLiteral, TextLiterals, TextRule}
+use Rattle.rule_sentences.specs.Literals.{Literal, Literals, Holds, InState, Does, Distinct, Not, Or, End, More, Rule, AtomsAre, AllAtomsAre}
+use Rattle.rule_sentences.specs.Sentences.{TextLiteral, TextLiterals, TextRule}
 use Rattle.ground_rules.specs.Fit.{truth, any_true, derived, Fits}
 use Rattle.ground_rules.specs.Acyclic.{IsNumbering, IsAcyclic}
-use Rattle.ground_rules.specs.Described.{Description, same_derived}
+use Rattle.rule_sentences.specs.Descriptions.{Description, same_derived}
 use Rattle.ground_rules.specs.Dependence.{speaks_of_given, any_speaks_of_given, SpeaksOf, AnySpeaksOf, IsRuleOf, DependsOnGiven, at_once, through, IsBarred, HasBarredHead}
 use Rattle.ground_rules.specs.Numbered.{known, bit, numbered, row_after, unset}
 use Rattle.ground_rules.specs.Internal.Ranked.{AreRankedFrom}

@@ -5,8 +5,8 @@ use Rattle.std.specs.List.{list_any}
 use Rattle.std.specs.List.Sorted.{IsPermutation}
 use Rattle.std.proofs.lemmas.List.{length-replicate, length-map, take_all}
 use Rattle.game_core.specs.Play.{IsJoint, IsLawful}
-use Rattle.ground_rules.specs.declared.sentence.Derived.{Derived}
-use Rattle.ground_rules.specs.declared.sentence.Derived.TheVariants.{Role, Init, Next, Legal, Goal, Terminal, Other}
+use Rattle.rule_sentences.specs.declared.sentence.Derived.{Derived}
+use Rattle.rule_sentences.specs.declared.sentence.Derived.TheVariants.{Role, Init, Next, Legal, Goal, Terminal, Other}
 use Rattle.ground_rules.specs.declared.names.TermKind.{TermKind}
 use Rattle.ground_rules.specs.declared.names.TermKind.TheVariants.{State, Move}
 use Rattle.ground_rules.specs.declared.tables.GroundMove.{GroundMove}
@@ -15,10 +15,11 @@ use Rattle.ground_rules.specs.declared.tables.GoalHead.{GoalHead}
 use Rattle.ground_rules.specs.declared.lookups.StateHead.TheVariants.{Init as InitHead, Next as NextHead}
 use Rattle.ground_rules.specs.Internal.Bools.{or-left, or-right, bool-same}
 use Rattle.ground_rules.specs.Internal.Names.{text-sound, text-same, derived-sound}
-use Rattle.ground_rules.specs.Literals.{Rule}
+use Rattle.rule_sentences.specs.Literals.{Rule}
 use Rattle.ground_rules.specs.Fit.{Situation, all_true, Fits}
 use Rattle.ground_rules.specs.Acyclic.{IsAcyclic}
-use Rattle.ground_rules.specs.Described.{Description, same_derived, situation, is_among, makes, role_names, heads, with_new, with_all_new, moves_in, names_of, at_rest, at_turn, IsGameOf, IsGoalAnswer, are_different}
+use Rattle.rule_sentences.specs.Descriptions.{Description, same_derived, is_among, role_names, heads, with_new, with_all_new, moves_in, are_different}
+use Rattle.ground_rules.specs.Described.{situation, makes, names_of, at_rest, at_turn, IsGameOf, IsGoalAnswer}
 use Rattle.ground_rules.specs.Roles.{RoleTable, no_role}
 use Rattle.ground_rules.specs.Numbered.{bit, numbered, row_after, unset, is_number}
 use Rattle.ground_rules.specs.Internal.Ranked.{AreRankedFrom}

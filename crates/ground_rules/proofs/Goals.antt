@@ -1,12 +1,13 @@
 -- The goal of a role, by the fit.
 use Rattle.std.proofs.Common.{◌≡◌, ℕ, ◌+◌, ◌≤◌, ◌⊎◌, inl, inr, Bool, true, false, ◌&&◌, ◌||◌, if◌then◌else◌, nat_eq, bytes_eq, List, [], ◌∷◌, filter, refl, sym, ap, ◌∙◌, arith}
 use Rattle.std.specs.List.{list_any}
-use Rattle.ground_rules.specs.declared.sentence.Derived.{Derived}
-use Rattle.ground_rules.specs.declared.sentence.Derived.TheVariants.{Role, Init, Next, Legal, Goal, Terminal, Other}
+use Rattle.rule_sentences.specs.declared.sentence.Derived.{Derived}
+use Rattle.rule_sentences.specs.declared.sentence.Derived.TheVariants.{Role, Init, Next, Legal, Goal, Terminal, Other}
 use Rattle.ground_rules.specs.declared.tables.GoalHead.{GoalHead}
 use Rattle.ground_rules.specs.Internal.Bools.{and-left, and-right}
 use Rattle.ground_rules.specs.Internal.Names.{text-sound, text-same, number-sound}
-use Rattle.ground_rules.specs.Described.{same_derived, IsGoalAnswer}
+use Rattle.rule_sentences.specs.Descriptions.{same_derived}
+use Rattle.ground_rules.specs.Described.{IsGoalAnswer}
 use Rattle.ground_rules.specs.Tables.{only, only_goal}
 use Rattle.ground_rules.specs.Numbered.{bit}
 use Rattle.ground_rules.specs.Internal.Resolved.{NameTable, atom_number, goal_heads}

@@ -2,9 +2,9 @@
 use Rattle.std.proofs.Common.{◌≡◌, ℕ, suc, ◌<◌, inl, inr, Bool, true, false, ◌||◌, if◌then◌else◌, List, [], ◌∷◌, ◌++◌, length, get_or, map, refl, sym, ap, ◌∙◌, arith, length-append}
 use Rattle.std.specs.List.{list_any}
 use Rattle.std.proofs.lemmas.List.{get_or_append_left, get_or_push}
-use Rattle.ground_rules.specs.declared.sentence.Derived.{Derived}
+use Rattle.rule_sentences.specs.declared.sentence.Derived.{Derived}
 use Rattle.ground_rules.specs.Internal.Bools.{or-left, or-right}
-use Rattle.ground_rules.specs.Described.{Description, same_derived, with_new, with_all_new, heads}
+use Rattle.rule_sentences.specs.Descriptions.{Description, same_derived, with_new, with_all_new, heads}
 use Rattle.ground_rules.specs.Internal.Resolved.{NameTable, place}
 use Rattle.ground_rules.proofs.Searching.{last_or}
 use Rattle.ground_rules.proofs.TablePlaces.{Decides, place-within}

@@ -9,21 +9,21 @@ use Rattle.game_core.specs.Play.{max_goal}
 use Rattle.game_core.specs.Expression.{Expression, atom, list, Expressions, none, more, depth, max_depth}
 use Rattle.game_core.specs.Canonical.{canonical}
 use Rattle.kif_text.specs.View.{expressions}
-use Rattle.ground_rules.specs.declared.sentence.Derived.{Derived}
-use Rattle.ground_rules.specs.declared.sentence.Derived.TheVariants.{Role, Init, Next, Legal, Goal, Terminal, Other}
-use Rattle.ground_rules.specs.declared.sentence.Atomic.{Atomic}
-use Rattle.ground_rules.specs.declared.sentence.Atomic.TheVariants.{Derived as IsDerived, InState as IsInState, Does as IsDoes}
-use Rattle.ground_rules.specs.declared.words.Word.{Word}
-use Rattle.ground_rules.specs.declared.words.Word.TheVariants.{Role as RoleWord, Init as InitWord, True as TrueWord, Next as NextWord, Does as DoesWord, Legal as LegalWord, Goal as GoalWord, Terminal as TerminalWord, If as IfWord, Not as NotWord, Or as OrWord, Distinct as DistinctWord, And as AndWord, Plain as PlainWord}
+use Rattle.rule_sentences.specs.declared.sentence.Derived.{Derived}
+use Rattle.rule_sentences.specs.declared.sentence.Derived.TheVariants.{Role, Init, Next, Legal, Goal, Terminal, Other}
+use Rattle.rule_sentences.specs.declared.sentence.Atomic.{Atomic}
+use Rattle.rule_sentences.specs.declared.sentence.Atomic.TheVariants.{Derived as IsDerived, InState as IsInState, Does as IsDoes}
+use Rattle.rule_sentences.specs.declared.words.Word.{Word}
+use Rattle.rule_sentences.specs.declared.words.Word.TheVariants.{Role as RoleWord, Init as InitWord, True as TrueWord, Next as NextWord, Does as DoesWord, Legal as LegalWord, Goal as GoalWord, Terminal as TerminalWord, If as IfWord, Not as NotWord, Or as OrWord, Distinct as DistinctWord, And as AndWord, Plain as PlainWord}
 use Rattle.ground_rules.specs.Internal.Bools.{and-both, or-left, or-right}
 use Rattle.ground_rules.specs.Internal.Names.{text-same}
-use Rattle.ground_rules.specs.Terms.{is_ground_term, term_text}
+use Rattle.rule_sentences.specs.Terms.{is_ground_term, term_text}
 use Rattle.ground_rules.specs.Internal.TermTexts.{is_term_in, is_term_in_any}
-use Rattle.ground_rules.specs.Words.{word_of}
-use Rattle.ground_rules.specs.Sentences.{TextLiterals, TextRule, Sentence}
-use Rattle.ground_rules.specs.Reading.{both, goal_value, one_argument, two_arguments, head_word, read_relation, read_alone, read_atomic, read_literals, sentence, fact, read_rule, read_list, read_form, read_sentence}
-use Rattle.ground_rules.specs.Places.{place, place_head, is_head_of, are_placed}
-use Rattle.ground_rules.specs.Loading.{rule_in, description_of}
+use Rattle.rule_sentences.specs.Words.{word_of}
+use Rattle.rule_sentences.specs.Sentences.{TextLiterals, TextRule, Sentence}
+use Rattle.rule_sentences.specs.Reading.{both, goal_value, one_argument, two_arguments, head_word, read_relation, read_alone, read_atomic, read_literals, sentence, fact, read_rule, read_list, read_form, read_sentence}
+use Rattle.rule_sentences.specs.Places.{place, place_head, is_head_of, are_placed}
+use Rattle.rule_sentences.specs.SentenceFaults.{rule_in, description_of}
 use Rattle.ground_rules.proofs.GameOf.{EachIs}
 use Rattle.ground_rules.proofs.LawfulTables.{HeadFrom}
 

@@ -3,15 +3,15 @@ use Rattle.std.proofs.Common.{◌≡◌, ℕ, ◌+◌, ◌<◌, ◌≤◌, Bool,
 use Rattle.std.proofs.lemmas.Bool.Decides.{nat_tests, Decides-ltb}
 use Rattle.game_core.specs.Play.{max_goal}
 use Rattle.game_core.specs.Expression.{Expressions}
-use Rattle.ground_rules.specs.declared.sentence.Derived.{Derived}
-use Rattle.ground_rules.specs.declared.sentence.Derived.TheVariants.{Role, Init, Next, Legal, Goal, Terminal, Other}
+use Rattle.rule_sentences.specs.declared.sentence.Derived.{Derived}
+use Rattle.rule_sentences.specs.declared.sentence.Derived.TheVariants.{Role, Init, Next, Legal, Goal, Terminal, Other}
 use Rattle.ground_rules.specs.declared.names.TermKind.{TermKind}
 use Rattle.ground_rules.specs.declared.names.TermKind.TheVariants.{State, Move}
 use Rattle.ground_rules.specs.declared.tables.GoalHead.{GoalHead}
 use Rattle.ground_rules.specs.Internal.Bools.{and-both, or-elim, or-left, or-right, not-false}
 use Rattle.ground_rules.specs.Internal.Names.{number-sound, text-same, text-sound}
 use Rattle.ground_rules.specs.Internal.TermTexts.{is_term_in_any, are_terms_in_any}
-use Rattle.ground_rules.specs.Described.{Description, is_among, role_names, name_in}
+use Rattle.rule_sentences.specs.Descriptions.{Description, is_among, role_names, name_in}
 use Rattle.ground_rules.specs.Internal.TableTests.{has_term, have_distinct_terms, are_goals, are_roles}
 use Rattle.ground_rules.specs.Internal.Resolved.{NameTable, atom_number, goal_heads, role_table, terms_in, head_terms, with_mention, mentions_by, place}
 use Rattle.ground_rules.proofs.TablePlaces.{place-one}

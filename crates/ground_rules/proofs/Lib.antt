@@ -1,6 +1,4 @@
-pub mod Arguments
 pub mod Assembled
-pub mod AtomicLists
 pub mod ByteOrder
 pub mod Dependences
 pub mod Fits
@@ -10,7 +8,6 @@ pub mod HeadTables
 pub mod HeadsRead
 pub mod LawfulTables
 pub mod Limits
-pub mod LiteralLists
 pub mod Mentions
 pub mod NameLists
 pub mod Numberings
@@ -18,7 +15,6 @@ pub mod Pass
 pub mod Picked
 pub mod RankedRules
 pub mod ResolvedLists
-pub mod RuleLists
 pub mod Searching
 pub mod Situations
 pub mod TablePlaces

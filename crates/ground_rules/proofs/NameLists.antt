@@ -3,9 +3,9 @@ use Rattle.std.proofs.Common.{◌≡◌, ◌≢◌, ℕ, ◌+◌, ◌<◌, Bool,
 use Rattle.std.specs.List.{list_any}
 use Rattle.ground_rules.specs.Internal.Bools.{and-left, and-right, and-both, not-true, not-false, or-left, or-right, or-false-left, or-false-right, bool-same}
 use Rattle.ground_rules.specs.Internal.Names.{text-sound, text-same}
-use Rattle.ground_rules.specs.Described.{is_among, with_new, with_all_new, role_names, name_in, are_different}
-use Rattle.ground_rules.specs.Internal.SentenceViews.{rule_of, rules_of}
-use Rattle.ground_rules.specs.declared.sentence.Rule.{Rule as CodeRule}
+use Rattle.rule_sentences.specs.Descriptions.{is_among, with_new, role_names, name_in, are_different}
+use Rattle.rule_sentences.specs.SentenceViews.{rule_of, rules_of}
+use Rattle.rule_sentences.specs.declared.sentence.Rule.{Rule as CodeRule}
 
 pub among-left : (xs ys : List (List ℕ)) (t : List ℕ) → is_among xs t ≡ true → is_among (xs ++ ys) t ≡ true
 among-left [] ys t h = absurd cc
@@ -51,12 +51,8 @@ not-repeated (x ∷ xs) n h new =
     (not-false _ (neither xs n x (not-true _ (and-left (not (is_among xs x)) _ h)) (or-false-left (bytes_eq n x) _ new)))
     (not-repeated xs n (and-right (not (is_among xs x)) _ h) (or-false-right (bytes_eq n x) _ new))
 
-pub rules-at : (rs : List CodeRule) (i : ℕ) (d : CodeRule) → i < length rs → rules_of (drop i rs) ≡ rule_of (get_or rs i d) ∷ rules_of (drop (i + 1) rs)
+rules-at : (rs : List CodeRule) (i : ℕ) (d : CodeRule) → i < length rs → rules_of (drop i rs) ≡ rule_of (get_or rs i d) ∷ rules_of (drop (i + 1) rs)
 rules-at rs i d lt = rw (add-one, drop-cons rs i d) refl
-
-pub with_all_new-append : {A : Type 0} (same : A → A → Bool) (seen xs ys : List A) → with_all_new same seen (xs ++ ys) ≡ with_all_new same (with_all_new same seen xs) ys
-with_all_new-append same seen [] ys = refl
-with_all_new-append same seen (x ∷ xs) ys = with_all_new-append same (with_new same seen x) xs ys
 
 -- the names up to this rule, and those from it on
 pub names-at : (seen whole : List (List ℕ)) (rs : List CodeRule) (i : ℕ) (d : CodeRule) → i < length rs → seen ++ role_names (rules_of (drop i rs)) ≡ whole → seen ++ name_in (get_or rs i d).head ++ role_names (rules_of (drop (i + 1) rs)) ≡ whole

@@ -3,13 +3,13 @@ use Rattle.std.proofs.Common.{◌≡◌, ℕ, zero, suc, ◌<◌, ◌≤◌, ◌
 use Rattle.std.specs.List.{All}
 use Rattle.std.specs.List.Sorted.{IsNonDecreasingBy}
 use Rattle.std.proofs.lemmas.Bool.Decides.{nat_tests, Decides-ltb}
-use Rattle.ground_rules.specs.declared.sentence.Derived.{Derived}
-use Rattle.ground_rules.specs.declared.sentence.Derived.TheVariants.{Terminal}
+use Rattle.rule_sentences.specs.declared.sentence.Derived.{Derived}
+use Rattle.rule_sentences.specs.declared.sentence.Derived.TheVariants.{Terminal}
 use Rattle.ground_rules.specs.declared.numbered.Rule.{Rule as CodeRule}
-use Rattle.ground_rules.specs.Literals.{Literal, Literals, Holds, InState, Does, Distinct, Not, Or, End, More, Rule, AtomsAre, AllAtomsAre}
-use Rattle.ground_rules.specs.Sentences.{TextLiteral, TextLiterals}
+use Rattle.rule_sentences.specs.Literals.{Literal, Literals, Holds, InState, Does, Distinct, Not, Or, End, More, Rule, AtomsAre, AllAtomsAre}
+use Rattle.rule_sentences.specs.Sentences.{TextLiteral, TextLiterals}
 use Rattle.ground_rules.specs.Acyclic.{IsNumbering, IsAcyclic}
-use Rattle.ground_rules.specs.Described.{Description, same_derived}
+use Rattle.rule_sentences.specs.Descriptions.{Description, same_derived}
 use Rattle.ground_rules.specs.Internal.Names.{number-sound}
 use Rattle.ground_rules.specs.Numbered.{known, rule_of, rules_of}
 use Rattle.ground_rules.specs.Internal.Ranked.{AreRankedFrom}

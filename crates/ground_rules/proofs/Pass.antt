@@ -3,7 +3,7 @@ use Rattle.std.proofs.Common.{ℕ, zero, suc, ◌<◌, ◌≤◌, ◌≡◌, ◌
 use Rattle.std.proofs.lemmas.List.{length-replicate}
 use Rattle.std.proofs.lemmas.Grind.{get_or-set_at}
 use Rattle.std.proofs.lemmas.Bool.Decides.{Decides-eqb}
-use Rattle.ground_rules.specs.Literals.{Rule, AllAtomsAre}
+use Rattle.rule_sentences.specs.Literals.{Rule, AllAtomsAre}
 use Rattle.ground_rules.specs.Fit.{Situation, all_true, derived, Fits}
 use Rattle.ground_rules.specs.Numbered.{bit, row_after, unset}
 use Rattle.ground_rules.specs.Internal.Ranked.{AreRankedFrom}

@@ -4,9 +4,9 @@ use Rattle.std.specs.List.Sorted.{IsPermutation, IsNonDecreasingBy}
 use Rattle.std.proofs.lemmas.List.{length-replicate}
 use Rattle.std.proofs.lemmas.List.Sorted.{All-permutation, IsPermutation-map}
 use Rattle.ground_rules.specs.declared.numbered.Rule.{Rule as CodeRule}
-use Rattle.ground_rules.specs.Literals.{Rule}
+use Rattle.rule_sentences.specs.Literals.{Rule}
 use Rattle.ground_rules.specs.Acyclic.{IsAcyclic}
-use Rattle.ground_rules.specs.Described.{Description}
+use Rattle.rule_sentences.specs.Descriptions.{Description}
 use Rattle.ground_rules.specs.Dependence.{HasBarredHead}
 use Rattle.ground_rules.specs.Internal.Barred.{has_barred}
 use Rattle.ground_rules.specs.Internal.Exposed.{exposed_rules}

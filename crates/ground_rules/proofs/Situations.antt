@@ -4,7 +4,8 @@ use Rattle.std.specs.Prelude.{slice_get}
 use Rattle.ground_rules.specs.declared.tables.GroundMove.{GroundMove}
 use Rattle.ground_rules.specs.Internal.Bools.{and-left, and-right, not-true, bool-same, or-false-left, or-false-right}
 use Rattle.ground_rules.specs.Internal.Names.{text-sound, text-same}
-use Rattle.ground_rules.specs.Described.{is_among, makes, are_different}
+use Rattle.rule_sentences.specs.Descriptions.{is_among, are_different}
+use Rattle.ground_rules.specs.Described.{makes}
 use Rattle.ground_rules.specs.Tables.{picked}
 use Rattle.ground_rules.specs.Numbered.{bit, is_number}
 use Rattle.ground_rules.specs.Internal.Resolved.{place}

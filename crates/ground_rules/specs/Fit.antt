@@ -1,6 +1,6 @@
 -- The fit: an assignment of truth to the derived atoms that agrees with the rules.
 use Rattle.std.specs.Prelude.{◌≡◌, Bool, true, false, not, ◌&&◌, ◌||◌, List, [], ◌∷◌}
-use Rattle.ground_rules.specs.Literals.{Literal, Holds, InState, Does, Distinct, Not, Or, Literals, End, More, Rule}
+use Rattle.rule_sentences.specs.Literals.{Literal, Holds, InState, Does, Distinct, Not, Or, Literals, End, More, Rule}
 
 -- what is given: which names are equal, which terms the state has, and which move each role makes
 pub record Situation (A T : Type 0) : Type 0 where

@@ -1,8 +1,6 @@
 -- What private functions and proofs alone cite.
 pub mod Bools
 pub mod Names
-pub mod SentenceViews
-pub mod Members
 pub mod Ranked
 pub mod Order
 pub mod Resolved

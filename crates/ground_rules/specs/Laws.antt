@@ -1,7 +1,8 @@
 -- The laws of descriptions.
 use Rattle.std.specs.Prelude.{ℕ, List}
 use Rattle.ground_rules.specs.Acyclic.{IsAcyclic}
-use Rattle.ground_rules.specs.Described.{Description, situation}
+use Rattle.rule_sentences.specs.Descriptions.{Description}
+use Rattle.ground_rules.specs.Described.{situation}
 use Rattle.ground_rules.specs.Fit.{HasOneFit}
 
 -- an acyclic description has exactly one fit, for each set of terms and each joint move

@@ -3,7 +3,7 @@ use Rattle.std.specs.Prelude.{ℕ, ◌≡◌, ◌<◌, Bool, List, [], map, slic
 use Rattle.game_core.specs.Play.{Rules}
 use Rattle.ground_rules.specs.declared.tables.Mention.{Mention}
 use Rattle.ground_rules.specs.declared.tables.GroundMove.{GroundMove}
-use Rattle.ground_rules.specs.Literals.{Rule}
+use Rattle.rule_sentences.specs.Literals.{Rule}
 use Rattle.ground_rules.specs.States.{StateRows}
 use Rattle.ground_rules.specs.Roles.{RoleTable, no_role}
 use Rattle.ground_rules.specs.Tables.{marked, chosen, only_goal, picked}

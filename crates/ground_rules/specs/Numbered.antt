@@ -1,6 +1,6 @@
 -- What numbered rules stand for, and the pass over them.
 use Rattle.std.specs.Prelude.{ℕ, Bool, true, false, nat_eq, if◌then◌else◌, List, [], ◌∷◌, map, slice_index_or, slice_set, slice_get, Option, Some, None, replicate, box_value}
-use Rattle.ground_rules.specs.Literals.{Literal, Literals, literals, Holds, InState, Does, Not, Or, End, Rule}
+use Rattle.rule_sentences.specs.Literals.{Literal, Literals, literals, Holds, InState, Does, Not, Or, End, Rule}
 use Rattle.ground_rules.specs.Fit.{Situation, all_true}
 use Rattle.ground_rules.specs.declared.numbered.Literal.{Literal as CodeLiteral, fold-Literal}
 use Rattle.ground_rules.specs.declared.numbered.Literal.TheOpen.{Literal-F}

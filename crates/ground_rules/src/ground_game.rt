@@ -115,7 +115,7 @@ impl GroundGame {
     ghost use Rattle.kif_text.specs.View.{view as expression};
     ghost use Rattle.ground_rules.specs.Numbered.{rules_of};
     ghost use Rattle.ground_rules.specs.Internal.Resolved.{table_of};
-    ghost use Rattle.ground_rules.specs.Loading.{AreSentences, description_of};
+    ghost use Rattle.rule_sentences.specs.SentenceFaults.{AreSentences, description_of};
     ghost use Rattle.ground_rules.specs.Internal.GameParts.{AreGameParts};
     ghost use Rattle.ground_rules.specs.Loaded.{IsLoaded};
     ghost use Rattle.ground_rules.specs.LoadedGame.{settled};

@@ -12,7 +12,6 @@
 
 mod dependence;
 mod evaluate;
-mod fault;
 mod ground_game;
 pub mod laws;
 mod load_game;
@@ -21,21 +20,14 @@ mod lookups;
 mod names;
 mod needs;
 pub mod numbered;
-mod placing;
 mod rank;
-mod reading;
 mod resolve;
 mod row;
-mod rules;
-mod sentence;
-mod sizes;
 pub mod split;
 pub mod tables;
-mod terms;
 pub mod vocabulary;
-mod words;
 
-pub use fault::LoadFault;
 pub use ground_game::GroundGame;
 pub use load_game::load;
+pub use rule_sentences::LoadFault;
 pub use tables::{GroundMove, GroundState};

@@ -4,11 +4,10 @@ ghost use Rattle.game_core.specs.Expression.{folded};
 ghost use Rattle.kif_text.specs.View.{view as expression};
 ghost use Rattle.ground_rules.specs.Loaded.{IsLoadAnswer};
 
-use crate::fault::LoadFault;
 use crate::ground_game::GroundGame;
 use crate::loading::game_parts;
-use crate::rules::{folded, read_rules};
 use kif_text::Expr;
+use rule_sentences::{LoadFault, folded, read_rules};
 use std::alloc::Global;
 
 /// The game of a ground description: facts and rules of GDL without variables, in any case of

@@ -3,20 +3,19 @@ ghost use Rattle.std.specs.Prelude.{◌≡◌, ◌⊎◌, ℕ, true, false, IfOk
 ghost use Rattle.std.specs.List.Sorted.{IsPermutation, IsNonDecreasingBy};
 ghost use Rattle.game_core.specs.Expression.{folded};
 ghost use Rattle.kif_text.specs.View.{view as expression};
-ghost use Rattle.ground_rules.specs.Internal.SentenceViews.{rules_of};
+ghost use Rattle.rule_sentences.specs.SentenceViews.{rules_of};
 ghost use Rattle.ground_rules.specs.Acyclic.{IsAcyclic};
 ghost use Rattle.ground_rules.specs.Numbered.{rules_of as numbered_rules, numbered, row_after, unset};
 ghost use Rattle.ground_rules.specs.Internal.Resolved.{table_of, role_table};
 ghost use Rattle.ground_rules.specs.Internal.Barred.{barred_by, has_barred};
 ghost use Rattle.ground_rules.specs.Loading.{HasRoles, IsDescriptionFault};
-ghost use Rattle.ground_rules.specs.Described.{Description};
+ghost use Rattle.rule_sentences.specs.Descriptions.{Description};
 ghost use Rattle.ground_rules.specs.Dependence.{HasBarredHead};
 ghost use Rattle.ground_rules.specs.Internal.GameParts.{IsTestOf, IsTableOf, is_small_so_far, have_few_moves_by, AreRankedOf, AreGameParts};
 ghost use Rattle.ground_rules.specs.Internal.SplitRules.{AreSplitOf};
 ghost use Rattle.ground_rules.specs.Internal.Exposed.{exposed_rules};
 
 use crate::dependence::dependence;
-use crate::fault::LoadFault;
 use crate::lookups::{goal_heads, legal_mentions};
 use crate::names::{TermKind, head_terms, heads, role_names};
 use crate::needs::needs_of;
@@ -24,11 +23,14 @@ use crate::numbered;
 use crate::rank::rank;
 use crate::resolve::{Names, resolve_rules};
 use crate::row::Row;
-use crate::sentence::{Derived, Rule};
-use crate::sizes::{MAX_ATOMIC_SENTENCES, MAX_MOVES, MAX_SENTENCES, count_atomic_sentences};
 use crate::split::{SplitRules, split};
 use crate::tables::Role;
 use game_core::{MAX_ROLES, Text};
+use rule_sentences::LoadFault;
+use rule_sentences::sentence::{Derived, Rule};
+use rule_sentences::sizes::{
+    MAX_ATOMIC_SENTENCES, MAX_MOVES, MAX_SENTENCES, count_atomic_sentences,
+};
 use std::alloc::{AllocError, Global};
 
 fn role_of(alloc: Global, names: &Names, name: &Text) -> Result<Role, AllocError>

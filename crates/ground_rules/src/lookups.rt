@@ -4,10 +4,10 @@ ghost use Rattle.std.specs.Option.{option_copied};
 ghost use Rattle.ground_rules.specs.Internal.Resolved.{state_term, state_mentions, legal_mentions, goal_heads};
 
 use crate::names::place_of_text;
-use crate::sentence::Derived;
 use crate::tables::{GoalHead, Mention};
 use game_core::Text;
 use indexmap::IndexSet;
+use rule_sentences::sentence::Derived;
 use std::alloc::{AllocError, Global};
 
 /// Which heads give the terms of a state: those of the first state, or of the state after a turn.

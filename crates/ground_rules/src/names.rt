@@ -1,18 +1,18 @@
 //! The names of a description: its roles, the derived atoms at its heads and the terms of its states
 //! and moves, each numbered by its place in a table.
 ghost use Rattle.std.specs.Prelude.{◌≡◌, ℕ, not, true, IfOk, IfErr, OnOk, [], bytes_eq, ◌≢◌};
-ghost use Rattle.ground_rules.specs.Internal.SentenceViews.{rules_of};
-ghost use Rattle.ground_rules.specs.Described.{with_new, same_derived, role_names, name_in, heads, is_among, are_different};
+ghost use Rattle.rule_sentences.specs.SentenceViews.{rules_of};
+ghost use Rattle.rule_sentences.specs.Descriptions.{with_new, same_derived, role_names, name_in, heads, is_among, are_different};
 ghost use Rattle.std.specs.List.{list_any};
 ghost use Rattle.std.specs.Option.{option_copied, option_to_list};
 ghost use Rattle.ground_rules.specs.Internal.TableTests.{are_in_order};
 ghost use Rattle.ground_rules.specs.Internal.Resolved.{head_terms, place};
 ghost use Rattle.ground_rules.specs.Loading.{IsDescriptionFault};
 
-use crate::fault::LoadFault;
-use crate::sentence::{Derived, Rule};
 use game_core::Text;
 use indexmap::IndexSet;
+use rule_sentences::LoadFault;
+use rule_sentences::sentence::{Derived, Rule};
 use std::alloc::{AllocError, Global};
 
 /// Adds a text to a set, and whether it is new there.

@@ -1,15 +1,15 @@
 //! Numbers in the place of names.
 ghost use Rattle.std.specs.Prelude.{◌≡◌, IfOk};
-ghost use Rattle.ground_rules.specs.Sentences.{literal_of};
-ghost use Rattle.ground_rules.specs.Internal.SentenceViews.{view, views, rules_of};
+ghost use Rattle.rule_sentences.specs.Sentences.{literal_of};
+ghost use Rattle.rule_sentences.specs.SentenceViews.{view, views, rules_of};
 ghost use Rattle.ground_rules.specs.Numbered.{view as numbered, views as all_numbered, rules_of as numbered_rules};
 ghost use Rattle.ground_rules.specs.Internal.Resolved.{resolved, all_resolved, resolved_rules, table_of};
 
 use crate::names::{place_of_head, place_of_text};
 use crate::numbered;
-use crate::sentence::{Atomic, Derived, Literal, Rule};
 use game_core::Text;
 use indexmap::IndexSet;
+use rule_sentences::sentence::{Atomic, Derived, Literal, Rule};
 use std::alloc::{AllocError, Global};
 
 /// The tables of names, each of which is numbered by its place.

@@ -2,8 +2,8 @@
 ghost use Rattle.std.specs.Prelude.{◌≡◌, ◌≤◌, ◌<◌, ◌^◌, length, IsTrue, IfOk, map};
 ghost use Rattle.game_core.specs.Play.{max_roles};
 ghost use Rattle.kif_text.specs.View.{view as expression, views};
-ghost use Rattle.ground_rules.specs.Described.{are_different};
-ghost use Rattle.ground_rules.specs.Loading.{description_of};
+ghost use Rattle.rule_sentences.specs.Descriptions.{are_different};
+ghost use Rattle.rule_sentences.specs.SentenceFaults.{description_of};
 ghost use Rattle.ground_rules.specs.Internal.TableTests.{are_roles, are_in_order, names};
 ghost use Rattle.ground_rules.specs.Internal.TermTexts.{are_terms_in_any};
 ghost use Rattle.ground_rules.specs.Internal.Resolved.{table_of};
@@ -12,10 +12,10 @@ ghost use Rattle.ground_rules.specs.Internal.GameParts.{AreNamesOf};
 use crate::lookups::{StateHead, state_mentions};
 use crate::names::{into_texts, place_of_head};
 use crate::resolve::Names;
-use crate::sentence::Derived;
 use crate::tables::{Mention, Role};
 use game_core::Text;
 use kif_text::Expr;
+use rule_sentences::sentence::Derived;
 use std::alloc::{AllocError, Global};
 
 /// The sentences of a description, and the tables of names that they give.

@@ -3,8 +3,8 @@ use Rattle.std.specs.Prelude.{◌≢◌, ℕ, List, map}
 use Rattle.game_core.specs.Expression.{Expression, Expressions, folded}
 use Rattle.kif_text.specs.Spelling.{SpellsAll}
 use Rattle.kif_text.specs.View.{expressions}
-use Rattle.ground_rules.specs.declared.fault.LoadFault.{LoadFault}
-use Rattle.ground_rules.specs.declared.fault.LoadFault.TheVariants.{Memory as LoadMemory}
+use Rattle.rule_sentences.specs.declared.fault.LoadFault.{LoadFault}
+use Rattle.rule_sentences.specs.declared.fault.LoadFault.TheVariants.{Memory as LoadMemory}
 use Rattle.ground_rules.specs.declared.ground_game.GroundGame.{GroundGame}
 use Rattle.ground_rules.specs.Loading.{IsLoadFault}
 use Rattle.ground_rules.specs.Loaded.{IsLoaded}

@@ -3,7 +3,8 @@ use Rattle.std.specs.Prelude.{◌≡◌, List, map}
 use Rattle.game_core.specs.Expression.{Expression}
 use Rattle.kif_text.specs.View.{view}
 use Rattle.ground_rules.specs.declared.ground_game.GroundGame.{GroundGame}
-use Rattle.ground_rules.specs.Described.{Description, IsGameOf}
+use Rattle.ground_rules.specs.Descriptions.{Description}
+use Rattle.ground_rules.specs.Described.{IsGameOf}
 use Rattle.packed_rules.specs.PackedTables.{rest_of, turn_of}
 use Rattle.ground_rules.specs.LoadedGame.{GameTables, loaded_game}
 use Rattle.ground_rules.specs.GroundGames.{tables_with, tables_of as ground_tables_of, sentences_of as ground_sentences_of}

@@ -1,7 +1,7 @@
 -- Which heads the rows of dependence bar.
 use Rattle.std.specs.Prelude.{ℕ, ◌+◌, Bool, false, ◌||◌, List, [], ◌∷◌}
-use Rattle.ground_rules.specs.declared.sentence.Derived.{Derived}
-use Rattle.ground_rules.specs.declared.sentence.Derived.TheVariants.{Role, Init, Next, Legal, Goal, Terminal, Other}
+use Rattle.rule_sentences.specs.declared.sentence.Derived.{Derived}
+use Rattle.rule_sentences.specs.declared.sentence.Derived.TheVariants.{Role, Init, Next, Legal, Goal, Terminal, Other}
 use Rattle.ground_rules.specs.Numbered.{bit}
 
 -- a head that depends on does sentences, or on given ones, as the two values say

@@ -1,7 +1,7 @@
 -- Dependence as a fit: an atom depends on something given where a rule of it speaks of that, or of an atom that depends on it.
 --
 use Rattle.std.specs.Prelude.{Bool, true, false, List, map}
-use Rattle.ground_rules.specs.Literals.{Literal, Literals, Holds, InState, Does, Distinct, Not, Or, End, More, Rule}
+use Rattle.rule_sentences.specs.Literals.{Literal, Literals, Holds, InState, Does, Distinct, Not, Or, End, More, Rule}
 use Rattle.ground_rules.specs.Numbered.{known}
 
 -- the literal with its `not` left out, each does sentence true, and each true sentence true where it counts

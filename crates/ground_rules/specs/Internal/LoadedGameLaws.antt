@@ -12,7 +12,7 @@ use Rattle.ground_rules.specs.declared.tables.GoalHead.{GoalHead}
 use Rattle.ground_rules.specs.declared.tables.GroundMove.{GroundMove}
 use Rattle.ground_rules.specs.Internal.Bools.{and-left, and-right, and-both, not-true, or-left, or-right, or-false-left, or-false-right}
 use Rattle.ground_rules.specs.Internal.Names.{text-sound, text-same}
-use Rattle.ground_rules.specs.Described.{is_among, are_different}
+use Rattle.rule_sentences.specs.Descriptions.{is_among, are_different}
 use Rattle.ground_rules.specs.Roles.{RoleTable, no_role}
 use Rattle.ground_rules.specs.Numbered.{bit, unset}
 use Rattle.ground_rules.specs.Tables.{marked, chosen, only, picked}

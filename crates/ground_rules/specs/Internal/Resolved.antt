@@ -1,16 +1,16 @@
 -- Numbers in the place of names.
 use Rattle.std.specs.Prelude.{ℕ, ◌+◌, suc, Bool, not, bytes_eq, nat_lt, nat_eq, if◌then◌else◌, List, [], ◌∷◌, ◌++◌, map, Option, Some, None}
-use Rattle.ground_rules.specs.declared.sentence.Derived.{Derived}
-use Rattle.ground_rules.specs.declared.sentence.Derived.TheVariants.{Init, Next, Legal, Goal}
+use Rattle.rule_sentences.specs.declared.sentence.Derived.{Derived}
+use Rattle.rule_sentences.specs.declared.sentence.Derived.TheVariants.{Init, Next, Legal, Goal}
 use Rattle.ground_rules.specs.declared.lookups.StateHead.{StateHead}
 use Rattle.ground_rules.specs.declared.lookups.StateHead.TheVariants.{Init as InitHead, Next as NextHead}
 use Rattle.ground_rules.specs.declared.names.TermKind.{TermKind}
 use Rattle.ground_rules.specs.declared.names.TermKind.TheVariants.{State, Move}
 use Rattle.ground_rules.specs.declared.tables.Mention.{Mention}
 use Rattle.ground_rules.specs.declared.tables.GoalHead.{GoalHead}
-use Rattle.ground_rules.specs.Literals.{Literal, Literals, Holds, InState, Does, Distinct, Not, Or, End, More, Rule}
-use Rattle.ground_rules.specs.Sentences.{TextLiteral, TextLiterals, TextRule}
-use Rattle.ground_rules.specs.Described.{Description, same_derived}
+use Rattle.rule_sentences.specs.Literals.{Literal, Literals, Holds, InState, Does, Distinct, Not, Or, End, More, Rule}
+use Rattle.rule_sentences.specs.Sentences.{TextLiteral, TextLiterals, TextRule}
+use Rattle.rule_sentences.specs.Descriptions.{Description, same_derived}
 use Rattle.ground_rules.specs.Numbered.{known}
 use Rattle.ground_rules.specs.declared.resolve.Names.{Names}
 use Rattle.ground_rules.specs.Roles.{RoleTable}

@@ -1,11 +1,11 @@
 -- Numbered rules in two parts: those on whose heads no move bears, and the others.
 use Rattle.std.specs.Prelude.{ℕ, ◌≡◌, ◌≢◌, false, List, [], ◌∷◌, ◌++◌, length}
 use Rattle.std.specs.List.Sorted.{IsPermutation}
-use Rattle.ground_rules.specs.declared.sentence.Derived.{Derived}
-use Rattle.ground_rules.specs.declared.sentence.Derived.TheVariants.{Role, Init, Next, Legal, Goal, Terminal, Other}
-use Rattle.ground_rules.specs.Literals.{Rule}
+use Rattle.rule_sentences.specs.declared.sentence.Derived.{Derived}
+use Rattle.rule_sentences.specs.declared.sentence.Derived.TheVariants.{Role, Init, Next, Legal, Goal, Terminal, Other}
+use Rattle.rule_sentences.specs.Literals.{Rule}
 use Rattle.ground_rules.specs.Dependence.{any_speaks_of_given}
-use Rattle.ground_rules.specs.Described.{Description}
+use Rattle.rule_sentences.specs.Descriptions.{Description}
 use Rattle.ground_rules.specs.Internal.Ranked.{AreRankedFrom}
 use Rattle.ground_rules.specs.Internal.Resolved.{NameTable, atom_number, resolved_rules}
 

@@ -7,7 +7,7 @@ use Rattle.game_core.specs.Expression.{Expression, atom, list, Expressions, none
 use Rattle.game_core.specs.Canonical.{canonical, IsFoldedText}
 use Rattle.ground_rules.specs.Internal.Bools.{and-left, and-right, not-true}
 use Rattle.ground_rules.specs.Internal.Names.{text-sound, number-sound}
-use Rattle.ground_rules.specs.Terms.{question_mark, are_small_atom_bytes, is_word, begins_with_atom, is_term, are_terms, is_ground_term}
+use Rattle.rule_sentences.specs.Terms.{question_mark, are_small_atom_bytes, is_word, begins_with_atom, is_term, are_terms, is_ground_term}
 
 -- whether the text is that of a term without variables in the expression
 abbrev mutual

@@ -1,8 +1,8 @@
 use Rattle.std.proofs.Common.{◌≡◌, ◌∙◌, ap, sym, inl, inr}
 use Rattle.std.proofs.lemmas.Result.{err_from_is_err_and}
-use Rattle.ground_rules.specs.Internal.SentenceViews.{rules_of}
+use Rattle.rule_sentences.specs.SentenceViews.{rules_of}
 use Rattle.ground_rules.specs.Internal.Resolved.{table_of}
-use Rattle.ground_rules.specs.Sizes.{is_small}
+use Rattle.rule_sentences.specs.Sizes.{is_small}
 use Rattle.ground_rules.specs.Internal.GameParts.{have_few_moves_by}
 use Rattle.ground_rules.proofs.Limits.{small-by-moves}
 use Rattle.ground_rules.proofs.loading.game_parts.Goals as goal

@@ -1,7 +1,7 @@
 use Rattle.std.proofs.Common.{◌≡◌, ◌∙◌, ap, length, arith}
 use Rattle.std.proofs.lemmas.Result.{err_from_is_err_and}
-use Rattle.ground_rules.specs.Internal.SentenceViews.{rules_of}
-use Rattle.ground_rules.specs.Described.{role_names}
+use Rattle.rule_sentences.specs.SentenceViews.{rules_of}
+use Rattle.rule_sentences.specs.Descriptions.{role_names}
 use Rattle.ground_rules.proofs.Limits.{too-many-sentences, too-many-atomics, too-many-roles, few-so-far}
 use Rattle.ground_rules.proofs.loading.names_of.Goals as goal
 use Rattle.ground_rules.proofs.loading.names_of.Goals.{then-sentences-gt-MAX_SENTENCES-via-then-sentences-gt-MAX_SENTENCES, then-sentences-gt-MAX_SENTENCES-via-else-sentences-gt-MAX_SENTENCES+then-atomic_sentences-gt-MAX_ATOMIC_SENTENCES, then-sentences-gt-MAX_SENTENCES-via-else-sentences-gt-MAX_SENTENCES+else-atomic_sentences-gt-MAX_ATOMIC_SENTENCES+then-len-gt-MAX_ROLES}

@@ -1,5 +1,5 @@
 use Rattle.std.proofs.Common.{◌≡◌, ◌∙◌, ℕ, List, sym, ap, length, refl, inr, subst}
-use Rattle.ground_rules.specs.Internal.SentenceViews.{rules_of}
+use Rattle.rule_sentences.specs.SentenceViews.{rules_of}
 use Rattle.ground_rules.specs.Numbered.{rules_of as numbered_rules}
 use Rattle.ground_rules.specs.Internal.Order.{IsGraph}
 use Rattle.ground_rules.specs.Internal.Resolved.{table_of, resolved_rules}

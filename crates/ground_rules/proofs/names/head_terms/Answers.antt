@@ -1,7 +1,7 @@
 use Rattle.std.proofs.Common.{◌≡◌, ◌∙◌, ap, sym, bytes_eq, arith}
 use Rattle.std.proofs.lemmas.List.{drop_all}
-use Rattle.ground_rules.specs.Internal.SentenceViews.{rules_of}
-use Rattle.ground_rules.specs.Described.{with_all_new, each_once}
+use Rattle.rule_sentences.specs.SentenceViews.{rules_of}
+use Rattle.rule_sentences.specs.Descriptions.{with_all_new, each_once}
 use Rattle.ground_rules.specs.Internal.Resolved.{head_terms}
 use Rattle.ground_rules.proofs.ByteOrder.{sorted-in-order, sorted-same}
 use Rattle.ground_rules.proofs.names.head_terms.Goals as goal

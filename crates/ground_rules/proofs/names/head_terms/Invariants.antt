@@ -1,6 +1,6 @@
 use Rattle.std.proofs.Common.{◌≡◌, drop, bytes_eq}
-use Rattle.ground_rules.specs.Internal.SentenceViews.{rules_of}
-use Rattle.ground_rules.specs.Described.{with_all_new, each_once}
+use Rattle.rule_sentences.specs.SentenceViews.{rules_of}
+use Rattle.rule_sentences.specs.Descriptions.{with_all_new, each_once}
 use Rattle.ground_rules.specs.Internal.Resolved.{head_terms}
 use Rattle.ground_rules.proofs.names.head_terms.Given as goal
 

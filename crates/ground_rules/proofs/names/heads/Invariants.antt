@@ -1,6 +1,6 @@
 use Rattle.std.proofs.Common.{◌≡◌, map, drop}
-use Rattle.ground_rules.specs.Internal.SentenceViews.{rules_of}
-use Rattle.ground_rules.specs.Described.{with_all_new, same_derived, heads}
+use Rattle.rule_sentences.specs.SentenceViews.{rules_of}
+use Rattle.rule_sentences.specs.Descriptions.{with_all_new, same_derived, heads}
 use Rattle.ground_rules.proofs.names.heads.Given as goal
 
 abbrev pub invariant-loop-rule : goal.invariant-loop-rule

@@ -1,9 +1,9 @@
 use Rattle.std.specs.List.{position}
 use Rattle.std.proofs.Common.{◌≡◌, ◌∙◌, ap, refl, unwrap_or}
-use Rattle.ground_rules.specs.contracts.sentence.DerivedPartialEq.TheImpl.{eq-value}
-use Rattle.ground_rules.specs.declared.sentence.Derived.{Derived}
-use Rattle.ground_rules.specs.declared.sentence.Derived.TheVariants.{Role, Init, Next, Legal, Goal, Terminal, Other}
-use Rattle.ground_rules.specs.Described.{same_derived}
+use Rattle.rule_sentences.specs.contracts.sentence.DerivedPartialEq.TheImpl.{eq-value}
+use Rattle.rule_sentences.specs.declared.sentence.Derived.{Derived}
+use Rattle.rule_sentences.specs.declared.sentence.Derived.TheVariants.{Role, Init, Next, Legal, Goal, Terminal, Other}
+use Rattle.rule_sentences.specs.Descriptions.{same_derived}
 use Rattle.ground_rules.proofs.TablePlaces.{place-found}
 use Rattle.ground_rules.proofs.names.place_of_head.Goals as goal
 

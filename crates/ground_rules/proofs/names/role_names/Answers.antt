@@ -1,8 +1,8 @@
 use Rattle.std.proofs.Common.{◌≡◌, ◌∙◌, [], ◌∷◌, sym, ap, get_or, bytes_eq, drop, append_assoc, ◌+◌}
 use Rattle.std.specs.List.{list_any}
 use Rattle.std.specs.Option.{option_copied, option_to_list}
-use Rattle.ground_rules.specs.Internal.SentenceViews.{rules_of}
-use Rattle.ground_rules.specs.Described.{role_names, name_in, are_different}
+use Rattle.rule_sentences.specs.SentenceViews.{rules_of}
+use Rattle.rule_sentences.specs.Descriptions.{role_names, name_in, are_different}
 use Rattle.ground_rules.proofs.NameLists.{some-name, repeated, not-repeated, names-at, name-between, no-name-between, new-name, found-by, new-by}
 use Rattle.ground_rules.proofs.names.role_names.Goals as goal
 use Rattle.ground_rules.proofs.names.role_names.Goals.{in-Some+in_ok-add_text+else-not-branch, in_default}

@@ -1,6 +1,6 @@
 use Rattle.std.proofs.Common.{◌≡◌, ◌++◌, drop, true}
-use Rattle.ground_rules.specs.Internal.SentenceViews.{rules_of}
-use Rattle.ground_rules.specs.Described.{role_names, are_different}
+use Rattle.rule_sentences.specs.SentenceViews.{rules_of}
+use Rattle.rule_sentences.specs.Descriptions.{role_names, are_different}
 use Rattle.ground_rules.proofs.names.role_names.Given as goal
 
 abbrev pub invariant-loop-rule : goal.invariant-loop-rule

@@ -1,5 +1,5 @@
 use Rattle.std.proofs.Common.{arith, ◌∙◌, ap}
-use Rattle.ground_rules.specs.Internal.SentenceViews.{views}
+use Rattle.rule_sentences.specs.SentenceViews.{views}
 use Rattle.ground_rules.specs.Internal.Resolved.{all_resolved, table_of}
 use Rattle.ground_rules.proofs.ResolvedLists.{all-literals}
 use Rattle.ground_rules.proofs.resolve.+resolve.Goals as goal

@@ -1,5 +1,5 @@
 use Rattle.std.proofs.Common.{◌≡◌, map, take}
-use Rattle.ground_rules.specs.Internal.SentenceViews.{view}
+use Rattle.rule_sentences.specs.SentenceViews.{view}
 use Rattle.ground_rules.specs.Numbered.{view as numbered}
 use Rattle.ground_rules.specs.Internal.Resolved.{resolved, table_of}
 use Rattle.ground_rules.proofs.resolve.+resolve.Given as goal

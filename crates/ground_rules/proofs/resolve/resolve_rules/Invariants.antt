@@ -1,5 +1,5 @@
 use Rattle.std.proofs.Common.{◌≡◌, map, take}
-use Rattle.ground_rules.specs.Internal.SentenceViews.{rule_of}
+use Rattle.rule_sentences.specs.SentenceViews.{rule_of}
 use Rattle.ground_rules.specs.Numbered.{rule_of as numbered_rule}
 use Rattle.ground_rules.specs.Internal.Resolved.{resolved_rule, table_of}
 use Rattle.ground_rules.proofs.resolve.resolve_rules.Given as goal

@@ -5,8 +5,8 @@ use Rattle.game_core.specs.Expression.{Expression, folded}
 use Rattle.kif_text.specs.Spelling.{SpellsAll}
 use Rattle.kif_text.specs.View.{view, expressions}
 use Rattle.ground_rules.specs.Loading.{IsLoadFault}
-use Rattle.ground_rules.specs.declared.fault.LoadFault.{LoadFault}
-use Rattle.ground_rules.specs.declared.fault.LoadFault.TheVariants.{Variable, BadForm, Misplaced, NoRole, RoleTwice, TooLarge, Cyclic, Depends, Memory as LoadMemory}
+use Rattle.rule_sentences.specs.declared.fault.LoadFault.{LoadFault}
+use Rattle.rule_sentences.specs.declared.fault.LoadFault.TheVariants.{Variable, BadForm, Misplaced, NoRole, RoleTwice, TooLarge, Cyclic, Depends, Memory as LoadMemory}
 use Rattle.match_season.specs.declared.games.DescriptionFault.{DescriptionFault}
 use Rattle.match_season.specs.declared.games.DescriptionFault.TheVariants.{Memory}
 use Rattle.match_season.specs.Games.{DescribesNone, faulty, loading_fault}

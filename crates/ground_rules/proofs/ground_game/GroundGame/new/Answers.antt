@@ -8,7 +8,7 @@ use Rattle.ground_rules.specs.Internal.Resolved.{NameTable, table_of}
 use Rattle.ground_rules.specs.GroundGames.{tables_of}
 use Rattle.ground_rules.specs.Internal.LoadedGameLaws.{loaded_game_laws}
 use Rattle.ground_rules.specs.Internal.Vocabularies.{IsVocabularyOf}
-use Rattle.ground_rules.specs.Loading.{AreSentences, description_of}
+use Rattle.rule_sentences.specs.SentenceFaults.{AreSentences, description_of}
 use Rattle.ground_rules.specs.Loaded.{IsLoaded}
 use Rattle.ground_rules.specs.Internal.GameParts.{AreGameParts}
 use Rattle.ground_rules.proofs.Assembled.{game-of-tables}

@@ -1,6 +1,0 @@
-use Rattle.std.proofs.Common.{arith}
-use Rattle.ground_rules.proofs.LiteralLists.{negation-none}
-use Rattle.ground_rules.proofs.reading.negation.Goals as goal
-
-pub returns-then-len-ne1 : goal.returns-then-len-ne1
-returns-then-len-ne1 c = rw c.in-Some.is (negation-none c.in-Some.literals.items (λ e. omega arith))

@@ -1,7 +1,0 @@
-use Rattle.std.proofs.Common.{◌≡◌, drop}
-use Rattle.kif_text.specs.View.{views}
-use Rattle.ground_rules.specs.Terms.{are_terms}
-use Rattle.ground_rules.proofs.terms.+is_term.Given as goal
-
-abbrev pub invariant-are_terms-loop-member : goal.invariant-are_terms-loop-member
-invariant-are_terms-loop-member l = are_terms (views (drop l.member-index l.member-items)) ≡ are_terms (views l.member-items)

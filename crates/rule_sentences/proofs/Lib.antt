@@ -1,0 +1,4 @@
+mod Arguments
+mod AtomicLists
+mod LiteralLists
+mod RuleLists

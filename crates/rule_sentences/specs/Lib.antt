@@ -1,0 +1,11 @@
+pub mod Literals
+pub mod Sentences
+pub mod SentenceViews
+pub mod Terms
+pub mod Words
+pub mod Reading
+pub mod Places
+pub mod Descriptions
+pub mod Sizes
+pub mod SentenceFaults
+pub mod Internal

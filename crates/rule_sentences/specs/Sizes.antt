@@ -1,0 +1,57 @@
+-- How large a description may be.
+use Rattle.std.specs.Prelude.{ℕ, Bool, true, false, ◌&&◌, nat_le, bytes_eq, List, [], ◌∷◌, ◌++◌, length}
+use Rattle.game_core.specs.Play.{max_roles}
+use Rattle.rule_sentences.specs.declared.sentence.Atomic.{Atomic}
+use Rattle.rule_sentences.specs.declared.sentence.Atomic.TheVariants.{Derived as IsDerived, InState as IsInState, Does as IsDoes}
+use Rattle.rule_sentences.specs.Literals.{Holds, InState, Does, Distinct, Not, Or, End, More}
+use Rattle.rule_sentences.specs.Sentences.{TextLiteral, TextLiterals}
+use Rattle.rule_sentences.specs.Descriptions.{Description, same_derived, each_once, heads, moves_in, role_names}
+
+-- how many sentences a description has at most
+abbrev pub max_sentences : ℕ
+max_sentences = 8192
+
+-- how many distinct atomic sentences
+abbrev pub max_atomic_sentences : ℕ
+max_atomic_sentences = 16384
+
+-- how many distinct moves in `legal` heads of one role
+abbrev pub max_moves : ℕ
+max_moves = 4096
+
+abbrev pub same_atomic : Atomic → Atomic → Bool
+same_atomic (IsDerived a) (IsDerived b) = same_derived a b
+same_atomic (IsInState t) (IsInState u) = bytes_eq t u
+same_atomic (IsDoes r m) (IsDoes q n) = bytes_eq r q && bytes_eq m n
+same_atomic a b = false
+
+-- the atomic sentences in a literal; `distinct` is none
+abbrev mutual
+  pub atomics_in : TextLiteral → List Atomic
+  atomics_in (Holds a) = IsDerived a ∷ []
+  atomics_in (InState t) = IsInState t ∷ []
+  atomics_in (Does r m) = IsDoes r m ∷ []
+  atomics_in (Distinct t u) = []
+  atomics_in (Not l) = atomics_in l
+  atomics_in (Or ls) = all_atomics_in ls
+
+  pub all_atomics_in : TextLiterals → List Atomic
+  all_atomics_in End = []
+  all_atomics_in (More l ls) = atomics_in l ++ all_atomics_in ls
+
+-- heads and those in literals
+abbrev pub atomics : Description → List Atomic
+atomics [] = []
+atomics (r ∷ rs) = (IsDerived r.head ∷ all_atomics_in r.body) ++ atomics rs
+
+abbrev pub have_few_moves : List (List ℕ) → Description → Bool
+have_few_moves [] d = true
+have_few_moves (n ∷ ns) d = nat_le (length (moves_in n (heads d))) max_moves && have_few_moves ns d
+
+-- the size is within the limits, for a description of so many sentences
+abbrev pub is_small : ℕ → Description → Bool
+is_small sentences d =
+    nat_le sentences max_sentences
+    && nat_le (length (each_once same_atomic (atomics d))) max_atomic_sentences
+    && nat_le (length (role_names d)) max_roles
+    && have_few_moves (role_names d) d

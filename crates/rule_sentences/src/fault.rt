@@ -1,0 +1,58 @@
+//! Why a description is refused.
+ghost use Rattle.std.specs.Prelude.{◌≡◌};
+ghost use Rattle.rule_sentences.specs.declared.fault.LoadFault.TheVariants.{Memory};
+
+use std::alloc::{AllocError, AllocFailed};
+use thiserror::Error;
+
+/// Why a list of expressions is no ground description. Each fault is tested over all sentences
+/// before the next of this list; the first three name the lowest faulty sentence, from 0 on.
+#[derive(Clone, Copy, Debug, PartialEq, Eq, Error)]
+pub enum LoadFault {
+    /// An atom in the sentence begins with `?`.
+    #[error("sentence {0} has a variable")]
+    Variable(usize),
+    /// The sentence is not proper, or has not the form of a fact or a rule.
+    #[error("sentence {0} has not the form of a fact or a rule")]
+    BadForm(usize),
+    /// An atomic sentence of this sentence stands where it may not: `init` and `next` only as heads,
+    /// `true` and `does` only in bodies, `role` only in bodies and as a fact.
+    #[error("an atomic sentence of sentence {0} stands where it may not")]
+    Misplaced(usize),
+    /// There is no `role` fact.
+    #[error("the description has no role")]
+    NoRole,
+    /// Two `role` facts name the same role.
+    #[error("two role facts have the same name")]
+    RoleTwice,
+    /// More than 8,192 sentences, 16,384 distinct atomic sentences, 16 roles, or 4,096 distinct
+    /// moves in `legal` heads of one role.
+    #[error("the description is too large")]
+    TooLarge,
+    /// A derived atom depends on itself.
+    #[error("a derived atom depends on itself")]
+    Cyclic,
+    /// A `legal`, `goal` or `terminal` head depends on a `does` sentence, or an `init` head on a
+    /// `true` or `does` sentence.
+    #[error("a head depends on what it may not depend on")]
+    Depends,
+    /// Want of memory.
+    #[error("want of memory")]
+    Memory,
+}
+
+impl From<AllocError> for LoadFault {
+    ghost from_gives = { λ _ fault. fault ≡ Memory };
+
+    fn from(_: AllocError) -> LoadFault {
+        LoadFault::Memory
+    }
+}
+
+impl<T: Drop> From<AllocFailed<T>> for LoadFault {
+    ghost from_gives = { λ _ fault. fault ≡ Memory };
+
+    fn from(_: AllocFailed<T>) -> LoadFault {
+        LoadFault::Memory
+    }
+}

@@ -1,0 +1,77 @@
+//! The rules that a list of expressions is.
+ghost use Rattle.std.specs.Prelude.{◌≡◌, ◌≢◌, None, Some, IfOk, IfErr, map};
+ghost use Rattle.game_core.specs.Expression.{folded};
+ghost use Rattle.kif_text.specs.View.{view as expression};
+ghost use Rattle.rule_sentences.specs.Terms.{has_variable};
+ghost use Rattle.rule_sentences.specs.SentenceViews.{rules_of};
+ghost use Rattle.rule_sentences.specs.SentenceFaults.{first_place, is_malformed, is_misplaced, description_of, AreSentences, IsSentenceFault};
+
+use crate::fault::LoadFault;
+use crate::placing::place;
+use crate::reading::read_sentence;
+use crate::sentence::Rule;
+use crate::terms::has_variable;
+use kif_text::{Expr, copy, fold};
+use std::alloc::{AllocError, Global};
+
+/// The sentences without capitals, in memory of their own.
+pub fn folded(alloc: Global, sentences: &[Expr]) -> Result<Vec<Expr>, AllocError>
+    ensures { IfOk result (λ v. map expression v.items ≡ map folded (map expression sentences.now)) }
+{
+    let mut copies = Vec::with_capacity(alloc, sentences.len())?;
+    for sentence in sentences {
+        let mut sentence = copy(alloc, sentence)?;
+        fold(&mut sentence);
+        copies.push(sentence)?;
+    }
+    Ok(copies)
+}
+
+fn first_variable(sentences: &[Expr]) -> Option<usize>
+    ensures { result ≡ first_place has_variable (map expression sentences.now) }
+{
+    for (place, sentence) in sentences.iter().enumerate() {
+        if has_variable(sentence) {
+            return Some(place);
+        }
+    }
+    None
+}
+
+/// The rules that the sentences are, with the place of the first that is misplaced; or the first
+/// that has not the form of one.
+fn read_each(alloc: Global, sentences: &[Expr]) -> Result<(Vec<Rule>, Option<usize>), LoadFault>
+    ensures formed { IfOk result (λ _. first_place is_malformed (map expression sentences.now) ≡ None) }
+    ensures misplaced { IfOk result (λ p. p.1 ≡ first_place is_misplaced (map expression sentences.now)) }
+    ensures rules { IfOk result (λ p. rules_of p.0.items ≡ description_of (map expression sentences.now)) }
+    ensures fault { IfErr result (λ e. e ≢ LoadFault.Memory → (i : _) × (e ≡ LoadFault.BadForm i) × (first_place is_malformed (map expression sentences.now) ≡ Some i)) }
+{
+    let mut rules = Vec::with_capacity(alloc, sentences.len())?;
+    let mut misplaced = None;
+    for (number, sentence) in sentences.iter().enumerate() {
+        let Some(sentence) = read_sentence(alloc, sentence)? else {
+            return Err(LoadFault::BadForm(number));
+        };
+        match place(sentence) {
+            Some(rule) => rules.push(rule)?,
+            None => misplaced = misplaced.or(Some(number)),
+        }
+    }
+    Ok((rules, misplaced))
+}
+
+/// The rules that the sentences are, or the first of the first three faults.
+pub fn read_rules(alloc: Global, sentences: &[Expr]) -> Result<Vec<Rule>, LoadFault>
+    ensures sentences { IfOk result (λ _. AreSentences (map expression sentences.now)) }
+    ensures rules { IfOk result (λ v. rules_of v.items ≡ description_of (map expression sentences.now)) }
+    ensures fault { IfErr result (IsSentenceFault (map expression sentences.now)) }
+{
+    if let Some(place) = first_variable(sentences) {
+        return Err(LoadFault::Variable(place));
+    }
+    let (rules, misplaced) = read_each(alloc, sentences)?;
+    match misplaced {
+        Some(place) => Err(LoadFault::Misplaced(place)),
+        None => Ok(rules),
+    }
+}
