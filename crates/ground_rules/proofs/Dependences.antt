@@ -7,15 +7,15 @@ use Rattle.rule_sentences.specs.declared.sentence.Derived.{Derived}
 use Rattle.rule_sentences.specs.declared.sentence.Derived.TheVariants.{Role, Init, Next, Legal, Goal, Terminal, Other}
 use Rattle.ground_rules.specs.Internal.Bools.{and-left, and-right, and-both, or-left, or-right}
 use Rattle.ground_rules.specs.Internal.Names.{number-sound, number-same, derived-sound}
-use Rattle.rule_sentences.specs.Literals.{Literal, Literals, Holds, InState, Does, Distinct, Not, Or, End, More, Rule, AtomsAre, AllAtomsAre}
+use Rattle.numbered_rules.specs.Literals.{Literal, Literals, Holds, InState, Does, Distinct, Not, Or, End, More, Rule, AtomsAre, AllAtomsAre}
 use Rattle.rule_sentences.specs.Sentences.{TextLiteral, TextLiterals, TextRule}
-use Rattle.ground_rules.specs.Fit.{truth, any_true, derived, Fits}
+use Rattle.numbered_rules.specs.Fit.{truth, any_true, derived, Fits}
 use Rattle.ground_rules.specs.Acyclic.{IsNumbering, IsAcyclic}
 use Rattle.rule_sentences.specs.Descriptions.{Description, same_derived}
 use Rattle.ground_rules.specs.Dependence.{speaks_of_given, any_speaks_of_given, SpeaksOf, AnySpeaksOf, IsRuleOf, DependsOnGiven, at_once, through, IsBarred, HasBarredHead}
-use Rattle.ground_rules.specs.Numbered.{known, bit, numbered, row_after, unset}
+use Rattle.numbered_rules.specs.Numbered.{known, bit, numbered, row_after, unset}
 use Rattle.ground_rules.specs.Internal.Ranked.{AreRankedFrom}
-use Rattle.ground_rules.specs.Internal.Exposed.{exposed, all_exposed, exposed_rule, exposed_rules}
+use Rattle.numbered_rules.specs.Exposed.{exposed, all_exposed, exposed_rule, exposed_rules}
 use Rattle.ground_rules.specs.Internal.Resolved.{NameTable, atom_number, resolved, all_resolved, resolved_rules}
 use Rattle.ground_rules.specs.Internal.Barred.{barred_by, has_barred}
 use Rattle.ground_rules.proofs.Pass.{pass-fits}

@@ -1,7 +1,7 @@
 -- An acyclic description has exactly one fit.
 use Rattle.std.proofs.Common.{ℕ, zero, suc, ◌<◌, ◌≡◌, Bool, true, false, not, ◌&&◌, List, [], ◌∷◌, refl, ap, sym, ◌∙◌, arith}
-use Rattle.rule_sentences.specs.Literals.{Literal, Literals, End, More, Holds, InState, Does, Distinct, Not, Or, Rule, AtomsAre, AllAtomsAre}
-use Rattle.ground_rules.specs.Fit.{Situation, truth, any_true, all_true, derived, Fits, HasOneFit}
+use Rattle.numbered_rules.specs.Literals.{Literal, Literals, End, More, Holds, InState, Does, Distinct, Not, Or, Rule, AtomsAre, AllAtomsAre}
+use Rattle.numbered_rules.specs.Fit.{Situation, truth, any_true, all_true, derived, Fits, HasOneFit}
 use Rattle.ground_rules.specs.Acyclic.{IsNumbering, IsAcyclic}
 
 mutual

@@ -15,13 +15,13 @@ use Rattle.ground_rules.specs.declared.tables.GoalHead.{GoalHead}
 use Rattle.ground_rules.specs.declared.lookups.StateHead.TheVariants.{Init as InitHead, Next as NextHead}
 use Rattle.ground_rules.specs.Internal.Bools.{or-left, or-right, bool-same}
 use Rattle.ground_rules.specs.Internal.Names.{text-sound, text-same, derived-sound}
-use Rattle.rule_sentences.specs.Literals.{Rule}
-use Rattle.ground_rules.specs.Fit.{Situation, all_true, Fits}
+use Rattle.numbered_rules.specs.Literals.{Rule}
+use Rattle.numbered_rules.specs.Fit.{Situation, all_true, Fits}
 use Rattle.ground_rules.specs.Acyclic.{IsAcyclic}
 use Rattle.rule_sentences.specs.Descriptions.{Description, same_derived, is_among, role_names, heads, with_new, with_all_new, moves_in, are_different}
 use Rattle.ground_rules.specs.Described.{situation, makes, names_of, at_rest, at_turn, IsGameOf, IsGoalAnswer}
 use Rattle.ground_rules.specs.Roles.{RoleTable, no_role}
-use Rattle.ground_rules.specs.Numbered.{bit, numbered, row_after, unset, is_number}
+use Rattle.numbered_rules.specs.Numbered.{bit, numbered, row_after, unset, is_number}
 use Rattle.ground_rules.specs.Internal.Ranked.{AreRankedFrom}
 use Rattle.ground_rules.specs.Tables.{marked, chosen, only, only_goal, picked}
 use Rattle.ground_rules.specs.Internal.TableTests.{are_in_order, names}

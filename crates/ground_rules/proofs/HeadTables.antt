@@ -1,14 +1,18 @@
 -- The heads, each once, and their places.
-use Rattle.std.proofs.Common.{◌≡◌, ℕ, suc, ◌<◌, inl, inr, Bool, true, false, ◌||◌, if◌then◌else◌, List, [], ◌∷◌, ◌++◌, length, get_or, map, refl, sym, ap, ◌∙◌, arith, length-append}
+use Rattle.std.proofs.Common.{◌≡◌, ℕ, suc, ◌+◌, ◌<◌, ◌⊎◌, inl, inr, Bool, true, false, ◌||◌, if◌then◌else◌, List, [], ◌∷◌, ◌++◌, length, get_or, map, refl, sym, ap, ◌∙◌, arith, length-append}
 use Rattle.std.specs.List.{list_any}
+use Rattle.std.proofs.lemmas.Bool.{cases_order}
 use Rattle.std.proofs.lemmas.List.{get_or_append_left, get_or_push}
 use Rattle.rule_sentences.specs.declared.sentence.Derived.{Derived}
 use Rattle.ground_rules.specs.Internal.Bools.{or-left, or-right}
 use Rattle.rule_sentences.specs.Descriptions.{Description, same_derived, with_new, with_all_new, heads}
 use Rattle.ground_rules.specs.Internal.Resolved.{NameTable, place}
-use Rattle.ground_rules.proofs.Searching.{last_or}
 use Rattle.ground_rules.proofs.TablePlaces.{Decides, place-within}
 use Rattle.ground_rules.proofs.Transfer.{HaveHeads, derived-decides}
+
+-- a place below a length of one more is a place before, or the last
+last_or : (k n : ℕ) → k < n + 1 → (k < n) ⊎ (k ≡ n)
+last_or k n lt = elim (cases_order k n) [ inl e ↦ inr e | inr f ↦ elim f [ inl g ↦ inl g | inr g ↦ absurd (omega arith) ] ]
 
 any-append : {A : Type 0} (p : A → Bool) (xs ys : List A) → list_any p ys ≡ true → list_any p (xs ++ ys) ≡ true
 any-append p [] ys h = h

@@ -15,7 +15,6 @@ pub mod Pass
 pub mod Picked
 pub mod RankedRules
 pub mod ResolvedLists
-pub mod Searching
 pub mod Situations
 pub mod TablePlaces
 pub mod Transfer

@@ -11,7 +11,7 @@ use Rattle.ground_rules.specs.Internal.Bools.{bool-same}
 use Rattle.ground_rules.specs.Internal.Names.{text-sound, text-same, number-sound, number-same}
 use Rattle.rule_sentences.specs.Descriptions.{moves_in}
 use Rattle.ground_rules.specs.Tables.{marked, chosen}
-use Rattle.ground_rules.specs.Numbered.{bit, unset}
+use Rattle.numbered_rules.specs.Numbered.{bit, unset}
 use Rattle.ground_rules.specs.Internal.Resolved.{NameTable, atom_number, with_mention, mentions_by, state_term, legal_mentions, place}
 use Rattle.ground_rules.proofs.TablePlaces.{place-at, place-one}
 use Rattle.ground_rules.proofs.Situations.{text-decides, text_of}

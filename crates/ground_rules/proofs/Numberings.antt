@@ -5,16 +5,17 @@ use Rattle.std.specs.List.Sorted.{IsNonDecreasingBy}
 use Rattle.std.proofs.lemmas.Bool.Decides.{nat_tests, Decides-ltb}
 use Rattle.rule_sentences.specs.declared.sentence.Derived.{Derived}
 use Rattle.rule_sentences.specs.declared.sentence.Derived.TheVariants.{Terminal}
-use Rattle.ground_rules.specs.declared.numbered.Rule.{Rule as CodeRule}
-use Rattle.rule_sentences.specs.Literals.{Literal, Literals, Holds, InState, Does, Distinct, Not, Or, End, More, Rule, AtomsAre, AllAtomsAre}
+use Rattle.numbered_rules.specs.declared.numbered.Rule.{Rule as CodeRule}
+use Rattle.numbered_rules.specs.Literals.{Literal, Literals, Holds, InState, Does, Distinct, Not, Or, End, More, Rule, AtomsAre, AllAtomsAre}
 use Rattle.rule_sentences.specs.Sentences.{TextLiteral, TextLiterals}
 use Rattle.ground_rules.specs.Acyclic.{IsNumbering, IsAcyclic}
 use Rattle.rule_sentences.specs.Descriptions.{Description, same_derived}
 use Rattle.ground_rules.specs.Internal.Names.{number-sound}
-use Rattle.ground_rules.specs.Numbered.{known, rule_of, rules_of}
+use Rattle.numbered_rules.specs.Numbered.{known, rule_of, rules_of}
 use Rattle.ground_rules.specs.Internal.Ranked.{AreRankedFrom}
-use Rattle.ground_rules.specs.Internal.Order.{IsGraph, IsGraphAcyclic, IsRanking, needs_at}
-use Rattle.ground_rules.specs.Internal.Resolved.{NameTable, atom_number, resolved, all_resolved, resolved_rule, resolved_rules, atoms_in, all_atoms_in, needs_of}
+use Rattle.numbered_rules.specs.Order.{IsGraph, IsGraphAcyclic, IsRanking, needs_at}
+use Rattle.numbered_rules.specs.Needs.{atoms_in, all_atoms_in, needs_of}
+use Rattle.ground_rules.specs.Internal.Resolved.{NameTable, atom_number, resolved, all_resolved, resolved_rule, resolved_rules}
 use Rattle.ground_rules.proofs.TablePlaces.{place-at}
 use Rattle.ground_rules.proofs.Transfer.{HaveHeads, derived-decides}
 

@@ -3,9 +3,9 @@ use Rattle.std.proofs.Common.{ℕ, zero, suc, ◌<◌, ◌≤◌, ◌≡◌, ◌
 use Rattle.std.proofs.lemmas.List.{length-replicate}
 use Rattle.std.proofs.lemmas.Grind.{get_or-set_at}
 use Rattle.std.proofs.lemmas.Bool.Decides.{Decides-eqb}
-use Rattle.rule_sentences.specs.Literals.{Rule, AllAtomsAre}
-use Rattle.ground_rules.specs.Fit.{Situation, all_true, derived, Fits}
-use Rattle.ground_rules.specs.Numbered.{bit, row_after, unset}
+use Rattle.numbered_rules.specs.Literals.{Rule, AllAtomsAre}
+use Rattle.numbered_rules.specs.Fit.{Situation, all_true, derived, Fits}
+use Rattle.numbered_rules.specs.Numbered.{bit, row_after, unset}
 use Rattle.ground_rules.specs.Internal.Ranked.{AreRankedFrom}
 use Rattle.ground_rules.proofs.Fits.{all-agree, all_atoms-weaken}
 

@@ -3,16 +3,17 @@ use Rattle.std.proofs.Common.{◌≡◌, ℕ, ◌<◌, Bool, true, false, List, 
 use Rattle.std.specs.List.Sorted.{IsPermutation, IsNonDecreasingBy}
 use Rattle.std.proofs.lemmas.List.{length-replicate}
 use Rattle.std.proofs.lemmas.List.Sorted.{All-permutation, IsPermutation-map}
-use Rattle.ground_rules.specs.declared.numbered.Rule.{Rule as CodeRule}
-use Rattle.rule_sentences.specs.Literals.{Rule}
+use Rattle.numbered_rules.specs.declared.numbered.Rule.{Rule as CodeRule}
+use Rattle.numbered_rules.specs.Literals.{Rule}
 use Rattle.ground_rules.specs.Acyclic.{IsAcyclic}
 use Rattle.rule_sentences.specs.Descriptions.{Description}
 use Rattle.ground_rules.specs.Dependence.{HasBarredHead}
 use Rattle.ground_rules.specs.Internal.Barred.{has_barred}
-use Rattle.ground_rules.specs.Internal.Exposed.{exposed_rules}
-use Rattle.ground_rules.specs.Numbered.{rule_of, rules_of, bit, numbered, row_after, unset}
-use Rattle.ground_rules.specs.Internal.Order.{IsRanking, needs_at}
-use Rattle.ground_rules.specs.Internal.Resolved.{NameTable, atom_number, resolved_rules, needs_of}
+use Rattle.numbered_rules.specs.Exposed.{exposed_rules}
+use Rattle.numbered_rules.specs.Numbered.{rule_of, rules_of, bit, numbered, row_after, unset}
+use Rattle.numbered_rules.specs.Order.{IsRanking, needs_at}
+use Rattle.numbered_rules.specs.Needs.{needs_of}
+use Rattle.ground_rules.specs.Internal.Resolved.{NameTable, atom_number, resolved_rules}
 use Rattle.ground_rules.specs.Internal.GameParts.{IsTestOf, IsTableOf, AreRankedOf}
 use Rattle.ground_rules.proofs.HeadTables.{heads-there}
 use Rattle.ground_rules.proofs.Numberings.{AreNeedsOf, IsLower, rules-lower, ranked-from, ranks-number, rank_by}

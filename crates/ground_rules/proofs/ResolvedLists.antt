@@ -3,11 +3,11 @@ use Rattle.std.proofs.Common.{◌≡◌, ◌≤◌, ℕ, List, [], ◌∷◌, ma
 use Rattle.std.proofs.lemmas.List.{take_all}
 use Rattle.rule_sentences.specs.declared.sentence.Literal.{Literal as CodeLiteral}
 use Rattle.rule_sentences.specs.declared.sentence.Rule.{Rule as CodeRule}
-use Rattle.ground_rules.specs.declared.numbered.Literal.{Literal as NumberedLiteral}
-use Rattle.ground_rules.specs.declared.numbered.Rule.{Rule as NumberedRule}
-use Rattle.rule_sentences.specs.Literals.{literals, More}
+use Rattle.numbered_rules.specs.declared.numbered.Literal.{Literal as NumberedLiteral}
+use Rattle.numbered_rules.specs.declared.numbered.Rule.{Rule as NumberedRule}
+use Rattle.numbered_rules.specs.Literals.{literals, More}
 use Rattle.rule_sentences.specs.SentenceViews.{view, views, rule_of, rules_of}
-use Rattle.ground_rules.specs.Numbered.{view as numbered, views as all_numbered, rule_of as numbered_rule, rules_of as numbered_rules}
+use Rattle.numbered_rules.specs.Numbered.{view as numbered, views as all_numbered, rule_of as numbered_rule, rules_of as numbered_rules}
 use Rattle.ground_rules.specs.Internal.Resolved.{NameTable, resolved, all_resolved, resolved_rule, resolved_rules}
 
 resolved-list : (names : NameTable) (xs : List CodeLiteral) → literals (map (λ x. resolved names (view x)) xs) ≡ all_resolved names (views xs)

@@ -7,7 +7,7 @@ use Rattle.ground_rules.specs.Internal.Names.{text-sound, text-same}
 use Rattle.rule_sentences.specs.Descriptions.{is_among, are_different}
 use Rattle.ground_rules.specs.Described.{makes}
 use Rattle.ground_rules.specs.Tables.{picked}
-use Rattle.ground_rules.specs.Numbered.{bit, is_number}
+use Rattle.numbered_rules.specs.Numbered.{bit, is_number}
 use Rattle.ground_rules.specs.Internal.Resolved.{place}
 use Rattle.ground_rules.proofs.TablePlaces.{Decides, place-same}
 

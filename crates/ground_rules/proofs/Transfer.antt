@@ -6,12 +6,12 @@ use Rattle.std.proofs.lemmas.List.Sorted.{Contains-permutation, IsPermutation-sy
 use Rattle.rule_sentences.specs.declared.sentence.Derived.{Derived}
 use Rattle.ground_rules.specs.Internal.Bools.{bool-same, or-left, or-right}
 use Rattle.ground_rules.specs.Internal.Names.{derived-sound, derived-same}
-use Rattle.rule_sentences.specs.Literals.{Holds, InState, Does, Distinct, Not, Or, End, More, Rule}
+use Rattle.numbered_rules.specs.Literals.{Holds, InState, Does, Distinct, Not, Or, End, More, Rule}
 use Rattle.rule_sentences.specs.Sentences.{TextLiteral, TextLiterals}
-use Rattle.ground_rules.specs.Fit.{Situation, truth, any_true, all_true, derived, Fits}
+use Rattle.numbered_rules.specs.Fit.{Situation, truth, any_true, all_true, derived, Fits}
 use Rattle.ground_rules.specs.Acyclic.{IsAcyclic}
 use Rattle.rule_sentences.specs.Descriptions.{Description, same_derived}
-use Rattle.ground_rules.specs.Numbered.{known, bit, row_after, unset}
+use Rattle.numbered_rules.specs.Numbered.{known, bit, row_after, unset}
 use Rattle.ground_rules.specs.Internal.Ranked.{AreRankedFrom}
 use Rattle.ground_rules.specs.Internal.Resolved.{NameTable, atom_number, state_number, move_number, role_number, resolved, all_resolved, resolved_rules}
 use Rattle.ground_rules.proofs.Fits.{fits-unique}

@@ -3,16 +3,16 @@ use Rattle.std.proofs.Common.{ℕ, ◌+◌, ◌<◌, ◌≤◌, ◌≡◌, Bool,
 use Rattle.std.proofs.lemmas.List.Sorted.{IsPermutation-filter_both, IsPermutation-trans}
 use Rattle.rule_sentences.specs.declared.sentence.Derived.{Derived}
 use Rattle.rule_sentences.specs.declared.sentence.Derived.TheVariants.{Role, Init, Next, Legal, Goal, Terminal, Other}
-use Rattle.ground_rules.specs.declared.numbered.Rule.{Rule as CodeRule}
+use Rattle.numbered_rules.specs.declared.numbered.Rule.{Rule as CodeRule}
 use Rattle.ground_rules.specs.Internal.Bools.{or-false-left, or-false-right}
 use Rattle.ground_rules.specs.Internal.Names.{number-same}
-use Rattle.rule_sentences.specs.Literals.{Literal, Literals, Holds, InState, Does, Distinct, Not, Or, End, More, Rule, AtomsAre, AllAtomsAre}
-use Rattle.ground_rules.specs.Fit.{truth, any_true, derived, Fits}
+use Rattle.numbered_rules.specs.Literals.{Literal, Literals, Holds, InState, Does, Distinct, Not, Or, End, More, Rule, AtomsAre, AllAtomsAre}
+use Rattle.numbered_rules.specs.Fit.{truth, any_true, derived, Fits}
 use Rattle.ground_rules.specs.Acyclic.{IsAcyclic}
 use Rattle.ground_rules.specs.Dependence.{speaks_of_given, any_speaks_of_given, DependsOnGiven, HasBarredHead}
 use Rattle.rule_sentences.specs.Descriptions.{Description}
-use Rattle.ground_rules.specs.Internal.Exposed.{exposed, all_exposed, exposed_rules}
-use Rattle.ground_rules.specs.Numbered.{bit, numbered, row_after, unset, rule_of, rules_of}
+use Rattle.numbered_rules.specs.Exposed.{exposed, all_exposed, exposed_rules}
+use Rattle.numbered_rules.specs.Numbered.{bit, numbered, row_after, unset, rule_of, rules_of}
 use Rattle.ground_rules.specs.Internal.Ranked.{AreRankedFrom}
 use Rattle.ground_rules.specs.Internal.SplitRules.{SpeakOfNoMoves, IsNoHead, IsAnswer, AreSplitOf}
 use Rattle.ground_rules.specs.Internal.Resolved.{NameTable, atom_number, resolved_rules}

@@ -1,10 +1,10 @@
 -- A pass in two parts: what no move bears on, and the rest.
 use Rattle.std.proofs.Common.{ℕ, ◌≡◌, Bool, true, false, not, if◌then◌else◌, List, [], ◌∷◌, ◌++◌, refl, ap, ◌∙◌, set, get_or-set_other}
 use Rattle.ground_rules.specs.Internal.Bools.{or-false-left, or-false-right}
-use Rattle.rule_sentences.specs.Literals.{Literal, Literals, Holds, InState, Does, Distinct, Not, Or, End, More, Rule}
-use Rattle.ground_rules.specs.Fit.{Situation, truth, any_true, all_true}
+use Rattle.numbered_rules.specs.Literals.{Literal, Literals, Holds, InState, Does, Distinct, Not, Or, End, More, Rule}
+use Rattle.numbered_rules.specs.Fit.{Situation, truth, any_true, all_true}
 use Rattle.ground_rules.specs.Dependence.{speaks_of_given, any_speaks_of_given}
-use Rattle.ground_rules.specs.Numbered.{bit, numbered, row_after}
+use Rattle.numbered_rules.specs.Numbered.{bit, numbered, row_after}
 use Rattle.ground_rules.specs.Internal.SplitRules.{SpeakOfNoMoves, IsNoHead}
 use Rattle.ground_rules.proofs.Pass.{raised}
 

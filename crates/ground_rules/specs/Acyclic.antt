@@ -1,6 +1,6 @@
 -- Rules in which no derived atom depends on itself.
 use Rattle.std.specs.Prelude.{ℕ, ◌<◌, List, [], ◌∷◌}
-use Rattle.rule_sentences.specs.Literals.{Rule, AllAtomsAre}
+use Rattle.numbered_rules.specs.Literals.{Rule, AllAtomsAre}
 
 -- each derived atom in a rule's literals has a lower number than the head
 abbrev pub IsNumbering : {A T : Type 0} → (A → ℕ) → List (Rule A T) → Type 0

@@ -2,7 +2,7 @@
 use Rattle.std.specs.Prelude.{ℕ, ◌≡◌, ◌⊎◌, Bool, true, false, ◌||◌, List, [], ◌∷◌}
 use Rattle.rule_sentences.specs.declared.sentence.Derived.{Derived}
 use Rattle.rule_sentences.specs.declared.sentence.Derived.TheVariants.{Role, Init, Next, Legal, Goal, Terminal, Other}
-use Rattle.rule_sentences.specs.Literals.{Literal, Literals, Holds, InState, Does, Distinct, Not, Or, End, More, Rule}
+use Rattle.numbered_rules.specs.Literals.{Literal, Literals, Holds, InState, Does, Distinct, Not, Or, End, More, Rule}
 use Rattle.rule_sentences.specs.Descriptions.{Description}
 
 -- whether the literal speaks of a does sentence, or, where these count, of a true sentence

@@ -4,7 +4,7 @@ use Rattle.game_core.specs.Play.{Rules, IsJoint}
 use Rattle.rule_sentences.specs.declared.sentence.Derived.{Derived}
 use Rattle.rule_sentences.specs.declared.sentence.Derived.TheVariants.{Init, Next, Legal, Goal, Terminal}
 use Rattle.rule_sentences.specs.Descriptions.{Description, same_derived, is_among, role_names, heads, moves_in}
-use Rattle.ground_rules.specs.Fit.{Situation, Fits}
+use Rattle.numbered_rules.specs.Fit.{Situation, Fits}
 
 -- role r makes move m: the first list has the roles' names, the second their moves; nobody moves where it is empty
 abbrev pub makes : List (List ℕ) → List (List ℕ) → List ℕ → List ℕ → Bool

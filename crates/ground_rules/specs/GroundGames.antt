@@ -4,8 +4,8 @@ use Rattle.game_core.specs.Expression.{Expression}
 use Rattle.kif_text.specs.View.{view}
 use Rattle.ground_rules.specs.declared.vocabulary.Vocabulary.{Vocabulary}
 use Rattle.ground_rules.specs.declared.ground_game.GroundGame.{GroundGame}
-use Rattle.rule_sentences.specs.Literals.{Rule}
-use Rattle.ground_rules.specs.Numbered.{rules_of}
+use Rattle.numbered_rules.specs.Literals.{Rule}
+use Rattle.numbered_rules.specs.Numbered.{rules_of}
 use Rattle.ground_rules.specs.LoadedGame.{GameTables}
 
 -- the sentences of the description

@@ -2,9 +2,7 @@
 pub mod Bools
 pub mod Names
 pub mod Ranked
-pub mod Order
 pub mod Resolved
-pub mod Exposed
 pub mod Barred
 pub mod SplitRules
 pub mod GameParts

@@ -3,7 +3,7 @@ use Rattle.std.specs.Prelude.{ℕ, List}
 use Rattle.ground_rules.specs.Acyclic.{IsAcyclic}
 use Rattle.rule_sentences.specs.Descriptions.{Description}
 use Rattle.ground_rules.specs.Described.{situation}
-use Rattle.ground_rules.specs.Fit.{HasOneFit}
+use Rattle.numbered_rules.specs.Fit.{HasOneFit}
 
 -- an acyclic description has exactly one fit, for each set of terms and each joint move
 abbrev pub OneFit : Type 0

@@ -1,4 +1,4 @@
-pub use Rattle.rule_sentences.specs.Literals
+pub use Rattle.numbered_rules.specs.Literals
 pub use Rattle.rule_sentences.specs.Sentences
 pub use Rattle.rule_sentences.specs.Terms
 pub use Rattle.rule_sentences.specs.Words
@@ -7,7 +7,8 @@ pub use Rattle.rule_sentences.specs.Places
 pub use Rattle.rule_sentences.specs.Descriptions
 pub use Rattle.rule_sentences.specs.Sizes
 pub use Rattle.rule_sentences.specs.SentenceFaults
-pub mod Fit
+pub use Rattle.numbered_rules.specs.Fit
+pub use Rattle.numbered_rules.specs.Numbered
 pub mod Acyclic
 pub mod Described
 pub mod Laws
@@ -15,7 +16,6 @@ pub mod Dependence
 pub mod Loading
 pub mod Loaded
 pub mod Roles
-pub mod Numbered
 pub mod Tables
 pub mod States
 pub mod LoadedGame

@@ -3,7 +3,7 @@ use Rattle.std.specs.Prelude.{ℕ, Bool, true, if◌then◌else◌, List, [], �
 use Rattle.ground_rules.specs.declared.tables.Mention.{Mention}
 use Rattle.ground_rules.specs.declared.tables.GoalHead.{GoalHead}
 use Rattle.ground_rules.specs.declared.tables.GroundMove.{GroundMove}
-use Rattle.ground_rules.specs.Numbered.{bit}
+use Rattle.numbered_rules.specs.Numbered.{bit}
 
 -- the row of terms, with those of the true mentions set
 abbrev pub marked : List Bool → List Bool → List Mention → List Bool

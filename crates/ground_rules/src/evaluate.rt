@@ -1,11 +1,11 @@
 //! The truth of the derived atoms in a state.
 ghost use Rattle.std.specs.Prelude.{◌≡◌, ℕ, IfOk, []};
-ghost use Rattle.ground_rules.specs.Fit.{truth, any_true, all_true, Fits};
-ghost use Rattle.ground_rules.specs.Numbered.{bit, numbered, view, views, rules_of, row_after, unset};
+ghost use Rattle.numbered_rules.specs.Fit.{truth, any_true, all_true, Fits};
+ghost use Rattle.numbered_rules.specs.Numbered.{bit, numbered, view, views, rules_of, row_after, unset};
 ghost use Rattle.ground_rules.specs.Internal.Ranked.{AreRankedFrom};
 
-use crate::numbered::{Literal, Rule};
-use crate::row::Row;
+use numbered_rules::Row;
+use numbered_rules::numbered::{Literal, Rule};
 use std::alloc::{AllocError, Global};
 
 /// Whether the literal is true, by the row of the derived atoms, the state's row by term, and the

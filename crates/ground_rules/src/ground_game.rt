@@ -4,12 +4,12 @@ ghost use Rattle.kif_text.specs.View.{views};
 
 use crate::evaluate::{evaluate, pass};
 use crate::loading::GameParts;
-use crate::row::Row;
-use crate::split::SplitRules;
 use crate::tables::{GroundMove, GroundState, choose, find_goal, mark, pick};
 use crate::vocabulary::Vocabulary;
 use game_core::Game;
 use kif_text::Expr;
+use numbered_rules::Row;
+use numbered_rules::split::SplitRules;
 use std::alloc::{AllocError, Global};
 use std::borrow::CowSlice;
 
@@ -113,7 +113,7 @@ impl Game for GroundGame {
 impl GroundGame {
     ghost use Rattle.std.specs.Prelude.{IfOk, map};
     ghost use Rattle.kif_text.specs.View.{view as expression};
-    ghost use Rattle.ground_rules.specs.Numbered.{rules_of};
+    ghost use Rattle.numbered_rules.specs.Numbered.{rules_of};
     ghost use Rattle.ground_rules.specs.Internal.Resolved.{table_of};
     ghost use Rattle.rule_sentences.specs.SentenceFaults.{AreSentences, description_of};
     ghost use Rattle.ground_rules.specs.Internal.GameParts.{AreGameParts};

@@ -10,7 +10,6 @@
 //! `kif_text::Expr` sets for the nesting of lists holds for what it is given.
 #![tactic(auto)]
 
-mod dependence;
 mod evaluate;
 mod ground_game;
 pub mod laws;
@@ -18,12 +17,7 @@ mod load_game;
 mod loading;
 mod lookups;
 mod names;
-mod needs;
-pub mod numbered;
-mod rank;
 mod resolve;
-mod row;
-pub mod split;
 pub mod tables;
 pub mod vocabulary;
 

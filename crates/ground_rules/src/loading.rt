@@ -1,11 +1,10 @@
 //! From a description to the parts of its game.
-ghost use Rattle.std.specs.Prelude.{◌≡◌, ◌⊎◌, ℕ, true, false, IfOk, IfErr, map, length, slice_index, []};
-ghost use Rattle.std.specs.List.Sorted.{IsPermutation, IsNonDecreasingBy};
+ghost use Rattle.std.specs.Prelude.{◌≡◌, ◌⊎◌, ℕ, true, false, IfOk, IfErr, map, length, []};
 ghost use Rattle.game_core.specs.Expression.{folded};
 ghost use Rattle.kif_text.specs.View.{view as expression};
 ghost use Rattle.rule_sentences.specs.SentenceViews.{rules_of};
 ghost use Rattle.ground_rules.specs.Acyclic.{IsAcyclic};
-ghost use Rattle.ground_rules.specs.Numbered.{rules_of as numbered_rules, numbered, row_after, unset};
+ghost use Rattle.numbered_rules.specs.Numbered.{rules_of as numbered_rules, numbered, row_after, unset};
 ghost use Rattle.ground_rules.specs.Internal.Resolved.{table_of, role_table};
 ghost use Rattle.ground_rules.specs.Internal.Barred.{barred_by, has_barred};
 ghost use Rattle.ground_rules.specs.Loading.{HasRoles, IsDescriptionFault};
@@ -13,19 +12,17 @@ ghost use Rattle.rule_sentences.specs.Descriptions.{Description};
 ghost use Rattle.ground_rules.specs.Dependence.{HasBarredHead};
 ghost use Rattle.ground_rules.specs.Internal.GameParts.{IsTestOf, IsTableOf, is_small_so_far, have_few_moves_by, AreRankedOf, AreGameParts};
 ghost use Rattle.ground_rules.specs.Internal.SplitRules.{AreSplitOf};
-ghost use Rattle.ground_rules.specs.Internal.Exposed.{exposed_rules};
+ghost use Rattle.numbered_rules.specs.Exposed.{exposed_rules};
 
-use crate::dependence::dependence;
 use crate::lookups::{goal_heads, legal_mentions};
 use crate::names::{TermKind, head_terms, heads, role_names};
-use crate::needs::needs_of;
-use crate::numbered;
-use crate::rank::rank;
 use crate::resolve::{Names, resolve_rules};
-use crate::row::Row;
-use crate::split::{SplitRules, split};
 use crate::tables::Role;
 use game_core::{MAX_ROLES, Text};
+use numbered_rules::dependence::dependence;
+use numbered_rules::rank::rank;
+use numbered_rules::split::{SplitRules, split};
+use numbered_rules::{Row, needs_of, numbered, sort_by_rank};
 use rule_sentences::LoadFault;
 use rule_sentences::sentence::{Derived, Rule};
 use rule_sentences::sizes::{
@@ -62,25 +59,6 @@ fn have_few_moves(roles: &[Role]) -> bool
         }
     }
     true
-}
-
-fn rank_at(places: &[usize], atom: usize) -> usize
-    ensures { result ≡ slice_index places.now atom }
-{
-    if atom < places.len() { places[atom] } else { 0 }
-}
-
-/// The rules by the places of their heads.
-fn sort_by_rank(
-    rules: Vec<numbered::Rule>,
-    places: &[usize],
-) -> Result<Vec<numbered::Rule>, AllocError>
-    ensures moved { IfOk result (λ v. IsPermutation rules.items v.items) }
-    ensures sorted { IfOk result (λ v. IsNonDecreasingBy (λ r. slice_index places.now r.head) v.items) }
-{
-    let mut rules = rules;
-    rules.sort_by_key(|rule| rank_at(places, rule.head))?;
-    Ok(rules)
 }
 
 /// Whether a head is barred that depends on `does` sentences, or on given sentences, as said.

@@ -2,13 +2,13 @@
 ghost use Rattle.std.specs.Prelude.{◌≡◌, IfOk};
 ghost use Rattle.rule_sentences.specs.Sentences.{literal_of};
 ghost use Rattle.rule_sentences.specs.SentenceViews.{view, views, rules_of};
-ghost use Rattle.ground_rules.specs.Numbered.{view as numbered, views as all_numbered, rules_of as numbered_rules};
+ghost use Rattle.numbered_rules.specs.Numbered.{view as numbered, views as all_numbered, rules_of as numbered_rules};
 ghost use Rattle.ground_rules.specs.Internal.Resolved.{resolved, all_resolved, resolved_rules, table_of};
 
 use crate::names::{place_of_head, place_of_text};
-use crate::numbered;
 use game_core::Text;
 use indexmap::IndexSet;
+use numbered_rules::numbered;
 use rule_sentences::sentence::{Atomic, Derived, Literal, Rule};
 use std::alloc::{AllocError, Global};
 

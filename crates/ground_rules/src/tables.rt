@@ -2,10 +2,10 @@
 ghost use Rattle.std.specs.Prelude.{◌≡◌, length, map, IfOk};
 ghost use Rattle.std.specs.Cow.{cow_slice_items};
 ghost use Rattle.ground_rules.specs.Tables.{marked, chosen, only_goal, picked};
-ghost use Rattle.ground_rules.specs.Numbered.{unset};
+ghost use Rattle.numbered_rules.specs.Numbered.{unset};
 
-use crate::row::Row;
 use game_core::Text;
+use numbered_rules::Row;
 use std::alloc::{AllocError, Global};
 use std::borrow::CowSlice;
 use std::marker::Model;

@@ -1,8 +1,8 @@
 -- A pass over rules by places is the pass over the rules.
 use Rattle.std.proofs.Common.{ℕ, zero, suc, ◌+◌, ◌<◌, ◌≤◌, ◌≡◌, Bool, true, false, ◌&&◌, if◌then◌else◌, List, [], ◌∷◌, ◌++◌, length, take, drop, set, get_or, map, refl, sym, ap, ◌∙◌, arith, subst, length-drop, length-append}
 use Rattle.std.proofs.lemmas.List.{take-set-le, drop-set-add, drop_more, take_more, take-replicate, take-append-le, drop-append-le}
-use Rattle.ground_rules.specs.declared.numbered.Literal.{Literal as CodeLiteral}
-use Rattle.ground_rules.specs.declared.numbered.Rule.{Rule as CodeRule}
+use Rattle.numbered_rules.specs.declared.numbered.Literal.{Literal as CodeLiteral}
+use Rattle.numbered_rules.specs.declared.numbered.Rule.{Rule as CodeRule}
 use Rattle.ground_rules.specs.Literals.{Literal, literals, Rule}
 use Rattle.ground_rules.specs.Fit.{Situation, truth, all_true}
 use Rattle.ground_rules.specs.Numbered.{bit, numbered, row_after, unset, view, rule_of, rules_of}

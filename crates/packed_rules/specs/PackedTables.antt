@@ -1,6 +1,6 @@
 -- What contracts see of packed rules.
 use Rattle.std.specs.Prelude.{ℕ, List}
-use Rattle.ground_rules.specs.declared.split.SplitRules.{SplitRules}
+use Rattle.numbered_rules.specs.declared.split.SplitRules.{SplitRules}
 use Rattle.ground_rules.specs.Literals.{Rule}
 use Rattle.ground_rules.specs.Numbered.{rules_of}
 

@@ -7,7 +7,7 @@ use crate::bits::BitRow;
 use crate::packing::pack_rules;
 use crate::passing::pass;
 use crate::rule_table::RuleTable;
-use ground_rules::split::SplitRules;
+use numbered_rules::split::SplitRules;
 use std::alloc::{AllocError, Global};
 use std::marker::Model;
 use std::snapshot::Snapshot;
@@ -28,7 +28,7 @@ impl Model for PackedRules {
     ghost use Rattle.packed_rules.specs.PackedTables.{PackedTable};
     ghost use Rattle.packed_rules.specs.Internal.PackedPass.{IsPackedTable};
     ghost use Rattle.std.specs.Coded.{codes};
-    ghost use Rattle.ground_rules.specs.contracts.numbered.Literal as literal;
+    ghost use Rattle.numbered_rules.specs.contracts.numbered.Literal as literal;
 
     ghost Value = { PackedTable };
 

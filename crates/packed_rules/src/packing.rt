@@ -6,7 +6,7 @@ ghost use Rattle.packed_rules.specs.Internal.PlacedRules.{placed};
 
 use crate::rule_table::RuleTable;
 use crate::rules::{MoveTest, PackedRule, RuleSize, Test};
-use ground_rules::numbered::{Literal, Rule};
+use numbered_rules::numbered::{Literal, Rule};
 use std::alloc::{AllocError, Global};
 
 #[cycle(copy)]

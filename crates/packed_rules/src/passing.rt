@@ -9,7 +9,7 @@ ghost use Rattle.packed_rules.specs.Internal.PackedPass.{all_pass, all_agree, al
 use crate::bits::{BitRow, is_on, is_on_after, is_on_before, turn_on_after};
 use crate::rule_table::RuleTable;
 use crate::rules::{MoveTest, RuleSize, Test};
-use ground_rules::numbered::Literal;
+use numbered_rules::numbered::Literal;
 
 /// Whether the literal is true, by a row of so many values, of which so many are terms and the others
 /// derived atoms, and by the terms of the moves by role.

@@ -1,6 +1,6 @@
 //! Lists of rules by places.
 use crate::rules::{MoveTest, RuleSize, Test};
-use ground_rules::numbered::Literal;
+use numbered_rules::numbered::Literal;
 
 /// Rules by places, one after the other. The literals of all rules stand side by side, each kind in
 /// one list, since a pass goes over one list much faster than over a list of each rule.

@@ -1,5 +1,5 @@
 //! Rules by places.
-use ground_rules::numbered::Literal;
+use numbered_rules::numbered::Literal;
 
 /// A place of a state's row, and the value that is asked for there.
 #[derive(Clone, Copy)]

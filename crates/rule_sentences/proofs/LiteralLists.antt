@@ -4,7 +4,7 @@ use Rattle.std.proofs.lemmas.List.{drop_all, map-append}
 use Rattle.game_core.specs.Expression.{Expressions, none, more}
 use Rattle.kif_text.specs.View.{view as expression, views as expressions}
 use Rattle.kif_text.specs.declared.expr.Expr.{Expr}
-use Rattle.rule_sentences.specs.Literals.{literals, Or, More, End}
+use Rattle.numbered_rules.specs.Literals.{literals, Or, More, End}
 use Rattle.rule_sentences.specs.Sentences.{TextLiteral, TextLiterals}
 use Rattle.rule_sentences.specs.SentenceViews.{view, views}
 use Rattle.rule_sentences.specs.Reading.{both, negation, disjunction, read_literal, read_literals}

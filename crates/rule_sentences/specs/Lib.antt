@@ -1,4 +1,4 @@
-pub mod Literals
+pub use Rattle.numbered_rules.specs.Literals
 pub mod Sentences
 pub mod SentenceViews
 pub mod Terms

@@ -4,7 +4,7 @@ use Rattle.rule_sentences.specs.declared.sentence.Derived.{Derived}
 use Rattle.rule_sentences.specs.declared.sentence.Derived.TheVariants.{Role, Init, Next, Legal, Goal, Terminal, Other}
 use Rattle.rule_sentences.specs.declared.sentence.Atomic.{Atomic}
 use Rattle.rule_sentences.specs.declared.sentence.Atomic.TheVariants.{Derived as IsDerived, InState as IsInState, Does as IsDoes}
-use Rattle.rule_sentences.specs.Literals.{Holds, InState, Does, Distinct, Not, Or, End, More}
+use Rattle.numbered_rules.specs.Literals.{Holds, InState, Does, Distinct, Not, Or, End, More}
 use Rattle.rule_sentences.specs.Sentences.{TextLiteral, TextLiterals, Sentence, TextRule}
 
 -- init and next sentences stand only as heads

@@ -8,7 +8,7 @@ use Rattle.rule_sentences.specs.declared.sentence.Atomic.{Atomic}
 use Rattle.rule_sentences.specs.declared.sentence.Atomic.TheVariants.{Derived as IsDerived, InState as IsInState, Does as IsDoes}
 use Rattle.rule_sentences.specs.declared.words.Word.{Word}
 use Rattle.rule_sentences.specs.declared.words.Word.TheVariants.{Role as RoleWord, Init as InitWord, True as TrueWord, Next as NextWord, Does as DoesWord, Legal as LegalWord, Goal as GoalWord, Terminal as TerminalWord, If as IfWord, Not as NotWord, Or as OrWord, Distinct as DistinctWord, And as AndWord, Plain as PlainWord}
-use Rattle.rule_sentences.specs.Literals.{Distinct, Not, Or, End, More}
+use Rattle.numbered_rules.specs.Literals.{Distinct, Not, Or, End, More}
 use Rattle.rule_sentences.specs.Sentences.{TextLiteral, TextLiterals, literal_of, Sentence}
 use Rattle.rule_sentences.specs.Terms.{term_text}
 use Rattle.rule_sentences.specs.Words.{word_of}

@@ -1,6 +1,6 @@
 -- The literals, sentences and rules that those in memory are.
 use Rattle.std.specs.Prelude.{List, map, box_value}
-use Rattle.rule_sentences.specs.Literals.{literals, Distinct, Not, Or}
+use Rattle.numbered_rules.specs.Literals.{literals, Distinct, Not, Or}
 use Rattle.rule_sentences.specs.declared.sentence.Literal.{Literal as CodeLiteral, fold-Literal}
 use Rattle.rule_sentences.specs.declared.sentence.Literal.TheOpen.{Literal-F}
 use Rattle.rule_sentences.specs.declared.sentence.Sentence.{Sentence as CodeSentence}

@@ -1,6 +1,6 @@
 -- Literals, sentences and rules over texts.
 use Rattle.std.specs.Prelude.{ℕ, List}
-use Rattle.rule_sentences.specs.Literals.{Literal, Literals, Holds, InState, Does, Rule}
+use Rattle.numbered_rules.specs.Literals.{Literal, Literals, Holds, InState, Does, Rule}
 use Rattle.rule_sentences.specs.declared.sentence.Derived.{Derived}
 use Rattle.rule_sentences.specs.declared.sentence.Atomic.{Atomic}
 use Rattle.rule_sentences.specs.declared.sentence.Atomic.TheVariants.{Derived as IsDerived, InState as IsInState, Does as IsDoes}

@@ -3,7 +3,7 @@ use Rattle.std.specs.Prelude.{ℕ, Bool, true, false, ◌&&◌, nat_le, bytes_eq
 use Rattle.game_core.specs.Play.{max_roles}
 use Rattle.rule_sentences.specs.declared.sentence.Atomic.{Atomic}
 use Rattle.rule_sentences.specs.declared.sentence.Atomic.TheVariants.{Derived as IsDerived, InState as IsInState, Does as IsDoes}
-use Rattle.rule_sentences.specs.Literals.{Holds, InState, Does, Distinct, Not, Or, End, More}
+use Rattle.numbered_rules.specs.Literals.{Holds, InState, Does, Distinct, Not, Or, End, More}
 use Rattle.rule_sentences.specs.Sentences.{TextLiteral, TextLiterals}
 use Rattle.rule_sentences.specs.Descriptions.{Description, same_derived, each_once, heads, moves_in, role_names}
 

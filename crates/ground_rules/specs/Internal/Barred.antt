@@ -2,7 +2,7 @@
 use Rattle.std.specs.Prelude.{ℕ, ◌+◌, Bool, false, ◌||◌, List, [], ◌∷◌}
 use Rattle.rule_sentences.specs.declared.sentence.Derived.{Derived}
 use Rattle.rule_sentences.specs.declared.sentence.Derived.TheVariants.{Role, Init, Next, Legal, Goal, Terminal, Other}
-use Rattle.ground_rules.specs.Numbered.{bit}
+use Rattle.numbered_rules.specs.Numbered.{bit}
 
 -- a head that depends on does sentences, or on given ones, as the two values say
 abbrev pub barred_by : Derived → Bool → Bool → Bool

@@ -4,7 +4,7 @@ use Rattle.std.specs.List.{list_all}
 use Rattle.std.specs.List.Sorted.{IsPermutation}
 use Rattle.game_core.specs.Play.{max_roles}
 use Rattle.ground_rules.specs.declared.names.TermKind.TheVariants.{State, Move}
-use Rattle.rule_sentences.specs.Literals.{Rule}
+use Rattle.numbered_rules.specs.Literals.{Rule}
 use Rattle.rule_sentences.specs.Descriptions.{Description, is_among, role_names, heads, each_once}
 use Rattle.ground_rules.specs.Internal.TableTests.{are_in_order}
 use Rattle.rule_sentences.specs.Sizes.{max_sentences, max_atomic_sentences, max_moves, same_atomic, atomics}

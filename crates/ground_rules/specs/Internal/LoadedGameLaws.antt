@@ -14,7 +14,7 @@ use Rattle.ground_rules.specs.Internal.Bools.{and-left, and-right, and-both, not
 use Rattle.ground_rules.specs.Internal.Names.{text-sound, text-same}
 use Rattle.rule_sentences.specs.Descriptions.{is_among, are_different}
 use Rattle.ground_rules.specs.Roles.{RoleTable, no_role}
-use Rattle.ground_rules.specs.Numbered.{bit, unset}
+use Rattle.numbered_rules.specs.Numbered.{bit, unset}
 use Rattle.ground_rules.specs.Tables.{marked, chosen, only, picked}
 use Rattle.ground_rules.specs.Internal.TableTests.{are_roles, names, has_term, have_distinct_terms, are_goals, comes_before, comes_before_all, are_in_order}
 use Rattle.ground_rules.specs.Internal.TermTexts.{are_terms_in_any}

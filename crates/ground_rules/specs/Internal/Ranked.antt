@@ -1,6 +1,6 @@
 -- Numbered rules in the order of a ranking of their heads.
 use Rattle.std.specs.Prelude.{ℕ, ◌<◌, ◌≤◌, List, [], ◌∷◌}
-use Rattle.rule_sentences.specs.Literals.{Rule, AllAtomsAre}
+use Rattle.numbered_rules.specs.Literals.{Rule, AllAtomsAre}
 
 -- the ranks of the heads rise from low on, the heads are below atoms, and each rule speaks of atoms of lower rank than its head
 abbrev pub AreRankedFrom : (ℕ → ℕ) → ℕ → ℕ → List (Rule ℕ ℕ) → Type 0

@@ -1,5 +1,5 @@
 -- Numbers in the place of names.
-use Rattle.std.specs.Prelude.{ℕ, ◌+◌, suc, Bool, not, bytes_eq, nat_lt, nat_eq, if◌then◌else◌, List, [], ◌∷◌, ◌++◌, map, Option, Some, None}
+use Rattle.std.specs.Prelude.{ℕ, ◌+◌, suc, Bool, not, bytes_eq, if◌then◌else◌, List, [], ◌∷◌, ◌++◌, map, Option, Some, None}
 use Rattle.rule_sentences.specs.declared.sentence.Derived.{Derived}
 use Rattle.rule_sentences.specs.declared.sentence.Derived.TheVariants.{Init, Next, Legal, Goal}
 use Rattle.ground_rules.specs.declared.lookups.StateHead.{StateHead}
@@ -8,10 +8,10 @@ use Rattle.ground_rules.specs.declared.names.TermKind.{TermKind}
 use Rattle.ground_rules.specs.declared.names.TermKind.TheVariants.{State, Move}
 use Rattle.ground_rules.specs.declared.tables.Mention.{Mention}
 use Rattle.ground_rules.specs.declared.tables.GoalHead.{GoalHead}
-use Rattle.rule_sentences.specs.Literals.{Literal, Literals, Holds, InState, Does, Distinct, Not, Or, End, More, Rule}
+use Rattle.numbered_rules.specs.Literals.{Literal, Literals, Holds, InState, Does, Distinct, Not, Or, End, More, Rule}
 use Rattle.rule_sentences.specs.Sentences.{TextLiteral, TextLiterals, TextRule}
 use Rattle.rule_sentences.specs.Descriptions.{Description, same_derived}
-use Rattle.ground_rules.specs.Numbered.{known}
+use Rattle.numbered_rules.specs.Numbered.{known}
 use Rattle.ground_rules.specs.declared.resolve.Names.{Names}
 use Rattle.ground_rules.specs.Roles.{RoleTable}
 
@@ -106,22 +106,3 @@ goal_heads role n (a ∷ as') = goal_heads role (n + 1) as'
 
 abbrev pub role_table : NameTable → List ℕ → RoleTable
 role_table names role = record { name = role; legal = legal_mentions names.moves role 0 names.heads; goals = goal_heads role 0 names.heads }
-
--- the atoms below this number in a literal
-abbrev mutual
-  pub atoms_in : ℕ → Literal ℕ ℕ → List ℕ
-  atoms_in size (Holds a) = if nat_lt a size then a ∷ [] else []
-  atoms_in size (InState t) = []
-  atoms_in size (Does r m) = []
-  atoms_in size (Distinct t u) = []
-  atoms_in size (Not l) = atoms_in size l
-  atoms_in size (Or ls) = all_atoms_in size ls
-
-  pub all_atoms_in : ℕ → Literals ℕ ℕ → List ℕ
-  all_atoms_in size End = []
-  all_atoms_in size (More l ls) = atoms_in size l ++ all_atoms_in size ls
-
--- the atoms below this number in the bodies of the rules with this head
-abbrev pub needs_of : ℕ → ℕ → List (Rule ℕ ℕ) → List ℕ
-needs_of size n [] = []
-needs_of size n (r ∷ rs) = (if nat_eq r.head n then all_atoms_in size r.body else []) ++ needs_of size n rs

@@ -3,7 +3,7 @@ use Rattle.std.specs.Prelude.{ℕ, ◌≡◌, ◌≢◌, false, List, [], ◌∷
 use Rattle.std.specs.List.Sorted.{IsPermutation}
 use Rattle.rule_sentences.specs.declared.sentence.Derived.{Derived}
 use Rattle.rule_sentences.specs.declared.sentence.Derived.TheVariants.{Role, Init, Next, Legal, Goal, Terminal, Other}
-use Rattle.rule_sentences.specs.Literals.{Rule}
+use Rattle.numbered_rules.specs.Literals.{Rule}
 use Rattle.ground_rules.specs.Dependence.{any_speaks_of_given}
 use Rattle.rule_sentences.specs.Descriptions.{Description}
 use Rattle.ground_rules.specs.Internal.Ranked.{AreRankedFrom}

@@ -1,7 +1,7 @@
 -- The pass over rules by places.
 use Rattle.std.specs.Prelude.{ℕ, ◌+◌, ◌≡◌, Bool, true, ◌&&◌, if◌then◌else◌, List, [], ◌∷◌, take, drop, slice_set}
 use Rattle.std.proofs.Math.Bool.{beq}
-use Rattle.ground_rules.specs.declared.numbered.Literal.{Literal as CodeLiteral}
+use Rattle.numbered_rules.specs.declared.numbered.Literal.{Literal as CodeLiteral}
 use Rattle.ground_rules.specs.Literals.{Literal, Rule}
 use Rattle.ground_rules.specs.Fit.{truth, all_true}
 use Rattle.ground_rules.specs.Numbered.{bit, numbered, views}

@@ -1,6 +1,6 @@
 -- Rules by places, whose literals stand side by side.
 use Rattle.std.specs.Prelude.{ℕ, ◌≡◌, ◌≤◌, List, [], ◌∷◌, length, take, drop}
-use Rattle.ground_rules.specs.declared.numbered.Literal.{Literal as CodeLiteral}
+use Rattle.numbered_rules.specs.declared.numbered.Literal.{Literal as CodeLiteral}
 use Rattle.packed_rules.specs.declared.rules.Test.{Test}
 use Rattle.packed_rules.specs.declared.rules.MoveTest.{MoveTest}
 use Rattle.packed_rules.specs.declared.rules.PackedRule.{PackedRule}

@@ -1,6 +1,6 @@
 use Rattle.std.proofs.Common.{◌≡◌, drop}
-use Rattle.ground_rules.specs.Fit.{any_true}
-use Rattle.ground_rules.specs.Numbered.{bit, numbered, views}
+use Rattle.numbered_rules.specs.Fit.{any_true}
+use Rattle.numbered_rules.specs.Numbered.{bit, numbered, views}
 use Rattle.ground_rules.proofs.evaluate.+holds.Given as goal
 
 abbrev pub invariant-any_holds-loop-literal : goal.invariant-any_holds-loop-literal

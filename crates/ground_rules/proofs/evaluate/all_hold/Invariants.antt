@@ -1,6 +1,6 @@
 use Rattle.std.proofs.Common.{◌≡◌, drop}
-use Rattle.ground_rules.specs.Fit.{all_true}
-use Rattle.ground_rules.specs.Numbered.{bit, numbered, views}
+use Rattle.numbered_rules.specs.Fit.{all_true}
+use Rattle.numbered_rules.specs.Numbered.{bit, numbered, views}
 use Rattle.ground_rules.proofs.evaluate.all_hold.Given as goal
 
 abbrev pub invariant-loop-literal : goal.invariant-loop-literal

@@ -1,5 +1,5 @@
 use Rattle.std.proofs.Common.{refl}
-use Rattle.ground_rules.specs.Numbered.{numbered, rules_of}
+use Rattle.numbered_rules.specs.Numbered.{numbered, rules_of}
 use Rattle.ground_rules.proofs.Pass.{pass-fits}
 use Rattle.ground_rules.proofs.evaluate.evaluate.Goals as goal
 

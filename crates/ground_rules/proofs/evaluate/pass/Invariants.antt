@@ -1,5 +1,5 @@
 use Rattle.std.proofs.Common.{◌≡◌, drop}
-use Rattle.ground_rules.specs.Numbered.{numbered, rules_of, row_after}
+use Rattle.numbered_rules.specs.Numbered.{numbered, rules_of, row_after}
 use Rattle.ground_rules.proofs.evaluate.pass.Given as goal
 
 abbrev pub invariant-loop-rule : goal.invariant-loop-rule

@@ -1,7 +1,7 @@
 use Rattle.std.proofs.Common.{◌≡◌, ◌∙◌, true, [], length, ap, refl}
-use Rattle.ground_rules.specs.Numbered.{rules_of as numbered_rules, numbered, row_after, unset}
+use Rattle.numbered_rules.specs.Numbered.{rules_of as numbered_rules, numbered, row_after, unset}
 use Rattle.ground_rules.specs.Internal.Barred.{has_barred}
-use Rattle.ground_rules.specs.Internal.Exposed.{exposed_rules}
+use Rattle.numbered_rules.specs.Exposed.{exposed_rules}
 use Rattle.ground_rules.specs.Internal.Resolved.{table_of}
 use Rattle.ground_rules.proofs.RankedRules.{barred-test}
 use Rattle.ground_rules.proofs.loading.has_barred_head.Goals as goal

@@ -1,7 +1,7 @@
 use Rattle.std.proofs.Common.{◌≡◌, ◌∙◌, ℕ, List, sym, ap, length, refl, inr, subst}
 use Rattle.rule_sentences.specs.SentenceViews.{rules_of}
-use Rattle.ground_rules.specs.Numbered.{rules_of as numbered_rules}
-use Rattle.ground_rules.specs.Internal.Order.{IsGraph}
+use Rattle.numbered_rules.specs.Numbered.{rules_of as numbered_rules}
+use Rattle.numbered_rules.specs.Order.{IsGraph}
 use Rattle.ground_rules.specs.Internal.Resolved.{table_of, resolved_rules}
 use Rattle.ground_rules.proofs.Numberings.{needs-graph, acyclic-graph}
 use Rattle.ground_rules.proofs.RankedRules.{needs-are, acyclic-by, ranked-by}

@@ -1,7 +1,7 @@
 use Rattle.std.proofs.Common.{◌∙◌, List, [], false, length, ap, sym, subst}
-use Rattle.ground_rules.specs.declared.numbered.Rule.{Rule as CodeRule}
-use Rattle.ground_rules.specs.Numbered.{rules_of as numbered_rules, numbered, row_after, unset}
-use Rattle.ground_rules.specs.Internal.Exposed.{exposed_rules}
+use Rattle.numbered_rules.specs.declared.numbered.Rule.{Rule as CodeRule}
+use Rattle.numbered_rules.specs.Numbered.{rules_of as numbered_rules, numbered, row_after, unset}
+use Rattle.numbered_rules.specs.Exposed.{exposed_rules}
 use Rattle.ground_rules.specs.Internal.Resolved.{table_of}
 use Rattle.ground_rules.specs.Internal.GameParts.{AreRankedOf}
 use Rattle.ground_rules.proofs.TwoParts.{split-by}

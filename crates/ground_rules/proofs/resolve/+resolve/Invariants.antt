@@ -1,6 +1,6 @@
 use Rattle.std.proofs.Common.{◌≡◌, map, take}
 use Rattle.rule_sentences.specs.SentenceViews.{view}
-use Rattle.ground_rules.specs.Numbered.{view as numbered}
+use Rattle.numbered_rules.specs.Numbered.{view as numbered}
 use Rattle.ground_rules.specs.Internal.Resolved.{resolved, table_of}
 use Rattle.ground_rules.proofs.resolve.+resolve.Given as goal
 

@@ -1,6 +1,6 @@
 use Rattle.std.proofs.Common.{◌≡◌, map, take}
 use Rattle.rule_sentences.specs.SentenceViews.{rule_of}
-use Rattle.ground_rules.specs.Numbered.{rule_of as numbered_rule}
+use Rattle.numbered_rules.specs.Numbered.{rule_of as numbered_rule}
 use Rattle.ground_rules.specs.Internal.Resolved.{resolved_rule, table_of}
 use Rattle.ground_rules.proofs.resolve.resolve_rules.Given as goal
 

@@ -1,5 +1,5 @@
 use Rattle.std.proofs.Common.{◌≡◌, ℕ, List, [], ◌∷◌, Option, Some, None, drop, filter}
-use Rattle.ground_rules.specs.Numbered.{bit}
+use Rattle.numbered_rules.specs.Numbered.{bit}
 use Rattle.ground_rules.specs.declared.tables.GoalHead.{GoalHead}
 use Rattle.ground_rules.specs.Tables.{only, only_goal}
 use Rattle.ground_rules.proofs.tables.find_goal.Given as goal

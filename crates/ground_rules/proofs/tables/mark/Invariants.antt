@@ -1,5 +1,5 @@
 use Rattle.std.proofs.Common.{◌≡◌, drop}
-use Rattle.ground_rules.specs.Numbered.{unset}
+use Rattle.numbered_rules.specs.Numbered.{unset}
 use Rattle.ground_rules.specs.Tables.{marked}
 use Rattle.ground_rules.proofs.tables.mark.Given as goal
 

@@ -2,8 +2,7 @@ use Rattle.std.proofs.Common.{◌<◌, ◌∙◌, sym, ap, map, length, arith}
 use Rattle.std.specs.Cow.{cow_slice_items}
 use Rattle.std.proofs.lemmas.List.{map-append}
 use Rattle.ground_rules.specs.Tables.{picked}
-use Rattle.ground_rules.proofs.Picked.{picked-true, picked-false}
-use Rattle.ground_rules.proofs.Searching.{needs-read}
+use Rattle.ground_rules.proofs.Picked.{picked-true, picked-false, text-read}
 use Rattle.ground_rules.proofs.tables.pick.Goals as goal
 use Rattle.ground_rules.proofs.tables.pick.Goals.{then-is_set+in_ok-push, else-is_set}
 
@@ -14,7 +13,7 @@ loop-term-preserved c =
     let found = map cow_slice_items c.loop-term.found.items in
     elim c.if-is_set.branch [
       | then-is_set+in_ok-push w ↦
-          let x = needs-read c.args.texts.now c.loop-term.term c.index-texts-term.result w.as_slice.result.now lt' c.index-texts-term.is w.as_slice.ensures in
+          let x = text-read c.args.texts.now c.loop-term.term c.index-texts-term.result w.as_slice.result.now lt' c.index-texts-term.is w.as_slice.ensures in
           let one_more = ap (map cow_slice_items) w.in_ok-push.ensures.items ∙ map-append cow_slice_items c.loop-term.found.items _ in
           rw (w.found-is, one_more) (picked-true c.args.row.now c.args.texts.now c.loop-term.term found (picked c.args.row.now c.args.texts.now) w.as_slice.result.now lt lt' (sym c.is_set.ensures ∙ w.if-is_set.true) x c.loop-term.invariant)
       | else-is_set w ↦

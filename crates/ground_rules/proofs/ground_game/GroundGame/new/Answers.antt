@@ -2,7 +2,7 @@ use Rattle.std.proofs.Common.{ap, sym, List, map, length, subst}
 use Rattle.kif_text.specs.View.{view as expression, views}
 use Rattle.kif_text.specs.declared.expr.Expr.{Expr}
 use Rattle.ground_rules.specs.Roles.{RoleTable}
-use Rattle.ground_rules.specs.Numbered.{rules_of}
+use Rattle.numbered_rules.specs.Numbered.{rules_of}
 use Rattle.ground_rules.specs.declared.ground_game.GroundGame.{GroundGame}
 use Rattle.ground_rules.specs.Internal.Resolved.{NameTable, table_of}
 use Rattle.ground_rules.specs.GroundGames.{tables_of}

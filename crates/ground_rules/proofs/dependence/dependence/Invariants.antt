@@ -1,7 +1,0 @@
-use Rattle.std.proofs.Common.{◌≡◌, drop, []}
-use Rattle.ground_rules.specs.Numbered.{numbered, rules_of, row_after, unset}
-use Rattle.ground_rules.specs.Internal.Exposed.{exposed_rules}
-use Rattle.ground_rules.proofs.dependence.dependence.Given as goal
-
-abbrev pub invariant-loop-rule : goal.invariant-loop-rule
-invariant-loop-rule l = row_after (numbered [] []) l.row (exposed_rules l.of_state (rules_of (drop l.rule-index l.rules))) ≡ row_after (numbered [] []) (unset l.atoms) (exposed_rules l.of_state (rules_of l.rules))

@@ -1,0 +1,2 @@
+-- What private functions and proofs alone cite.
+pub mod Search

@@ -1,0 +1,7 @@
+pub mod Literals
+pub mod Fit
+pub mod Numbered
+pub mod Needs
+pub mod Order
+pub mod Exposed
+pub mod Internal

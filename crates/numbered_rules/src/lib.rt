@@ -1,0 +1,18 @@
+//! Rules with numbers for the names of a ground description.
+//!
+//! `rank` orders derived atoms so that each comes after those that it needs, and `sort_by_rank` the
+//! rules by it. `dependence` says by one pass over rules in that order which atoms depend on what is
+//! given, and `split` parts the rules by that.
+#![tactic(auto)]
+
+pub mod dependence;
+mod needs;
+pub mod numbered;
+pub mod rank;
+mod row;
+mod sorting;
+pub mod split;
+
+pub use needs::needs_of;
+pub use row::Row;
+pub use sorting::sort_by_rank;
