@@ -1,4 +1,4 @@
-use Rattle.std.proofs.Common.{◌<◌, ◌∙◌, ◌∷◌, [], sym, ap, map, length, arith}
+use Rattle.std.proofs.Common.{◌<◌, ◌∙◌, sym, ap, map, length, arith}
 use Rattle.std.specs.Cow.{cow_slice_items}
 use Rattle.std.proofs.lemmas.List.{map-append}
 use Rattle.ground_rules.specs.Tables.{picked}
