@@ -9,13 +9,14 @@ use crate::replaying::replay_account;
 use crate::rules::{rules_text, told_rules};
 use crate::script::run_script;
 use crate::script_fault::ScriptFault;
+use described_games::described_game;
 use desk_text::push_history;
 use game_core::{Countdown, Counted, Game};
 use http_exchange::WireFault;
 use match_messages::{Info, info_message, read_info};
 use match_season::{
-    Entrants, Fixture, MatchPlan, PlayedMatch, described_game, entrants_of, fixtures, play_season,
-    played_match, read_schedule,
+    Entrants, Fixture, MatchPlan, PlayedMatch, entrants_of, fixtures, play_season, played_match,
+    read_schedule,
 };
 use match_workers::Player;
 use network_players::{

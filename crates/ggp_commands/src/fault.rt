@@ -1,10 +1,11 @@
 //! Why a command ends with a fault.
 
 use crate::rules::RulesFileFault;
+use described_games::DescriptionFault;
 use desk_text::refusal_word;
 use match_desk::Refusal;
 use match_record::VerifyFault;
-use match_season::{DescriptionFault, LineFault, MatchFault, ScheduleFault, SeasonFault};
+use match_season::{LineFault, MatchFault, ScheduleFault, SeasonFault};
 use player_check::CheckFault;
 use std::alloc::{AllocError, AllocFailed};
 use thiserror::Error;

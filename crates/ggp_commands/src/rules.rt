@@ -2,8 +2,8 @@
 
 use crate::arguments::GameSource;
 use crate::fault::Fault;
+use described_games::countdown_rules;
 use game_core::{Countdown, Counted};
-use match_season::countdown_rules;
 use std::alloc::Global;
 use std::borrow::CowSlice;
 use std::io::ErrorKind;

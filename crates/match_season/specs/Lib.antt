@@ -1,4 +1,3 @@
-pub mod Games
 pub mod Matches
 pub mod Schedules
 pub mod Seasons

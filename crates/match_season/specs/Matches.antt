@@ -6,11 +6,11 @@ use Rattle.match_book.specs.Phase.{is_over}
 use Rattle.match_desk.specs.ManagerValue.{ManagerValue, game_match}
 use Rattle.match_record.specs.RecordTree.{record_text}
 use Rattle.match_record.specs.LawfulRecord.{IsLawfulRecord}
-use Rattle.match_season.specs.Games.{DescribesNone}
+use Rattle.described_games.specs.Games.{DescribesNone}
 use Rattle.match_workers.specs.declared.refereeing.RefereeFault.{RefereeFault}
 use Rattle.match_workers.specs.declared.refereeing.RefereeFault.TheVariants.{Refused as MatchRefused, Unclosed, Full, Memory as RefereeMemory}
-use Rattle.match_season.specs.declared.games.DescriptionFault.{DescriptionFault}
-use Rattle.match_season.specs.declared.games.DescriptionFault.TheVariants.{Memory as DescriptionMemory, BadDescription as TextFault}
+use Rattle.described_games.specs.declared.games.DescriptionFault.{DescriptionFault}
+use Rattle.described_games.specs.declared.games.DescriptionFault.TheVariants.{Memory as DescriptionMemory, BadDescription as TextFault}
 use Rattle.match_season.specs.declared.playing.MatchFault.{MatchFault}
 use Rattle.match_season.specs.declared.playing.MatchFault.TheVariants.{Memory, BadDescription, Refused, NotEnded}
 

@@ -1,13 +1,11 @@
 //! Matches between players that are reached at their addresses: one, or the matches of a schedule, some of them at once.
 //!
-//! `described_game` makes a game of its text; `played_match` referees a match by such a text, from its plan to its record;
-//! `read_schedule` and `play_season` do so for all matches of a schedule.
+//! `played_match` referees a match by a description, from its plan to its record; `read_schedule` and `play_season` do so for all
+//! matches of a schedule.
 //!
 //! Free functions take the allocator first, behind a handle for threads and waiting.
 #![tactic(auto)]
 
-mod countdown_text;
-mod games;
 mod plan;
 mod playing;
 mod role_turns;
@@ -15,8 +13,6 @@ mod schedule;
 mod season;
 mod season_output;
 
-pub use countdown_text::countdown_rules;
-pub use games::{DescriptionFault, described_game};
 pub use plan::MatchPlan;
 pub use playing::{
     EndedMatch, Entrants, MatchFault, PlayedMatch, ended_match, entrants_of, played_match,

@@ -8,9 +8,9 @@ ghost use Rattle.match_season.specs.Matches.{IsEndedRecord, HasNoEndedMatch, Run
 ghost use Rattle.desk_text.specs.Account.{history_text};
 ghost use Rattle.match_season.specs.Seasons.{IsEndedMatch};
 
-use crate::games::{DescriptionFault, described_game};
 use crate::plan::MatchPlan;
 use call_history::Entry;
+use described_games::{DescriptionFault, described_game};
 use desk_text::{push_history, refusal_word};
 use game_core::{Game, Text, Texts};
 use kif_text::{Expr, copy};

@@ -3,11 +3,9 @@ ghost use Rattle.std.specs.Prelude.{◌<◌};
 
 use crate::table::{HEADER, Row};
 use crate::watched::{Exchanges, Participant, Watching};
+use described_games::{DescriptionFault, described_game};
 use game_core::{Counted, Game};
-use match_season::{
-    DescriptionFault, Entrants, MatchFault, MatchPlan, RoleTurn, described_game, entrants_of,
-    played_turns,
-};
+use match_season::{Entrants, MatchFault, MatchPlan, RoleTurn, entrants_of, played_turns};
 use match_workers::Player;
 use network_players::{Explains, PlayerAddress, Reach, Signal};
 use std::alloc::{AllocError, AllocFailed, Global};

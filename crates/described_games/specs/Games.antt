@@ -12,8 +12,8 @@ use Rattle.kif_text.specs.declared.fault.KifFault.{KifFault}
 use Rattle.kif_text.specs.declared.fault.KifFault.TheVariants.{Memory as KifMemory}
 use Rattle.packed_rules.specs.PackedGames.{IsPackedFormOf}
 use Rattle.packed_rules.specs.declared.packed_game.PackedGame.{PackedGame}
-use Rattle.match_season.specs.declared.games.DescriptionFault.{DescriptionFault}
-use Rattle.match_season.specs.declared.games.DescriptionFault.TheVariants.{Memory, BadDescription}
+use Rattle.described_games.specs.declared.games.DescriptionFault.{DescriptionFault}
+use Rattle.described_games.specs.declared.games.DescriptionFault.TheVariants.{Memory, BadDescription}
 
 -- the text spells sentences, and the game is what they describe without their capitals
 pub record IsLoadedFrom (text : List ℕ) (game : GroundGame) : Type 0 where

@@ -1,6 +1,6 @@
 //! Games that are given as text.
 ghost use Rattle.std.specs.Prelude.{◌≡◌, ◌≢◌, IfOk, IfErr};
-ghost use Rattle.match_season.specs.Games.{IsLoadedFrom, IsDescribed, DescribesNone};
+ghost use Rattle.described_games.specs.Games.{IsLoadedFrom, IsDescribed, DescribesNone};
 
 use ground_rules::{GroundGame, LoadFault, load};
 use kif_text::{KifFault, read_all};
@@ -20,7 +20,7 @@ pub enum DescriptionFault {
 
 impl From<AllocError> for DescriptionFault {
     ghost use Rattle.std.specs.Prelude.{◌≡◌};
-    ghost use Rattle.match_season.specs.declared.games.DescriptionFault.TheVariants.{Memory};
+    ghost use Rattle.described_games.specs.declared.games.DescriptionFault.TheVariants.{Memory};
 
     ghost from_gives = { λ _ given. given ≡ Memory };
 
@@ -31,7 +31,7 @@ impl From<AllocError> for DescriptionFault {
 
 impl From<KifFault> for DescriptionFault {
     ghost use Rattle.std.specs.Prelude.{◌≡◌};
-    ghost use Rattle.match_season.specs.Games.{reading_fault};
+    ghost use Rattle.described_games.specs.Games.{reading_fault};
 
     ghost from_gives = { λ fault given. given ≡ reading_fault fault };
 
@@ -45,7 +45,7 @@ impl From<KifFault> for DescriptionFault {
 
 impl From<LoadFault> for DescriptionFault {
     ghost use Rattle.std.specs.Prelude.{◌≡◌};
-    ghost use Rattle.match_season.specs.Games.{loading_fault};
+    ghost use Rattle.described_games.specs.Games.{loading_fault};
 
     ghost from_gives = { λ fault given. given ≡ loading_fault fault };
 

@@ -7,10 +7,10 @@ use Rattle.kif_text.specs.View.{view, expressions}
 use Rattle.ground_rules.specs.Loading.{IsLoadFault}
 use Rattle.rule_sentences.specs.declared.fault.LoadFault.{LoadFault}
 use Rattle.rule_sentences.specs.declared.fault.LoadFault.TheVariants.{Variable, BadForm, Misplaced, NoRole, RoleTwice, TooLarge, Cyclic, Depends, Memory as LoadMemory}
-use Rattle.match_season.specs.declared.games.DescriptionFault.{DescriptionFault}
-use Rattle.match_season.specs.declared.games.DescriptionFault.TheVariants.{Memory}
-use Rattle.match_season.specs.Games.{DescribesNone, faulty, loading_fault}
-use Rattle.match_season.proofs.games.loaded.Goals as goal
+use Rattle.described_games.specs.declared.games.DescriptionFault.{DescriptionFault}
+use Rattle.described_games.specs.declared.games.DescriptionFault.TheVariants.{Memory}
+use Rattle.described_games.specs.Games.{DescribesNone, faulty, loading_fault}
+use Rattle.described_games.proofs.games.loaded.Goals as goal
 
 IsRefusedAs : List ℕ → DescriptionFault → Type 0
 IsRefusedAs text fault = fault ≢ Memory → DescribesNone text
