@@ -3,8 +3,8 @@
 use crate::rules::Rules;
 use clap::error::ErrorKind;
 use clap::{Arg, ArgAction, ArgMatches, Command};
-use match_season::{MAX_MATCHES, MatchPlan, RecordOrder, SeasonForm};
-use network_players::{PlayerAddress, decimal, player_address};
+use match_plans::{MAX_MATCHES, MatchPlan, PlayerAddress, decimal, player_address};
+use match_season::{RecordOrder, SeasonForm};
 use player_check::CheckPlan;
 use std::alloc::{AllocError, AllocFailed, Global};
 

@@ -12,16 +12,15 @@ use crate::script_fault::ScriptFault;
 use described_games::described_game;
 use desk_text::push_history;
 use game_core::{Countdown, Counted, Game};
+use match_plans::{PlayerAddress, Reach, read_schedule};
+use match_season::{
+    Entrants, Fixture, PlayedMatch, entrants_of, fixtures, play_season, played_match,
+};
 use http_exchange::WireFault;
 use match_messages::{Info, info_message, read_info};
-use match_season::{
-    Entrants, Fixture, MatchPlan, PlayedMatch, entrants_of, fixtures, play_season, played_match,
-    read_schedule,
-};
 use match_workers::Player;
 use network_players::{
-    ContactFault, Explains, LoggedPlayer, Logging, PlayerAddress, Progress, Reach, StatusStream,
-    Telling, contact,
+    ContactFault, Explains, LoggedPlayer, Logging, Progress, StatusStream, Telling, contact,
 };
 use player_check::check_player;
 use std::alloc::Global;

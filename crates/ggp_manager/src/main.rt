@@ -3,7 +3,7 @@
 
 use game_core::Counted;
 use ggp_commands::{Fault, command, report};
-use match_season::MAX_MATCHES;
+use match_plans::MAX_MATCHES;
 use network_players::{Signal, SocketPlayer, Sockets};
 use std::io::{ErrorKind, IsTerminal};
 use std::process::ExitCode;

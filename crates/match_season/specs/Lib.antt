@@ -1,4 +1,3 @@
 pub mod Matches
-pub mod Schedules
 pub mod Seasons
 pub mod RoleTurns

@@ -6,18 +6,14 @@
 //! Free functions take the allocator first, behind a handle for threads and waiting.
 #![tactic(auto)]
 
-mod plan;
 mod playing;
 mod role_turns;
-mod schedule;
 mod season;
 mod season_output;
 
-pub use plan::MatchPlan;
 pub use playing::{
     EndedMatch, Entrants, MatchFault, PlayedMatch, ended_match, entrants_of, played_match,
 };
 pub use role_turns::{RoleTurn, played_turns};
-pub use schedule::{LineFault, MAX_MATCHES, ScheduleFault, read_schedule};
 pub use season::{Fixture, SeasonForm, fixtures, play_season};
 pub use season_output::{RecordOrder, SeasonFault};

@@ -8,7 +8,6 @@ ghost use Rattle.match_season.specs.Matches.{IsEndedRecord, HasNoEndedMatch, Run
 ghost use Rattle.desk_text.specs.Account.{history_text};
 ghost use Rattle.match_season.specs.Seasons.{IsEndedMatch};
 
-use crate::plan::MatchPlan;
 use call_history::Entry;
 use described_games::{DescriptionFault, described_game};
 use desk_text::{push_history, refusal_word};
@@ -16,9 +15,9 @@ use game_core::{Game, Text, Texts};
 use kif_text::{Expr, copy};
 use match_book::{Phase, Setup};
 use match_desk::{Call, Manager, Refusal, Reply};
+use match_plans::{MatchPlan, Reach, Seat};
 use match_record::record_json;
 use match_workers::{Player, RefereeFault, Refereed, referee};
-use network_players::{Reach, Seat};
 use packed_rules::PackedGame;
 use std::alloc::{AllocError, AllocFailed, Global};
 use std::sync::Wait;

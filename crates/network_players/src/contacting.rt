@@ -2,9 +2,9 @@
 ghost use Rattle.std.specs.Prelude.{◌≡◌};
 ghost use Rattle.network_players.specs.Contacts.{step_fault, exchange_fault};
 
-use crate::addresses::PlayerAddress;
 use crate::deadline::{Deadline, TimedStream};
 use game_core::{Counted, Text};
+use match_plans::PlayerAddress;
 use http_exchange::{WireFault, exchange};
 use std::alloc::Global;
 use std::io::ErrorKind;

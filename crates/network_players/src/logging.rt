@@ -1,12 +1,11 @@
 //! Matches that are told while they run: whoever reaches players through `Logging` reads each message with its answer, or how far the
 //! matches are.
 
-use crate::addresses::PlayerAddress;
 use crate::contacting::ContactFault;
 use crate::signal::time_since;
-use crate::socket_player::{Reach, Seat};
 use crate::status::{Progress, StatusStream};
 use match_book::Answer;
+use match_plans::{PlayerAddress, Reach, Seat};
 use match_workers::Player;
 use std::alloc::{AllocError, Global};
 use std::fmt;

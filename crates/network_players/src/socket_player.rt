@@ -2,12 +2,12 @@
 ghost use Rattle.std.specs.Prelude.{◌≡◌, ◌<◌, length};
 ghost use Rattle.network_players.specs.Contacts.{answer_of, contact_answer};
 
-use crate::addresses::PlayerAddress;
 use crate::contacting::{ContactFault, contact};
 use crate::logging::Explains;
 use crate::signal::{Pace, Signal};
 use game_core::Text;
 use match_book::Answer;
+use match_plans::{PlayerAddress, Reach, Seat};
 use http_exchange::WireFault;
 use match_workers::Player;
 use std::alloc::{AllocError, Global};
@@ -15,27 +15,6 @@ use std::io::ErrorKind;
 use std::net::Net;
 use std::sync::Wait;
 use std::time::Clock;
-
-/// Where a player sits.
-#[derive(Clone, Copy, Debug, PartialEq, Eq)]
-pub struct Seat<'a> {
-    /// The match's place among those of its season, 0 where it is the only one.
-    pub place: usize,
-    /// The match's id.
-    pub id: &'a str,
-    pub role: usize,
-}
-
-/// Where players are reached.
-pub trait Reach<P> {
-    /// The player at this address, for this seat. Nothing is asked of it yet.
-    fn player(
-        &self,
-        alloc: Global,
-        seat: Seat<'_>,
-        address: &PlayerAddress<'_>,
-    ) -> Result<P, AllocError>;
-}
 
 /// The network, as a runtime reaches it. It is made where it is known which runtime that is, as in `main`: a player goes to another
 /// thread, and a function for any runtime can't tell that its players may.

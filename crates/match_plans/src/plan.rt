@@ -1,6 +1,6 @@
 //! A match, as it is planned.
 
-use network_players::PlayerAddress;
+use crate::addresses::PlayerAddress;
 
 /// A match between players on the network: its id, its clocks in seconds, after how many substituted moves in a row a role is
 /// retired (0: never), and its players in the order of the roles.

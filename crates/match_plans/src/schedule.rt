@@ -1,12 +1,12 @@
 //! The schedule of a season: a match a line.
 ghost use Rattle.std.specs.Prelude.{◌≡◌, ◌≤◌, IfOk, IfSome, length, map};
 ghost use Rattle.std.specs.Str.Lines.{strip_carriage_return};
-ghost use Rattle.network_players.specs.Addresses.{addressed_name};
-ghost use Rattle.match_season.specs.Schedules.{is_passed, clock_of, spaced_words, cut_lines};
+ghost use Rattle.match_plans.specs.Addresses.{addressed_name};
+ghost use Rattle.match_plans.specs.Schedules.{is_passed, clock_of, spaced_words, cut_lines};
 
+use crate::addresses::{PlayerAddress, player_address};
 use crate::plan::MatchPlan;
 use game_core::numeral::plain_number;
-use network_players::{PlayerAddress, player_address};
 use std::alloc::{AllocError, AllocFailed, Global};
 use std::str;
 use thiserror::Error;

@@ -1,5 +1,5 @@
 use Rattle.std.proofs.Common.{◌≤◌, length}
-use Rattle.match_season.proofs.schedule.read_schedule.Given as goal
+use Rattle.match_plans.proofs.schedule.read_schedule.Given as goal
 
 abbrev pub invariant-loop-place : goal.invariant-loop-place
 invariant-loop-place l = length l.plans.items ≤ 1024

@@ -1,7 +1,8 @@
-//! Players, as the command line names them.
+//! Players, as a word names them.
 ghost use Rattle.std.specs.Prelude.{◌≡◌, IfSome};
-ghost use Rattle.network_players.specs.Addresses.{addressed_name};
+ghost use Rattle.match_plans.specs.Addresses.{addressed_name};
 
+use crate::numbers::decimal;
 use match_book::is_name;
 use std::net::Ipv6Addr;
 
@@ -12,14 +13,6 @@ pub struct PlayerAddress<'a> {
     pub name: &'a str,
     pub host: &'a str,
     pub port: u16,
-}
-
-/// The number that a text of digits is, if it is at most `most`.
-pub fn decimal(text: &str, most: u64) -> Option<u64> {
-    if text.is_empty() || !text.bytes().all(|b| b.is_ascii_digit()) {
-        return None;
-    }
-    text.parse().ok().filter(|number| *number <= most)
 }
 
 /// The IPv6 address in brackets, or the host as it is written.
