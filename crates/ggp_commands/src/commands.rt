@@ -13,9 +13,8 @@ use described_games::described_game;
 use desk_text::push_history;
 use game_core::{Countdown, Counted, Game};
 use match_plans::{PlayerAddress, Reach, read_schedule};
-use match_season::{
-    Entrants, Fixture, PlayedMatch, entrants_of, fixtures, play_season, played_match,
-};
+use match_play::{Entrants, PlayedMatch, entrants_of, played_match};
+use match_season::{Fixture, fixtures, play_season};
 use http_exchange::WireFault;
 use match_messages::{Info, info_message, read_info};
 use match_workers::Player;

@@ -1,2 +1,1 @@
-mod EndedMatches
 mod WrittenLines

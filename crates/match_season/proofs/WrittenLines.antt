@@ -6,7 +6,8 @@ use Rattle.std.specs.Io.KnownBytes.{Appends}
 use Rattle.std.proofs.KnownBytes.{Appends-nil, Appends-trans}
 use Rattle.std.proofs.lemmas.List.{append_assoc, append-nil}
 use Rattle.game_core.specs.Bytes.{line_feed}
-use Rattle.match_season.specs.Seasons.{AreRecords, IsEndedMatch, IsMatchRecord, IsAccountOfDesk, WritesRecords, WritesAccounts, WritesSeason}
+use Rattle.match_play.specs.EndedMatches.{IsEndedMatch}
+use Rattle.match_season.specs.Seasons.{AreRecords, IsMatchRecord, IsAccountOfDesk, WritesRecords, WritesAccounts, WritesSeason}
 use Rattle.match_season.specs.Seasons.AreRecords.{none, more}
 use Rattle.match_season.specs.Seasons.AreAccounts.{none as no_account, more as one_more}
 

@@ -1,3 +1,1 @@
-pub mod Matches
 pub mod Seasons
-pub mod RoleTurns

@@ -1,11 +1,11 @@
 //! A season: the matches of a schedule, some of them at once, each on a desk of its own.
 ghost use denote.Param.Send.{IsSend, IsSync};
 
-use crate::playing::{Entrants, MatchFault, ended_match, entrants_of};
 use crate::season_output::{Over, RecordOrder, SeasonFault, write_season};
 use crossbeam_channel::{Sender, bounded};
 use game_core::Counted;
 use match_plans::{MatchPlan, Reach};
+use match_play::{Entrants, MatchFault, ended_match, entrants_of};
 use match_workers::Player;
 use std::alloc::{AllocError, Global};
 use std::io::Write;

@@ -4,9 +4,9 @@ ghost use Rattle.std.specs.Io.KnownBytes.{Appends};
 ghost use Rattle.game_core.specs.Bytes.{line_feed};
 ghost use Rattle.match_season.specs.Seasons.{IsAccountOfDesk, WritesRecords, WritesAccounts, WritesSeason};
 
-use crate::playing::{EndedMatch, MatchFault};
 use crossbeam_channel::Receiver;
 use game_core::{Counted, Text};
+use match_play::{EndedMatch, MatchFault};
 use std::alloc::{AllocError, AllocFailed, Global};
 use std::fmt::Write as _;
 use std::io::Write;

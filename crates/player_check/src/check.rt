@@ -6,7 +6,7 @@ use crate::watched::{Exchanges, Participant, Watching};
 use described_games::{DescriptionFault, described_game};
 use game_core::{Counted, Game};
 use match_plans::{MatchPlan, PlayerAddress, Reach};
-use match_season::{Entrants, MatchFault, RoleTurn, entrants_of, played_turns};
+use match_play::{Entrants, MatchFault, RoleTurn, entrants_of, played_turns};
 use match_workers::Player;
 use network_players::{Explains, Signal};
 use std::alloc::{AllocError, AllocFailed, Global};

@@ -4,7 +4,7 @@ ghost use Rattle.player_check.specs.Verdicts.{verdict_of};
 
 use crate::watched::{Brought, Exchange};
 use match_book::UNREADABLE;
-use match_season::RoleTurn;
+use match_play::RoleTurn;
 use network_players::Shown;
 use std::fmt;
 

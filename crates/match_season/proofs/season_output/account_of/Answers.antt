@@ -1,5 +1,5 @@
 use Rattle.std.proofs.Common.{rules, subst}
-use Rattle.match_season.specs.Seasons.{IsEndedMatch}
+use Rattle.match_play.specs.EndedMatches.{IsEndedMatch}
 use Rattle.match_season.proofs.WrittenLines.{is-account}
 use Rattle.match_season.proofs.season_output.account_of.Goals as goal
 

@@ -11,8 +11,8 @@ use Rattle.match_desk.specs.Steps.{reply, after}
 use Rattle.match_desk.specs.declared.call.Call.{Call}
 use Rattle.match_desk.specs.declared.call.Reply.{Reply}
 use Rattle.desk_text.specs.Account.{history_text}
-use Rattle.match_season.specs.Matches.{IsEndedRecord}
-use Rattle.match_season.specs.Seasons.{IsEndedMatch}
+use Rattle.match_play.specs.Matches.{IsEndedRecord}
+use Rattle.match_play.specs.EndedMatches.{IsEndedMatch}
 
 -- the record of a desk's match, with the desk's account where there is one
 pub with-account : (d : ManagerValue PackedGame _) (text : List ℕ) (history : List (Entry Call Reply)) (account : Option (List ℕ))

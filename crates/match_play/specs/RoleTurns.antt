@@ -5,7 +5,7 @@ use Rattle.match_book.specs.MatchValue.{GameMatch, move_at, error_at}
 use Rattle.match_book.specs.declared.turn.Turn.{Turn}
 use Rattle.match_book.specs.Phase.{is_over}
 use Rattle.match_desk.specs.ManagerValue.{ManagerValue, game_match}
-use Rattle.match_season.specs.declared.role_turns.RoleTurn.{RoleTurn}
+use Rattle.match_play.specs.declared.role_turns.RoleTurn.{RoleTurn}
 
 -- what is told is the text of the role's move in this turn, and the error beside it
 pub record IsTurnOf {S M : Type 0} (g : Rules S M) (turns : List (Turn M)) (role : ℕ) (turn : ℕ) (told : RoleTurn) : Type 0 where

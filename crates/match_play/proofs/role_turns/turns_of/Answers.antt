@@ -1,9 +1,9 @@
 use Rattle.std.proofs.Common.{◌∙◌, [], ◌∷◌, length, length-append, Some, sym, ap, subst, arith}
 use Rattle.std.specs.Prelude.{option_map}
 use Rattle.match_workers.proofs.Places.{EachAt-push}
-use Rattle.match_season.specs.RoleTurns.{IsTurnOf}
-use Rattle.match_season.specs.declared.role_turns.RoleTurn.{RoleTurn}
-use Rattle.match_season.proofs.role_turns.turns_of.Goals as goal
+use Rattle.match_play.specs.RoleTurns.{IsTurnOf}
+use Rattle.match_play.specs.declared.role_turns.RoleTurn.{RoleTurn}
+use Rattle.match_play.proofs.role_turns.turns_of.Goals as goal
 
 pub loop-turn-preserved : goal.loop-turn-preserved
 loop-turn-preserved g c =

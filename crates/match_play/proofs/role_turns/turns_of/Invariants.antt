@@ -1,7 +1,7 @@
 use Rattle.std.proofs.Common.{◌≡◌, length}
 use Rattle.match_workers.proofs.Places.{EachAt}
-use Rattle.match_season.specs.RoleTurns.{IsTurnOf}
-use Rattle.match_season.proofs.role_turns.turns_of.Given as goal
+use Rattle.match_play.specs.RoleTurns.{IsTurnOf}
+use Rattle.match_play.proofs.role_turns.turns_of.Given as goal
 
 abbrev pub invariant-loop-turn : goal.invariant-loop-turn
 invariant-loop-turn g l = record {

@@ -1,8 +1,8 @@
 //! A match, as one of its roles had it.
 ghost use Rattle.std.specs.Prelude.{◌≡◌, ◌≢◌, ◌<◌, IfOk, IfErr, length};
 ghost use Rattle.match_desk.specs.ManagerValue.{ManagerValue};
-ghost use Rattle.match_season.specs.Matches.{RunFails};
-ghost use Rattle.match_season.specs.RoleTurns.{AreTurnsOf, AreEndedTurns};
+ghost use Rattle.match_play.specs.Matches.{RunFails};
+ghost use Rattle.match_play.specs.RoleTurns.{AreTurnsOf, AreEndedTurns};
 
 use crate::playing::{Entrants, MatchFault, refereed_match};
 use game_core::{Game, Text};

@@ -11,8 +11,8 @@ use Rattle.match_workers.specs.declared.refereeing.RefereeFault.{RefereeFault}
 use Rattle.match_workers.specs.declared.refereeing.RefereeFault.TheVariants.{Refused as MatchRefused, Unclosed, Full, Memory as RefereeMemory}
 use Rattle.described_games.specs.declared.games.DescriptionFault.{DescriptionFault}
 use Rattle.described_games.specs.declared.games.DescriptionFault.TheVariants.{Memory as DescriptionMemory, BadDescription as TextFault}
-use Rattle.match_season.specs.declared.playing.MatchFault.{MatchFault}
-use Rattle.match_season.specs.declared.playing.MatchFault.TheVariants.{Memory, BadDescription, Refused, NotEnded}
+use Rattle.match_play.specs.declared.playing.MatchFault.{MatchFault}
+use Rattle.match_play.specs.declared.playing.MatchFault.TheVariants.{Memory, BadDescription, Refused, NotEnded}
 
 -- the text is the record of this desk's first match, which is over; it is a lawful record of that match's game
 pub record IsEndedRecord {G S M : Type 0} (rules : G → Rules S M) (d : ManagerValue G M) (text : List ℕ) : Type 0 where

@@ -2,9 +2,9 @@ use Rattle.std.proofs.Common.{◌≢◌, List, ℕ, sym, subst}
 use Rattle.std.proofs.lemmas.Result.{err_from_is_err_and}
 use Rattle.described_games.specs.declared.games.DescriptionFault.{DescriptionFault}
 use Rattle.described_games.specs.declared.games.DescriptionFault.TheVariants.{Memory, BadDescription}
-use Rattle.match_season.specs.Matches.{RunFails, description_fault}
+use Rattle.match_play.specs.Matches.{RunFails, description_fault}
 use Rattle.described_games.specs.Games.{DescribesNone}
-use Rattle.match_season.proofs.playing.refereed_match.Goals as goal
+use Rattle.match_play.proofs.playing.refereed_match.Goals as goal
 
 fails : (text : List ℕ) (fault : DescriptionFault) → (fault ≢ Memory → DescribesNone text) → RunFails text (description_fault fault)
 fails text Memory refused = tt

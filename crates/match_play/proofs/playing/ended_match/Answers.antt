@@ -1,7 +1,7 @@
 use Rattle.std.proofs.Common.{◌≡◌, IfSome, subst}
 use Rattle.desk_text.specs.Account.{history_text}
-use Rattle.match_season.proofs.EndedMatches.{with-account}
-use Rattle.match_season.proofs.playing.ended_match.Goals as goal
+use Rattle.match_play.proofs.EndedMatches.{with-account}
+use Rattle.match_play.proofs.playing.ended_match.Goals as goal
 
 pub invariant_of-result : goal.invariant_of-result
 invariant_of-result g c =

@@ -4,9 +4,9 @@ ghost use Rattle.kif_text.specs.View.{views};
 ghost use Rattle.call_history.specs.History.{IsReplay};
 ghost use Rattle.match_desk.specs.ManagerValue.{ManagerValue, opening};
 ghost use Rattle.match_desk.specs.Steps.{reply, after};
-ghost use Rattle.match_season.specs.Matches.{IsEndedRecord, HasNoEndedMatch, RunFails};
 ghost use Rattle.desk_text.specs.Account.{history_text};
-ghost use Rattle.match_season.specs.Seasons.{IsEndedMatch};
+ghost use Rattle.match_play.specs.Matches.{IsEndedRecord, HasNoEndedMatch, RunFails};
+ghost use Rattle.match_play.specs.EndedMatches.{IsEndedMatch};
 
 use call_history::Entry;
 use described_games::{DescriptionFault, described_game};
@@ -46,7 +46,7 @@ pub enum MatchFault {
 
 impl From<AllocError> for MatchFault {
     ghost use Rattle.std.specs.Prelude.{◌≡◌};
-    ghost use Rattle.match_season.specs.declared.playing.MatchFault.TheVariants.{Memory};
+    ghost use Rattle.match_play.specs.declared.playing.MatchFault.TheVariants.{Memory};
 
     ghost from_gives = { λ _ given. given ≡ Memory };
 
@@ -63,7 +63,7 @@ impl<T: Drop> From<AllocFailed<T>> for MatchFault {
 
 impl From<DescriptionFault> for MatchFault {
     ghost use Rattle.std.specs.Prelude.{◌≡◌};
-    ghost use Rattle.match_season.specs.Matches.{description_fault};
+    ghost use Rattle.match_play.specs.Matches.{description_fault};
 
     ghost from_gives = { λ fault given. given ≡ description_fault fault };
 
@@ -77,7 +77,7 @@ impl From<DescriptionFault> for MatchFault {
 
 impl From<RefereeFault> for MatchFault {
     ghost use Rattle.std.specs.Prelude.{◌≡◌};
-    ghost use Rattle.match_season.specs.Matches.{referee_fault};
+    ghost use Rattle.match_play.specs.Matches.{referee_fault};
 
     ghost from_gives = { λ fault given. given ≡ referee_fault fault };
 

@@ -1,0 +1,3 @@
+pub mod EndedMatches
+pub mod Matches
+pub mod RoleTurns
