@@ -12,15 +12,14 @@ use crate::script_fault::ScriptFault;
 use described_games::described_game;
 use desk_text::push_history;
 use game_core::{Countdown, Counted, Game};
+use match_log::{LoggedPlayer, Logging, Progress, StatusStream, Telling};
 use match_plans::{PlayerAddress, Reach, read_schedule};
 use match_play::{Entrants, PlayedMatch, entrants_of, played_match};
 use match_season::{Fixture, fixtures, play_season};
 use http_exchange::WireFault;
 use match_messages::{Info, info_message, read_info};
 use match_workers::Player;
-use network_players::{
-    ContactFault, Explains, LoggedPlayer, Logging, Progress, StatusStream, Telling, contact,
-};
+use network_players::{ContactFault, Explains, contact};
 use player_check::check_player;
 use std::alloc::Global;
 use std::fmt::Write as _;

@@ -35,6 +35,14 @@ pub enum ContactFault {
     Exchange(WireFault),
 }
 
+/// Who can say why the last message brought no answer.
+pub trait Explains {
+    /// None where it brought one, or where nothing more is known.
+    fn why(&self) -> Option<ContactFault> {
+        None
+    }
+}
+
 /// The fault of a step before the exchange that failed with an error of this kind: this one, but for want of memory and of time.
 fn step_fault(kind: ErrorKind, otherwise: ContactFault) -> ContactFault
     ensures { result ≡ step_fault kind otherwise }

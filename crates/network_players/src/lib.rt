@@ -1,20 +1,16 @@
-//! Players that are reached over the network: a message on a connection of its own with one deadline, the rest between two messages,
-//! and what is told of it on a stream.
+//! Players that are reached over the network: a message on a connection of its own with one deadline, and the rest between two
+//! messages.
 //!
-//! `Sockets` reaches players over HTTP; `Logging` reaches them as another `Reach` does, and tells what they are asked.
+//! `Sockets` reaches players over HTTP.
 //!
 //! Free functions take the allocator first, behind a handle for waiting or the network.
 #![tactic(auto)]
 
 mod contacting;
 mod deadline;
-mod logging;
 mod signal;
 mod socket_player;
-mod status;
 
-pub use contacting::{ContactFault, contact};
-pub use logging::{Explains, LoggedPlayer, Logging, Shown, Telling};
+pub use contacting::{ContactFault, Explains, contact};
 pub use signal::{Pace, Signal, time_since};
 pub use socket_player::{SocketPlayer, Sockets, answer_of};
-pub use status::{Progress, StatusStream};

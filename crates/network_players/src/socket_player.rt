@@ -2,8 +2,7 @@
 ghost use Rattle.std.specs.Prelude.{◌≡◌, ◌<◌, length};
 ghost use Rattle.network_players.specs.Contacts.{answer_of, contact_answer};
 
-use crate::contacting::{ContactFault, contact};
-use crate::logging::Explains;
+use crate::contacting::{ContactFault, Explains, contact};
 use crate::signal::{Pace, Signal};
 use game_core::Text;
 use match_book::Answer;

@@ -4,8 +4,8 @@ ghost use Rattle.player_check.specs.Verdicts.{verdict_of};
 
 use crate::watched::{Brought, Exchange};
 use match_book::UNREADABLE;
+use match_log::Shown;
 use match_play::RoleTurn;
-use network_players::Shown;
 use std::fmt;
 
 /// What stands above the columns.

@@ -1,9 +1,10 @@
 //! A player that is watched, among players that answer nothing.
 
 use match_book::Answer;
+use match_log::Shown;
 use match_plans::{PlayerAddress, Reach, Seat};
 use match_workers::Player;
-use network_players::{ContactFault, Explains, Pace, Shown, Signal, time_since};
+use network_players::{ContactFault, Explains, Pace, Signal, time_since};
 use std::alloc::{AllocError, Global};
 use std::sync::{Mutex, Wait};
 use std::time::{Clock, Instant};

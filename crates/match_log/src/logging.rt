@@ -1,12 +1,11 @@
 //! Matches that are told while they run: whoever reaches players through `Logging` reads each message with its answer, or how far the
 //! matches are.
 
-use crate::contacting::ContactFault;
-use crate::signal::time_since;
 use crate::status::{Progress, StatusStream};
 use match_book::Answer;
 use match_plans::{PlayerAddress, Reach, Seat};
 use match_workers::Player;
+use network_players::{ContactFault, Explains, time_since};
 use std::alloc::{AllocError, Global};
 use std::fmt;
 use std::fmt::Write as _;
@@ -14,14 +13,6 @@ use std::io::Write;
 use std::sync::{Mutex, Wait};
 use std::time::{Clock, Duration, Instant};
 use whole_streams::Pieces;
-
-/// Who can say why the last message brought no answer.
-pub trait Explains {
-    /// None where it brought one, or where nothing more is known.
-    fn why(&self) -> Option<ContactFault> {
-        None
-    }
-}
 
 /// How many bytes of a message or an answer a line shows.
 const SHOWN: usize = 60;

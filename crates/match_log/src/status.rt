@@ -1,6 +1,6 @@
 //! One line of a terminal that tells how far matches are, and is written anew as they go on.
 
-use crate::signal::time_since;
+use network_players::time_since;
 use std::fmt::Write as _;
 use std::io;
 use std::io::Write;
