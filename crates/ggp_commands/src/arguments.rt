@@ -1,8 +1,8 @@
 //! Reading the command line.
 
-use crate::rules::Rules;
 use clap::error::ErrorKind;
 use clap::{Arg, ArgAction, ArgMatches, Command};
+use game_commands::{GameSource, Rules};
 use match_plans::{MAX_MATCHES, MatchPlan, PlayerAddress, decimal, player_address};
 use match_season::{RecordOrder, SeasonForm};
 use player_check::CheckPlan;
@@ -29,14 +29,6 @@ pub enum Task<'a> {
     Check(PlayerTrial<'a>),
     /// To show this text: the help, or the version.
     Show(String),
-}
-
-/// Where a game comes from.
-#[derive(Clone, Copy, Debug, PartialEq, Eq)]
-pub enum GameSource<'a> {
-    /// Countdown, with a heap of this size, in or out of its range.
-    Countdown(u8),
-    Described(Rules<'a>),
 }
 
 /// One match: the rules of its game, whether each message is told on standard error, and whether the account of the match is wanted.

@@ -1,25 +1,18 @@
 //! The commands, over any streams, runtime and players.
 
-use crate::arguments::{
-    ArgumentFault, GameSource, PlayerTrial, RunPlan, SeasonPlan, Task, read_arguments,
-};
-use crate::checking::{check_record, check_records};
-use crate::fault::Fault;
-use crate::replaying::replay_account;
-use crate::rules::{rules_text, told_rules};
-use crate::script::run_script;
-use crate::script_fault::ScriptFault;
+use crate::arguments::{PlayerTrial, RunPlan, SeasonPlan, Task, read_arguments};
+use crate::faults::{of_arguments, of_check, of_contact, of_match, of_season};
 use described_games::described_game;
 use desk_text::push_history;
-use game_core::{Countdown, Counted, Game};
+use game_commands::{Desk, Fault, Replay, Verify, VerifyLines, for_game, rules_text, told_rules};
+use game_core::Counted;
 use match_log::{LoggedPlayer, Logging, Progress, StatusStream, Telling};
 use match_plans::{PlayerAddress, Reach, read_schedule};
 use match_play::{Entrants, PlayedMatch, entrants_of, played_match};
 use match_season::{Fixture, fixtures, play_season};
-use http_exchange::WireFault;
-use match_messages::{Info, info_message, read_info};
+use match_wire::{Info, info_message, read_info};
 use match_workers::Player;
-use network_players::{ContactFault, Explains, contact};
+use network_players::{Explains, contact};
 use player_check::check_player;
 use std::alloc::Global;
 use std::fmt::Write as _;
@@ -29,55 +22,10 @@ use std::rt::Files;
 use std::sync::{Mutex, Wait};
 use std::thread::Threads;
 use std::time::Clock;
-use whole_streams::{Pieces, WriteFault, read_to_end, write_all};
+use whole_streams::{Pieces, read_to_end, write_all};
 
 /// How many seconds a player has to answer INFO.
 const INFO_SECONDS: u32 = 10;
-
-impl From<ArgumentFault> for Fault {
-    fn from(fault: ArgumentFault) -> Fault {
-        match fault {
-            ArgumentFault::WrongUse => Fault::WrongUse,
-            ArgumentFault::Memory => Fault::Memory,
-        }
-    }
-}
-
-impl From<ScriptFault> for Fault {
-    ghost use Rattle.std.specs.Prelude.{◌≡◌};
-    ghost use Rattle.ggp_commands.specs.Faults.{script_fault};
-
-    ghost from_gives = { λ fault given. given ≡ script_fault fault };
-
-    fn from(fault: ScriptFault) -> Fault {
-        match fault {
-            ScriptFault::ReadFault => Fault::ReadFault,
-            ScriptFault::TooLong => Fault::InputTooLong,
-            ScriptFault::Memory => Fault::Memory,
-            ScriptFault::WriteFault => Fault::WriteFault,
-        }
-    }
-}
-
-impl From<WriteFault> for Fault {
-    ghost use Rattle.std.specs.Prelude.{◌≡◌};
-    ghost use Rattle.ggp_commands.specs.declared.fault.Fault.TheVariants.{WriteFault};
-
-    ghost from_gives = { λ _ given. given ≡ WriteFault };
-
-    fn from(_: WriteFault) -> Fault {
-        Fault::WriteFault
-    }
-}
-
-impl From<ContactFault> for Fault {
-    fn from(fault: ContactFault) -> Fault {
-        match fault {
-            ContactFault::Memory | ContactFault::Exchange(WireFault::Memory) => Fault::Memory,
-            _ => Fault::NoAnswer,
-        }
-    }
-}
 
 /// The stream for faults, and what is told on it of matches beside them.
 #[derive(Drop)]
@@ -173,7 +121,10 @@ where
     S: Reach<P>,
 {
     let words: Vec<&str> = words.iter().map(|word| word.as_str()).collect(alloc)?;
-    let task = read_arguments(alloc, words.as_slice())?;
+    let task = match read_arguments(alloc, words.as_slice()) {
+        Ok(task) => task,
+        Err(fault) => return Err(of_arguments(fault)),
+    };
     let console = Console {
         stream: Mutex::new(StatusStream::new(errors)),
         progress: Progress::new(),
@@ -215,104 +166,6 @@ where
     }
 }
 
-/// A command over standard input and output that wants one game.
-trait GameCommand {
-    /// Does the command's work for this game.
-    fn perform<G: Game + Drop, R: Read, W: Write>(
-        alloc: Global,
-        game: G,
-        reader: &mut Counted<R>,
-        writer: &mut Counted<W>,
-    ) -> Result<(), Fault>;
-}
-
-/// Does a command's work for the game that the command line gives.
-fn for_game<C: GameCommand, F: Files, R: Read, W: Write>(
-    files: &F,
-    alloc: Global,
-    source: GameSource<'_>,
-    reader: &mut Counted<R>,
-    writer: &mut Counted<W>,
-) -> Result<(), Fault> {
-    match source {
-        GameSource::Countdown(size) => {
-            let game = Countdown::new(size).ok_or(Fault::WrongUse)?;
-            C::perform(alloc, game, reader, writer)
-        }
-        GameSource::Described(rules) => {
-            let text = rules_text(files, alloc, rules)?;
-            let game = described_game(alloc, &text)?;
-            C::perform(alloc, game, reader, writer)
-        }
-    }
-}
-
-/// Answers a script, with the game as number 0.
-struct Desk;
-
-impl GameCommand for Desk {
-    fn perform<G: Game + Drop, R: Read, W: Write>(
-        alloc: Global,
-        game: G,
-        reader: &mut Counted<R>,
-        writer: &mut Counted<W>,
-    ) -> Result<(), Fault> {
-        let mut games = Vec::new(alloc);
-        games.push(game)?;
-        match run_script(alloc, reader, writer, games)? {
-            0 => Ok(()),
-            count => Err(Fault::BadLines(count)),
-        }
-    }
-}
-
-/// Checks a record of the game.
-struct Verify;
-
-impl GameCommand for Verify {
-    fn perform<G: Game + Drop, R: Read, W: Write>(
-        alloc: Global,
-        game: G,
-        reader: &mut Counted<R>,
-        writer: &mut Counted<W>,
-    ) -> Result<(), Fault> {
-        check_record(alloc, &game, reader, writer)
-    }
-}
-
-/// Checks each line as a record of the game.
-struct VerifyLines;
-
-impl GameCommand for VerifyLines {
-    fn perform<G: Game + Drop, R: Read, W: Write>(
-        alloc: Global,
-        game: G,
-        reader: &mut Counted<R>,
-        writer: &mut Counted<W>,
-    ) -> Result<(), Fault> {
-        match check_records(alloc, &game, reader, writer)? {
-            0 => Ok(()),
-            count => Err(Fault::UnlawfulRecords(count)),
-        }
-    }
-}
-
-/// Makes the calls of an account again, with the game as number 0.
-struct Replay;
-
-impl GameCommand for Replay {
-    fn perform<G: Game + Drop, R: Read, W: Write>(
-        alloc: Global,
-        game: G,
-        reader: &mut Counted<R>,
-        writer: &mut Counted<W>,
-    ) -> Result<(), Fault> {
-        let mut games = Vec::new(alloc);
-        games.push(game)?;
-        replay_account(alloc, reader, writer, games)
-    }
-}
-
 fn run<H, P, S, W: Write, E: Write + Send>(
     rt: &H,
     alloc: Global,
@@ -331,7 +184,10 @@ where
     let entrants: Entrants<LoggedPlayer<'_, H, P, &mut E>> = entrants_of(
         alloc, &logging, 0, &run.plan,
     )?;
-    let PlayedMatch { record, history } = played_match(rt, alloc, entrants, &rules)?;
+    let PlayedMatch { record, history } = match played_match(rt, alloc, entrants, &rules) {
+        Ok(played) => played,
+        Err(fault) => return Err(of_match(fault)),
+    };
     let mut output = record.bytes;
     output.push(b'\n')?;
     if run.has_history {
@@ -374,10 +230,11 @@ where
         plan.form,
         writer,
         &console.stream,
-    )?;
+    );
     match written {
-        0 => Ok(()),
-        count => Err(Fault::NoRecords(count)),
+        Ok(0) => Ok(()),
+        Ok(count) => Err(Fault::NoRecords(count)),
+        Err(fault) => Err(of_season(fault)),
     }
 }
 
@@ -397,7 +254,10 @@ fn info<N: Net + Clock, W: Write>(
     player: &PlayerAddress<'_>,
     writer: &mut Counted<W>,
 ) -> Result<(), Fault> {
-    let answer = contact(rt, alloc, player, INFO_SECONDS, &info_message())?;
+    let answer = match contact(rt, alloc, player, INFO_SECONDS, &info_message()) {
+        Ok(answer) => answer,
+        Err(fault) => return Err(of_contact(fault)),
+    };
     let info = read_info(alloc, answer.as_slice())?;
     Ok(write_all(writer, info_line(info))?)
 }
@@ -425,9 +285,10 @@ where
         &trial.plan,
         &rules,
         writer,
-    )?;
+    );
     match bad {
-        0 => Ok(()),
-        count => Err(Fault::BadAnswers(count)),
+        Ok(0) => Ok(()),
+        Ok(count) => Err(Fault::BadAnswers(count)),
+        Err(fault) => Err(of_check(fault)),
     }
 }

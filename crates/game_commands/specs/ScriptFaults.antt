@@ -3,8 +3,8 @@ use Rattle.std.specs.Prelude.{◌≡◌, ℕ, ◌<◌, ◌≤◌, List, length, 
 use Rattle.std.specs.Io.KnownBytes.{Appends, IsAtEnd}
 use Rattle.game_core.specs.Counting.{Counting, one_more}
 use Rattle.whole_streams.specs.Streams.{StopsReading}
-use Rattle.ggp_commands.specs.declared.script_fault.ScriptFault.{ScriptFault}
-use Rattle.ggp_commands.specs.declared.script_fault.ScriptFault.TheVariants.{ReadFault, TooLong, Memory, WriteFault}
+use Rattle.game_commands.specs.declared.script_fault.ScriptFault.{ScriptFault}
+use Rattle.game_commands.specs.declared.script_fault.ScriptFault.TheVariants.{ReadFault, TooLong, Memory, WriteFault}
 
 -- how many bytes a script has at most
 abbrev pub max_script : ℕ

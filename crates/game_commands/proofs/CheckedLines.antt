@@ -13,11 +13,11 @@ use Rattle.whole_streams.specs.Lines.{HasNoLineFeed, BeginsWithLine}
 use Rattle.whole_streams.specs.declared.whole.InputFault.{InputFault}
 use Rattle.whole_streams.specs.declared.whole.InputFault.TheVariants.{ReadFault, TooLong, Memory}
 use Rattle.whole_streams.proofs.LineLemmas.{lines_begin, lines_last}
-use Rattle.ggp_commands.specs.declared.fault.Fault.{Fault}
-use Rattle.ggp_commands.specs.declared.fault.Fault.TheVariants.{Memory as MemoryFault, WriteFault}
-use Rattle.ggp_commands.specs.Faults.{input_fault}
-use Rattle.ggp_commands.specs.Verdicts.{IsVerdict, AreVerdicts, verdict_line, verdict_lines, count_unlawful}
-use Rattle.ggp_commands.specs.Checks.{BeginsWithLines, HasFirstLine, TellsVerdicts, TellsPart, LineFails, CheckStops, max_record}
+use Rattle.game_commands.specs.declared.fault.Fault.{Fault}
+use Rattle.game_commands.specs.declared.fault.Fault.TheVariants.{Memory as MemoryFault, WriteFault}
+use Rattle.game_commands.specs.Faults.{input_fault}
+use Rattle.game_commands.specs.Verdicts.{IsVerdict, AreVerdicts, verdict_line, verdict_lines, count_unlawful}
+use Rattle.game_commands.specs.Checks.{BeginsWithLines, HasFirstLine, TellsVerdicts, TellsPart, LineFails, CheckStops, max_record}
 
 -- more of the input is at hand
 pub begins_more : (text : List ℕ) (first : List (List ℕ)) (left given : List ℕ) → BeginsWithLines text first left → BeginsWithLines (text ++ given) first (left ++ given)

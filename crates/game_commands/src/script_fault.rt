@@ -24,7 +24,7 @@ pub enum ScriptFault {
 
 impl From<InputFault> for ScriptFault {
     ghost use Rattle.std.specs.Prelude.{◌≡◌};
-    ghost use Rattle.ggp_commands.specs.Faults.{script_input_fault};
+    ghost use Rattle.game_commands.specs.Faults.{script_input_fault};
 
     ghost from_gives = { λ fault given. given ≡ script_input_fault fault };
 
@@ -39,7 +39,7 @@ impl From<InputFault> for ScriptFault {
 
 impl From<AllocError> for ScriptFault {
     ghost use Rattle.std.specs.Prelude.{◌≡◌};
-    ghost use Rattle.ggp_commands.specs.declared.script_fault.ScriptFault.TheVariants.{Memory};
+    ghost use Rattle.game_commands.specs.declared.script_fault.ScriptFault.TheVariants.{Memory};
 
     ghost from_gives = { λ _ given. given ≡ Memory };
 
@@ -50,7 +50,7 @@ impl From<AllocError> for ScriptFault {
 
 impl From<WriteFault> for ScriptFault {
     ghost use Rattle.std.specs.Prelude.{◌≡◌};
-    ghost use Rattle.ggp_commands.specs.declared.script_fault.ScriptFault.TheVariants.{WriteFault};
+    ghost use Rattle.game_commands.specs.declared.script_fault.ScriptFault.TheVariants.{WriteFault};
 
     ghost from_gives = { λ _ given. given ≡ WriteFault };
 

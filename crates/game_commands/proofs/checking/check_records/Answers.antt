@@ -4,10 +4,10 @@ use Rattle.std.proofs.lemmas.List.Sums.{count_by-le-length}
 use Rattle.std.proofs.KnownBytes.{Consumes-nil, Consumes-trans, Appends-nil}
 use Rattle.std.specs.Str.Lines.{lines}
 use Rattle.whole_streams.specs.Lines.{BeginsWithLine, IsNextLine}
-use Rattle.ggp_commands.specs.Verdicts.{AreVerdicts, count_unlawful}
-use Rattle.ggp_commands.specs.Checks.{CheckStops}
-use Rattle.ggp_commands.proofs.CheckedLines.{begins_more, begins_line, begins_last, verdicts_push, lines_push, count_push, calls_on, read_stops, tell_stops}
-use Rattle.ggp_commands.proofs.checking.check_records.Goals as goal
+use Rattle.game_commands.specs.Verdicts.{AreVerdicts, count_unlawful}
+use Rattle.game_commands.specs.Checks.{CheckStops}
+use Rattle.game_commands.proofs.CheckedLines.{begins_more, begins_line, begins_last, verdicts_push, lines_push, count_push, calls_on, read_stops, tell_stops}
+use Rattle.game_commands.proofs.checking.check_records.Goals as goal
 
 pub loop-place-init : goal.loop-place-init
 loop-place-init g c = record {

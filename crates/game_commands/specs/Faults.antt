@@ -3,10 +3,10 @@ use Rattle.match_record.specs.declared.verify_fault.VerifyFault.{VerifyFault}
 use Rattle.match_record.specs.declared.verify_fault.VerifyFault.TheVariants.{Memory as CheckMemory}
 use Rattle.whole_streams.specs.declared.whole.InputFault.{InputFault}
 use Rattle.whole_streams.specs.declared.whole.InputFault.TheVariants.{ReadFault as InputReadFault, TooLong, Memory as InputMemory}
-use Rattle.ggp_commands.specs.declared.script_fault.ScriptFault.{ScriptFault}
-use Rattle.ggp_commands.specs.declared.script_fault.ScriptFault.TheVariants.{ReadFault as ScriptReadFault, TooLong as ScriptTooLong, Memory as ScriptMemory, WriteFault as ScriptWriteFault}
-use Rattle.ggp_commands.specs.declared.fault.Fault.{Fault}
-use Rattle.ggp_commands.specs.declared.fault.Fault.TheVariants.{Memory, ReadFault, InputTooLong, WriteFault, NotLawful}
+use Rattle.game_commands.specs.declared.script_fault.ScriptFault.{ScriptFault}
+use Rattle.game_commands.specs.declared.script_fault.ScriptFault.TheVariants.{ReadFault as ScriptReadFault, TooLong as ScriptTooLong, Memory as ScriptMemory, WriteFault as ScriptWriteFault}
+use Rattle.game_commands.specs.declared.fault.Fault.{Fault}
+use Rattle.game_commands.specs.declared.fault.Fault.TheVariants.{Memory, ReadFault, InputTooLong, WriteFault, NotLawful}
 
 abbrev pub script_input_fault : InputFault → ScriptFault
 script_input_fault InputReadFault = ScriptReadFault

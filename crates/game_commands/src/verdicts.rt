@@ -1,7 +1,7 @@
 //! The verdicts on records, and the lines that tell them.
 ghost use Rattle.std.specs.Prelude.{◌≡◌, IfOk, OnErr, IfErr, string_bytes};
-ghost use Rattle.ggp_commands.specs.declared.fault.Fault.TheVariants.{Memory};
-ghost use Rattle.ggp_commands.specs.Verdicts.{IsVerdict, fault_text, verdict_line};
+ghost use Rattle.game_commands.specs.declared.fault.Fault.TheVariants.{Memory};
+ghost use Rattle.game_commands.specs.Verdicts.{IsVerdict, fault_text, verdict_line};
 
 use crate::fault::Fault;
 use game_core::Game;

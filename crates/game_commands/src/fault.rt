@@ -1,16 +1,15 @@
 //! Why a command ends with a fault.
 
 use crate::rules::RulesFileFault;
+use crate::script_fault::ScriptFault;
 use described_games::DescriptionFault;
 use desk_text::refusal_word;
 use match_desk::Refusal;
-use match_record::VerifyFault;
 use match_plans::{LineFault, ScheduleFault};
-use match_play::MatchFault;
-use match_season::SeasonFault;
-use player_check::CheckFault;
+use match_record::VerifyFault;
 use std::alloc::{AllocError, AllocFailed};
 use thiserror::Error;
+use whole_streams::WriteFault;
 
 /// A fault of the program. Its text is what standard error shows behind the program's name.
 #[derive(Clone, Copy, Debug, PartialEq, Eq, Error)]
@@ -82,7 +81,7 @@ impl Fault {
 
 impl From<AllocError> for Fault {
     ghost use Rattle.std.specs.Prelude.{◌≡◌};
-    ghost use Rattle.ggp_commands.specs.declared.fault.Fault.TheVariants.{Memory};
+    ghost use Rattle.game_commands.specs.declared.fault.Fault.TheVariants.{Memory};
 
     ghost from_gives = { λ _ given. given ≡ Memory };
 
@@ -106,17 +105,6 @@ impl From<DescriptionFault> for Fault {
     }
 }
 
-impl From<MatchFault> for Fault {
-    fn from(fault: MatchFault) -> Fault {
-        match fault {
-            MatchFault::BadDescription => Fault::BadDescription,
-            MatchFault::Refused(refusal) => Fault::Refused(refusal),
-            MatchFault::NotEnded => Fault::MatchNotEnded,
-            MatchFault::Memory => Fault::Memory,
-        }
-    }
-}
-
 impl From<ScheduleFault> for Fault {
     fn from(fault: ScheduleFault) -> Fault {
         match fault {
@@ -126,21 +114,29 @@ impl From<ScheduleFault> for Fault {
     }
 }
 
-impl From<SeasonFault> for Fault {
-    fn from(fault: SeasonFault) -> Fault {
+impl From<ScriptFault> for Fault {
+    ghost use Rattle.std.specs.Prelude.{◌≡◌};
+    ghost use Rattle.game_commands.specs.Faults.{script_fault};
+
+    ghost from_gives = { λ fault given. given ≡ script_fault fault };
+
+    fn from(fault: ScriptFault) -> Fault {
         match fault {
-            SeasonFault::WriteFault => Fault::WriteFault,
-            SeasonFault::Memory => Fault::Memory,
+            ScriptFault::ReadFault => Fault::ReadFault,
+            ScriptFault::TooLong => Fault::InputTooLong,
+            ScriptFault::Memory => Fault::Memory,
+            ScriptFault::WriteFault => Fault::WriteFault,
         }
     }
 }
 
-impl From<CheckFault> for Fault {
-    fn from(fault: CheckFault) -> Fault {
-        match fault {
-            CheckFault::Match(fault) => Fault::from(fault),
-            CheckFault::WriteFault => Fault::WriteFault,
-            CheckFault::Memory => Fault::Memory,
-        }
+impl From<WriteFault> for Fault {
+    ghost use Rattle.std.specs.Prelude.{◌≡◌};
+    ghost use Rattle.game_commands.specs.declared.fault.Fault.TheVariants.{WriteFault};
+
+    ghost from_gives = { λ _ given. given ≡ WriteFault };
+
+    fn from(_: WriteFault) -> Fault {
+        Fault::WriteFault
     }
 }

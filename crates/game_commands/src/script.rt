@@ -3,7 +3,7 @@ ghost use Rattle.std.specs.Prelude.{◌≡◌, ℕ, List, length, IfOk, OnOk, If
 ghost use Rattle.std.specs.Io.KnownBytes.{Consumes, Appends, IsAtEnd};
 ghost use Rattle.std.specs.Str.Lines.{lines};
 ghost use Rattle.desk_text.specs.Script.{bad_lines, script_output};
-ghost use Rattle.ggp_commands.specs.ScriptFaults.{ScriptFails};
+ghost use Rattle.game_commands.specs.ScriptFaults.{ScriptFails};
 
 use crate::script_fault::ScriptFault;
 use desk_text::answer_script;

@@ -1,6 +1,5 @@
-//! Where a description comes from.
+//! Where a game comes from.
 
-use crate::arguments::GameSource;
 use crate::fault::Fault;
 use described_games::countdown_rules;
 use game_core::{Countdown, Counted};
@@ -18,6 +17,14 @@ pub enum Rules<'a> {
     Text(&'a str),
     /// The file's path, from the folder in which the program runs where it doesn't begin with a slash.
     File(&'a str),
+}
+
+/// Where a game comes from.
+#[derive(Clone, Copy, Debug, PartialEq, Eq)]
+pub enum GameSource<'a> {
+    /// Countdown, with a heap of this size, in or out of its range.
+    Countdown(u8),
+    Described(Rules<'a>),
 }
 
 /// How many bytes a file of rules has at most: as many as a description may have.

@@ -1,6 +1,6 @@
 use Rattle.std.proofs.Common.{rules}
 use Rattle.std.proofs.lemmas.List.{append_assoc}
-use Rattle.ggp_commands.proofs.verdicts.fault_text.Goals as goal
+use Rattle.game_commands.proofs.verdicts.fault_text.Goals as goal
 
 pub returns-in-Illegal : goal.returns-in-Illegal
 returns-in-Illegal c = rw c.in-Illegal.is (search (rules, append_assoc))

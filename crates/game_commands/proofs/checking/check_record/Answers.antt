@@ -8,9 +8,9 @@ use Rattle.match_record.specs.LawfulRecord.{IsLawfulRecord}
 use Rattle.match_record.specs.Verified.{FailsFirst}
 use Rattle.match_record.specs.declared.verify_fault.VerifyFault.{VerifyFault}
 use Rattle.match_record.specs.declared.verify_fault.VerifyFault.TheVariants.{NotJson, BadShape, Illegal, NotFirst, WrongRetired, WrongState, WrongGoals, WrongEnd, Memory}
-use Rattle.ggp_commands.specs.Checks.{CheckFails, max_record}
-use Rattle.ggp_commands.specs.Faults.{check_fault}
-use Rattle.ggp_commands.proofs.checking.check_record.Goals as goal
+use Rattle.game_commands.specs.Checks.{CheckFails, max_record}
+use Rattle.game_commands.specs.Faults.{check_fault}
+use Rattle.game_commands.proofs.checking.check_record.Goals as goal
 
 check_fails : {S M R W : Type 0} (remaining : R → Option (List ℕ)) (contents : W → Option (List ℕ)) (g : Rules S M) (text : List ℕ) (reader reader' : Counting R) (writer : Counting W) (fault : VerifyFault)
     → length text ≤ max_record → reader'.faults ≡ reader.faults → IsAtEnd (remaining reader'.stream) → (fault ≢ Memory → ¬ IsLawfulRecord g text) → FailsFirst g text fault

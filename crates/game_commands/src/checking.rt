@@ -4,8 +4,8 @@ ghost use Rattle.std.specs.Io.KnownBytes.{Consumes, Appends, IsAtEnd};
 ghost use Rattle.std.specs.Str.Lines.{lines};
 ghost use Rattle.match_record.specs.LawfulRecord.{IsLawfulRecord};
 ghost use Rattle.match_record.specs.declared.verify_fault.VerifyFault.{VerifyFault};
-ghost use Rattle.ggp_commands.specs.Verdicts.{IsVerdict, AreVerdicts, verdict_line, verdict_lines, count_unlawful};
-ghost use Rattle.ggp_commands.specs.Checks.{lawful_line, CheckFails, BeginsWithLines, LineFails, CheckStops};
+ghost use Rattle.game_commands.specs.Verdicts.{IsVerdict, AreVerdicts, verdict_line, verdict_lines, count_unlawful};
+ghost use Rattle.game_commands.specs.Checks.{lawful_line, CheckFails, BeginsWithLines, LineFails, CheckStops};
 
 use crate::fault::Fault;
 use crate::script_fault::ScriptFault;
@@ -21,7 +21,7 @@ const MAX_RECORD: usize = 16_777_216;
 
 impl From<InputFault> for Fault {
     ghost use Rattle.std.specs.Prelude.{◌≡◌};
-    ghost use Rattle.ggp_commands.specs.Faults.{input_fault};
+    ghost use Rattle.game_commands.specs.Faults.{input_fault};
 
     ghost from_gives = { λ fault given. given ≡ input_fault fault };
 
@@ -32,7 +32,7 @@ impl From<InputFault> for Fault {
 
 impl From<VerifyFault> for Fault {
     ghost use Rattle.std.specs.Prelude.{◌≡◌};
-    ghost use Rattle.ggp_commands.specs.Faults.{check_fault};
+    ghost use Rattle.game_commands.specs.Faults.{check_fault};
 
     ghost from_gives = { λ fault given. given ≡ check_fault fault };
 

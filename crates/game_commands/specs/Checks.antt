@@ -10,9 +10,9 @@ use Rattle.match_record.specs.Verified.{FailsFirst}
 use Rattle.match_record.specs.declared.verify_fault.VerifyFault.{VerifyFault}
 use Rattle.whole_streams.specs.Streams.{StopsReading}
 use Rattle.whole_streams.specs.Lines.{HasNoLineFeed, BeginsWithLine}
-use Rattle.ggp_commands.specs.Verdicts.{IsVerdict, verdict_line, verdict_lines}
-use Rattle.ggp_commands.specs.declared.fault.Fault.{Fault}
-use Rattle.ggp_commands.specs.declared.fault.Fault.TheVariants.{ReadFault, InputTooLong, Memory, NotLawful, WriteFault}
+use Rattle.game_commands.specs.Verdicts.{IsVerdict, verdict_line, verdict_lines}
+use Rattle.game_commands.specs.declared.fault.Fault.{Fault}
+use Rattle.game_commands.specs.declared.fault.Fault.TheVariants.{ReadFault, InputTooLong, Memory, NotLawful, WriteFault}
 
 -- how many bytes a record has at most
 abbrev pub max_record : ℕ

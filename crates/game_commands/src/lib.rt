@@ -1,0 +1,21 @@
+//! The commands over standard input and output that want one game and no players: a script on a desk, the check of a record or of each
+//! line as one, and the calls of an account made again.
+//!
+//! `for_game` does the work of one of them for the game that the command line gives; `Fault` is every fault of the program.
+//!
+//! Free functions take the allocator first, behind a handle for files.
+#![tactic(auto)]
+
+mod checking;
+mod commands;
+mod fault;
+mod replaying;
+mod rules;
+mod script;
+mod script_fault;
+mod verdicts;
+
+pub use commands::{Desk, GameCommand, Replay, Verify, VerifyLines, for_game};
+pub use fault::Fault;
+pub use rules::{GameSource, Rules, RulesFileFault, rules_text, told_rules};
+pub use script_fault::ScriptFault;
