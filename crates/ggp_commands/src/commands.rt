@@ -10,7 +10,7 @@ use match_log::{LoggedPlayer, Logging, Progress, StatusStream, Telling};
 use match_plans::{PlayerAddress, Reach, read_schedule};
 use match_play::{Entrants, PlayedMatch, entrants_of, played_match};
 use match_season::{Fixture, fixtures, play_season};
-use match_wire::{Info, info_message, read_info};
+use match_messages::{Info, info_message, read_info};
 use match_workers::Player;
 use network_players::{Explains, contact};
 use player_check::check_player;

@@ -4,7 +4,7 @@ use crate::arguments::ArgumentFault;
 use game_commands::Fault;
 use match_play::MatchFault;
 use match_season::SeasonFault;
-use match_wire::WireFault;
+use http_exchange::WireFault;
 use network_players::ContactFault;
 use player_check::CheckFault;
 
