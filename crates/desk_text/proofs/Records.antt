@@ -6,7 +6,7 @@ use Rattle.game_core.specs.Play.{Rules}
 use Rattle.match_book.specs.MatchValue.{GameMatch}
 use Rattle.match_desk.specs.ManagerValue.{ManagerValue, DeskMatch, game_of, game_match}
 use Rattle.match_record.specs.RecordTree.{record_text}
-use Rattle.match_record.proofs.RecordParts.{take-next}
+use Rattle.match_record.proofs.RecordLists.{take-next}
 use Rattle.desk_text.specs.Script.{record_line, records}
 
 -- the record of a match with its game, as a line: nothing where there is none

@@ -6,7 +6,7 @@ use Rattle.std.specs.Str.Lines.{lines}
 use Rattle.game_core.specs.Counting.{Counting, last_count, one_more}
 use Rattle.game_core.specs.Play.{Rules}
 use Rattle.match_record.specs.LawfulRecord.{IsLawfulRecord}
-use Rattle.match_record.specs.Verified.{FailsFirst}
+use Rattle.record_check.specs.Verified.{FailsFirst}
 use Rattle.match_record.specs.declared.verify_fault.VerifyFault.{VerifyFault}
 use Rattle.whole_streams.specs.Streams.{StopsReading}
 use Rattle.whole_streams.specs.Lines.{HasNoLineFeed, BeginsWithLine}

@@ -5,7 +5,8 @@ ghost use Rattle.game_commands.specs.Verdicts.{IsVerdict, fault_text, verdict_li
 
 use crate::fault::Fault;
 use game_core::Game;
-use match_record::{VerifyFault, verify};
+use match_record::VerifyFault;
+use record_check::verify;
 use std::alloc::{AllocError, Global};
 
 /// The verdict on a text: none where it is a lawful record.

@@ -18,7 +18,7 @@ use Rattle.match_record.specs.declared.record_parts.RecordParts.{RecordParts}
 use Rattle.match_record.specs.declared.record_parts.Version.{Version}
 use Rattle.match_record.specs.declared.verify_fault.VerifyFault.{VerifyFault}
 use Rattle.match_record.specs.declared.verify_fault.VerifyFault.TheVariants.{BadShape, Memory}
-use Rattle.match_record.proofs.RecordParts.{prefixes_get}
+use Rattle.match_record.proofs.RecordLists.{prefixes_get}
 
 -- ---- each key of a list
 

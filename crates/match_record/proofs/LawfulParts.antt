@@ -30,7 +30,7 @@ use Rattle.match_record.specs.declared.record_parts.Key.TheVariants.{Cause as At
 use Rattle.match_record.specs.declared.record_parts.Version.{Version}
 use Rattle.match_record.specs.declared.record_parts.Version.TheVariants.{Second}
 use Rattle.match_record.proofs.KeyTable.{each_key, each_same}
-use Rattle.match_record.proofs.RecordParts.{length_prefixes}
+use Rattle.match_record.proofs.RecordLists.{length_prefixes}
 
 -- ---- causes
 

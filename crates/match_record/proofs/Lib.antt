@@ -1,5 +1,5 @@
 pub mod Ascii
-pub mod RecordParts
+pub mod RecordLists
 pub mod ErrorWords
 pub mod JsonData
 pub mod KeyTable
@@ -7,10 +7,6 @@ pub mod TakenKeys
 pub mod LawfulParts
 pub mod WrittenRecords
 pub mod OneRecord
+pub mod ReadRecords
 pub mod RoleNumbers
 pub mod RecordShapes
-pub mod RecordedMoves
-pub mod Replays
-pub mod RecordEnds
-pub mod LawfulRecords
-pub mod CheckedRecords

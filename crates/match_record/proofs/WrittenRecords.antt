@@ -33,7 +33,7 @@ use Rattle.match_record.specs.declared.record_parts.Version.{Version}
 use Rattle.match_record.specs.declared.record_parts.Version.TheVariants.{First, Second}
 use Rattle.match_record.proofs.KeyTable.{put_each, put_all}
 use Rattle.match_record.proofs.LawfulParts.{lawful_parts_have_shape}
-use Rattle.match_record.proofs.RecordParts.{part_of, take-next, map_twice, record_is_shallow}
+use Rattle.match_record.proofs.RecordLists.{part_of, take-next, map_twice, record_is_shallow}
 use Rattle.match_record.proofs.RecordShapes.{goals_small}
 
 -- ---- one token, and more

@@ -31,6 +31,10 @@ pub record IsRecordOf {S M : Type 0} (g : Rules S M) (text : List ℕ) (tree : D
 abbrev pub IsLawfulRecord : {S M : Type 0} → Rules S M → List ℕ → Type 0
 IsLawfulRecord {S} {M} g text = (tree : Data) × (m : MatchValue M) × IsRecordOf g text tree m
 
+-- these are the parts of the record of some lawful match, in their version
+abbrev pub AreLawfulParts : {S M : Type 0} → Rules S M → RecordParts → Type 0
+AreLawfulParts {S} {M} g p = (m : MatchValue M) × IsLawfulMatch g m × (parts_in g p.version m ≡ p)
+
 -- what counts as standing at the key is a value of the key's shape, as it is written
 abbrev pub IsShaped : {S M : Type 0} → Rules S M → Data → Key → Type 0
 IsShaped g tree key = (x : (row_of key).Value) × (found_at tree key ≡ Some ((row_of key).written x)) × (row_of key).IsOfShape g x

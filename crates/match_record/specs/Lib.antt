@@ -1,6 +1,4 @@
 pub mod RecordTree
 pub mod LawfulRecord
 pub mod RecordParts
-pub mod Replaying
-pub mod Verified
 pub mod Internal

@@ -8,7 +8,6 @@
 //! Free functions take the allocator first.
 #![tactic(auto)]
 
-mod ending;
 mod error_texts;
 mod json_values;
 pub mod laws;
@@ -16,14 +15,11 @@ mod record;
 mod record_parts;
 mod record_reading;
 mod record_words;
-mod recorded_turn;
-mod replaying;
 mod verify_fault;
-mod verifying;
 mod writing;
 
 pub use record::{push_record, record_json};
-pub use record_parts::Key;
+pub use record_parts::{Goals, Key, Marks, RecordParts, TextLists, Version};
+pub use record_reading::read_record;
 pub use verify_fault::VerifyFault;
-pub use verifying::verify;
 pub use writing::phase_text;

@@ -1,5 +1,5 @@
 //! A record, read from its text.
-ghost use Rattle.std.specs.Prelude.{◌≡◌, ◌≤◌, ◌<◌, ◌^◌, ◌==◌, ◌||◌, ◌↔◌, ◌⊎◌, All, IfErr, IfOk, IsTrue, OnOk, Some, None, if◌then◌else◌, length, true};
+ghost use Rattle.std.specs.Prelude.{◌≡◌, ◌≢◌, ◌≤◌, ◌<◌, ◌^◌, ◌==◌, ◌||◌, ◌↔◌, ◌⊎◌, All, IfErr, IfOk, IsTrue, OnOk, Some, None, if◌then◌else◌, length, true};
 ghost use Rattle.serde_json.specs.Data.{Data, string};
 ghost use Rattle.serde_json.specs.View.{view};
 ghost use Rattle.game_core.specs.Play.{max_goal};
@@ -7,7 +7,7 @@ ghost use Rattle.match_book.specs.Names.{is_clock, is_name, is_strikes};
 ghost use Rattle.match_record.specs.Internal.JsonValues.{data_in, data_of};
 ghost use Rattle.match_record.specs.Internal.KeyReading.{IsReadInto, SayTheSame, keys_before};
 ghost use Rattle.match_record.specs.Internal.Shown.{AnyShape, Shows};
-ghost use Rattle.match_record.specs.LawfulRecord.{HasNoShape, IsFirstWithout, IsJson, IsShaped};
+ghost use Rattle.match_record.specs.LawfulRecord.{AreLawfulParts, HasNoShape, IsFirstWithout, IsJson, IsLawfulRecord, IsShaped};
 ghost use Rattle.match_record.specs.RecordParts.{AreErrors, AreGoals, AreMoves, ArePlayers, each_role};
 ghost use Rattle.match_record.specs.RecordTree.{HasShape, Holds, IsShapedAt, goal_values_tree, keys, marks_tree, since_second, text_lists_tree, texts_tree, unless_there, version_of, version_said, version_tree, whole_tree};
 ghost use Rattle.match_record.specs.declared.record_parts.Key.{Key};
@@ -327,7 +327,8 @@ fn tree_of(alloc: Global, text: &[u8]) -> Result<Value, VerifyFault>
     }
 }
 
-/// What a text says, if it has the shape of a record of the game.
+/// What a text says, if it has the shape of a record of the game. The text is a lawful record exactly where what it
+/// says is what the record of some lawful match says.
 pub fn read_record<G: Game>(
     alloc: Global,
     game: &G,
@@ -335,6 +336,8 @@ pub fn read_record<G: Game>(
 ) -> Result<RecordParts, VerifyFault>
     ensures ok { IfOk result (λ p. (tree : Data) × IsJson text.now tree × Holds tree p × HasShape (G.rules game.now) p) }
     ensures err { IfErr result (HasNoShape (G.rules game.now) text.now) }
+    ensures lawful { IfOk result (λ p. IsLawfulRecord (G.rules game.now) text.now ↔ AreLawfulParts (G.rules game.now) p) }
+    ensures refused { IfErr result (λ fault. fault ≢ Memory → ¬ IsLawfulRecord (G.rules game.now) text.now) }
 {
     let tree = tree_of(alloc, text)?;
     let parts = parts_in(alloc, game, tree)?;

@@ -15,4 +15,4 @@ pub use Rattle.http_exchange.specs.WireLaws
 pub use Rattle.match_record.specs.RecordTree
 pub use Rattle.match_record.specs.RecordParts
 pub use Rattle.match_record.specs.LawfulRecord
-pub use Rattle.match_record.specs.Verified
+pub use Rattle.record_check.specs.Verified

@@ -10,4 +10,5 @@ pub use http_exchange::{WireFault, exchange, give_reply, take_request};
 pub use match_messages::{
     Brief, Info, Message, MessageFault, info_message, message, read_info, read_message,
 };
-pub use match_record::{Key, VerifyFault, phase_text, record_json, verify};
+pub use match_record::{Key, VerifyFault, phase_text, record_json};
+pub use record_check::verify;

@@ -2,7 +2,7 @@ use Rattle.std.proofs.Common.{◌≡◌, ◌<◌, ◌∙◌, arith}
 use Rattle.std.specs.Prelude.{slice_get}
 use Rattle.serde_json.specs.Data.{string}
 use Rattle.match_record.proofs.Ascii.{error_is_ascii}
-use Rattle.match_record.proofs.RecordParts.{turn-widths}
+use Rattle.match_record.proofs.RecordLists.{turn-widths}
 use Rattle.match_record.proofs.WrittenRecords.{one_added, part_begun, part_more, part_written}
 use Rattle.match_record.proofs.record.write_errors_at.Goals as goal
 

@@ -4,7 +4,7 @@ use Rattle.match_book.specs.Phase.{goal_of}
 use Rattle.match_record.specs.Internal.Written.{HasAdded, HasBegun, IsWritten, each_tokens}
 use Rattle.match_record.specs.RecordParts.{goals_from}
 use Rattle.match_record.specs.RecordTree.{list_tree, whole_tree}
-use Rattle.match_record.proofs.RecordParts.{goals-next}
+use Rattle.match_record.proofs.RecordLists.{goals-next}
 use Rattle.match_record.proofs.WrittenRecords.{one_added, begun_many, list_written}
 use Rattle.match_record.proofs.record.write_goals.Goals as goal
 

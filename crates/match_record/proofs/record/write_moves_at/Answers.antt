@@ -4,7 +4,7 @@ use Rattle.std.specs.Str.{IsAscii}
 use Rattle.serde_json.specs.Data.{string}
 use Rattle.match_record.specs.Internal.Written.{IsWritten}
 use Rattle.match_record.proofs.Ascii.{folded_text_is_ascii}
-use Rattle.match_record.proofs.RecordParts.{turn-widths}
+use Rattle.match_record.proofs.RecordLists.{turn-widths}
 use Rattle.match_record.proofs.WrittenRecords.{one_added, part_begun, part_more, part_written, part_texts}
 use Rattle.match_record.proofs.record.write_moves_at.Goals as goal
 

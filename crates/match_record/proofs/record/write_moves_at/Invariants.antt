@@ -1,7 +1,7 @@
 use Rattle.std.specs.Prelude.{IfSome, slice_get}
 use Rattle.serde_json.specs.Data.{string}
 use Rattle.match_record.specs.Internal.Written.{HasBegun}
-use Rattle.match_record.proofs.RecordParts.{part_of}
+use Rattle.match_record.proofs.RecordLists.{part_of}
 use Rattle.match_record.proofs.record.write_moves_at.Given as goal
 
 abbrev pub invariant-loop-role : goal.invariant-loop-role

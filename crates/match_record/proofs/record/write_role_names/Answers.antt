@@ -6,7 +6,7 @@ use Rattle.match_record.specs.Internal.Written.{IsWritten, HasBegun}
 use Rattle.match_record.specs.RecordParts.{each_role}
 use Rattle.match_record.specs.RecordTree.{list_tree}
 use Rattle.match_record.proofs.Ascii.{folded_text_is_ascii}
-use Rattle.match_record.proofs.RecordParts.{each_role-more}
+use Rattle.match_record.proofs.RecordLists.{each_role-more}
 use Rattle.match_record.proofs.WrittenRecords.{one_added, begun_more, list_written}
 use Rattle.match_record.proofs.record.write_role_names.Goals as goal
 

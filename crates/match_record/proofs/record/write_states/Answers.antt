@@ -4,7 +4,7 @@ use Rattle.match_book.specs.MatchValue.{state_after}
 use Rattle.match_record.specs.Internal.Written.{IsWritten, HasBegun}
 use Rattle.match_record.specs.RecordParts.{prefixes}
 use Rattle.match_record.specs.RecordTree.{list_tree, texts_tree}
-use Rattle.match_record.proofs.RecordParts.{prefixes-next, map_twice}
+use Rattle.match_record.proofs.RecordLists.{prefixes-next, map_twice}
 use Rattle.match_record.proofs.WrittenRecords.{one_added, begun_more, list_written}
 use Rattle.match_record.proofs.record.write_states.Goals as goal
 

@@ -1,6 +1,6 @@
 use Rattle.std.proofs.Common.{◌≡◌, ◌<◌, ◌++◌, ◌∷◌, [], length, get_or, take, true≢false, sym, ap, ◌∙◌, arith}
 use Rattle.std.proofs.lemmas.List.{take_more}
-use Rattle.match_record.proofs.RecordParts.{each_role-more}
+use Rattle.match_record.proofs.RecordLists.{each_role-more}
 use Rattle.match_record.proofs.RecordShapes.{length_each_role, at_each_role, same_when_equal, apart_when_not}
 use Rattle.match_record.proofs.record_reading.are_role_names.Goals as goal
 

@@ -1,0 +1,5 @@
+mod RecordedMoves
+mod Replays
+mod RecordEnds
+mod LawfulRecords
+mod CheckedRecords

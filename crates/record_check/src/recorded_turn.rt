@@ -1,0 +1,180 @@
+//! One turn of a record, in the state before it.
+ghost use Rattle.std.specs.Prelude.{◌≡◌, ◌≢◌, ◌<◌, ◌↔◌, All, AllPairs, IfOk, IsTrue, List, MatchOption, ℕ, length};
+ghost use Rattle.game_core.specs.Play.{IsJoint};
+ghost use Rattle.match_book.specs.LegalMoves.{AreLegalMoves};
+ghost use Rattle.match_book.specs.Internal.RoleStrikes.{is_retired_in};
+ghost use Rattle.match_book.specs.Judgement.{error_text};
+ghost use Rattle.match_book.specs.Roles.{every_role};
+ghost use Rattle.match_book.specs.declared.judgement.Substitution.TheVariants.{Illegal};
+ghost use Rattle.match_record.specs.RecordParts.{IsErrorText};
+ghost use Rattle.record_check.specs.Replaying.{GoesOn, DeniesOne};
+ghost use Rattle.record_check.specs.Internal.ReplaySteps.{IsRecorded, IsJointAnswer, IsTurnAnswer};
+
+use game_core::{Game, Joint, Text};
+use match_book::{
+    ILLEGAL_PREFIX, RETIRED, RoleMoves, RoleStrikes, count_retired, legal_moves, place_of,
+};
+use match_record::VerifyFault;
+use std::alloc::{AllocError, Global};
+
+/// What a recorded move is.
+#[derive(Drop)]
+enum RecordedMove<M> {
+    /// A legal move, and its error may stand beside it.
+    Right(M),
+    /// No legal move has the text.
+    NoMove,
+    /// The move is legal, and its error may not stand beside it.
+    WrongError,
+    /// The error may stand beside the move, but not of a role that is retired, or of one that is not.
+    WrongRetired,
+}
+
+/// The answer that was not legal, if the error says so of one.
+fn denied_answer(error: &[u8]) -> Option<&[u8]>
+    ensures { MatchOption result ((x : List ℕ) → error.now ≢ error_text (Illegal x)) (λ x. error.now ≡ error_text (Illegal x.now)) }
+{
+    error.strip_prefix(ILLEGAL_PREFIX)
+}
+
+/// Whether the error says that the answer was the text of one of these moves.
+fn denies_one<G: Game>(game: &G, moves: &[G::Move], error: &[u8]) -> bool
+    requires { All (λ m. (G.rules game.now).IsMove m) moves.now }
+    ensures { IsTrue result ↔ DeniesOne (G.rules game.now) moves.now error.now }
+{
+    match denied_answer(error) {
+        Some(read) => place_of(game, moves, read).is_some(),
+        None => false,
+    }
+}
+
+/// What the move is that a record shows by this text and this error, where these moves are legal, by whether the
+/// role is retired.
+fn recorded_move<G: Game>(
+    alloc: Global,
+    game: &G,
+    is_retired: bool,
+    moves: &[G::Move],
+    text: &[u8],
+    error: &[u8],
+) -> Result<RecordedMove<G::Move>, AllocError>
+    requires moves { All (λ m. (G.rules game.now).IsMove m) moves.now }
+    requires differ { AllPairs (λ m n. m ≢ n) moves.now }
+    requires error { IsErrorText error.now }
+    ensures { IfOk result (λ o. IsRecorded (G.rules game.now) is_retired moves.now text.now error.now o) }
+{
+    let Some(place) = place_of(game, moves, text) else {
+        return Ok(RecordedMove::NoMove);
+    };
+    if !error.is_empty() {
+        if place > 0 {
+            return Ok(RecordedMove::WrongError);
+        }
+        if denies_one(game, moves, error) {
+            return Ok(RecordedMove::WrongError);
+        }
+    }
+    if is_retired != (error == RETIRED) {
+        return Ok(RecordedMove::WrongRetired);
+    }
+    Ok(RecordedMove::Right(game.copy_move(alloc, &moves[place])?))
+}
+
+/// Whether each of these roles is retired.
+fn are_all_retired(strikes: &[RoleStrikes]) -> bool
+    ensures { result ≡ every_role (length strikes.now) (is_retired_in strikes.now) }
+{
+    count_retired(strikes) == strikes.len()
+}
+
+fn is_retired_at(strikes: &[RoleStrikes], role: usize) -> bool
+    requires { role < length strikes.now }
+    ensures { result ≡ is_retired_in strikes.now role }
+{
+    strikes[role].is_retired
+}
+
+/// The legal moves of each role, where the state is not terminal, each role has one and not all are retired.
+fn next_moves<G: Game>(
+    alloc: Global,
+    game: &G,
+    state: &G::State,
+    strikes: &[RoleStrikes],
+) -> Result<Option<Vec<RoleMoves<G::Move>>>, AllocError>
+    requires state { (G.rules game.now).IsState state.now }
+    requires strikes { length strikes.now ≡ (G.rules game.now).roles }
+    ensures { IfOk result (λ o. MatchOption o (¬ GoesOn (G.rules game.now) (is_retired_in strikes.now) state.now)
+        (λ lists. GoesOn (G.rules game.now) (is_retired_in strikes.now) state.now × AreLegalMoves (G.rules game.now) state.now lists.items)) }
+{
+    if are_all_retired(strikes) {
+        return Ok(None);
+    }
+    if game.terminal(alloc, state)? {
+        return Ok(None);
+    }
+    match legal_moves(alloc, game, state)? {
+        (None, lists) => Ok(Some(lists)),
+        (Some(_), _) => Ok(None),
+    }
+}
+
+/// The joint move of these texts, or the fault of the lowest role at fault. This is kept of the roles'
+/// substitutions in the turns before. Each role's moves are asked for
+/// once: a game may take long to find them.
+fn recorded_joint<G: Game>(
+    alloc: Global,
+    game: &G,
+    state: &G::State,
+    strikes: &[RoleStrikes],
+    turn: usize,
+    moves: &[Text],
+    errors: &[Text],
+) -> Result<Joint<G::Move>, VerifyFault>
+    requires state { (G.rules game.now).IsState state.now }
+    requires moves { length moves.now ≡ (G.rules game.now).roles }
+    requires errors { length errors.now ≡ (G.rules game.now).roles }
+    requires error_texts { All IsErrorText errors.now }
+    requires strikes { length strikes.now ≡ (G.rules game.now).roles }
+    ensures { IsJointAnswer (G.rules game.now) (is_retired_in strikes.now) state.now moves.now errors.now turn result }
+{
+    let Some(lists) = next_moves(alloc, game, state, strikes)? else {
+        return Err(VerifyFault::WrongEnd);
+    };
+    let roles = game.roles();
+    let mut joint = Vec::with_capacity(alloc, roles)?;
+    for role in 0..roles {
+        let legal = lists[role].as_slice();
+        let text = moves[role].as_slice();
+        let error = errors[role].as_slice();
+        let is_retired = is_retired_at(strikes, role);
+        match recorded_move(alloc, game, is_retired, legal, text, error)? {
+            RecordedMove::Right(taken) => joint.push(taken)?,
+            RecordedMove::NoMove => return Err(VerifyFault::Illegal(turn, role)),
+            RecordedMove::WrongError => return Err(VerifyFault::NotFirst(turn, role)),
+            RecordedMove::WrongRetired => return Err(VerifyFault::WrongRetired(turn, role)),
+        }
+    }
+    Ok(Joint { moves: joint })
+}
+
+/// The state after a turn with these moves and errors, or the first fault of the turn. This is kept of the roles'
+/// substitutions in the turns before.
+pub fn replay_turn<G: Game>(
+    alloc: Global,
+    game: &G,
+    state: &G::State,
+    strikes: &[RoleStrikes],
+    turn: usize,
+    moves: &[Text],
+    errors: &[Text],
+) -> Result<G::State, VerifyFault>
+    requires state { (G.rules game.now).IsState state.now }
+    requires moves { length moves.now ≡ (G.rules game.now).roles }
+    requires errors { length errors.now ≡ (G.rules game.now).roles }
+    requires error_texts { All IsErrorText errors.now }
+    requires strikes { length strikes.now ≡ (G.rules game.now).roles }
+    ensures { IsTurnAnswer (G.rules game.now) (is_retired_in strikes.now) state.now moves.now errors.now turn result }
+{
+    let joint = recorded_joint(alloc, game, state, strikes, turn, moves, errors)?;
+    Ok(game.next(alloc, state, joint.as_slice())?)
+}

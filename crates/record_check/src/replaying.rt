@@ -1,0 +1,96 @@
+//! The check of a record against the game: its turns are replayed, and no state of it is trusted.
+ghost use Rattle.std.specs.Prelude.{◌≡◌, ◌≢◌, ◌<◌, ◌↔◌, IfOk, IfErr, OnOk, IsTrue, length, map};
+ghost use Rattle.std.specs.Cow.{cow_slice_items};
+ghost use Rattle.match_record.specs.RecordTree.{HasShape};
+ghost use Rattle.match_record.specs.LawfulRecord.{AreLawfulParts};
+ghost use Rattle.record_check.specs.Replaying.{IsFirstFault, ShowsState};
+ghost use Rattle.record_check.specs.Internal.ReplaySteps.{IsReplayAnswer};
+ghost use Rattle.match_record.specs.declared.verify_fault.VerifyFault.TheVariants.{Memory};
+
+use crate::ending::{are_goals_in, is_right_end};
+use crate::recorded_turn::replay_turn;
+use game_core::{Game, Text};
+use match_book::{all_unstruck, count_retired, strikes_after};
+use match_record::{RecordParts, VerifyFault};
+use std::alloc::{AllocError, Global};
+use std::borrow::CowSlice;
+
+fn are_same(texts: &[CowSlice<'_, u8, Global>], others: &[Text]) -> bool
+    ensures { IsTrue result ↔ (map cow_slice_items texts.now ≡ others.now) }
+{
+    if texts.len() != others.len() {
+        return false;
+    }
+    for (place, text) in texts.iter().enumerate() {
+        if text.as_slice() != others[place].as_slice() {
+            return false;
+        }
+    }
+    true
+}
+
+/// Whether the record shows this state after so many turns.
+fn shows_state<G: Game>(
+    alloc: Global,
+    game: &G,
+    parts: &RecordParts,
+    turns: usize,
+    state: &G::State,
+) -> Result<bool, AllocError>
+    requires state { (G.rules game.now).IsState state.now }
+    requires turns { turns < length parts.now.states }
+    ensures { IfOk result (λ b. IsTrue b ↔ ShowsState (G.rules game.now) parts.now turns state.now) }
+{
+    let played = game.state_text(alloc, state)?;
+    Ok(are_same(played.as_slice(), parts.states.at(turns)))
+}
+
+/// The last state of the record and how many roles are retired then, or the first fault of its states and turns.
+fn replay_turns<G: Game>(
+    alloc: Global,
+    game: &G,
+    parts: &RecordParts,
+) -> Result<(G::State, usize), VerifyFault>
+    requires { HasShape (G.rules game.now) parts.now }
+    ensures { IsReplayAnswer (G.rules game.now) parts.now result }
+{
+    let mut state = game.initial(alloc)?;
+    let mut strikes = all_unstruck(alloc, game.roles())?;
+    let turns = parts.moves.count();
+    for turn in 0..turns {
+        if !shows_state(alloc, game, parts, turn, &state)? {
+            return Err(VerifyFault::WrongState(turn));
+        }
+        let moves = parts.moves.at(turn);
+        let errors = parts.errors.at(turn);
+        state = replay_turn(alloc, game, &state, strikes.as_slice(), turn, moves, errors)?;
+        strikes = strikes_after(alloc, parts.strikes, strikes.as_slice(), errors)?;
+    }
+    if !shows_state(alloc, game, parts, turns, &state)? {
+        return Err(VerifyFault::WrongState(turns));
+    }
+    Ok((state, count_retired(strikes.as_slice())))
+}
+
+/// Whether a lawful match of the game has this record, which is of the right shape: the turns in their order,
+/// then the goals, then the end. The first fault is named.
+pub fn replay_record<G: Game>(
+    alloc: Global,
+    game: &G,
+    parts: &RecordParts,
+) -> Result<(), VerifyFault>
+    requires { HasShape (G.rules game.now) parts.now }
+    ensures lawful { OnOk result (AreLawfulParts (G.rules game.now) parts.now) }
+    ensures not_lawful { IfErr result (λ fault. fault ≢ Memory → ¬ (AreLawfulParts (G.rules game.now) parts.now)) }
+    ensures first { IfErr result (λ fault. IsFirstFault (G.rules game.now) parts.now fault) }
+{
+    let (state, retired) = replay_turns(alloc, game, parts)?;
+    let goals = parts.goals.as_slice();
+    if !are_goals_in(alloc, game, parts.phase, &state, goals)? {
+        return Err(VerifyFault::WrongGoals);
+    }
+    if !is_right_end(alloc, game, &state, retired, parts)? {
+        return Err(VerifyFault::WrongEnd);
+    }
+    Ok(())
+}
