@@ -2,58 +2,74 @@
 
 PREFIX := /usr/local
 PROGRAM := bin/ggp_manager
-# The names of crates behind `edits` and `trials`.
-NAMED := $(if $(filter edits trials,$(firstword $(MAKECMDGOALS))),$(wordlist 2,$(words $(MAKECMDGOALS)),$(MAKECMDGOALS)))
+# The names of crates behind `edits`, `trials` and `check`.
+NAMED := $(if $(filter edits trials check,$(firstword $(MAKECMDGOALS))),$(wordlist 2,$(words $(MAKECMDGOALS)),$(MAKECMDGOALS)))
 
-.PHONY: help demo match season games build install check trials edits memory test $(NAMED)
+.PHONY: help needs demo match season games build install dist looks trials check edits memory budget test $(NAMED)
 
 help:
 	@echo 'make demo            a match of Countdown through the program, line by line'
 	@echo 'make match           a match over HTTP between two players on this computer, and its record'
 	@echo 'make season          the matches of a schedule over HTTP on this computer, and their account made again'
 	@echo 'make games           a match over HTTP of each game of examples/games/general, instantiated by gringo'
-	@echo 'make build           proves the program and leaves it at $(PROGRAM)'
-	@echo 'make install         puts the proved program into $(PREFIX)/bin (PREFIX=DIR: into DIR/bin)'
-	@echo 'make check           proves every crate; what has not changed is not proved again'
+	@echo 'make build           proves the program and leaves it at $(PROGRAM), beside it what proved it'
+	@echo 'make install         puts the proved program into $(PREFIX)/bin (PREFIX=DIR: into DIR/bin), and what proved it'
+	@echo 'make dist            an archive of the proved program, with examples and documents, for computers without the kit'
+	@echo 'make looks           what takes seconds: documents, constants, layout, edits, the tests of the tools, the commands of README.md'
 	@echo 'make trials [NAME..] compiles the tests (all, or those of the named crates) and runs them'
+	@echo 'make check [NAME..]  proves every crate (or those named, with what they stand on); what has not changed is not proved again'
 	@echo 'make edits [NAME..]  tries the wrong edits of the crates (all, or those named): the prover must refuse each'
 	@echo 'make memory          has each allocation of the calls, and of a match, refused in turn, and looks at what is left'
-	@echo 'make test            the gate: the tests, every proof from nothing, wrong edits, the programs'
+	@echo 'make budget          how large each crate is beside its budget, as the last build or gate measured it'
+	@echo 'make test            the gate: all of this, every proof from nothing, wrong edits, the programs'
+
+needs:
+	@command -v python3 > /dev/null || { echo 'ggp_manager: there is no python3, and the tools need Python 3.10 or later: take it from https://www.python.org/downloads, or from the packages of your system' >&2; exit 1; }
 
 # The program that `demo`, `match`, `season` and `games` run is the proved one where it is up to date, else one that is not proved yet.
-demo:
+demo: needs
 	@program=$$(tools/program) && examples/side-by-side examples/games/countdown.script "$$program" desk --countdown 3
 
-match:
+match: needs
 	@program=$$(tools/program) && examples/play-a-match "$$program" examples/games/tictactoe.kif
 
-season:
+season: needs
 	@program=$$(tools/program) && examples/season/try "$$program" && examples/season/crowd "$$program"
 
-games:
+games: needs
 	@program=$$(tools/program) && tools/games "$$program"
 
-build:
-	@tools/prove build
+build: needs
+	@tools/build
 
 install: build
 	@install -D -m 755 $(PROGRAM) $(DESTDIR)$(PREFIX)/bin/ggp_manager
-	@echo '$(DESTDIR)$(PREFIX)/bin/ggp_manager'
+	@install -D -m 644 $(PROGRAM).proved $(DESTDIR)$(PREFIX)/share/ggp_manager/ggp_manager.proved
+	@echo '$(DESTDIR)$(PREFIX)/bin/ggp_manager, and what proved it: $(DESTDIR)$(PREFIX)/share/ggp_manager/ggp_manager.proved'
 
-check:
-	@tools/prove check
+dist: build
+	@tools/dist
 
-trials:
+looks: needs
+	@.ci/gate --looks
+
+trials: needs
 	@tools/trials $(NAMED)
 
-edits:
+check: needs
+	@tools/check $(NAMED)
+
+edits: needs
 	@tools/edits $(NAMED)
 
-memory:
+memory: needs
 	@tools/memory
+
+budget: needs
+	@tools/budget
 
 # These names are no targets of their own.
 $(NAMED): ; @:
 
-test:
+test: needs
 	@.ci/gate

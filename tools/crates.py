@@ -1,25 +1,38 @@
-"""What the tools of this folder share: the crates of the repository, their text, and how times are written."""
+"""What the tools of this folder share: the crates of the repository, sums of their text, and how times are written."""
 import hashlib
 import os
 import re
-import subprocess
+
+from needs import kit_said
 
 TOP = os.path.dirname(os.path.dirname(os.path.realpath(__file__)))
 PROGRAM = "ggp_manager"
 PARTS = ("src", "specs", "proofs")
-# The kits with which the gate has to pass.
-KITS = ("rattle-kit-13b", "rattle-kit-13f")
+
+
+def rows(text):
+    """Returns each crate that a text like crates.txt names, with its line and what it stands on, in the text's order."""
+    found = {}
+    for line in text.splitlines():
+        head, colon, deps = line.partition("#")[0].partition(":")
+        if colon:
+            found[head.split()[0]] = line, deps.split()
+    return found
+
+
+def crate_rows():
+    with open(f"{TOP}/crates.txt", encoding="utf-8") as it:
+        return rows(it.read())
+
+
+def own_deps(found):
+    """Returns each crate with the crates of the same text that it names."""
+    return {name: [it for it in deps if it in found] for name, (_, deps) in found.items()}
 
 
 def crates():
     """Returns each crate with the repository's crates that it names, in the order of crates.txt."""
-    found = {}
-    with open(f"{TOP}/crates.txt", encoding="utf-8") as lines:
-        for line in lines:
-            head, colon, deps = line.partition("#")[0].partition(":")
-            if colon:
-                found[head.split()[0]] = deps.split()
-    return {name: [it for it in deps if it in found] for name, deps in found.items()}
+    return own_deps(crate_rows())
 
 
 def below(name, known=None):
@@ -31,28 +44,56 @@ def below(name, known=None):
     return order
 
 
-def stamp(parts=PARTS):
-    """Returns a sum of the kit's version and of all that the program is made from."""
-    made = hashlib.sha256(subprocess.run(["rt", "version"], capture_output=True, check=True).stdout)
-    files = ["crates.txt", "HANDLES"]
-    for name in [*below(PROGRAM), PROGRAM]:
-        for part in parts:
-            for at, folders, names in os.walk(f"{TOP}/crates/{name}/{part}"):
-                folders.sort()
-                files += [os.path.relpath(f"{at}/{it}", TOP) for it in sorted(names)]
-    for file in files:
-        with open(f"{TOP}/{file}", "rb") as it:
-            made.update(repr((file, it.read())).encode())
-    return made.hexdigest()
+def with_below(names, known):
+    """Returns the crates with all that they stand on, the lower ones first."""
+    order = []
+    for name in names:
+        order += [it for it in [*below(name, known), name] if it not in order]
+    return order
 
 
-def is_current(program, parts=PARTS):
-    """Returns whether the program stands there and was made from the text as it is."""
+def texts_of(name, parts=PARTS):
+    """Returns the paths of a crate's files, from the top."""
+    found = []
+    for part in parts:
+        for at, _, files in os.walk(f"{TOP}/crates/{name}/{part}"):
+            found += [os.path.relpath(f"{at}/{it}", TOP) for it in files]
+    return sorted(found)
+
+
+def sum_of(file):
+    with open(file, "rb") as it:
+        return hashlib.sha256(it.read()).hexdigest()
+
+
+def text_sum(names, parts=PARTS):
+    """Returns a sum of the text of these crates: that of the lines which `sha256sum` writes of their files, of crates.txt and of HANDLES."""
+    files = ["HANDLES", "crates.txt", *(file for name in names for file in texts_of(name, parts))]
+    lines = "".join(f"{sum_of(f'{TOP}/{file}')}  {file}\n" for file in sorted(files))
+    return hashlib.sha256(lines.encode()).hexdigest()
+
+
+def made_from(parts=PARTS):
+    """Returns what the program is made from, in lines: the kit, and a sum of the text."""
+    return f"kit: {kit_said()}\ntext: {text_sum(with_below([PROGRAM], crates()), parts)}\n"
+
+
+def is_current(program, ending, parts=PARTS):
+    """Returns whether the program stands there and the file beside it says that it was made from the text as it is."""
     try:
-        with open(f"{program}.stamp", encoding="utf-8") as it:
-            return os.access(program, os.X_OK) and it.read().strip() == stamp(parts)
+        with open(f"{program}.{ending}", encoding="utf-8") as it:
+            return os.access(program, os.X_OK) and it.read().startswith(made_from(parts))
     except OSError:
         return False
+
+
+def lines_in(name):
+    """Returns how many lines of code and proofs a crate has."""
+    count = 0
+    for file in texts_of(name):
+        with open(f"{TOP}/{file}", "rb") as it:
+            count += it.read().count(b"\n")
+    return count
 
 
 def spell(seconds):

@@ -25,6 +25,11 @@ def files_of(folder):
             yield from (os.path.relpath(f"{at}/{it}", folder) for it in sorted(files))
 
 
+def lines_in(name):
+    """Returns how many lines the tests of a crate have."""
+    return sum(len(lines_of(f"{TRIALS}/{name}/{it}")) for it in files_of(f"{TRIALS}/{name}"))
+
+
 def lay_out(room):
     """Lays copies of the repository's crates out in a folder, and beside them those of trials/, each file of which loses its last ending."""
     os.makedirs(f"{room}/.git")

@@ -48,7 +48,7 @@ def compile_unproved(crate, kept, flags=(), arguments=(), given=b"", top=TOP):
     with tempfile.TemporaryDirectory(prefix="unproved-", dir=room_of) as room:
         with open(f"{room}/given", "wb") as it:
             it.write(given)
-        call = ["rt", "try", "--steps", "1", *flags, "--", *arguments]
+        call = [f"{TOP}/tools/try-alone", "--steps", "1", *flags, "--", *arguments]
         with open(f"{room}/given", "rb") as stdin, open(f"{room}/log", "w+", errors="replace") as log:
             how = {"cwd": f"{top}/crates/{crate}", "env": {**os.environ, "TMPDIR": room}, "stdin": stdin}
             compiling = subprocess.Popen(call, **how, stdout=log, stderr=log)

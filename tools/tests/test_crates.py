@@ -1,0 +1,56 @@
+"""What is read of crates.txt, the order of crates, and sums of their text."""
+import os
+import sys
+import unittest
+
+sys.path.insert(0, os.path.dirname(os.path.dirname(os.path.realpath(__file__))))
+from crates import below, own_deps, rows, spell, with_below
+
+TEXT = """\
+# NAME: what it stands on
+low: thiserror
+wide may_wait=6: rtrb
+middle: low json  # beside it
+high: middle wide low
+
+not a row
+"""
+
+
+class Rows(unittest.TestCase):
+    def test_each_row_has_its_line_and_what_it_stands_on(self):
+        found = rows(TEXT)
+        self.assertEqual([*found], ["low", "wide", "middle", "high"])
+        self.assertEqual(found["wide"], ("wide may_wait=6: rtrb", ["rtrb"]))
+        self.assertEqual(found["middle"][1], ["low", "json"])
+
+    def test_libraries_of_the_kit_are_no_crates(self):
+        self.assertEqual(own_deps(rows(TEXT)), {"low": [], "wide": [], "middle": ["low"], "high": ["middle", "wide", "low"]})
+
+    def test_the_repository_names_each_crate_behind_what_it_stands_on(self):
+        from crates import crates
+
+        seen = set()
+        for name, deps in crates().items():
+            self.assertLessEqual(set(deps), seen, name)
+            seen.add(name)
+
+
+class Order(unittest.TestCase):
+    known = own_deps(rows(TEXT))
+
+    def test_the_lower_ones_come_first(self):
+        self.assertEqual(below("high", self.known), ["low", "middle", "wide"])
+        self.assertEqual(below("low", self.known), [])
+
+    def test_named_crates_bring_what_they_stand_on_once(self):
+        self.assertEqual(with_below(["wide", "middle", "low"], self.known), ["wide", "low", "middle"])
+
+
+class Times(unittest.TestCase):
+    def test_a_time_is_spelled(self):
+        self.assertEqual([spell(it) for it in (0.4, 59.4, 59.6, 754)], ["0 s", "59 s", "1 min 00 s", "12 min 34 s"])
+
+
+if __name__ == "__main__":
+    unittest.main()

@@ -1,0 +1,67 @@
+"""How long the rest takes, and the times that are kept."""
+import os
+import sys
+import tempfile
+import unittest
+
+sys.path.insert(0, os.path.dirname(os.path.dirname(os.path.realpath(__file__))))
+from progress import SECONDS_A_LINE, behind, expected, read_times, time_left, write_times
+from room import at_once
+
+DEPS = {"low": [], "wide": [], "middle": ["low"], "high": ["middle", "wide"]}
+SECONDS = {"low": 10.0, "wide": 30.0, "middle": 40.0, "high": 5.0}
+
+
+class Expected(unittest.TestCase):
+    def test_a_crate_without_a_time_counts_by_its_lines(self):
+        self.assertEqual(expected({"low": 100, "wide": 300}, {"low": 50.0}), {"low": 50.0, "wide": 150.0})
+
+    def test_with_no_time_at_all_each_line_counts_the_same(self):
+        self.assertEqual(expected({"low": 100}, {}), {"low": 100 * SECONDS_A_LINE})
+
+
+class Left(unittest.TestCase):
+    def test_the_longest_chain_of_each_crate(self):
+        self.assertEqual(behind(DEPS, SECONDS), {"low": 55.0, "wide": 35.0, "middle": 45.0, "high": 5.0})
+
+    def test_on_one_lane_it_is_the_sum(self):
+        self.assertEqual(time_left(DEPS, SECONDS, {}, set(), 1), 85.0)
+
+    def test_on_two_lanes_it_is_the_longest_chain(self):
+        self.assertEqual(time_left(DEPS, SECONDS, {}, set(), 2), 55.0)
+
+    def test_what_has_ended_or_begun_counts_no_longer(self):
+        self.assertEqual(time_left(DEPS, SECONDS, {"middle": 30.0}, {"low", "wide"}, 2), 15.0)
+        self.assertEqual(time_left(DEPS, SECONDS, {}, set(DEPS), 2), 0.0)
+
+    def test_what_takes_longer_than_expected_is_about_to_end(self):
+        self.assertEqual(time_left(DEPS, SECONDS, {"high": 60.0}, {"low", "wide", "middle"}, 2), 1.0)
+
+
+class Times(unittest.TestCase):
+    def test_times_are_kept_by_kind_and_crate(self):
+        with tempfile.TemporaryDirectory() as room:
+            file = f"{room}/bin/times.json"
+            self.assertEqual(read_times("build", file), {})
+            write_times("build", {"low": 10.04, "wide": 30.0}, file)
+            write_times("check", {"low": 5.0}, file)
+            write_times("build", {"low": 11.0}, file)
+            self.assertEqual(read_times("build", file), {"low": 11.0, "wide": 30.0})
+            self.assertEqual(read_times("check", file), {"low": 5.0})
+
+    def test_a_file_that_is_no_times_counts_for_nothing(self):
+        with tempfile.TemporaryDirectory() as room:
+            with open(f"{room}/times.json", "w", encoding="utf-8") as it:
+                it.write("[1, 2")
+            self.assertEqual(read_times("build", f"{room}/times.json"), {})
+
+
+class Room(unittest.TestCase):
+    def test_as_many_as_processors_and_memory_hold_and_one_at_least(self):
+        self.assertEqual(at_once(4, free=17, processors=8), 4)
+        self.assertEqual(at_once(4, free=17, processors=2), 2)
+        self.assertEqual(at_once(4, free=3, processors=8), 1)
+
+
+if __name__ == "__main__":
+    unittest.main()
