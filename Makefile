@@ -20,7 +20,7 @@ help:
 	@echo 'make check [NAME..]  proves every crate (or those named, with what they stand on); what has not changed is not proved again'
 	@echo 'make edits [NAME..]  tries the wrong edits of the crates (all, or those named): the prover must refuse each'
 	@echo 'make memory          has each allocation of the calls, and of a match, refused in turn, and looks at what is left'
-	@echo 'make budget          how large each crate is beside its budget, as the last build or gate measured it'
+	@echo 'make budget          what the proof of each crate costs, beside its budget, as the last build or gate measured it'
 	@echo 'make test            the gate: all of this, every proof from nothing, wrong edits, the programs'
 
 needs:

@@ -1,5 +1,5 @@
-"""How much of a crate a check has to lay out, as its budget counts it: the kilobytes of its compiled functions, as the library that
-`rt ci` builds holds them. They do not depend on the machine, and what a check lays out and takes follows them."""
+"""How many megabytes of a crate a check lays out, about, which is what its proof costs: estimated from the functions and their steps in the
+library that `rt ci` builds, so that nothing is proved again for it. It does not depend on the machine."""
 import json
 import os
 
@@ -7,38 +7,59 @@ from crates import TOP, text_sum, with_below
 
 MEASURED = f"{TOP}/bin/volumes.json"
 BUDGET = f"{TOP}/tools/budget.txt"
-HEAD = "# The kilobytes of each crate's compiled functions. `tools/budget --write` writes this file.\n"
+HEAD = "# About how many megabytes of each crate a check lays out. `tools/budget --write` writes this file.\n"
+# Fitted to what whole checks of 15 libraries laid out, 64 to 393 MB: none is further off than a fifth.
+OF_A_FUNCTION, OF_A_STEP = 0.766, 0.00375
+# What a trait only declares is not laid out.
+DECLARED = "+decl"
 # So much above its figure a crate may be.
 LEEWAY = 1.1
 
 
+def steps_in(body):
+    """Returns how many steps a compiled function has: the leaves of its text, and the names of their parts."""
+    count, left = 0, [body]
+    while left:
+        it = left.pop()
+        if isinstance(it, dict):
+            count += len(it)
+            left += it.values()
+        elif isinstance(it, list):
+            left += it
+        else:
+            count += 1
+    return count
+
+
 def volume_of(name, top=TOP):
-    """Returns the kilobytes of the compiled functions in a crate's library, none where there is no library."""
+    """Returns about how many megabytes a check lays out of the crate whose library stands there, none where there is no library."""
     try:
-        return round(os.path.getsize(f"{top}/crates/{name}/out/rlib/{name}.rlib/toolchain/mir.json") / 1000)
-    except OSError:
+        with open(f"{top}/crates/{name}/out/rlib/{name}.rlib/toolchain/mir.json", encoding="utf-8") as it:
+            functions = [function["body"] for path, function in json.load(it) if not path.endswith(DECLARED)]
+    except (OSError, ValueError, KeyError, TypeError):
         return None
+    return round(OF_A_FUNCTION * len(functions) + OF_A_STEP * sum(map(steps_in, functions)))
 
 
 def source_sum(name, known):
-    """Returns the sum of what a crate's compiled functions are made from."""
+    """Returns the sum of what a crate's library is made from."""
     return text_sum(with_below([name], known), ("src",))
 
 
 def kept_volumes(known, file=MEASURED):
-    """Returns the kilobytes of each crate that were measured of its text as it is."""
+    """Returns the megabytes of each crate that were measured of its text as it is."""
     try:
         with open(file, encoding="utf-8") as it:
             found = json.load(it)
     except (OSError, ValueError):
         return {}
-    return {name: found[name]["kilobytes"] for name in known if name in found and found[name]["text"] == source_sum(name, known)}
+    return {name: found[name]["megabytes"] for name in known if name in found and found[name]["text"] == source_sum(name, known)}
 
 
 def keep_volumes(volumes, known, file=MEASURED):
     """Keeps what was measured, each with the sum of the text that it is of."""
     volumes = {**kept_volumes(known, file), **volumes}
-    found = {name: {"kilobytes": it, "text": source_sum(name, known)} for name, it in volumes.items()}
+    found = {name: {"megabytes": it, "text": source_sum(name, known)} for name, it in volumes.items()}
     os.makedirs(os.path.dirname(file), exist_ok=True)
     with open(f"{file}.new", "w", encoding="utf-8") as it:
         json.dump(found, it, indent=1)
@@ -62,11 +83,11 @@ def above(volumes, budget):
 
 
 def table(volumes, budget):
-    """Yields a line for each crate with its kilobytes and its figure, and one for all."""
+    """Yields a line for each crate with its megabytes and its figure, and one for all."""
     wide = max(map(len, [*volumes, "in all"]))
     wrong = above(volumes, budget)
     for name, it in volumes.items():
-        figure = f"{it:6} of {budget[name]:6} kB, {100 * it / max(budget[name], 1) - 100:+.0f}%" if name in budget else f"{it:6} kB, and it has no figure"
+        figure = f"{it:6} of {budget[name]:6} MB, {100 * it / max(budget[name], 1) - 100:+.0f}%" if name in budget else f"{it:6} MB, and it has no figure"
         yield f"{name:{wide}} {figure}{': ABOVE ITS BUDGET' if name in wrong else ''}"
     known = [it for it in volumes if it in budget]
-    yield f"{'in all':{wide}} {sum(volumes.values()):6} of {sum(budget[it] for it in known):6} kB"
+    yield f"{'in all':{wide}} {sum(volumes.values()):6} of {sum(budget[it] for it in known):6} MB"
