@@ -7,7 +7,11 @@ import sys
 PYTHON = (3, 10)
 # The kits with which the gate has to pass.
 KITS = ("rattle-kit-13b", "rattle-kit-13f")
-PLACE = "it is not released yet, so ask whoever gave you this repository for it, and put its folder bin into PATH, as in: export PATH=/opt/rattle/bin:$PATH"
+PLACE = (
+    "it is not released yet, so ask whoever gave you this repository for it, "
+    "and put its folder bin into PATH, as in: export PATH=/opt/rattle/bin:$PATH"
+)
+OF_PYTHON = "Python %d.%d runs the tools, and they need %d.%d or later: take it from https://www.python.org/downloads, or from the packages of your system"
 
 
 def spell_kits():
@@ -18,7 +22,7 @@ def python_lack(version):
     """Returns what to say of this version of Python, none where it is new enough."""
     if version[:2] >= PYTHON:
         return None
-    return "Python %d.%d runs the tools, and they need %d.%d or later: take it from https://www.python.org/downloads or your system's packages" % (version[0], version[1], PYTHON[0], PYTHON[1])
+    return OF_PYTHON % (*version[:2], *PYTHON)
 
 
 def kit_lack(said):

@@ -37,7 +37,8 @@ class Budget(unittest.TestCase):
             self.assertIsNone(volume_of("low", top))
             folder = f"{top}/crates/low/out/rlib/low.rlib/toolchain"
             os.makedirs(folder)
-            functions = [["low::one", {"body": ["Return"] * 1000}], ["low::two", {"body": ["Return"] * 200}], ["low::Told::three+decl", {"body": ["Return"]}]]
+            steps = {"low::one": 1000, "low::two": 200, "low::Told::three+decl": 1}
+            functions = [[path, {"body": ["Return"] * count}] for path, count in steps.items()]
             with open(f"{folder}/mir.json", "w", encoding="utf-8") as it:
                 json.dump(functions, it)
             self.assertEqual(volume_of("low", top), round(2 * OF_A_FUNCTION + 1200 * OF_A_STEP))
