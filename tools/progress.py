@@ -10,7 +10,7 @@ from crates import TOP, spell
 
 TIMES = f"{TOP}/bin/times.json"
 # Of a line of code or proof, where no crate has a time yet.
-SECONDS_A_LINE = 0.03
+SECONDS_A_LINE = 0.06
 
 
 def read_times(kind, file=TIMES):
