@@ -7,7 +7,7 @@ use Rattle.std.proofs.KnownBytes.{Appends-trans}
 use Rattle.std.specs.Str.Lines.{lines}
 use Rattle.game_core.specs.Counting.{Counting, CallsMade, one_more, max_stream_calls}
 use Rattle.game_core.specs.Play.{Rules}
-use Rattle.match_record.specs.declared.verify_fault.VerifyFault.{VerifyFault}
+use Rattle.record_reading.specs.declared.verify_fault.VerifyFault.{VerifyFault}
 use Rattle.whole_streams.specs.Streams.{StopsReading, InputFails}
 use Rattle.whole_streams.specs.Lines.{HasNoLineFeed, BeginsWithLine}
 use Rattle.whole_streams.specs.declared.whole.InputFault.{InputFault}

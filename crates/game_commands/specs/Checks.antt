@@ -7,7 +7,7 @@ use Rattle.game_core.specs.Counting.{Counting, last_count, one_more}
 use Rattle.game_core.specs.Play.{Rules}
 use Rattle.match_record.specs.LawfulRecord.{IsLawfulRecord}
 use Rattle.record_check.specs.Verified.{FailsFirst}
-use Rattle.match_record.specs.declared.verify_fault.VerifyFault.{VerifyFault}
+use Rattle.record_reading.specs.declared.verify_fault.VerifyFault.{VerifyFault}
 use Rattle.whole_streams.specs.Streams.{StopsReading}
 use Rattle.whole_streams.specs.Lines.{HasNoLineFeed, BeginsWithLine}
 use Rattle.game_commands.specs.Verdicts.{IsVerdict, verdict_line, verdict_lines}

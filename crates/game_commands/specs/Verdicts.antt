@@ -6,8 +6,8 @@ use Rattle.game_core.specs.Play.{Rules}
 use Rattle.match_record.specs.LawfulRecord.{IsLawfulRecord}
 use Rattle.match_record.specs.RecordTree.{key_text}
 use Rattle.record_check.specs.Verified.{FailsFirst}
-use Rattle.match_record.specs.declared.verify_fault.VerifyFault.{VerifyFault}
-use Rattle.match_record.specs.declared.verify_fault.VerifyFault.TheVariants.{NotJson, BadShape, Illegal, NotFirst, WrongRetired, WrongState, WrongGoals, WrongEnd, Memory}
+use Rattle.record_reading.specs.declared.verify_fault.VerifyFault.{VerifyFault}
+use Rattle.record_reading.specs.declared.verify_fault.VerifyFault.TheVariants.{NotJson, BadShape, Illegal, NotFirst, WrongRetired, WrongState, WrongGoals, WrongEnd, Memory}
 
 -- The verdict on a text: none where it is a lawful record, else the first test that it fails.
 abbrev pub IsVerdict : {S M : Type 0} → Rules S M → List ℕ → Option VerifyFault → Type 0

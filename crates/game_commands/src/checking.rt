@@ -3,7 +3,7 @@ ghost use Rattle.std.specs.Prelude.{◌≡◌, ◌∷◌, [], ℕ, List, Option,
 ghost use Rattle.std.specs.Io.KnownBytes.{Consumes, Appends, IsAtEnd};
 ghost use Rattle.std.specs.Str.Lines.{lines};
 ghost use Rattle.match_record.specs.LawfulRecord.{IsLawfulRecord};
-ghost use Rattle.match_record.specs.declared.verify_fault.VerifyFault.{VerifyFault};
+ghost use Rattle.record_reading.specs.declared.verify_fault.VerifyFault.{VerifyFault};
 ghost use Rattle.game_commands.specs.Verdicts.{IsVerdict, AreVerdicts, verdict_line, verdict_lines, count_unlawful};
 ghost use Rattle.game_commands.specs.Checks.{lawful_line, CheckFails, BeginsWithLines, LineFails, CheckStops};
 

@@ -23,7 +23,7 @@ use Rattle.match_book.specs.declared.judgement.Substitution.TheVariants.{TimeOut
 use Rattle.match_book.specs.declared.phase.Phase.{Phase}
 use Rattle.match_book.specs.declared.phase.Phase.TheVariants.{Starting, Playing, Stopping, Finished, Aborting, Aborted}
 use Rattle.match_book.specs.declared.turn.Turn.{Turn}
-use Rattle.match_record.specs.RecordTree.{phase_text}
+use Rattle.record_reading.specs.RecordTree.{phase_text}
 use Rattle.match_book.proofs.NamesAreAtoms.{name_is_atom}
 
 small_byte : (b : ℕ) → nat_lt b 128 ≡ true → b < 128

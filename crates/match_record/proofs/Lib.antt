@@ -1,12 +1,3 @@
 pub mod Ascii
 pub mod RecordLists
-pub mod ErrorWords
-pub mod JsonData
-pub mod KeyTable
-pub mod TakenKeys
-pub mod LawfulParts
 pub mod WrittenRecords
-pub mod OneRecord
-pub mod ReadRecords
-pub mod RoleNumbers
-pub mod RecordShapes

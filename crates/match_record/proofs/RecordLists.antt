@@ -1,8 +1,8 @@
 -- The lists of a record, member by member, and its tree: no floats, and three levels.
 use Rattle.std.proofs.Common.{◌≡◌, ℕ, zero, suc, ◌+◌, ◌<◌, ◌≤◌, false, Option, Some, None, List, [], ◌∷◌, ◌++◌, length, take, map, refl, sym, ap, ◌∙◌, subst, arith, add-one}
 use Rattle.std.specs.Prelude.{slice_get, slice_index_or, option_map, option_and_then, option_to_list}
-use Rattle.std.proofs.lemmas.List.{map-append, take_more, take_all, length-map}
-use Rattle.std.proofs.lemmas.Option.{slice_get-map, slice_get-get_or, get_or_from_slice_get, slice_get_within}
+use Rattle.std.proofs.lemmas.List.{map-append, take_more, take_all}
+use Rattle.std.proofs.lemmas.Option.{slice_get-get_or, get_or_from_slice_get, slice_get_within}
 use Rattle.serde_json.specs.Data.{string, depth, items_depth, members_depth}
 use Rattle.serde_json.specs.Written.{has_float, items_have_float, members_have_float}
 use Rattle.serde_json.specs.View.{items_of}
@@ -13,11 +13,11 @@ use Rattle.match_book.specs.MatchValue.{MatchValue}
 use Rattle.match_book.specs.Lawful.{AreLawful}
 use Rattle.match_book.specs.declared.answer.Mark.{Mark}
 use Rattle.match_book.specs.declared.turn.Turn.{Turn}
-use Rattle.match_record.specs.RecordParts.{each_role, goals_from, parts_of, prefixes}
-use Rattle.match_record.specs.RecordTree.{texts_tree, text_or_null, cause_text, mark_tree, whole_tree, key_tree, keys, members_at, record_tree}
-use Rattle.match_record.specs.declared.record_parts.Key.{Key}
-use Rattle.match_record.specs.declared.record_parts.Key.TheVariants.{Cause as AtCause, EndMarks, Errors, GoalValues, MatchId, Moves, Phase as AtPhase, PlayClock, Players, Roles, StartClock, StartMarks, States, Strikes, Version as AtVersion}
-use Rattle.match_record.specs.declared.record_parts.RecordParts.{RecordParts}
+use Rattle.record_reading.specs.RecordParts.{each_role, goals_from, parts_of, prefixes}
+use Rattle.record_reading.specs.RecordTree.{texts_tree, text_or_null, cause_text, mark_tree, whole_tree, key_tree, keys, members_at, record_tree}
+use Rattle.record_reading.specs.declared.record_parts.Key.{Key}
+use Rattle.record_reading.specs.declared.record_parts.Key.TheVariants.{Cause as AtCause, EndMarks, Errors, GoalValues, MatchId, Moves, Phase as AtPhase, PlayClock, Players, Roles, StartClock, StartMarks, States, Strikes, Version as AtVersion}
+use Rattle.record_reading.specs.declared.record_parts.RecordParts.{RecordParts}
 
 -- ---- one role more
 
@@ -83,16 +83,6 @@ map_twice f h (x ∷ xs) = ap (λ ys. f (h x) ∷ ys) (map_twice f h xs)
 
 prefixes-cons : {A : Type 0} (x y : A) (xs : List A) → map (λ front. x ∷ front) (prefixes xs ++ (xs ++ y ∷ []) ∷ []) ≡ map (λ front. x ∷ front) (prefixes xs) ++ (x ∷ (xs ++ y ∷ [])) ∷ []
 prefixes-cons x y xs = map-append (λ front. x ∷ front) (prefixes xs) ((xs ++ y ∷ []) ∷ [])
-
-pub length_prefixes : {A : Type 0} (xs : List A) → length (prefixes xs) ≡ suc (length xs)
-length_prefixes [] = refl
-length_prefixes (x ∷ xs) = ap suc (length-map (prefixes xs) (λ front. x ∷ front) ∙ length_prefixes xs)
-
-pub prefixes_get : {A : Type 0} (xs : List A) (k : ℕ) → k ≤ length xs → slice_get (prefixes xs) k ≡ Some (take k xs)
-prefixes_get [] zero le = refl
-prefixes_get [] (suc k) le = absurd (omega arith)
-prefixes_get (x ∷ xs) zero le = refl
-prefixes_get (x ∷ xs) (suc k) le = slice_get-map (λ front. x ∷ front) (prefixes xs) k ∙ ap (option_map (λ front. x ∷ front)) (prefixes_get xs k (omega arith))
 
 pub prefixes-push : {A : Type 0} (xs : List A) (y : A) → prefixes (xs ++ y ∷ []) ≡ prefixes xs ++ (xs ++ y ∷ []) ∷ []
 prefixes-push [] y = refl

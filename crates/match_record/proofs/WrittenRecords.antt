@@ -1,5 +1,5 @@
 -- What is written of a record, member by member, and what is read of it again.
-use Rattle.std.proofs.Common.{◌≡◌, ℕ, zero, suc, ◌+◌, ◌<◌, ◌≤◌, ◌^◌, true, Option, Some, None, Ok, List, [], ◌∷◌, ◌++◌, length, map, take, get_or, refl, sym, ap, ◌∙◌, subst, append_assoc, append-nil, arith}
+use Rattle.std.proofs.Common.{◌≡◌, ℕ, zero, suc, ◌+◌, ◌<◌, ◌≤◌, ◌^◌, true, Option, Some, None, Ok, List, [], ◌∷◌, ◌++◌, length, map, take, get_or, refl, sym, ap, ◌∙◌, subst, append_assoc, append-nil, arith, inl, inr}
 use Rattle.std.specs.Prelude.{option_map, option_and_then, slice_get, All, IfSome}
 use Rattle.std.proofs.lemmas.Bool.Decides.{nat_tests}
 use Rattle.std.proofs.lemmas.List.{take_all, take_more, map-append}
@@ -24,17 +24,15 @@ use Rattle.match_book.specs.Marks.{mark_text}
 use Rattle.match_book.specs.Names.{is_clock, is_strikes, max_clock, max_strikes, IsLawfulSetup}
 use Rattle.match_book.specs.declared.answer.Mark.{Mark}
 use Rattle.match_record.specs.Internal.Written.{HasAdded, IsWritten, HasBegun, HasMembers, tokens_of, each_tokens, member_tokens}
-use Rattle.match_record.specs.RecordParts.{parts_of}
-use Rattle.match_record.specs.RecordTree.{list_tree, texts_tree, text_or_null, cause_text, mark_tree, whole_tree, key_text, key_tree, keys, members_at, version_tree, record_tree, record_text, HasShape}
-use Rattle.match_record.specs.declared.record_parts.Key.{Key}
-use Rattle.match_record.specs.declared.record_parts.Key.TheVariants.{Cause as AtCause, EndMarks, Errors, GoalValues, MatchId, Moves, Phase as AtPhase, PlayClock, Players, Roles, StartClock, StartMarks, States, Strikes, Version as AtVersion}
-use Rattle.match_record.specs.declared.record_parts.RecordParts.{RecordParts}
-use Rattle.match_record.specs.declared.record_parts.Version.{Version}
-use Rattle.match_record.specs.declared.record_parts.Version.TheVariants.{First, Second}
-use Rattle.match_record.proofs.KeyTable.{put_each, put_all}
-use Rattle.match_record.proofs.LawfulParts.{lawful_parts_have_shape}
+use Rattle.record_reading.specs.RecordParts.{parts_of, AreGoals}
+use Rattle.record_reading.specs.RecordTree.{list_tree, texts_tree, text_or_null, cause_text, mark_tree, whole_tree, key_text, key_tree, keys, members_at, version_tree, record_tree, record_text, HasShape}
+use Rattle.record_reading.specs.declared.record_parts.Key.{Key}
+use Rattle.record_reading.specs.declared.record_parts.Key.TheVariants.{Cause as AtCause, EndMarks, Errors, GoalValues, MatchId, Moves, Phase as AtPhase, PlayClock, Players, Roles, StartClock, StartMarks, States, Strikes, Version as AtVersion}
+use Rattle.record_reading.specs.declared.record_parts.RecordParts.{RecordParts}
+use Rattle.record_reading.specs.declared.record_parts.Version.{Version}
+use Rattle.record_reading.specs.declared.record_parts.Version.TheVariants.{First, Second}
+use Rattle.record_reading.proofs.LawfulParts.{lawful_parts_have_shape}
 use Rattle.match_record.proofs.RecordLists.{part_of, take-next, map_twice, record_is_shallow}
-use Rattle.match_record.proofs.RecordShapes.{goals_small}
 
 -- ---- one token, and more
 
@@ -170,6 +168,10 @@ lists_read : (lists : List (List (List ℕ))) → of_items (items_outline (items
 lists_read [] = refl
 lists_read (texts ∷ more) = rw (texts_read texts) (ap (option_map (item (texts_tree texts))) (lists_read more))
 
+goals_small : (roles : ℕ) (goals : List ℕ) → AreGoals roles goals → All (λ goal. goal ≤ max_goal) goals
+goals_small roles goals (inl none) = λ k d below. absurd (omega (arith, ap length none))
+goals_small roles goals (inr each) = each.1
+
 goals_read : (goals : List ℕ) → All (λ goal. goal ≤ max_goal) goals → of_items (items_outline (items_of (map whole_tree goals))) ≡ Some (items_of (map whole_tree goals))
 goals_read [] small = refl
 goals_read (goal ∷ more) small =
@@ -203,6 +205,15 @@ key_reads g p shape StartMarks = list_reads _ (marks_read p.start_marks)
 key_reads g p shape States = list_reads _ (lists_read p.states)
 key_reads g p shape Strikes = strikes_read p.strikes (shape.keys Strikes)
 key_reads g p shape AtVersion = version_reads p.version
+
+-- what the parts say at these keys, put into an object one after another
+abbrev pub put_each : List Key → RecordParts → Members → Members
+put_each [] p ms = ms
+put_each (key ∷ more) p ms = put_each more p (put (key_text key) (key_tree key p) ms)
+
+-- keys that are put in byte order stand in that order
+pub put_all : (p : RecordParts) → put_each keys p no_members ≡ members_at keys p
+put_all p = refl
 
 -- the members go in one after another
 members_read : {S M : Type 0} (g : Rules S M) (p : RecordParts) → HasShape g p → (ks : List Key) (found : Members) → of_members (members_outline (members_at ks p)) found ≡ Some (put_each ks p found)

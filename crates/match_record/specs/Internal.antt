@@ -1,4 +1,1 @@
-pub mod JsonValues
-pub mod KeyReading
-pub mod Shown
 pub mod Written

@@ -1,4 +1,4 @@
-pub mod RecordTree
-pub mod LawfulRecord
-pub mod RecordParts
+pub use Rattle.record_reading.specs.RecordTree
+pub use Rattle.record_reading.specs.LawfulRecord
+pub use Rattle.record_reading.specs.RecordParts
 pub mod Internal

@@ -1,25 +1,15 @@
-//! The record of a match, and its check.
+//! The writing of a match's record.
 //!
 //! `record_json` writes the record of a match: one JSON object of fifteen keys, which holds the recorded
-//! turns alone. `verify` checks a text against a game: it passes exactly where the text is the record of some
-//! lawful match, and else the first test that fails is named. The turns are replayed by the rules, and no state
-//! of the record is trusted. `laws` says what holds of records, whatever the match.
+//! turns alone. What a record is, its keys, its faults and what holds of records stands in `record_reading`,
+//! and is handed on from there.
 //!
 //! Free functions take the allocator first.
 #![tactic(auto)]
 
-mod error_texts;
-mod json_values;
 pub mod laws;
 mod record;
-mod record_parts;
-mod record_reading;
-mod record_words;
-mod verify_fault;
 mod writing;
 
 pub use record::{push_record, record_json};
-pub use record_parts::{Goals, Key, Marks, RecordParts, TextLists, Version};
-pub use record_reading::read_record;
-pub use verify_fault::VerifyFault;
-pub use writing::phase_text;
+pub use record_reading::{Key, VerifyFault, phase_text};

@@ -5,18 +5,17 @@ ghost use Rattle.serde_json.specs.Read.{read};
 ghost use Rattle.match_book.specs.Lawful.{IsLawfulMatch};
 ghost use Rattle.match_book.specs.Names.{IsLawfulSetup};
 ghost use Rattle.match_record.specs.Internal.Written.{HasAdded, IsWritten, each_tokens};
-ghost use Rattle.match_record.specs.LawfulRecord.{IsLawfulRecord};
-ghost use Rattle.match_record.specs.RecordParts.{each_role, parts_of};
-ghost use Rattle.match_record.specs.RecordTree.{goal_values_tree, key_tree, marks_tree, record_text, record_tree, text_lists_tree, texts_tree, whole_tree};
+ghost use Rattle.record_reading.specs.LawfulRecord.{IsLawfulRecord};
+ghost use Rattle.record_reading.specs.RecordParts.{each_role, parts_of};
+ghost use Rattle.record_reading.specs.RecordTree.{goal_values_tree, key_tree, marks_tree, record_text, record_tree, text_lists_tree, texts_tree, whole_tree};
 
-use crate::record_parts::{Key, Version};
 use crate::writing::{
-    phase_text, write_cause, write_lent_texts, write_text, write_text_or_null, write_texts,
-    write_whole,
+    write_cause, write_lent_texts, write_text, write_text_or_null, write_texts, write_whole,
 };
 use game_core::{Game, Text};
 use json::Writer;
 use match_book::Match;
+use record_reading::{Key, Version, phase_text};
 use std::alloc::{AllocError, Global};
 use std::mem;
 

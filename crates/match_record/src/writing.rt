@@ -4,11 +4,11 @@ ghost use Rattle.std.specs.Cow.{cow_slice_items};
 ghost use Rattle.std.specs.Str.{IsAscii};
 ghost use Rattle.serde_json.specs.Data.{string};
 ghost use Rattle.match_record.specs.Internal.Written.{IsWritten};
-ghost use Rattle.match_record.specs.RecordTree.{phase_text, cause_tree, texts_tree, text_or_null, whole_tree};
+ghost use Rattle.record_reading.specs.RecordTree.{cause_tree, texts_tree, text_or_null, whole_tree};
 
 use game_core::Text;
 use json::Writer;
-use match_book::{Cause, Phase};
+use match_book::Cause;
 use std::alloc::{AllocError, Global};
 use std::borrow::CowSlice;
 use std::str::from_utf8_unchecked;
@@ -71,20 +71,6 @@ pub fn write_whole(out: &mut Writer, number: u64) -> Result<(), AllocError>
 {
     out.u64(number)?;
     Ok(())
-}
-
-/// The phase's word in replies and records.
-pub fn phase_text(phase: Phase) -> &'static [u8]
-    ensures { result.now ≡ phase_text phase }
-{
-    match phase {
-        Phase::Starting => b"starting",
-        Phase::Playing => b"playing",
-        Phase::Stopping => b"stopping",
-        Phase::Finished => b"finished",
-        Phase::Aborting => b"aborting",
-        Phase::Aborted => b"aborted",
-    }
 }
 
 /// Why the match is aborted: null where it is not.

@@ -12,7 +12,7 @@ pub use Rattle.http_exchange.specs.Carried
 pub use Rattle.http_exchange.specs.WireFaults
 pub use Rattle.http_exchange.specs.Exchange
 pub use Rattle.http_exchange.specs.WireLaws
-pub use Rattle.match_record.specs.RecordTree
-pub use Rattle.match_record.specs.RecordParts
-pub use Rattle.match_record.specs.LawfulRecord
+pub use Rattle.record_reading.specs.RecordTree
+pub use Rattle.record_reading.specs.RecordParts
+pub use Rattle.record_reading.specs.LawfulRecord
 pub use Rattle.record_check.specs.Verified

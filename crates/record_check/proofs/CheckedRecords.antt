@@ -4,10 +4,10 @@ use Rattle.std.specs.Prelude.{ℕ, IfErr, IsErrAnd, ◌≡◌}
 use Rattle.std.proofs.lemmas.Result.{err_from_is_err_and}
 use Rattle.serde_json.specs.Data.{Data}
 use Rattle.game_core.specs.Play.{Rules}
-use Rattle.match_record.specs.LawfulRecord.{IsJson, HasNoShape}
-use Rattle.match_record.specs.RecordTree.{Holds, HasShape}
-use Rattle.match_record.specs.declared.record_parts.RecordParts.{RecordParts}
-use Rattle.match_record.specs.declared.verify_fault.VerifyFault.{VerifyFault}
+use Rattle.record_reading.specs.LawfulRecord.{IsJson, HasNoShape}
+use Rattle.record_reading.specs.RecordTree.{Holds, HasShape}
+use Rattle.record_reading.specs.declared.record_parts.RecordParts.{RecordParts}
+use Rattle.record_reading.specs.declared.verify_fault.VerifyFault.{VerifyFault}
 use Rattle.record_check.specs.Replaying.{IsFirstFault}
 use Rattle.record_check.specs.Verified.{FailsFirst}
 

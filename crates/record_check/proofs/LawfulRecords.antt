@@ -19,15 +19,15 @@ use Rattle.match_book.proofs.RoleTests.{every_role-same, lowest_role-more}
 use Rattle.match_book.proofs.Stages.{playing-live, playing-settled, settled-playing, answered_in-retired}
 use Rattle.match_book.proofs.LawfulMatches.{none_blank}
 use Rattle.match_book.proofs.LawfulTurns.{state_after-is_state}
-use Rattle.match_record.specs.LawfulRecord.{AreLawfulParts}
-use Rattle.match_record.specs.RecordParts.{prefixes, parts_of, parts_in}
-use Rattle.match_record.specs.RecordTree.{HasShape}
+use Rattle.record_reading.specs.LawfulRecord.{AreLawfulParts}
+use Rattle.record_reading.specs.RecordParts.{prefixes, parts_of, parts_in}
+use Rattle.record_reading.specs.RecordTree.{HasShape}
 use Rattle.record_check.specs.Replaying.{IsWrongError, IsWrongRetired, ShowsState, LeadsTo, ComesTo, IsReplayed, AreGoalsIn, IsRightEnd, IsFirstFault, match_of, retired_in, turn_at, text_at}
 use Rattle.record_check.specs.Internal.ReplaySteps.{IsRightJoint, has_ended}
-use Rattle.match_record.specs.declared.record_parts.Key.TheVariants.{Players, Roles, StartMarks, EndMarks, Moves}
-use Rattle.match_record.specs.declared.record_parts.RecordParts.{RecordParts}
-use Rattle.match_record.specs.declared.verify_fault.VerifyFault.{VerifyFault}
-use Rattle.match_record.specs.declared.verify_fault.VerifyFault.TheVariants.{NotJson, BadShape, Illegal, NotFirst, WrongRetired, WrongState, WrongGoals, WrongEnd, Memory}
+use Rattle.record_reading.specs.declared.record_parts.Key.TheVariants.{Players, Roles, StartMarks, EndMarks, Moves}
+use Rattle.record_reading.specs.declared.record_parts.RecordParts.{RecordParts}
+use Rattle.record_reading.specs.declared.verify_fault.VerifyFault.{VerifyFault}
+use Rattle.record_reading.specs.declared.verify_fault.VerifyFault.TheVariants.{NotJson, BadShape, Illegal, NotFirst, WrongRetired, WrongState, WrongGoals, WrongEnd, Memory}
 use Rattle.record_check.proofs.RecordedMoves.{element-at, part-not_wrong, part-not_unfit}
 use Rattle.record_check.proofs.RecordEnds.{goals-shown, lawful-right_end, lawful-goals}
 use Rattle.record_check.proofs.Replays.{leads-within, leads-front}

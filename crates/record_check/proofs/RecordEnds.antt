@@ -16,10 +16,10 @@ use Rattle.match_book.specs.declared.phase.Stage.TheVariants.{Starting, Playing,
 use Rattle.match_book.specs.declared.turn.Turn.{Turn}
 use Rattle.match_book.proofs.RoleTests.{lowest_role-none}
 use Rattle.match_book.proofs.Stages.{stage-by}
-use Rattle.match_record.specs.RecordParts.{parts_in, goals_from}
+use Rattle.record_reading.specs.RecordParts.{parts_in, goals_from}
 use Rattle.record_check.specs.Replaying.{AreGoalsOf, AreGoalsIn, IsRightEnd, match_of, is_asked}
 use Rattle.record_check.specs.Internal.ReplaySteps.{stage_by, has_started, has_ended, AgreesWith, AreRetired, IsEndAnswer}
-use Rattle.match_record.specs.declared.record_parts.RecordParts.{RecordParts}
+use Rattle.record_reading.specs.declared.record_parts.RecordParts.{RecordParts}
 
 -- ---- goals
 

@@ -14,7 +14,7 @@ use Rattle.match_book.specs.Judgement.{error_text, MayStand, IsJudged, IsPart, N
 use Rattle.match_book.specs.declared.judgement.Substitution.{Substitution}
 use Rattle.match_book.specs.declared.judgement.Substitution.TheVariants.{TimeOut, ConnectionError, Unreadable, Illegal, Retired}
 use Rattle.match_book.proofs.Judgements.{first-contains, Contains-move}
-use Rattle.match_record.specs.RecordParts.{IsErrorText, MayBeGiven}
+use Rattle.record_reading.specs.RecordParts.{IsErrorText, MayBeGiven}
 use Rattle.record_check.specs.Replaying.{GoesOn, IsRightMove, DeniesOne, IsWrongError, IsWrongFor, IsWrongRetired, text_at}
 use Rattle.record_check.specs.Internal.ReplaySteps.{IsRightJoint}
 

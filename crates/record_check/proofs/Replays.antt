@@ -19,9 +19,9 @@ use Rattle.match_book.proofs.RoleTests.{every_role-same}
 use Rattle.match_book.proofs.StruckTurns.{all_retired-count, strikes-count, strikes-few, strikes-none, strikes-pushed, strikes-retired}
 use Rattle.record_check.specs.Replaying.{GoesOn, IsWrongRetired, IsRightMove, AreRightBelow, ShowsState, LeadsTo, ComesTo, IsFirstFault, retired_in, turn_at, text_at}
 use Rattle.record_check.specs.Internal.ReplaySteps.{AreRetired, IsRightJoint, IsTurnFault}
-use Rattle.match_record.specs.declared.record_parts.RecordParts.{RecordParts}
-use Rattle.match_record.specs.declared.verify_fault.VerifyFault.{VerifyFault}
-use Rattle.match_record.specs.declared.verify_fault.VerifyFault.TheVariants.{NotJson, BadShape, Illegal, NotFirst, WrongRetired, WrongState, WrongGoals, WrongEnd, Memory}
+use Rattle.record_reading.specs.declared.record_parts.RecordParts.{RecordParts}
+use Rattle.record_reading.specs.declared.verify_fault.VerifyFault.{VerifyFault}
+use Rattle.record_reading.specs.declared.verify_fault.VerifyFault.TheVariants.{NotJson, BadShape, Illegal, NotFirst, WrongRetired, WrongState, WrongGoals, WrongEnd, Memory}
 use Rattle.record_check.proofs.RecordedMoves.{element-at}
 
 pub LeadsTo-start : {S M : Type 0} (g : Rules S M) (p : RecordParts) → LeadsTo g p 0 g.initial

@@ -1,6 +1,6 @@
-pub use Rattle.match_record.specs.RecordTree
-pub use Rattle.match_record.specs.LawfulRecord
-pub use Rattle.match_record.specs.RecordParts
+pub use Rattle.record_reading.specs.RecordTree
+pub use Rattle.record_reading.specs.LawfulRecord
+pub use Rattle.record_reading.specs.RecordParts
 pub mod Replaying
 pub mod Verified
 pub mod Internal

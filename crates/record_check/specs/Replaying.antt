@@ -13,9 +13,9 @@ use Rattle.match_book.specs.declared.phase.Cause.TheVariants.{Asked, NoLegal, No
 use Rattle.match_book.specs.declared.phase.Phase.{Phase}
 use Rattle.match_book.specs.declared.phase.Phase.TheVariants.{Starting, Playing, Stopping, Finished, Aborting, Aborted}
 use Rattle.match_book.specs.declared.turn.Turn.{Turn}
-use Rattle.match_record.specs.declared.record_parts.RecordParts.{RecordParts}
-use Rattle.match_record.specs.declared.verify_fault.VerifyFault.{VerifyFault}
-use Rattle.match_record.specs.declared.verify_fault.VerifyFault.TheVariants.{NotJson, BadShape, Illegal, NotFirst, WrongRetired, WrongState, WrongGoals, WrongEnd, Memory}
+use Rattle.record_reading.specs.declared.record_parts.RecordParts.{RecordParts}
+use Rattle.record_reading.specs.declared.verify_fault.VerifyFault.{VerifyFault}
+use Rattle.record_reading.specs.declared.verify_fault.VerifyFault.TheVariants.{NotJson, BadShape, Illegal, NotFirst, WrongRetired, WrongState, WrongGoals, WrongEnd, Memory}
 
 -- the state is not terminal, no role is without a legal move, and not all roles are retired
 abbrev pub GoesOn : {S M : Type 0} → Rules S M → (ℕ → Bool) → S → Type 0

@@ -2,11 +2,11 @@
 use Rattle.std.specs.Prelude.{ℕ, List, ◌⊎◌}
 use Rattle.serde_json.specs.Data.{Data}
 use Rattle.game_core.specs.Play.{Rules}
-use Rattle.match_record.specs.LawfulRecord.{HasNoShape, IsJson}
-use Rattle.match_record.specs.RecordTree.{Holds, HasShape}
+use Rattle.record_reading.specs.LawfulRecord.{HasNoShape, IsJson}
+use Rattle.record_reading.specs.RecordTree.{Holds, HasShape}
 use Rattle.record_check.specs.Replaying.{IsFirstFault}
-use Rattle.match_record.specs.declared.record_parts.RecordParts.{RecordParts}
-use Rattle.match_record.specs.declared.verify_fault.VerifyFault.{VerifyFault}
+use Rattle.record_reading.specs.declared.record_parts.RecordParts.{RecordParts}
+use Rattle.record_reading.specs.declared.verify_fault.VerifyFault.{VerifyFault}
 
 -- The first test that the text fails: it has not the shape of a record; or it has, and this is the first fault of its replay.
 abbrev pub FailsFirst : {S M : Type 0} → Rules S M → List ℕ → VerifyFault → Type 0

@@ -8,7 +8,7 @@ ghost use Rattle.record_check.specs.Internal.ReplaySteps.{AgreesWith, IsEndAnswe
 
 use game_core::Game;
 use match_book::{Cause, Mark, Phase, Stage, are_all_there, settle};
-use match_record::RecordParts;
+use record_reading::RecordParts;
 use std::alloc::{AllocError, Global};
 
 /// Whether these are the game's goals in the state, one for each role.

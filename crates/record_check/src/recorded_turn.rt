@@ -6,7 +6,7 @@ ghost use Rattle.match_book.specs.Internal.RoleStrikes.{is_retired_in};
 ghost use Rattle.match_book.specs.Judgement.{error_text};
 ghost use Rattle.match_book.specs.Roles.{every_role};
 ghost use Rattle.match_book.specs.declared.judgement.Substitution.TheVariants.{Illegal};
-ghost use Rattle.match_record.specs.RecordParts.{IsErrorText};
+ghost use Rattle.record_reading.specs.RecordParts.{IsErrorText};
 ghost use Rattle.record_check.specs.Replaying.{GoesOn, DeniesOne};
 ghost use Rattle.record_check.specs.Internal.ReplaySteps.{IsRecorded, IsJointAnswer, IsTurnAnswer};
 
@@ -14,7 +14,7 @@ use game_core::{Game, Joint, Text};
 use match_book::{
     ILLEGAL_PREFIX, RETIRED, RoleMoves, RoleStrikes, count_retired, legal_moves, place_of,
 };
-use match_record::VerifyFault;
+use record_reading::VerifyFault;
 use std::alloc::{AllocError, Global};
 
 /// What a recorded move is.

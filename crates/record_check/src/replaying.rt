@@ -1,17 +1,17 @@
 //! The check of a record against the game: its turns are replayed, and no state of it is trusted.
 ghost use Rattle.std.specs.Prelude.{◌≡◌, ◌≢◌, ◌<◌, ◌↔◌, IfOk, IfErr, OnOk, IsTrue, length, map};
 ghost use Rattle.std.specs.Cow.{cow_slice_items};
-ghost use Rattle.match_record.specs.RecordTree.{HasShape};
-ghost use Rattle.match_record.specs.LawfulRecord.{AreLawfulParts};
+ghost use Rattle.record_reading.specs.RecordTree.{HasShape};
+ghost use Rattle.record_reading.specs.LawfulRecord.{AreLawfulParts};
 ghost use Rattle.record_check.specs.Replaying.{IsFirstFault, ShowsState};
 ghost use Rattle.record_check.specs.Internal.ReplaySteps.{IsReplayAnswer};
-ghost use Rattle.match_record.specs.declared.verify_fault.VerifyFault.TheVariants.{Memory};
+ghost use Rattle.record_reading.specs.declared.verify_fault.VerifyFault.TheVariants.{Memory};
 
 use crate::ending::{are_goals_in, is_right_end};
 use crate::recorded_turn::replay_turn;
 use game_core::{Game, Text};
 use match_book::{all_unstruck, count_retired, strikes_after};
-use match_record::{RecordParts, VerifyFault};
+use record_reading::{RecordParts, VerifyFault};
 use std::alloc::{AllocError, Global};
 use std::borrow::CowSlice;
 

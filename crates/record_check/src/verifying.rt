@@ -1,12 +1,12 @@
 //! The check of a record: whether a game's match can have left it.
 ghost use Rattle.std.specs.Prelude.{◌≢◌, IfErr, OnOk};
-ghost use Rattle.match_record.specs.LawfulRecord.{IsLawfulRecord};
+ghost use Rattle.record_reading.specs.LawfulRecord.{IsLawfulRecord};
 ghost use Rattle.record_check.specs.Verified.{FailsFirst};
-ghost use Rattle.match_record.specs.declared.verify_fault.VerifyFault.TheVariants.{Memory};
+ghost use Rattle.record_reading.specs.declared.verify_fault.VerifyFault.TheVariants.{Memory};
 
 use crate::replaying::replay_record;
 use game_core::Game;
-use match_record::{VerifyFault, read_record};
+use record_reading::{VerifyFault, read_record};
 use std::alloc::Global;
 
 /// Checks a record against the game. `Ok` means that some lawful match of this game has this record: each

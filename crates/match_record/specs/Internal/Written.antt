@@ -5,9 +5,9 @@ use Rattle.json.specs.Tree.{json_tokens}
 use Rattle.json.specs.Written.{Written}
 use Rattle.serde_json.specs.Data.{Data}
 use Rattle.serde_json.specs.Written.{outline}
-use Rattle.match_record.specs.RecordTree.{key_text, key_tree}
-use Rattle.match_record.specs.declared.record_parts.Key.{Key}
-use Rattle.match_record.specs.declared.record_parts.RecordParts.{RecordParts}
+use Rattle.record_reading.specs.RecordTree.{key_text, key_tree}
+use Rattle.record_reading.specs.declared.record_parts.Key.{Key}
+use Rattle.record_reading.specs.declared.record_parts.RecordParts.{RecordParts}
 
 -- these tokens were written, and no others
 pub record HasAdded (old new : Written) (ts : List Token) : Type 0 where

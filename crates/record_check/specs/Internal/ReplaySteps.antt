@@ -11,11 +11,11 @@ use Rattle.match_book.specs.declared.phase.Stage.{Stage}
 use Rattle.match_book.specs.declared.phase.Stage.TheVariants.{Starting, Aborting}
 use Rattle.match_book.specs.declared.turn.Turn.{Turn}
 use Rattle.record_check.specs.Replaying.{GoesOn, IsWrongError, IsWrongRetired, AreRightBelow, text_at, IsReplayed, IsFirstFault, IsRightEnd, is_asked}
-use Rattle.match_record.specs.declared.record_parts.RecordParts.{RecordParts}
+use Rattle.record_reading.specs.declared.record_parts.RecordParts.{RecordParts}
 use Rattle.record_check.specs.declared.recorded_turn.RecordedMove.{RecordedMove}
 use Rattle.record_check.specs.declared.recorded_turn.RecordedMove.TheVariants.{Right, NoMove, WrongError, WrongRetired as AgainstRetirement}
-use Rattle.match_record.specs.declared.verify_fault.VerifyFault.{VerifyFault}
-use Rattle.match_record.specs.declared.verify_fault.VerifyFault.TheVariants.{NotJson, BadShape, Illegal, NotFirst, WrongRetired, WrongState, WrongGoals, WrongEnd, Memory}
+use Rattle.record_reading.specs.declared.verify_fault.VerifyFault.{VerifyFault}
+use Rattle.record_reading.specs.declared.verify_fault.VerifyFault.TheVariants.{NotJson, BadShape, Illegal, NotFirst, WrongRetired, WrongState, WrongGoals, WrongEnd, Memory}
 
 -- what the move with this text and this error is, where these moves are legal, by whether the role is retired
 abbrev pub IsRecorded : {S M : Type 0} → Rules S M → Bool → List M → List ℕ → List ℕ → RecordedMove M → Type 0

@@ -6,8 +6,8 @@ use Rattle.game_core.specs.Counting.{Counting}
 use Rattle.game_core.specs.Play.{Rules}
 use Rattle.match_record.specs.LawfulRecord.{IsLawfulRecord}
 use Rattle.record_check.specs.Verified.{FailsFirst}
-use Rattle.match_record.specs.declared.verify_fault.VerifyFault.{VerifyFault}
-use Rattle.match_record.specs.declared.verify_fault.VerifyFault.TheVariants.{NotJson, BadShape, Illegal, NotFirst, WrongRetired, WrongState, WrongGoals, WrongEnd, Memory}
+use Rattle.record_reading.specs.declared.verify_fault.VerifyFault.{VerifyFault}
+use Rattle.record_reading.specs.declared.verify_fault.VerifyFault.TheVariants.{NotJson, BadShape, Illegal, NotFirst, WrongRetired, WrongState, WrongGoals, WrongEnd, Memory}
 use Rattle.game_commands.specs.Checks.{CheckFails, max_record}
 use Rattle.game_commands.specs.Faults.{check_fault}
 use Rattle.game_commands.proofs.checking.check_record.Goals as goal

@@ -1,7 +1,7 @@
 use Rattle.std.proofs.Common.{◌≡◌, ◌≤◌, ℕ, List, Option, length}
 use Rattle.std.specs.Io.KnownBytes.{Consumes, Appends}
 use Rattle.game_core.specs.Counting.{CallsMade}
-use Rattle.match_record.specs.declared.verify_fault.VerifyFault.{VerifyFault}
+use Rattle.record_reading.specs.declared.verify_fault.VerifyFault.{VerifyFault}
 use Rattle.game_commands.specs.Verdicts.{AreVerdicts, verdict_lines, count_unlawful}
 use Rattle.game_commands.specs.Checks.{BeginsWithLines}
 use Rattle.game_commands.proofs.checking.check_records.Given as goal

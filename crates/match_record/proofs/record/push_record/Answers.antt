@@ -1,6 +1,6 @@
 use Rattle.std.proofs.Common.{◌++◌, ap, ◌∙◌}
 use Rattle.std.proofs.lemmas.Result.{on_ok_weaker}
-use Rattle.match_record.specs.RecordTree.{record_text}
+use Rattle.record_reading.specs.RecordTree.{record_text}
 use Rattle.match_record.proofs.WrittenRecords.{text_written}
 use Rattle.match_record.proofs.record.push_record.Goals as goal
 

@@ -3,8 +3,8 @@ use Rattle.std.specs.Str.{IsUtf8}
 use Rattle.json.specs.Lex.{tokens}
 use Rattle.json.specs.Print.{print}
 use Rattle.match_book.specs.Lawful.{IsLawfulMatch}
-use Rattle.match_record.specs.RecordTree.{record_text}
-use Rattle.match_record.proofs.LawfulParts.{records_are_lawful}
+use Rattle.record_reading.specs.RecordTree.{record_text}
+use Rattle.record_reading.proofs.LawfulParts.{records_are_lawful}
 use Rattle.match_record.proofs.WrittenRecords.{text_written, tokens_written, record_text_reads}
 use Rattle.match_record.proofs.record.record_json.Goals as goal
 

@@ -1,6 +1,6 @@
 use Rattle.std.proofs.Common.{map, take}
 use Rattle.match_record.specs.Internal.Written.{HasBegun}
-use Rattle.match_record.specs.RecordTree.{mark_tree}
+use Rattle.record_reading.specs.RecordTree.{mark_tree}
 use Rattle.match_record.proofs.record.write_end_marks.Given as goal
 
 abbrev pub invariant-loop-role : goal.invariant-loop-role

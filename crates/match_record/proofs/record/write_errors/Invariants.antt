@@ -1,6 +1,6 @@
 use Rattle.std.proofs.Common.{map, take}
 use Rattle.match_record.specs.Internal.Written.{HasBegun}
-use Rattle.match_record.specs.RecordTree.{texts_tree}
+use Rattle.record_reading.specs.RecordTree.{texts_tree}
 use Rattle.match_record.proofs.record.write_errors.Given as goal
 
 abbrev pub invariant-loop-turn : goal.invariant-loop-turn

@@ -2,8 +2,8 @@ use Rattle.std.proofs.Common.{◌≡◌, sym, subst, ap, map, arith, ◌∙◌}
 use Rattle.std.specs.Prelude.{option_to_list}
 use Rattle.match_book.specs.Phase.{goal_of}
 use Rattle.match_record.specs.Internal.Written.{HasAdded, HasBegun, IsWritten, each_tokens}
-use Rattle.match_record.specs.RecordParts.{goals_from}
-use Rattle.match_record.specs.RecordTree.{list_tree, whole_tree}
+use Rattle.record_reading.specs.RecordParts.{goals_from}
+use Rattle.record_reading.specs.RecordTree.{list_tree, whole_tree}
 use Rattle.match_record.proofs.RecordLists.{goals-next}
 use Rattle.match_record.proofs.WrittenRecords.{one_added, begun_many, list_written}
 use Rattle.match_record.proofs.record.write_goals.Goals as goal

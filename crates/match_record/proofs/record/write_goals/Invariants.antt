@@ -1,8 +1,8 @@
 use Rattle.std.proofs.Common.{map}
 use Rattle.match_book.specs.Phase.{goal_of}
 use Rattle.match_record.specs.Internal.Written.{HasBegun}
-use Rattle.match_record.specs.RecordParts.{goals_from}
-use Rattle.match_record.specs.RecordTree.{whole_tree}
+use Rattle.record_reading.specs.RecordParts.{goals_from}
+use Rattle.record_reading.specs.RecordTree.{whole_tree}
 use Rattle.match_record.proofs.record.write_goals.Given as goal
 
 abbrev pub invariant-loop-role : goal.invariant-loop-role

@@ -1,6 +1,6 @@
 use Rattle.std.proofs.Common.{◌<◌, ◌≤◌, arith, length, map, subst}
 use Rattle.match_record.specs.Internal.Written.{IsWritten}
-use Rattle.match_record.specs.RecordTree.{list_tree, texts_tree}
+use Rattle.record_reading.specs.RecordTree.{list_tree, texts_tree}
 use Rattle.match_record.proofs.RecordLists.{map_twice}
 use Rattle.match_record.proofs.WrittenRecords.{one_added, turn_next, all_written}
 use Rattle.match_record.proofs.record.write_moves.Goals as goal

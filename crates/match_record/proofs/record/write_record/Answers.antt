@@ -2,8 +2,8 @@ use Rattle.std.proofs.Common.{subst}
 use Rattle.std.proofs.lemmas.List.{take_all}
 use Rattle.serde_json.specs.Data.{object}
 use Rattle.match_record.specs.Internal.Written.{IsWritten}
-use Rattle.match_record.specs.RecordParts.{parts_of}
-use Rattle.match_record.specs.RecordTree.{keys, members_at, record_tree}
+use Rattle.record_reading.specs.RecordParts.{parts_of}
+use Rattle.record_reading.specs.RecordTree.{keys, members_at, record_tree}
 use Rattle.match_record.proofs.WrittenRecords.{one_added, members_next, object_written}
 use Rattle.match_record.proofs.record.write_record.Goals as goal
 

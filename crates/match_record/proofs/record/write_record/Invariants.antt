@@ -1,7 +1,7 @@
 use Rattle.std.proofs.Common.{take}
 use Rattle.match_record.specs.Internal.Written.{HasMembers}
-use Rattle.match_record.specs.RecordParts.{parts_of}
-use Rattle.match_record.specs.RecordTree.{keys}
+use Rattle.record_reading.specs.RecordParts.{parts_of}
+use Rattle.record_reading.specs.RecordTree.{keys}
 use Rattle.match_record.proofs.record.write_record.Given as goal
 
 abbrev pub invariant-loop-key : goal.invariant-loop-key

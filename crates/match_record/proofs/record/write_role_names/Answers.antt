@@ -3,8 +3,8 @@ use Rattle.std.specs.Str.{IsAscii}
 use Rattle.std.proofs.lemmas.List.{map-append}
 use Rattle.serde_json.specs.Data.{string}
 use Rattle.match_record.specs.Internal.Written.{IsWritten, HasBegun}
-use Rattle.match_record.specs.RecordParts.{each_role}
-use Rattle.match_record.specs.RecordTree.{list_tree}
+use Rattle.record_reading.specs.RecordParts.{each_role}
+use Rattle.record_reading.specs.RecordTree.{list_tree}
 use Rattle.match_record.proofs.Ascii.{folded_text_is_ascii}
 use Rattle.match_record.proofs.RecordLists.{each_role-more}
 use Rattle.match_record.proofs.WrittenRecords.{one_added, begun_more, list_written}

@@ -1,7 +1,7 @@
 use Rattle.std.proofs.Common.{map}
 use Rattle.serde_json.specs.Data.{string}
 use Rattle.match_record.specs.Internal.Written.{HasBegun}
-use Rattle.match_record.specs.RecordParts.{each_role}
+use Rattle.record_reading.specs.RecordParts.{each_role}
 use Rattle.match_record.proofs.record.write_role_names.Given as goal
 
 abbrev pub invariant-loop-role : goal.invariant-loop-role

@@ -4,7 +4,7 @@ use Rattle.std.specs.Str.{IsAscii}
 use Rattle.std.proofs.lemmas.Option.{slice_get-get_or}
 use Rattle.match_book.specs.Roles.{at_role}
 use Rattle.match_record.specs.Internal.Written.{IsWritten}
-use Rattle.match_record.specs.RecordTree.{mark_tree, text_or_null}
+use Rattle.record_reading.specs.RecordTree.{mark_tree, text_or_null}
 use Rattle.match_record.proofs.Ascii.{marks_are_ascii}
 use Rattle.match_record.proofs.WrittenRecords.{one_added, begun_next, all_written}
 use Rattle.match_record.proofs.record.write_start_marks.Goals as goal

@@ -2,8 +2,8 @@ use Rattle.std.proofs.Common.{◌≡◌, ◌<◌, ◌≤◌, ◌+◌, ◌∷◌,
 use Rattle.std.proofs.lemmas.List.{take_all, map-append}
 use Rattle.match_book.specs.MatchValue.{state_after}
 use Rattle.match_record.specs.Internal.Written.{IsWritten, HasBegun}
-use Rattle.match_record.specs.RecordParts.{prefixes}
-use Rattle.match_record.specs.RecordTree.{list_tree, texts_tree}
+use Rattle.record_reading.specs.RecordParts.{prefixes}
+use Rattle.record_reading.specs.RecordTree.{list_tree, texts_tree}
 use Rattle.match_record.proofs.RecordLists.{prefixes-next, map_twice}
 use Rattle.match_record.proofs.WrittenRecords.{one_added, begun_more, list_written}
 use Rattle.match_record.proofs.record.write_states.Goals as goal

@@ -1,8 +1,8 @@
 use Rattle.std.proofs.Common.{map, take}
 use Rattle.match_book.specs.MatchValue.{state_after}
 use Rattle.match_record.specs.Internal.Written.{HasBegun}
-use Rattle.match_record.specs.RecordParts.{prefixes}
-use Rattle.match_record.specs.RecordTree.{texts_tree}
+use Rattle.record_reading.specs.RecordParts.{prefixes}
+use Rattle.record_reading.specs.RecordTree.{texts_tree}
 use Rattle.match_record.proofs.record.write_states.Given as goal
 
 abbrev pub invariant-loop-turn : goal.invariant-loop-turn

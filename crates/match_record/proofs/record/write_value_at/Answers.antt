@@ -3,7 +3,7 @@ use Rattle.std.specs.Prelude.{All, OnOk}
 use Rattle.std.specs.Str.{IsAscii}
 use Rattle.serde_json.specs.Data.{string}
 use Rattle.match_record.specs.Internal.Written.{IsWritten}
-use Rattle.match_record.specs.RecordTree.{texts_tree, whole_tree}
+use Rattle.record_reading.specs.RecordTree.{texts_tree, whole_tree}
 use Rattle.match_record.proofs.Ascii.{name_is_ascii, names_are_ascii, phase_is_ascii}
 use Rattle.match_record.proofs.record.write_value_at.Goals as goal
 

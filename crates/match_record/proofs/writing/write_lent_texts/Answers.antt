@@ -5,7 +5,7 @@ use Rattle.std.proofs.lemmas.Option.{slice_get_read, get_or_from_slice_get}
 use Rattle.std.specs.Cow.{cow_slice_items}
 use Rattle.serde_json.specs.Data.{string}
 use Rattle.match_record.specs.Internal.Written.{IsWritten}
-use Rattle.match_record.specs.RecordTree.{list_tree}
+use Rattle.record_reading.specs.RecordTree.{list_tree}
 use Rattle.match_record.proofs.RecordLists.{map_twice}
 use Rattle.match_record.proofs.WrittenRecords.{one_added, begun_next, all_written}
 use Rattle.match_record.proofs.writing.write_lent_texts.Goals as goal

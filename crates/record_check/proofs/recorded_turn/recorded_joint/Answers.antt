@@ -2,7 +2,7 @@ use Rattle.std.proofs.Common.{Bool, ◌≡◌, ◌≢◌, ◌<◌, ◌+◌, [], 
 use Rattle.std.specs.Prelude.{All, AllPairs, vec_len}
 use Rattle.std.proofs.lemmas.List.{get_or_read}
 use Rattle.std.proofs.lemmas.Option.{MatchOption-at_some}
-use Rattle.match_record.specs.RecordParts.{IsErrorText}
+use Rattle.record_reading.specs.RecordParts.{IsErrorText}
 use Rattle.match_book.specs.LegalMoves.{AreLegalMoves}
 use Rattle.match_book.specs.Internal.RoleStrikes.{is_retired_in}
 use Rattle.match_book.specs.Judgement.{IsPart, NamesNone}

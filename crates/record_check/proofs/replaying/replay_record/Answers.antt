@@ -1,8 +1,8 @@
 use Rattle.std.proofs.Common.{rules, inr}
 use Rattle.std.proofs.lemmas.Result.{err_from_is_err_and}
 use Rattle.record_check.specs.Replaying.{AreGoalsIn, IsReplayed, IsFirstFault}
-use Rattle.match_record.specs.declared.record_parts.Key.TheVariants.{StartMarks, EndMarks}
-use Rattle.match_record.specs.declared.verify_fault.VerifyFault.TheVariants.{WrongGoals, WrongEnd}
+use Rattle.record_reading.specs.declared.record_parts.Key.TheVariants.{StartMarks, EndMarks}
+use Rattle.record_reading.specs.declared.verify_fault.VerifyFault.TheVariants.{WrongGoals, WrongEnd}
 use Rattle.record_check.proofs.LawfulRecords.{record-lawful, fault-not_lawful}
 use Rattle.record_check.proofs.replaying.replay_record.Goals as goal
 

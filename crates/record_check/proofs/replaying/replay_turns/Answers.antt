@@ -7,9 +7,9 @@ use Rattle.match_book.specs.declared.retirement.RoleStrikes.{RoleStrikes}
 use Rattle.record_check.specs.Internal.ReplaySteps.{IsRightJoint, IsTurnFault}
 use Rattle.std.proofs.lemmas.Result.{err_from_is_err_and}
 use Rattle.match_book.proofs.LawfulTurns.{All-get}
-use Rattle.match_record.specs.RecordParts.{IsErrorText}
+use Rattle.record_reading.specs.RecordParts.{IsErrorText}
 use Rattle.record_check.specs.Replaying.{ShowsState}
-use Rattle.match_record.specs.declared.record_parts.Key.TheVariants.{Moves, Errors}
+use Rattle.record_reading.specs.declared.record_parts.Key.TheVariants.{Moves, Errors}
 use Rattle.record_check.proofs.Replays.{HasCome, come-start, come-few, come-more, come-fault, come-retired}
 use Rattle.record_check.proofs.replaying.replay_turns.Goals as goal
 

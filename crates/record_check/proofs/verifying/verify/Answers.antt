@@ -1,9 +1,9 @@
 use Rattle.std.proofs.Common.{◌≢◌}
 use Rattle.std.proofs.lemmas.Result.{IfOk-weaker, IfErr-weaker}
-use Rattle.match_record.specs.LawfulRecord.{AreLawfulParts, IsLawfulRecord}
+use Rattle.record_reading.specs.LawfulRecord.{AreLawfulParts, IsLawfulRecord}
 use Rattle.record_check.specs.Replaying.{IsFirstFault}
 use Rattle.record_check.specs.Verified.{FailsFirst}
-use Rattle.match_record.specs.declared.verify_fault.VerifyFault.TheVariants.{Memory}
+use Rattle.record_reading.specs.declared.verify_fault.VerifyFault.TheVariants.{Memory}
 use Rattle.record_check.proofs.CheckedRecords.{no_shape_is_first, fault_is_first}
 use Rattle.record_check.proofs.verifying.verify.Goals as goal
 

@@ -1,5 +1,0 @@
-use Rattle.match_record.proofs.OneRecord as proved
-use Rattle.match_record.proofs.laws.holds_one_parts_at_most.Goals as goal
-
-pub returns : goal.returns
-returns g c = proved.holds_one_parts_at_most (g.G.Game.rules c.args.game.now) (g.met.G.Game.laws c.args.game.now)

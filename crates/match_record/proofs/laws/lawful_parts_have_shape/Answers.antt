@@ -1,5 +1,0 @@
-use Rattle.match_record.proofs.LawfulParts as proved
-use Rattle.match_record.proofs.laws.lawful_parts_have_shape.Goals as goal
-
-pub returns : goal.returns
-returns g c = proved.lawful_parts_have_shape (g.G.Game.rules c.args.game.now) (g.met.G.Game.laws c.args.game.now)

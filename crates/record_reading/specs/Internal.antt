@@ -1,0 +1,3 @@
+pub mod JsonValues
+pub mod KeyReading
+pub mod Shown

@@ -1,0 +1,4 @@
+pub mod RecordTree
+pub mod LawfulRecord
+pub mod RecordParts
+pub mod Internal

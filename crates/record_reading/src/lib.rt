@@ -1,0 +1,21 @@
+//! The record of a match: what it says, and the reading of one.
+//!
+//! A record is one JSON object of fifteen keys, which holds the recorded turns of a match alone. `read_record`
+//! reads what a text says, if it has the shape of a record of the game, and else names the first test of the
+//! shape that fails. `laws` says what holds of records, whatever the match.
+//!
+//! Free functions take the allocator first.
+#![tactic(auto)]
+
+mod error_texts;
+mod json_values;
+pub mod laws;
+mod reading;
+mod record_parts;
+mod record_words;
+mod verify_fault;
+
+pub use reading::read_record;
+pub use record_parts::{Goals, Key, Marks, RecordParts, TextLists, Version};
+pub use record_words::phase_text;
+pub use verify_fault::VerifyFault;

@@ -1,0 +1,352 @@
+//! A record, read from its text.
+ghost use Rattle.std.specs.Prelude.{◌≡◌, ◌≢◌, ◌≤◌, ◌<◌, ◌^◌, ◌==◌, ◌||◌, ◌↔◌, ◌⊎◌, All, IfErr, IfOk, IsTrue, OnOk, Some, None, if◌then◌else◌, length, true};
+ghost use Rattle.serde_json.specs.Data.{Data, string};
+ghost use Rattle.serde_json.specs.View.{view};
+ghost use Rattle.game_core.specs.Play.{max_goal};
+ghost use Rattle.match_book.specs.Names.{is_clock, is_name, is_strikes};
+ghost use Rattle.record_reading.specs.Internal.JsonValues.{data_in, data_of};
+ghost use Rattle.record_reading.specs.Internal.KeyReading.{IsReadInto, SayTheSame, keys_before};
+ghost use Rattle.record_reading.specs.Internal.Shown.{AnyShape, Shows};
+ghost use Rattle.record_reading.specs.LawfulRecord.{AreLawfulParts, HasNoShape, IsFirstWithout, IsJson, IsLawfulRecord, IsShaped};
+ghost use Rattle.record_reading.specs.RecordParts.{AreErrors, AreGoals, AreMoves, ArePlayers, each_role};
+ghost use Rattle.record_reading.specs.RecordTree.{HasShape, Holds, IsShapedAt, goal_values_tree, keys, marks_tree, since_second, text_lists_tree, texts_tree, unless_there, version_of, version_said, version_tree, whole_tree};
+ghost use Rattle.record_reading.specs.declared.record_parts.Key.{Key};
+ghost use Rattle.record_reading.specs.declared.record_parts.Version.TheVariants.{First};
+ghost use Rattle.record_reading.specs.declared.verify_fault.VerifyFault.TheVariants.{BadShape, Memory, NotJson};
+
+use crate::error_texts::are_errors;
+use crate::json_values::{FromJson, bytes_in, into_object, members_in, whole_in};
+use crate::record_parts::{Goals, Key, Marks, RecordParts, TextLists, Version};
+use crate::record_words::{cause_in, mark_in, phase_in};
+use crate::verify_fault::VerifyFault;
+use game_core::{Game, Text, Texts};
+use match_book::{MAX_CLOCK, MAX_STRIKES, MAX_TURNS, are_names, is_clock, is_name};
+use serde_json::Value;
+use std::alloc::{AllocError, Global};
+
+/// The highest goal.
+const MAX_GOAL: u64 = 100;
+
+/// A mark, or null, for each role.
+fn marks_in(alloc: Global, found: Option<&Value>, roles: usize) -> Result<Option<Marks>, AllocError>
+    ensures { IfOk result (λ o. Shows marks_tree (λ marks. length marks ≡ roles) (data_in found.entry) o) }
+{
+    let Some(members) = members_in(found) else {
+        return Ok(None);
+    };
+    if members.len() != roles {
+        return Ok(None);
+    }
+    let mut items = Vec::with_capacity(alloc, roles)?;
+    for member in members {
+        match mark_in(Some(member)) {
+            Some(mark) => items.push(mark)?,
+            None => return Ok(None),
+        }
+    }
+    Ok(Some(Marks { items }))
+}
+
+fn goal_in(found: Option<&Value>) -> Option<u8>
+    ensures { Shows whole_tree (λ goal. goal ≤ max_goal) (data_in found.entry) result }
+{
+    let goal = whole_in(found)?;
+    if goal <= MAX_GOAL {
+        Some(goal as u8)
+    } else {
+        None
+    }
+}
+
+/// Whether there may be as many goals.
+fn is_goal_count(goals: usize, roles: usize) -> bool
+    ensures { result ≡ (goals == 0 || goals == roles) }
+{
+    goals == 0 || goals == roles
+}
+
+/// No goal, or one for each role.
+fn goals_in(alloc: Global, found: Option<&Value>, roles: usize) -> Result<Option<Goals>, AllocError>
+    ensures { IfOk result (λ o. Shows goal_values_tree (AreGoals roles) (data_in found.entry) o) }
+{
+    let Some(members) = members_in(found) else {
+        return Ok(None);
+    };
+    if !is_goal_count(members.len(), roles) {
+        return Ok(None);
+    }
+    let mut items = Vec::with_capacity(alloc, members.len())?;
+    for member in members {
+        match goal_in(Some(member)) {
+            Some(goal) => items.push(goal)?,
+            None => return Ok(None),
+        }
+    }
+    Ok(Some(Goals { items }))
+}
+
+/// A lawful id.
+fn id_in(alloc: Global, found: Option<&Value>) -> Result<Option<Text>, AllocError>
+    ensures { IfOk result (λ o. Shows string (λ id. is_name id ≡ true) (data_in found.entry) o) }
+{
+    match bytes_in(found) {
+        Some(bytes) if is_name(bytes) => Ok(Some(Text::from_slice(alloc, bytes)?)),
+        _ => Ok(None),
+    }
+}
+
+/// A lawful clock.
+fn clock_in(found: Option<&Value>) -> Option<u32>
+    ensures { Shows whole_tree (λ seconds. is_clock seconds ≡ true) (data_in found.entry) result }
+{
+    let seconds = whole_in(found)?;
+    if seconds > u64::from(MAX_CLOCK) {
+        return None;
+    }
+    let seconds = seconds as u32;
+    if is_clock(seconds) {
+        Some(seconds)
+    } else {
+        None
+    }
+}
+
+/// The version of a record by what stands at its key: without the key it is the first.
+fn version_in(found: Option<&Value>) -> Option<Version>
+    ensures said { result ≡ version_said (data_in found.entry) }
+    ensures shown { Shows version_tree AnyShape (unless_there (version_tree First) result (data_in found.entry)) result }
+{
+    if found.is_none() {
+        return Some(Version::First);
+    }
+    match whole_in(found)? {
+        1 => Some(Version::First),
+        2 => Some(Version::Second),
+        _ => None,
+    }
+}
+
+/// A lawful number of strikes. In a record of another version than the second it is 0, whatever stands there.
+fn strikes_in(version: Option<Version>, found: Option<&Value>) -> Option<u8>
+    ensures { Shows whole_tree (λ strikes. is_strikes strikes ≡ true) (since_second (whole_tree 0) version (data_in found.entry)) result }
+{
+    if version != Some(Version::Second) {
+        return Some(0);
+    }
+    let strikes = whole_in(found)?;
+    if strikes <= u64::from(MAX_STRIKES) {
+        Some(strikes as u8)
+    } else {
+        None
+    }
+}
+
+/// One error for each role in each turn.
+fn errors_in(
+    alloc: Global,
+    found: Option<Value>,
+    roles: usize,
+) -> Result<Option<TextLists>, AllocError>
+    ensures { IfOk result (λ o. Shows text_lists_tree (AreErrors roles) (data_of found) o) }
+{
+    let Some(errors) = TextLists::value_in(alloc, found)? else {
+        return Ok(None);
+    };
+    if are_errors(alloc, errors.items.as_slice(), roles)? {
+        Ok(Some(errors))
+    } else {
+        Ok(None)
+    }
+}
+
+/// Whether each turn has one text for each role.
+fn are_wide(turns: &[Texts], roles: usize) -> bool
+    ensures { IsTrue result ↔ All (λ texts. length texts ≡ roles) turns.now }
+{
+    turns.iter().all(|turn| turn.as_slice().len() == roles)
+}
+
+fn are_moves(turns: &[Texts], roles: usize) -> bool
+    ensures { IsTrue result ↔ AreMoves roles turns.now }
+{
+    turns.len() <= MAX_TURNS && are_wide(turns, roles)
+}
+
+/// One text for each role in each turn, and not too many turns.
+fn moves_in(
+    alloc: Global,
+    found: Option<Value>,
+    roles: usize,
+) -> Result<Option<TextLists>, AllocError>
+    ensures { IfOk result (λ o. Shows text_lists_tree (AreMoves roles) (data_of found) o) }
+{
+    let Some(moves) = TextLists::value_in(alloc, found)? else {
+        return Ok(None);
+    };
+    if are_moves(moves.items.as_slice(), roles) {
+        Ok(Some(moves))
+    } else {
+        Ok(None)
+    }
+}
+
+fn are_players(names: &[Text], roles: usize) -> bool
+    ensures { IsTrue result ↔ ArePlayers roles names.now }
+{
+    names.len() == roles && are_names(names)
+}
+
+/// A lawful name for each role.
+fn players_in(
+    alloc: Global,
+    found: Option<Value>,
+    roles: usize,
+) -> Result<Option<Texts>, AllocError>
+    ensures { IfOk result (λ o. Shows texts_tree (ArePlayers roles) (data_of found) o) }
+{
+    let Some(players) = Texts::value_in(alloc, found)? else {
+        return Ok(None);
+    };
+    if are_players(players.as_slice(), roles) {
+        Ok(Some(players))
+    } else {
+        Ok(None)
+    }
+}
+
+/// Whether these are the names of the game's roles, in their order.
+fn are_role_names<G: Game>(game: &G, texts: &[Text]) -> bool
+    ensures { IsTrue result ↔ (texts.now ≡ each_role (G.rules game.now).roles (G.rules game.now).role_name) }
+{
+    if texts.len() != game.roles() {
+        return false;
+    }
+    for (role, text) in texts.iter().enumerate() {
+        if text.as_slice() != game.role_name(role) {
+            return false;
+        }
+    }
+    true
+}
+
+/// The names of the game's roles.
+fn roles_in<G: Game>(
+    alloc: Global,
+    game: &G,
+    found: Option<Value>,
+) -> Result<Option<Texts>, AllocError>
+    ensures { IfOk result (λ o. Shows texts_tree (λ names. names ≡ each_role (G.rules game.now).roles (G.rules game.now).role_name) (data_of found) o) }
+{
+    let Some(names) = Texts::value_in(alloc, found)? else {
+        return Ok(None);
+    };
+    if are_role_names(game, names.as_slice()) {
+        Ok(Some(names))
+    } else {
+        Ok(None)
+    }
+}
+
+/// Keeps what was read, if anything was, and says whether.
+fn keep<T: Drop>(part: &mut T, read: Option<T>) -> bool
+    ensures { read ≡ (if result then Some part.new else None) }
+{
+    match read {
+        Some(value) => {
+            *part = value;
+            true
+        }
+        None => false,
+    }
+}
+
+/// Reads what was taken from a key in a record of this version, if it is of the key's shape, and says whether it is.
+fn read_into<G: Game>(
+    alloc: Global,
+    game: &G,
+    key: Key,
+    version: Option<Version>,
+    found: Option<Value>,
+    parts: &mut RecordParts,
+) -> Result<bool, AllocError>
+    ensures read { IfOk result (IsReadInto (G.rules game.now) key version (data_of found) parts.new) }
+    ensures kept { OnOk result (SayTheSame (keys_before key keys) parts.old parts.new) }
+{
+    let roles = game.roles();
+    Ok(match key {
+        Key::Cause => keep(&mut parts.cause, cause_in(found.as_ref(), roles)),
+        Key::EndMarks => keep(
+            &mut parts.end_marks,
+            marks_in(alloc, found.as_ref(), roles)?,
+        ),
+        Key::Errors => keep(&mut parts.errors, errors_in(alloc, found, roles)?),
+        Key::GoalValues => keep(&mut parts.goals, goals_in(alloc, found.as_ref(), roles)?),
+        Key::MatchId => keep(&mut parts.id, id_in(alloc, found.as_ref())?),
+        Key::Moves => keep(&mut parts.moves, moves_in(alloc, found, roles)?),
+        Key::Phase => keep(&mut parts.phase, phase_in(found.as_ref())),
+        Key::PlayClock => keep(&mut parts.play, clock_in(found.as_ref())),
+        Key::Players => keep(&mut parts.players, players_in(alloc, found, roles)?),
+        Key::Roles => keep(&mut parts.roles, roles_in(alloc, game, found)?),
+        Key::StartClock => keep(&mut parts.start, clock_in(found.as_ref())),
+        Key::StartMarks => keep(
+            &mut parts.start_marks,
+            marks_in(alloc, found.as_ref(), roles)?,
+        ),
+        Key::States => keep(&mut parts.states, TextLists::value_in(alloc, found)?),
+        Key::Strikes => keep(&mut parts.strikes, strikes_in(version, found.as_ref())),
+        Key::Version => keep(&mut parts.version, version_in(found.as_ref())),
+    })
+}
+
+/// What the keys of a tree hold, each of its shape.
+fn parts_in<G: Game>(alloc: Global, game: &G, tree: Value) -> Result<RecordParts, VerifyFault>
+    ensures ok { IfOk result (λ p. Holds (view tree) p × ((key : Key) → IsShapedAt (G.rules game.now) key p)) }
+    ensures err { IfErr result (λ fault. (fault ≡ Memory) ⊎ ((key : Key) × (fault ≡ BadShape key) × IsFirstWithout (IsShaped (G.rules game.now) (view tree)) keys key)) }
+{
+    let version = version_in(tree.get(Key::Version.text()));
+    let mut members = into_object(alloc, tree);
+    let mut parts = RecordParts::new(alloc);
+    for key in Key::ALL {
+        let found = members.remove(key.text());
+        if !read_into(alloc, game, key, version, found, &mut parts)? {
+            return Err(VerifyFault::BadShape(key));
+        }
+    }
+    Ok(parts)
+}
+
+/// The tree of a JSON text.
+fn tree_of(alloc: Global, text: &[u8]) -> Result<Value, VerifyFault>
+    ensures ok { IfOk result (λ v. IsJson text.now (view v)) }
+    ensures err { IfErr result (λ fault. (fault ≡ Memory) ⊎ ((fault ≡ NotJson) × ((tree : Data) → ¬ IsJson text.now tree))) }
+{
+    match Value::from_slice(alloc, text) {
+        Ok(tree) => Ok(tree),
+        Err(fault) if fault.is_memory() => Err(VerifyFault::Memory),
+        Err(_) => Err(VerifyFault::NotJson),
+    }
+}
+
+/// What a text says, if it has the shape of a record of the game. The text is a lawful record exactly where what it
+/// says is what the record of some lawful match says.
+pub fn read_record<G: Game>(
+    alloc: Global,
+    game: &G,
+    text: &[u8],
+) -> Result<RecordParts, VerifyFault>
+    ensures ok { IfOk result (λ p. (tree : Data) × IsJson text.now tree × Holds tree p × HasShape (G.rules game.now) p) }
+    ensures err { IfErr result (HasNoShape (G.rules game.now) text.now) }
+    ensures lawful { IfOk result (λ p. IsLawfulRecord (G.rules game.now) text.now ↔ AreLawfulParts (G.rules game.now) p) }
+    ensures refused { IfErr result (λ fault. fault ≢ Memory → ¬ IsLawfulRecord (G.rules game.now) text.now) }
+{
+    let tree = tree_of(alloc, text)?;
+    let parts = parts_in(alloc, game, tree)?;
+    let turns = parts.moves.count();
+    if parts.errors.count() != turns {
+        return Err(VerifyFault::BadShape(Key::Errors));
+    }
+    if parts.states.count() != turns + 1 {
+        return Err(VerifyFault::BadShape(Key::States));
+    }
+    Ok(parts)
+}
