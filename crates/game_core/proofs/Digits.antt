@@ -31,7 +31,7 @@ next_number digits i n r e within so_far more =
     let last : r ≡ digit_value (get_or digits i 0) = more ∙ digit_less (get_or digits i 0) (digit_at digits i (numeral_parts digits e).1 within) in
     (λ j. so_far j * 10 + last j) ∙ sym (digits_value_more 10 digits i within)
 
--- the number so far is too great, and so is the whole one
+-- if the number so far is too great, so is the whole number
 pub too_great : (digits : List ℕ) (i n most : ℕ) → n ≡ digits_value 10 (take i digits) → most < n
     → None ≡ number_up_to digits most
 too_great digits i n most so_far above =

@@ -1,4 +1,5 @@
--- The game of Countdown: two roles in turn take one or two from a heap, and who finds it empty has lost.
+-- The game of Countdown: two roles take one or two from a heap in turn, and the role that finds it empty
+-- loses.
 use Rattle.std.specs.Prelude.{ℕ, zero, suc, ◌-◌, ◌==◌, nat_le, ◌≤◌, if◌then◌else◌, List, [], ◌∷◌, ◌++◌, Option, Some, None, slice_index_or, codes}
 use Rattle.std.specs.Fmt.{decimal}
 use Rattle.game_core.specs.declared.countdown.Position.{Position}
@@ -52,7 +53,7 @@ take_text Noop = codes "noop"
 take_text One = codes "(take 1)"
 take_text Two = codes "(take 2)"
 
--- the move of the role on turn counts
+-- only the move of the role on turn counts
 abbrev pub next_position : Position → List Take → Position
 next_position p joint = record { heap = p.heap - count_of (slice_index_or joint (role_of p.on_turn) Noop); on_turn = other_side p.on_turn }
 

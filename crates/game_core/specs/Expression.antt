@@ -11,7 +11,7 @@ mutual
     none : Expressions
     more : Expression → Expressions → Expressions
 
--- how many lists nest
+-- the depth of nested lists
 abbrev mutual
   pub depth : Expression → ℕ
   depth (atom w) = 0
@@ -49,7 +49,7 @@ abbrev mutual
   AllHaveAtoms none = Unit {0}
   AllHaveAtoms (more x xs) = HasAtoms x × AllHaveAtoms xs
 
--- how many lists a proper expression nests at most
+-- the limit of nested lists in a proper expression
 abbrev pub max_depth : ℕ
 max_depth = 64
 

@@ -1,2 +1,2 @@
--- What private functions and proofs alone cite.
+-- What only private functions and proofs cite.
 pub mod CountdownLaws

@@ -15,10 +15,10 @@ are_digits word = nat_lt 0 (length word) && list_all is_ascii_digit word
 abbrev pub is_plain_numeral : List ℕ → Bool
 is_plain_numeral word = are_digits word && (length word == 1 || not (slice_index word 0 == digit_zero))
 
--- the number that digits write, where it is at most so much
+-- the number that digits write, if it is at most this limit
 abbrev pub number_up_to : List ℕ → ℕ → Option ℕ
 number_up_to digits most = if nat_le (digits_value 10 digits) most then Some (digits_value 10 digits) else None
 
--- the number that a word writes without leading zeros, where it is at most so much
+-- the number that a word writes without leading zeros, if it is at most this limit
 abbrev pub plain_number : List ℕ → ℕ → Option ℕ
 plain_number word most = if is_plain_numeral word then number_up_to word most else None

@@ -3,7 +3,7 @@ use Rattle.std.specs.Prelude.{ℕ, Bool, false, List, [], ◌∷◌, Option, Con
 use Rattle.game_core.specs.Canonical.{IsCanonicalText, IsFoldedText}
 use Rattle.game_core.specs.Texts.{AreInByteOrder}
 
--- how many roles a game has at most
+-- the limit of roles in a game
 abbrev pub max_roles : ℕ
 max_roles = 16
 
@@ -11,8 +11,8 @@ max_roles = 16
 abbrev pub max_goal : ℕ
 max_goal = 100
 
--- The rules of a game whose states are of type S and whose moves are of type M. Roles are numbered from 0.
--- IsState and IsMove say which values of these types are of this game.
+-- The rules of a game with states of type S and moves of type M. Roles are numbered from 0. IsState and
+-- IsMove say which values of these types belong to this game.
 pub record Rules (S M : Type 0) : Type 1 where
   pub roles : ℕ
   pub role_name : ℕ → List ℕ
@@ -31,7 +31,7 @@ pub record IsJoint {S M : Type 0} (g : Rules S M) (s : S) (joint : List M) : Typ
   pub width : length joint ≡ g.roles
   pub legal : (r : ℕ) (d : M) → r < g.roles → Contains (g.legal s r) (slice_index_or joint r d)
 
--- what every game keeps
+-- the laws of every game
 pub record IsLawful {S M : Type 0} (g : Rules S M) : Type 0 where
   pub some_role : 1 ≤ g.roles
   pub few_roles : g.roles ≤ max_roles
@@ -43,13 +43,13 @@ pub record IsLawful {S M : Type 0} (g : Rules S M) : Type 0 where
   pub legal_differ : (s : S) (r : ℕ) → g.IsState s → r < g.roles → AllPairs (λ m n. m ≢ n) (g.legal s r)
   pub move_texts_folded : (m : M) → g.IsMove m → IsFoldedText (g.move_text m)
   pub one_move_for_each_text : (m n : M) → g.IsMove m → g.IsMove n → g.move_text m ≡ g.move_text n → m ≡ n
-  -- in a match's errors this text stands for an unreadable answer
+  -- in a match's errors the text `?` stands for an unreadable answer
   pub no_question : (m : M) → g.IsMove m → g.move_text m ≢ codes "?"
   pub state_texts_canonical : (s : S) → g.IsState s → All IsCanonicalText (g.state_text s)
   pub state_texts_ordered : (s : S) → g.IsState s → AreInByteOrder (g.state_text s)
   pub goal_in_range : (s : S) (r v : ℕ) → g.IsState s → r < g.roles → g.goal s r ≡ Some v → v ≤ max_goal
 
--- the state after these joint moves, from the state s on
+-- the state after these joint moves, starting at the state s
 abbrev pub play_from : {S M : Type 0} → Rules S M → S → List (List M) → S
 play_from g s [] = s
 play_from g s (j ∷ js) = play_from g (g.next s j) js
@@ -58,7 +58,7 @@ play_from g s (j ∷ js) = play_from g (g.next s j) js
 abbrev pub play : {S M : Type 0} → Rules S M → List (List M) → S
 play g turns = play_from g g.initial turns
 
--- from the state s on each turn is legal: the game goes on, and each role makes a legal move
+-- each turn from the state s on is legal: the game goes on, and each role makes a legal move
 abbrev pub AreLegalFrom : {S M : Type 0} → Rules S M → S → List (List M) → Type 0
 AreLegalFrom g s [] = Unit {0}
 AreLegalFrom g s (j ∷ js) = (g.terminal s ≡ false) × IsJoint g s j × AreLegalFrom g (g.next s j) js

@@ -1,10 +1,10 @@
--- The answer of a replay: the state, or the first fault.
+-- The result of a replay: the state, or the first fault.
 use Rattle.std.specs.Prelude.{ℕ, ◌<◌, ◌≡◌, ◌≢◌, true, false, List, length, take, slice_index_or, [], Contains, Result, Ok, Err}
 use Rattle.game_core.specs.declared.play.PlayFault.{PlayFault}
 use Rattle.game_core.specs.declared.play.PlayFault.TheVariants.{AfterEnd, WrongWidth, Illegal, Memory}
 use Rattle.game_core.specs.Play.{Rules, play, AreLegal}
 
--- the role's move is not legal, and each lower role's is
+-- the role's move is not legal, and each lower role's move is
 pub record IsFirstIllegal {S M : Type 0} (g : Rules S M) (s : S) (joint : List M) (role : ℕ) : Type 0 where
   pub within : role < length joint
   pub illegal : (d : M) → ¬ (Contains (g.legal s role) (slice_index_or joint role d))

@@ -1,7 +1,7 @@
 -- The byte order of texts.
 use Rattle.std.specs.Prelude.{ℕ, ◌≡◌, ◌<◌, ◌⊎◌, List, [], ◌∷◌, AllPairs}
 
--- A text comes before another where it is a shorter prefix of it, or has the lower byte at the first place where they differ.
+-- A text comes before another if it is a shorter prefix of it, or has the lower byte at the first place where they differ.
 abbrev pub IsBefore : List ℕ → List ℕ → Type 0
 IsBefore [] [] = ⊥
 IsBefore [] (b ∷ bs) = Unit {0}

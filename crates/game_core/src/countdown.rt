@@ -11,8 +11,8 @@ const ROLES: usize = 2;
 /// The largest heap of a new game.
 const MAX_HEAP: u8 = 100;
 
-/// Two roles, `red` and `blue`, in turn take one or two from a heap, red first. Who finds it empty
-/// has goal 0, the other 100.
+/// Two roles, `red` and `blue`, take one or two from a heap in turn, red first. The role that finds
+/// it empty has goal 0, the other 100.
 #[derive(Drop)]
 pub struct Countdown {
     pub size: u8,
@@ -23,7 +23,7 @@ pub struct Countdown {
 /// A move: to take none, one or two.
 #[derive(Clone, Copy, Debug, PartialEq, Eq)]
 pub enum Take {
-    /// `noop`: of the role that is not on turn.
+    /// `noop`: the move of the role that is not on turn.
     Noop,
     /// `(take 1)`.
     One,

@@ -8,14 +8,13 @@ use std::io;
 use std::io::{Read, Write};
 use std::marker::Model;
 
-/// The most reads, and the most writes, that are made of a stream for one input or output: whoever never ends is given up then.
+/// The limit of reads for one input, and of writes for one output. A stream that never ends is given up there.
 pub const MAX_STREAM_CALLS: u32 = 200_000;
 
-/// A stream, and how many of its reads and writes have failed: each `Err`, interruptions included,
-/// and each write that takes 0 of some bytes. The count stops at 2^64 - 1.
+/// A stream that counts its failed reads and writes. Each `Err` is a failure, interruptions included, and so is each write that
+/// takes 0 of some bytes. The count stops at 2^64 - 1.
 ///
-/// All reads and writes are counted too, for contracts alone: a clause that speaks of so many reads
-/// cites that count.
+/// All calls are counted too, for contracts alone: clauses about the number of reads or writes cite that count.
 ///
 /// It does not implement `Read` and `Write`: their provided methods would not keep the count.
 #[derive(Drop)]
@@ -54,7 +53,7 @@ impl<S> Counted<S> {
         self.failed
     }
 
-    /// The stream, given back.
+    /// Returns the stream.
     pub fn end(self) -> S
         ensures { result ≡ self.stream }
     {
@@ -68,7 +67,7 @@ impl<S> Counted<S> {
 }
 
 impl<S: Read> Counted<S> {
-    /// One `read` of the stream, passed on.
+    /// Calls `read` of the stream once and returns its result.
     pub fn read(&mut self, buffer: &mut [u8]) -> io::Result<usize>
         ensures bound { ReadsAtMost result buffer.new }
         ensures bytes { ReadConsumes (S.remaining self.old.stream) (S.remaining self.new.stream) result buffer.new }
@@ -86,7 +85,7 @@ impl<S: Read> Counted<S> {
 }
 
 impl<S: Write> Counted<S> {
-    /// One `write` of the stream, passed on.
+    /// Calls `write` of the stream once and returns its result.
     pub fn write(&mut self, bytes: &[u8]) -> io::Result<usize>
         ensures bound { WritesAtMost result bytes.now }
         ensures bytes { WriteAppends (S.contents self.old.stream) (S.contents self.new.stream) result bytes.now }

@@ -6,12 +6,12 @@ ghost use Rattle.game_core.specs.Play.{Rules, IsJoint, IsLawful};
 use std::alloc::{AllocError, Global};
 use std::borrow::CowSlice;
 
-/// A game with simultaneous moves and full information, as GDL describes them: in each state that is
-/// not terminal each role makes one move, and all of them together lead to the next state.
+/// A game with simultaneous moves and full information, as GDL describes them. In each state that is
+/// not terminal, each role makes one move, and the joint move leads to the next state.
 ///
-/// What the calls answer are the functions of `rules`, so each answer depends on the values of the
-/// arguments alone. Roles are numbered from 0. A call that may need memory answers `AllocError`
-/// where a growth was refused, and nothing else then.
+/// The calls return what the functions of `rules` say, so a result depends on the values of the
+/// arguments alone. Roles are numbered from 0. A call that may need memory returns `AllocError` if an
+/// allocation is refused, and for no other reason.
 pub trait Game {
     type State: Drop;
 
@@ -59,7 +59,7 @@ pub trait Game {
         requires { (rules self.now).IsState state.now }
         ensures { IfOk result (λ b. b ≡ (rules self.now).terminal state.now) };
 
-    /// The role's goal value, 0 to 100: `Some` exactly where it has one and only one.
+    /// The role's goal value, 0 to 100. It is `Some` exactly if the role has exactly one goal.
     fn goal(
         &self,
         alloc: Global,
@@ -75,7 +75,8 @@ pub trait Game {
         requires { (rules self.now).IsMove taken.now }
         ensures { result.now ≡ (rules self.now).move_text taken.now };
 
-    /// The state's terms in canonical text, each once, in byte order: lent where the game keeps them.
+    /// The state's terms in canonical text, each once, in byte order. They are borrowed if the game
+    /// keeps them.
     fn state_text(
         &self,
         alloc: Global,
@@ -84,16 +85,16 @@ pub trait Game {
         requires { (rules self.now).IsState state.now }
         ensures { IfOk result (λ v. map cow_slice_items v.items ≡ (rules self.now).state_text state.now) };
 
-    /// An equal state.
+    /// A copy of the state.
     fn copy_state(&self, alloc: Global, state: &Self::State) -> Result<Self::State, AllocError>
         requires { (rules self.now).IsState state.now }
         ensures { IfOk result (λ t. t ≡ state.now) };
 
-    /// An equal move.
+    /// A copy of the move.
     fn copy_move(&self, alloc: Global, taken: &Self::Move) -> Result<Self::Move, AllocError>
         requires { (rules self.now).IsMove taken.now }
         ensures { IfOk result (λ m. m ≡ taken.now) };
 
-    /// What every game keeps.
+    /// The laws of every game.
     ghost laws: { (g : Self) → IsLawful (rules g) };
 }

@@ -1,4 +1,4 @@
-//! What a game is, and what all other crates speak in: texts, joint moves, counted streams.
+//! What a game is, and the types that all other crates use: texts, joint moves, counted streams.
 //!
 //! Free functions take the allocator first, methods take it after `self`.
 #![tactic(auto)]

@@ -1,10 +1,10 @@
 //! How large games and expressions may be.
 
-/// How many roles a game has at most.
+/// The limit of roles in a game.
 pub const MAX_ROLES: usize = 16;
 
 /// The highest goal value.
 pub const MAX_GOAL: u8 = 100;
 
-/// How many lists a proper expression nests at most.
+/// The limit of nested lists in a proper expression.
 pub const MAX_DEPTH: usize = 64;

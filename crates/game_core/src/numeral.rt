@@ -16,7 +16,7 @@ fn is_plain_numeral(word: &[u8]) -> bool
     are_digits(word) && (word.len() == 1 || word[0] != b'0')
 }
 
-/// The number that the digits write, of however many they are, if it is at most `most`.
+/// The number that the digits write, if it is at most `most`. There may be any number of digits.
 pub fn number_up_to(digits: &[u8], most: usize) -> Option<usize>
     requires digits { IsTrue (are_digits digits.now) }
     requires small { most < 2 ^ 32 }

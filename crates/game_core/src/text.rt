@@ -12,8 +12,8 @@ use std::cmp::Ordering;
 use std::hash::{Hash, Hasher};
 use std::marker::Model;
 
-/// A text: any bytes, though most texts of a match are ASCII. Contracts see it as its bytes, and it is
-/// compared and hashed as they are.
+/// A text: any bytes, though most texts of a match are ASCII. Contracts see its bytes. Comparison and
+/// hashing use them too.
 #[derive(Drop)]
 pub struct Text {
     pub bytes: Vec<u8>,
@@ -28,7 +28,7 @@ impl Model for Text {
 }
 
 impl Text {
-    /// A text of its own memory with these bytes.
+    /// A copy of these bytes.
     pub fn from_slice(alloc: Global, bytes: &[u8]) -> Result<Text, AllocError>
         ensures { IfOk result (λ t. t ≡ bytes.now) }
     {
@@ -36,7 +36,7 @@ impl Text {
         Ok(Text { bytes })
     }
 
-    /// The bytes of a string, taken over.
+    /// Takes over the bytes of a string.
     pub fn from_string(text: String) -> Text
         ensures { result ≡ string_bytes text }
     {
@@ -45,7 +45,7 @@ impl Text {
         }
     }
 
-    /// `clone`, for callers that hand the allocator on.
+    /// `clone`, for callers that pass an allocator.
     pub fn copy(&self, alloc: Global) -> Result<Text, AllocError>
         ensures { IfOk result (λ t. t ≡ self.now) }
     {

@@ -55,7 +55,7 @@ goals true true v e = let w : ◌≡◌ {A = ℕ} 0 v = cc in omega arith
 goals true false v e = let w : ◌≡◌ {A = ℕ} 100 v = cc in omega arith
 goals false mine v e = absurd cc
 
--- what the digits of a number are, as an atom
+-- the digits of a number, as an atom
 record IsLowAtom (w : List ℕ) : Type 0 where
   some : 0 < length w
   bytes : AreAtomBytes w
