@@ -39,7 +39,7 @@ no_fault text Memory le clear flat wanted h = wanted refl
 unclosed_not_memory : (i : ℕ) → Unclosed i ≡ Memory → ⊥
 unclosed_not_memory i e = cc
 
--- the steps themselves never want memory
+-- the steps themselves never run out of memory
 not_memory : (text : List ℕ) (e : KifFault) → length text ≤ max_length → read max_depth text ≡ Err e → e ≡ Memory → ⊥
 not_memory text e le h is =
     elim (bind_err (run (step max_depth) start 0 text) finish e h) [

@@ -1,4 +1,4 @@
--- A text has one fault at most, want of memory apart.
+-- A text has at most one fault, apart from out of memory.
 use Rattle.std.proofs.Common.{◌≡◌, ℕ, ◌<◌, ◌≤◌, List, length, Bool, true, false, ◌||◌, ◌&&◌, ◌==◌, refl, sym, ap, subst, ◌∙◌, inl, inr, get_or, arith}
 use Rattle.std.proofs.lemmas.Bool.{cases_lt, eqb-true, and_parts, true≢false}
 use Rattle.game_core.specs.Bytes.{left_parenthesis, right_parenthesis, is_white, is_atom_byte}

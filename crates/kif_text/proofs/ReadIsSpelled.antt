@@ -1,4 +1,4 @@
--- What the reader takes is spelled by the text.
+-- The text spells what the reader accepts.
 use Rattle.std.proofs.Common.{◌≡◌, ◌≢◌, ℕ, suc, ◌<◌, List, [], ◌∷◌, ◌++◌, length, Bool, true, false, not, ◌==◌, Ok, refl, sym, ap, subst, ◌∙◌, append_assoc, arith}
 use Rattle.std.proofs.lemmas.List.{append-nil}
 use Rattle.std.proofs.lemmas.Bool.{eqb-true, eqb-false}
@@ -21,7 +21,8 @@ pub join_last : (xs : Expressions) (y : Expression) (ys : Expressions) → join 
 join_last none y ys = refl
 join_last (more x xs) y ys = ap (more x) (join_last xs y ys)
 
--- With these lists open, and these expressions read at the innermost level, the rest of the text gives all.
+-- These lists are open, and these expressions are read at the innermost level. The rest of the text then
+-- gives all.
 abbrev pub Completes : List Open → Expressions → List ℕ → Expressions → Type 0
 Completes [] here rest all = (ys : Expressions) × SpellsText rest ys × (all ≡ join here ys)
 Completes (l ∷ ls) here rest all = (inner after : List ℕ) × (ys : Expressions) × (rest ≡ inner ++ right_parenthesis ∷ after) × Spells inner ys × Completes ls (and_last l.before (list (join here ys))) after all
@@ -80,7 +81,7 @@ close_completes : (l : Open) (ls : List Open) (here : Expressions) (t : List ℕ
 close_completes l ls here t all h =
     ([], t, none, refl, spells_none, subst (λ (xs : Expressions). Completes ls (and_last l.before (list xs)) t all) (sym (join_none here)) h)
 
--- the word before a byte that no atom has
+-- the word before a byte that is not an atom byte
 word_completes : (ls : List Open) (here : Expressions) (w t : List ℕ) (all : Expressions) → AreAtomBytes w → EndsAtom t → Completes ls (with_word here w) t all → Completes ls here (w ++ t) all
 word_completes ls here [] t all bytes ends h = h
 word_completes ls here (b ∷ w) t all bytes ends h = atom_completes ls here (b ∷ w) t all (omega arith) bytes ends h
@@ -137,13 +138,13 @@ comment_advance ls here word p b bs all true e pends ih =
 comment_advance ls here word p b bs all false e pends ih =
     subst (λ (q : List ℕ). Completes ls here q all) (shift p b bs) (ih (p ++ b ∷ []) (pends.0, pends.1 ++ b ∷ [], ap (λ (q : List ℕ). q ++ b ∷ []) pends.2, no_lf_push pends.1 b pends.3 (eqb-false b line_feed e)))
 
--- the word is settled by a byte that no atom has
+-- a byte that is not an atom byte settles the word
 settled : (s : State) (p : List ℕ) (c : List ℕ) (all : Expressions) → s.comment ≡ false → Pending s.comment s.word p → EndsAtom c → Completes s.levels (with_word s.here s.word) c all → Completes s.levels s.here (p ++ c) all
 settled s p c all clear pends ends h =
     let at = subst (λ (v : Bool). Pending v s.word p) clear pends in
     subst (λ (q : List ℕ). Completes s.levels s.here (q ++ c) all) (sym at.0) (word_completes s.levels s.here s.word c all at.1 ends h)
 
--- one byte, whichever way the reader takes it
+-- one byte, in each way that the reader can take it
 advanced : (limit : ℕ) (s t : State) (i b : ℕ) (bs p : List ℕ) (all : Expressions) → Advance limit s t i b → Pending s.comment s.word p → Goes t bs all → Completes s.levels s.here (p ++ b ∷ bs) all
 advanced limit s t i b bs p all (in_comment c e) pends ih =
     comment_advance s.levels s.here s.word p b bs all (b == line_feed) refl (subst (λ (v : Bool). Pending v s.word p) c pends) (subst (λ (u : State). Goes u bs all) e ih)
@@ -167,7 +168,7 @@ advanced limit s t i b bs p all (is_space c a w e) pends ih =
     let go = subst (λ (u : State). Goes u bs all) e ih in
     settled s p (b ∷ bs) all c pends a (white_completes s.levels (with_word s.here s.word) b bs all w (go [] (subst (λ (v : Bool). Pending v [] []) (sym c) (refl, tt))))
 
--- What comes out of the run is what the pending bytes and the rest give.
+-- The result of the run is what the pending bytes and the rest give.
 run_found : (bs : List ℕ) (limit : ℕ) (s : State) (i : ℕ) (p : List ℕ) (all : Expressions) → Pending s.comment s.word p → (run (step limit) s i bs >>= finish) ≡ Ok all → Completes s.levels s.here (p ++ bs) all
 unfolding run
 run_found [] limit s i p all pends h =

@@ -1,4 +1,4 @@
--- What the reader of one expression takes, and the fault for which it refuses.
+-- What the reader of one expression accepts, and the fault for which it refuses.
 use Rattle.std.proofs.Common.{◌≡◌, ℕ, suc, ◌+◌, ◌<◌, ◌≤◌, List, [], ◌∷◌, length, drop, get_or, Bool, true, false, Ok, Err, refl, sym, ap, subst, ◌∙◌, inl, inr, add-one, arith}
 use Rattle.game_core.specs.Expression.{Expression, Expressions, none, more, depth, max_depth}
 use Rattle.kif_text.specs.Spelling.{SpellsText, max_length}
@@ -92,7 +92,7 @@ last_is none x le h = absurd cc
 last_is (more y none) x le h = ap (λ (z : Expression). more z none) (ok_is y x h)
 last_is (more y (more z zs)) x le h = absurd (omega (arith, le))
 
--- what is read is spelled by the text, and nests no deeper than the limit
+-- the text spells what is read, and what is read nests no deeper than the limit
 pub single_found : (text : List ℕ) (x : Expression) → read_single text ≡ Ok x → SpellsText text (more x none) × (depth x ≤ max_depth)
 single_found text x h =
     let last = bind_ok (run (one_step max_depth) start 0 text >>= finish) last_of x h in
@@ -154,7 +154,7 @@ unclosed_not_memory at e = cc
 nothing_not_memory : Nothing ≡ Memory → ⊥
 nothing_not_memory e = cc
 
--- the steps themselves never want memory
+-- the steps themselves never run out of memory
 pub single_not_memory : (text : List ℕ) (e : KifFault) → length text ≤ max_length → read_single text ≡ Err e → e ≡ Memory → ⊥
 single_not_memory text e le h is =
     elim (bind_err (run (one_step max_depth) start 0 text >>= finish) last_of e h) [

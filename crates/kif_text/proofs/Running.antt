@@ -14,7 +14,7 @@ goes_on f s t i text total lt h so_far =
     let one : run f s i (drop i text) ≡ run f t (i + 1) (drop (i + 1) text) = rw (drop-cons text i 0, h, add-one) refl in
     sym one ∙ so_far
 
--- a fault stays one, whatever would follow
+-- a fault stays the result, whatever follows
 pub fails_on : {A B : Type 0} (e : KifFault) (r : Result A KifFault) (f : A → Result B KifFault) → Fails e r → Fails e (r >>= f)
 fails_on faults.Memory r f h = tt
 fails_on e r f h = ap (λ x. x >>= f) h

@@ -22,7 +22,8 @@ members_le : (xs : Expressions) → length (members xs) ≤ length (later xs)
 members_le none = omega arith
 members_le (more x xs) = omega arith
 
--- each expression takes two bytes at most for each of its own, the space before it counted
+-- each expression is printed with at most two bytes for each of its bytes, including the space
+-- before it
 doubles : (text : List ℕ) (xs : Expressions) → Spells text xs → length (later xs) ≤ 2 * length text
 doubles text xs spells_none = omega arith
 doubles text xs (spells_white b rest ys w h) = omega (arith, doubles rest ys h)

@@ -1,4 +1,4 @@
--- What a text spells is read, and so a text spells one list of expressions at most.
+-- What a text spells is read, so a text spells at most one list of expressions.
 use Rattle.std.proofs.Common.{◌≡◌, ◌≢◌, ℕ, suc, ◌+◌, ◌<◌, ◌≤◌, List, [], ◌∷◌, ◌++◌, length, Bool, true, false, ◌==◌, ◌||◌, nat_le, Result, Ok, refl, sym, ap, subst, ◌∙◌, ◌⊎◌, inl, inr, append_assoc, arith}
 use Rattle.std.proofs.lemmas.List.{append-nil}
 use Rattle.std.proofs.lemmas.Bool.{eqb-true, ne_eqb}
@@ -139,7 +139,7 @@ spelled_read limit text xs h le =
     let g = spelled_runs h.0 xs h.3 limit [] none h.1 0 (omega arith) (tail_ends h.1 h.4) in
     ap (λ (t : List ℕ). out limit start 0 t) h.2 ∙ g.1 ∙ tail_runs h.1 limit xs g.0 h.4
 
--- a text spells one list of expressions at most
+-- a text spells at most one list of expressions
 pub spells_one : (text : List ℕ) (xs ys : Expressions) → SpellsText text xs → SpellsText text ys → xs ≡ ys
 spells_one text xs ys h k =
     let limit = depth_all xs + depth_all ys in

@@ -38,7 +38,7 @@ plain_begins : (s : State) (b : ℕ) (ls : List Open) → s.levels ≡ ls → s.
 plain_begins s b [] lv c a p = outer_begins s b lv c ∙ rw (a, p) refl
 plain_begins s b (l ∷ ls) lv c a p = inner_begins s b l ls lv c
 
--- one more where the byte begins one
+-- one more if the byte begins one
 
 same_total : (s : State) (b : ℕ) (n : ℕ) → begins_here s b ≡ false → n ≡ total s → n ≡ cond (begins_here s b) 1 0 + total s
 same_total s b n no_more e = rw no_more (omega (arith, e))
@@ -69,7 +69,7 @@ close_on_total : (l : Open) (ls : List Open) (inner here : Expressions) (word : 
 close_on_total l [] inner here word = len_last l.before (list inner)
 close_on_total l (m ∷ ms) inner here word = refl
 
--- one more where the byte begins one, and else as many
+-- one more if the byte begins one, or else the same number
 pub total_advance : (limit : ℕ) (s u : State) (i b : ℕ) → Advance limit s u i b → total u ≡ cond (begins_here s b) 1 0 + total s
 total_advance limit s u i b (in_comment c e) = ap total e ∙ same_total s b (total s) (comment_begins s b c) refl
 total_advance limit s u i b (in_word c a e) = ap total e ∙ word_on s b s.levels s.word refl refl c a

@@ -6,23 +6,23 @@ use Rattle.kif_text.specs.Spelling.{max_length}
 use Rattle.kif_text.specs.declared.fault.KifFault.{KifFault}
 use Rattle.kif_text.specs.declared.fault.KifFault.TheVariants.{BadByte, Unopened, TooDeep, Unclosed, Nothing, More, TooLong, Memory}
 
--- What a text is read as: one expression, or any number of them. Faults are told for either.
+-- A text is read as one expression, or as any number of them. The faults depend on which.
 abbrev pub one_expression : Bool
 one_expression = true
 
 abbrev pub any_number : Bool
 any_number = false
 
--- a comment that goes on before this byte, or begins at it, goes on after it unless the byte is a line feed
+-- a comment that goes on before this byte, or begins at it, goes on after it, unless the byte is a line feed
 abbrev pub is_inside : Bool → ℕ → Bool
 is_inside before b = (before || b == semicolon) && not (b == line_feed)
 
--- the text with a space in the place of each byte of a comment, where a comment goes on before it or not
+-- the text with a space for each byte of a comment; the flag says whether a comment goes on before the text
 abbrev pub bare_from : Bool → List ℕ → List ℕ
 bare_from before [] = []
 bare_from before (b ∷ bs) = (if is_inside before b then space else b) ∷ bare_from (is_inside before b) bs
 
--- the bare text: with a space in the place of each byte of a comment, so that places stay the same
+-- the bare text: it has a space for each byte of a comment, so places stay the same
 abbrev pub bare : List ℕ → List ℕ
 bare text = bare_from false text
 
@@ -74,11 +74,11 @@ StandsAt one t Memory i = ⊥
 abbrev pub IsClear : Bool → List ℕ → ℕ → Type 0
 IsClear one t n = (e : KifFault) (i : ℕ) → i < n → StandsAt one t e i → ⊥
 
--- the fault stands at some place, and none before it
+-- the fault stands at some place, and no fault stands before it
 abbrev pub IsFirst : Bool → List ℕ → KifFault → Type 0
 IsFirst one t e = (i : ℕ) × StandsAt one t e i × IsClear one t i
 
--- at place i a list is opened, and the level never falls back to the one before it
+-- a list is opened at place i, and the level never falls back to the one before it
 abbrev pub StaysOpen : List ℕ → ℕ → Type 0
 StaysOpen t i = (i < length t) × (slice_index t i ≡ left_parenthesis) × ((j : ℕ) → i < j → j ≤ length t → level t i < level t j)
 
@@ -90,7 +90,8 @@ IsUnclosed t i = (0 < level t (length t)) × StaysOpen t i × ((k : ℕ) → Sta
 abbrev pub IsNothing : List ℕ → Type 0
 IsNothing t = (level t (length t) ≡ 0) × (started t (length t) ≡ 0)
 
--- why a text is refused: its length, else the fault at the least place, else a fault at its end, or want of memory
+-- why a text is refused: its length, or else the fault at the least place, or else a fault at its end; or out of
+-- memory
 abbrev pub IsFault : Bool → List ℕ → KifFault → Type 0
 IsFault one text (BadByte at) = (length text ≤ max_length) × IsFirst one (bare text) (BadByte at)
 IsFault one text (Unopened at) = (length text ≤ max_length) × IsFirst one (bare text) (Unopened at)

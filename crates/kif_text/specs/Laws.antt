@@ -9,11 +9,11 @@ use Rattle.kif_text.specs.Reading.{reading}
 use Rattle.kif_text.specs.declared.fault.KifFault.{KifFault}
 use Rattle.kif_text.specs.declared.fault.KifFault.TheVariants.{Memory}
 
--- a text spells one list of expressions at most
+-- a text spells at most one list of expressions
 abbrev pub SpellsAtMostOne : Type 0
 SpellsAtMostOne = (text : List ℕ) (xs ys : Expressions) → SpellsText text xs → SpellsText text ys → xs ≡ ys
 
--- what a text spells has atoms of atom bytes
+-- the atoms of what a text spells are runs of atom bytes
 abbrev pub SpelledHasAtoms : Type 0
 SpelledHasAtoms = (text : List ℕ) (xs : Expressions) → SpellsText text xs → AllHaveAtoms xs
 
@@ -30,11 +30,11 @@ CanonicalSpellsAlone = (x : Expression) → IsProper x → SpellsAlone (canonica
 abbrev pub CanonicalUnderDouble : Type 0
 CanonicalUnderDouble = (text : List ℕ) (x : Expression) → SpellsText text (more x none) → length (canonical x) < 2 * length text
 
--- the text has a fault other than want of memory
+-- the text has a fault other than out of memory
 abbrev pub HasFault : Bool → List ℕ → Type 0
 HasFault one text = (e : KifFault) × (e ≢ Memory) × IsFault one text e
 
--- a text has at most one fault other than want of memory
+-- a text has at most one fault other than out of memory
 abbrev pub OneFaultAtMost : Type 0
 OneFaultAtMost = (one : Bool) (text : List ℕ) (d e : KifFault) → d ≢ Memory → e ≢ Memory → IsFault one text d → IsFault one text e → d ≡ e
 
@@ -51,7 +51,8 @@ SpelledOrFaulty = (text : List ℕ) → EitherOnly ((xs : Expressions) × Spells
 abbrev pub OneSpelledOrFaulty : Type 0
 OneSpelledOrFaulty = (text : List ℕ) → EitherOnly ((x : Expression) × SpellsOne text x) (HasFault one_expression text)
 
--- a semicolon stands at or before place i, with no line feed from it up to and with place i
+-- a semicolon stands at or before place i, and no line feed stands from it up to and including
+-- place i
 abbrev pub InComment : List ℕ → ℕ → Type 0
 InComment text i = (k : ℕ) × (k ≤ i) × (slice_index text k ≡ semicolon) × ((j : ℕ) → k ≤ j → j ≤ i → slice_index text j ≢ line_feed)
 

@@ -1,4 +1,4 @@
--- The reading of a text, as a function, for definitions that decide by it. It is computed by the reader's steps;
+-- The reading of a text, as a function, for definitions that decide by it. The reader's steps compute it.
 -- `laws::reading_is_spelling` says what it is: the one expression that the text spells within the limits.
 use Rattle.std.specs.Prelude.{ℕ, nat_le, List, length, Option, None, if◌then◌else◌}
 use Rattle.std.specs.Result.{result_ok}

@@ -9,9 +9,9 @@ use std::alloc::{AllocError, Global};
 
 /// An expression: an atom, or a list in parentheses.
 ///
-/// `copy`, `fold`, `print` and the drop of an expression go down it by recursion, so they take stack
-/// for each list that is nested in another. What is read nests at most 64 lists; an expression that
-/// is built some other way should nest at most 1,000.
+/// `copy`, `fold`, `print` and the drop of an expression recurse into nested lists, so each level
+/// takes stack. The reader nests at most 64 lists. An expression that is built in some other way
+/// should nest at most 1,000.
 #[derive(Drop)]
 pub enum Expr {
     /// The bytes of an atom.
@@ -20,7 +20,7 @@ pub enum Expr {
     List(Vec<Expr>),
 }
 
-/// An equal expression in memory of its own.
+/// A copy of the expression.
 #[cycle(copy)]
 pub fn copy(alloc: Global, expr: &Expr) -> Result<Expr, AllocError>
     ensures { IfOk result (λ e. view e ≡ view expr.now) }

@@ -6,7 +6,7 @@ pub fn spells_at_most_one()
     ensures { SpellsAtMostOne }
 {}
 
-/// What a text spells has runs of atom bytes as its atoms.
+/// The atoms of what a text spells are runs of atom bytes.
 pub fn spelled_has_atoms()
     ensures { SpelledHasAtoms }
 {}
@@ -31,7 +31,7 @@ pub fn one_spelled_or_faulty()
     ensures { OneSpelledOrFaulty }
 {}
 
-/// A text has at most one fault, want of memory apart.
+/// A text has at most one fault, apart from `Memory`.
 pub fn one_fault_at_most()
     ensures { OneFaultAtMost }
 {}

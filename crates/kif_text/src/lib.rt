@@ -1,4 +1,4 @@
-//! KIF text: expressions, and their texts read and printed.
+//! KIF text: expressions, and how their texts are read and printed.
 //!
 //! A text is a sequence of expressions with white space and comments between them. White space is
 //! space, tab, carriage return and line feed. A comment runs from a semicolon to the next line feed

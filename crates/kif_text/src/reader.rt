@@ -19,8 +19,8 @@ pub(crate) struct OpenList {
     at: usize,
 }
 
-/// What has been read so far: the open lists, the expressions that are whole at the innermost
-/// level, the bytes of an atom that may go on, and whether a comment goes on.
+/// What has been read so far: the open lists, the complete expressions at the innermost level, the
+/// bytes of an atom that may go on, and whether a comment goes on.
 #[derive(Drop)]
 pub(crate) struct Reader {
     levels: Vec<OpenList>,
@@ -89,7 +89,7 @@ impl Reader {
         Ok(())
     }
 
-    /// Reads a byte that is neither of an atom nor in a comment.
+    /// Reads a byte outside comments that is not an atom byte.
     fn act(&mut self, alloc: Global, at: usize, byte: u8) -> Result<(), KifFault>
         ensures { Reaches result (state_of self.new) (act max_depth (state_of self.old) at byte) }
     {
@@ -138,7 +138,7 @@ impl Reader {
         self.here.is_empty() && self.word.is_empty()
     }
 
-    /// Whether the byte begins an expression outside all lists after another one.
+    /// Whether the byte begins an expression outside all lists, after an earlier one.
     fn is_second(&self, byte: u8) -> bool
         ensures { result ≡ is_second (state_of self.now) byte }
     {
@@ -149,7 +149,7 @@ impl Reader {
         begins && !self.is_fresh()
     }
 
-    /// Reads the byte at this place of a text that is to hold one expression.
+    /// Reads the byte at this place of a text that should hold one expression.
     pub(crate) fn single_step(&mut self, alloc: Global, at: usize, byte: u8) -> Result<(), KifFault>
         ensures { Reaches result (state_of self.new)
             (one_step max_depth (state_of self.old) at byte) }

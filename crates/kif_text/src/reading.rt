@@ -14,14 +14,14 @@ use crate::fault::KifFault;
 use crate::reader::Reader;
 use std::alloc::Global;
 
-/// How many bytes a text has at most.
+/// The limit of bytes in a text.
 const MAX_LENGTH: usize = 1_048_576;
 
 /// Reads all expressions of the text, of at most 1,048,576 bytes, with at most 64 nested lists.
 pub fn read_all(alloc: Global, text: &[u8]) -> Result<Vec<Expr>, KifFault>
     ensures spelled { IfOk result (λ v. SpellsAll text.now (views v.items)) }
     ensures fault { IfErr result (IsFault any_number text.now) }
-    // What is spelled within the limits is refused for want of memory alone.
+    // A text that spells expressions within the limits is refused only when out of memory.
     ensures refused { IfErr result (λ e. e ≢ Memory
         → (xs : Expressions) → ¬ (SpellsAll text.now xs)) }
 {
@@ -36,7 +36,7 @@ pub fn read_one(alloc: Global, text: &[u8]) -> Result<Expr, KifFault>
     ensures spelled { IfOk result (λ x. SpellsOne text.now (view x)) }
     ensures fault { IfErr result (IsFault one_expression text.now) }
     ensures found { IfOk result (λ x. reading text.now ≡ Some (view x)) }
-    // What is spelled within the limits is refused for want of memory alone.
+    // A text that spells expressions within the limits is refused only when out of memory.
     ensures refused { IfErr result (λ e. e ≢ Memory → reading text.now ≡ None) }
 {
     if text.len() > MAX_LENGTH {
