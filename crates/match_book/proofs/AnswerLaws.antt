@@ -1,4 +1,4 @@
--- What an answer and an abort make of a lawful match.
+-- What an answer and an abort do to a lawful match.
 use Rattle.std.proofs.Common.{◌≡◌, ◌≢◌, ℕ, zero, suc, ◌<◌, ◌≤◌, Bool, true, false, Option, Some, None, List, [], ◌∷◌, ◌++◌, length, take, slice_index_or, set, refl, arith, ap, sym, ◌∙◌, subst, inl, inr, add-one}
 use Rattle.std.proofs.lemmas.List.{map-append, take_all, take_more}
 use Rattle.std.proofs.lemmas.Bool.Decides.{nat_tests}
@@ -39,7 +39,7 @@ abort_keeps_lawful {S} {M} g laws m lawful = step (is_live (stage g m)) refl
     step true live = lawful-with_abort g laws m lawful live
     step false ended = lawful
 
--- what refuses nothing
+-- nothing refuses the answer
 not_refused : (role roles n present : ℕ) (over answered : Bool) → (if nat_lt role roles then (if over then Some Over else (if n == present then (if answered then Some Twice else None) else Some (Stale present))) else Some NoRole) ≡ None
     → (role < roles) × (n ≡ present) × (over ≡ false) × (answered ≡ false)
 not_refused role roles n present over answered e = step (nat_lt role roles) refl over (n == present) refl answered e
@@ -148,7 +148,7 @@ error_text-some Unreadable e = absurd cc
 error_text-some (Illegal x) e = absurd cc
 error_text-some Retired e = absurd cc
 
--- a substituted move has an error, and is not the one that the answer names
+-- a substituted move has an error, and is not the move that the answer names
 substituted : {S M : Type 0} (g : Rules S M) (moves : List M) (why : Substitution) (j : Judgement M) (N : Type 0) → substitute moves why ≡ Some j → (N → ⊥) → (j.error ≡ []) ↔ N
 substituted g moves why j N is not_named = (λ e. absurd (error_text-some why (sym (substitute-is moves why j is).1 ∙ e)), λ named. absurd (not_named named))
 

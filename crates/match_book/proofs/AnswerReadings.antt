@@ -1,4 +1,4 @@
--- What is read of an answer.
+-- How an answer is read.
 use Rattle.std.proofs.Common.{◌≡◌, ℕ, ◌≤◌, Bool, true, false, Option, Some, None, List, length, refl, ap, subst, arith}
 use Rattle.std.proofs.lemmas.Bool.Decides.{nat_tests}
 use Rattle.std.specs.Prelude.{if◌then◌else◌, nat_le, option_map}
@@ -11,7 +11,8 @@ use Rattle.match_book.specs.AnswerReading.{answer_reading, max_answer, max_readi
 within : (text : List ℕ) → nat_le (length text) max_answer ≡ true → length text ≤ max_answer
 within text e = grind (arith, nat_tests)
 
--- an answer that is read is short, and spells an expression whose folded canonical text is what is read
+-- an answer that is read is within the limit, and spells an expression with the folded canonical text
+-- that is read
 read_from : (text x : List ℕ) → answer_reading text ≡ Some x → (length text ≤ max_answer) × (y : Expression) × (reading text ≡ Some y) × (canonical (folded y) ≡ x)
 unfolding answer_reading
 read_from text x e = step (nat_le (length text) max_answer) refl (reading text) refl e
@@ -28,7 +29,7 @@ answer_reading-folded text x e =
     let from = read_from text x e in
     subst IsFoldedText from.3 (reading_folded text from.1 from.2)
 
--- and at most twice as long as an answer may be
+-- what is read is at most twice as long as an answer may be
 pub answer_reading-short : (text x : List ℕ) → answer_reading text ≡ Some x → length x ≤ max_reading
 answer_reading-short text x e =
     let from = read_from text x e in

@@ -1,4 +1,4 @@
--- Each step of a match keeps what the match keeps.
+-- Each step of a match keeps its invariant.
 use Rattle.std.proofs.Common.{◌≡◌, ◌≢◌, ℕ, ◌+◌, ◌*◌, ◌<◌, ◌≤◌, true, false, eqb, Bool, Option, Some, None, List, [], ◌∷◌, ◌++◌, length, set, refl, arith, ap, sym, ◌∙◌, subst, inl, inr, take, length-append}
 use Rattle.std.proofs.lemmas.List.{take-append-le, get_or_append_left}
 use Rattle.std.proofs.lemmas.List.Sums.{sum_by_push}
@@ -61,7 +61,7 @@ kept-new_match {S} {M} g laws setup players =
       goals_are = λ r lt. refl;
     }
 
--- in a round that has just begun, those have answered that are retired
+-- when a round has just begun, the retired roles have answered it
 answered-begun : {M : Type 0} (at : Stage) (m : MatchValue M) (n retired : ℕ) → at ≢ Starting → m.open_answers ≡ blank n → m.end_marks ≡ blank n → retired ≡ count_roles n (is_retired m) → answered_at_first at retired ≡ count_roles n (answered_in at m)
 answered-begun Starting m n retired ne answers ends count = absurd (ne refl)
 answered-begun Playing m n retired ne answers ends count = count ∙ sym (count_roles-same n (is_retired m) (answered_in Playing m) (λ k lt. answered_in-retired m n k answers))
@@ -242,7 +242,7 @@ module _ {S M : Type 0} (g : Rules S M) (laws : IsLawful g) {m : MatchValue M} {
       pub legal-within : r < length legal
       legal-within = let wide = (kept.legal_are playing).one_list in omega arith
 
-      -- what stands in the role's place are its legal moves
+      -- the list in the role's place has its legal moves
       pub legal-at : (moves : List M) → moves ≡ slice_index_or legal r moves → moves ≡ g.legal (state_after g m.turns) r
       legal-at moves read = read ∙ ((kept.legal_are playing).legal r moves lt ∙ ap (λ x. g.legal x r) kept.state_is)
 
@@ -250,7 +250,7 @@ module _ {S M : Type 0} (g : Rules S M) (laws : IsLawful g) {m : MatchValue M} {
       legal-moves moves read =
           subst (λ (l : List M). All (λ n. g.IsMove n) l) (sym (legal-at moves read)) (laws.legal_are_moves (state_after g m.turns) r (state_after-is_state g laws m.turns kept.lawful.turns) lt)
 
-      -- what is made of them is the judgement
+      -- the judgement is made from them
       pub judged-is : (moves : List M) (a : Answer) (o : Option (Judgement M)) → moves ≡ slice_index_or legal r moves → o ≡ judged_answer g moves a → o ≡ judgement g (state_after g m.turns) r a
       unfolding judgement
       judged-is moves a o read is = is ∙ ap (λ l. judged_answer g l a) (legal-at moves read)
@@ -348,7 +348,7 @@ module _ {S M : Type 0} (g : Rules S M) (laws : IsLawful g) {m : MatchValue M} {
           pub value-recorded : record m { turns = m.turns ++ turn_of (parts g (record m { open_answers = set m.open_answers r (Some j) })) ∷ []; open_answers = blank g.roles } ≡ with_open_answer g m r (Some j)
           value-recorded = rw all refl
 
-      -- what is kept of the roles gives their parts of the turn
+      -- the roles' strikes give their parts of the turn
       pub turn-parts : (j : Judgement M) → still_answers m r ≡ true → (list : List (Option (Judgement M))) → list ≡ set (of_each_role g.roles (kept_part m.open_answers strikes legal)) r (Some j)
           → list ≡ parts g (record m { open_answers = set m.open_answers r (Some j) })
       turn-parts j answers list is =

@@ -171,7 +171,7 @@ module _ {S M : Type 0} (g : Rules S M) (laws : IsLawful g) (m : MatchValue M) (
           }
 
       module _ (all : every_role g.roles (answered_in Playing (record m { open_answers = set m.open_answers r (Some j) })) ≡ true) where
-        -- what each role gives to the turn may stand there
+        -- each role's part of the turn may stand there
         given : (k : ℕ) → k < g.roles → (i : Judgement M) × (part g (record m { open_answers = set m.open_answers r (Some j) }) k ≡ Some i) × IsGiven g (is_retired m k) (g.legal (state_after g m.turns) k) i
         unfolding more
         given k lt' = step (is_retired m k) refl (every_role-at g.roles k (answered_in Playing (record m { open_answers = set m.open_answers r (Some j) })) all lt')
@@ -205,7 +205,7 @@ module _ {S M : Type 0} (g : Rules S M) (laws : IsLawful g) (m : MatchValue M) (
             let below : k < g.roles = omega (arith, parts-wide) in
             ap is_some (parts-at k below ∙ (given k below).1)
 
-        -- what a role gives stands in its place of the turn
+        -- a role's part stands in its place of the turn
         pub turn-move : (q : ℕ) → q < g.roles → (i : Judgement M) → part g (record m { open_answers = set m.open_answers r (Some j) }) q ≡ Some i
             → slice_get (turn_of (parts g (record m { open_answers = set m.open_answers r (Some j) }))).moves q ≡ Some i.taken
         unfolding all_parts

@@ -41,7 +41,7 @@ prefix_is_state {S} {M} g laws {strikes} turns lawful (suc k) d le =
     let state : state_after g (take (suc k) turns) ≡ g.next (state_after g (take k turns)) t.moves = ap (state_after g) more ∙ state_after-push g (take k turns) t in
     subst (λ (s : S). g.IsState s) (sym state) (laws.next_is_state (state_after g (take k turns)) t.moves before (lawful k d (omega arith)).joint)
 
--- so many lawful turns lead to a state of the game
+-- this many lawful turns lead to a state of the game
 pub prefix-is_state : {S M : Type 0} (g : Rules S M) → IsLawful g → {strikes : ℕ} → (turns : List (Turn M)) → AreLawful g strikes turns → (k : ℕ) → k ≤ length turns → g.IsState (state_after g (take k turns))
 prefix-is_state g laws {strikes} [] lawful zero le = laws.initial_is_state
 prefix-is_state g laws {strikes} [] lawful (suc k) le = laws.initial_is_state
@@ -96,7 +96,7 @@ pub last_move_texts-none : {S M : Type 0} (g : Rules S M) (turns : List (Turn M)
 last_move_texts-none g [] e = refl
 last_move_texts-none g (t ∷ ts) e = absurd (omega arith)
 
--- with 0 strikes a turn is lawful where each part is what an answer counts as
+-- with 0 strikes, a turn is lawful if each part is the judgement of an answer
 pub never-judged : {S M : Type 0} (g : Rules S M) (before : List (Turn M)) (t : Turn M) → IsLawfulTurn g 0 before t → (r : ℕ) (d : M) → r < g.roles
     → IsJudged g (g.legal (state_after g before) r) (slice_index_or t.moves r d) (slice_index_or t.errors r [])
 never-judged g before t turn r d lt =

@@ -31,7 +31,7 @@ place_some g (m ∷ ms) x (suc p) (within, named, first) =
     rw (other_text (g.move_text m) x (first 0 m (omega arith) (omega arith)))
     (place_some g ms x p (omega arith, named, λ k d low lt. first (suc k) d (omega arith) (omega arith)))
 
--- a move's text, if it is no longer than an answer may be, is read as itself
+-- a move's text that is within the limit of an answer is read as itself
 pub move_text_reads : {S M : Type 0} (g : Rules S M) → IsLawful g → (m : M) → g.IsMove m → length (g.move_text m) ≤ max_answer → answer_reading (g.move_text m) ≡ Some (g.move_text m)
 unfolding answer_reading
 move_text_reads g laws m is short =
@@ -39,7 +39,7 @@ move_text_reads g laws m is short =
     let within : nat_le (length (g.move_text m)) max_answer ≡ true = grind (arith, nat_tests) in
     rw (within, back.1) (ap Some (ap canonical back.3 ∙ sym back.4))
 
--- an answer that is the text of the move at a place counts as this move
+-- an answer with the text of the move at a place counts as this move
 pub named_as_it_stands : {S M : Type 0} (g : Rules S M) → IsLawful g → (moves : List M) (x : List ℕ) (p : ℕ) (m : M) → All (λ n. g.IsMove n) moves → length x ≤ max_answer → IsPlaceOf g moves x (Some p) → slice_get moves p ≡ Some m
     → Some (record { taken = m; error = [] }) ≡ judged_reading g moves (answer_reading x)
 named_as_it_stands g laws moves x p m are short place at =

@@ -48,7 +48,7 @@ lowest_role-none (suc n) k p none lt =
     or_none n p None false is e = (refl, is)
     or_none n p (Some x) b is e = absurd cc
 
--- all roles pass exactly where as many do as there are
+-- all roles pass if and only if as many pass as there are
 pub count_roles-le : (n : ℕ) (p : ℕ → Bool) → count_roles n p ≤ n
 count_roles-le zero p = omega arith
 count_roles-le (suc n) p = step n (count_roles n p) (p n) (count_roles-le n p)
@@ -129,7 +129,7 @@ at_role-other (y ∷ ys) zero (suc k) x ne = refl
 at_role-other (y ∷ ys) (suc r) zero x ne = refl
 at_role-other (y ∷ ys) (suc r) (suc k) x ne = at_role-other ys r k x (λ e. ne (ap suc e))
 
--- something more stands in a place
+-- one more place is filled
 pub count-set : {A : Type 0} (xs : List (Option A)) (n r : ℕ) (x : A) → length xs ≡ n → r < n → is_there xs r ≡ false → count_roles n (is_there (set xs r (Some x))) ≡ count_roles n (is_there xs) + 1
 count-set xs n r x wide lt free =
     count_roles-more n r (is_there xs) (is_there (set xs r (Some x))) lt free (ap is_some (at_role-set xs r (Some x) (omega arith))) (λ k below ne. ap is_some (at_role-other xs r k (Some x) ne))

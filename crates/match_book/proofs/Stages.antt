@@ -11,7 +11,7 @@ use Rattle.match_book.specs.declared.phase.Stage.{Stage}
 use Rattle.match_book.specs.declared.phase.Stage.TheVariants.{Starting, Playing, Stopping, Aborting}
 use Rattle.match_book.proofs.RoleTests.{is_there-blank}
 
--- the stage is by the setup, the turns, the START marks and whether an abort was asked
+-- the stage depends on the setup, the turns, the START marks and whether an abort was asked
 pub stage-by : {S M : Type 0} (g : Rules S M) (m n : MatchValue M) → n.setup ≡ m.setup → n.abort_asked ≡ m.abort_asked → n.start_marks ≡ m.start_marks → n.turns ≡ m.turns → stage g n ≡ stage g m
 unfolding stage
 stage-by g m n setup asked starts turns = rw (setup, asked, starts, turns) refl
@@ -69,7 +69,7 @@ playing-settled g m e = step m.abort_asked (every_role g.roles (is_there m.start
     step false true is rest same e = (is, same ∙ e)
     step false false is rest same e = absurd cc
 
--- play goes on where the state is not terminal, there are less than 10,000 turns, each role has a legal move and not all are retired
+-- play goes on if the state is not terminal, there are fewer than 10,000 turns, each role has a legal move and not all are retired
 pub settled-playing : {S M : Type 0} (g : Rules S M) (t : ℕ) (all_retired : Bool) (s : S) → settled g t all_retired s ≡ Playing
     → (g.terminal s ≡ false) × (nat_le max_turns t ≡ false) × (lowest_role g.roles (has_no_move g s) ≡ None) × (all_retired ≡ false)
 unfolding settled
@@ -91,14 +91,14 @@ goal_in-live g Playing s r live = refl
 goal_in-live g Stopping s r live = absurd cc
 goal_in-live g (Aborting c) s r live = refl
 
--- outside of play nobody has answered a round that has just begun
+-- outside of play, no role has answered a round that has just begun
 pub answered_in-none : {M : Type 0} (at : Stage) (m : MatchValue M) (n k : ℕ) → at ≢ Starting → at ≢ Playing → m.end_marks ≡ blank n → answered_in at m k ≡ false
 answered_in-none Starting m n k ne out ends = absurd (ne refl)
 answered_in-none Playing m n k ne out ends = absurd (out refl)
 answered_in-none Stopping m n k ne out ends = rw ends (is_there-blank _ n k)
 answered_in-none (Aborting c) m n k ne out ends = rw ends (is_there-blank _ n k)
 
--- in play only the roles that are retired have answered a round that has just begun
+-- in play, only the retired roles have answered a round that has just begun
 pub answered_in-retired : {M : Type 0} (m : MatchValue M) (n k : ℕ) → m.open_answers ≡ blank n → answered_in Playing m k ≡ is_retired m k
 answered_in-retired m n k answers = step (is_retired m k) (ap (λ l. is_there l k) answers ∙ is_there-blank _ n k)
   where

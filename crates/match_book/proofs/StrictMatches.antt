@@ -1,4 +1,4 @@
--- Worked matches of Countdown with strikes, whatever their setup says otherwise.
+-- Worked matches of Countdown with strikes; the rest of their setup does not matter.
 use Rattle.std.specs.Prelude.{◌≡◌, ℕ, List, [], ◌∷◌, Some, codes, refl, map}
 use Rattle.game_core.specs.Play.{Rules}
 use Rattle.game_core.specs.Countdown.{countdown}
@@ -21,7 +21,7 @@ use Rattle.match_book.specs.declared.phase.Phase.TheVariants.{Playing, Aborting}
 use Rattle.match_book.specs.declared.due.Owed.TheVariants.{Play, Stop, Abort}
 use Rattle.match_book.specs.declared.due.Due.TheVariants.{Owe, Hold}
 
--- the match after these answers, each with its role, and each for the round that it comes in
+-- the match after these answers, each with its role, for the round in which it comes
 abbrev pub after_answers : {S M : Type 0} → Rules S M → MatchValue M → List (ℕ × Answer) → MatchValue M
 after_answers g m [] = m
 after_answers g m (a ∷ later) = after_answers g (after_answer g m a.0 (round g m) a.1) later
@@ -35,7 +35,7 @@ lost = Broken
 abbrev pub says : List ℕ → Answer
 says text = Text text
 
--- Countdown from n with so many strikes, once both roles are ready
+-- Countdown from n with this number of strikes, once both roles are ready
 abbrev pub ready : ℕ → ℕ → Setup → MatchValue Take
 ready n strikes setup = after_answers (countdown n) (new_match (countdown n) (record setup { strikes = strikes })) ((0, says (codes "READY")) ∷ ((1, says (codes "READY")) ∷ []))
 
@@ -51,11 +51,11 @@ blue_goes_on setup = after_answers (countdown 10) (red_is_out setup) ((1, says (
 abbrev pub both_are_out : Setup → MatchValue Take
 both_are_out setup = after_answers (countdown 10) (blue_goes_on setup) ((1, late) ∷ ((1, lost) ∷ []))
 
--- one strike, in a game of one turn: both roles are out as it ends
+-- one strike, in a game of one turn: both roles are retired as it ends
 abbrev pub out_at_the_end : Setup → MatchValue Take
 out_at_the_end setup = after_answers (countdown 1) (ready 1 1 setup) ((0, late) ∷ ((1, late) ∷ []))
 
--- two strikes: red is late twice, and not in a row
+-- two strikes: red is late twice, but not in a row
 abbrev pub not_in_a_row : Setup → MatchValue Take
 not_in_a_row setup = after_answers (countdown 10) (ready 10 2 setup)
     ((0, late) ∷ ((1, says (codes "noop")) ∷ ((0, says (codes "noop")) ∷ ((1, says (codes "(take 1)")) ∷ ((0, late) ∷ ((1, says (codes "noop")) ∷ []))))))
@@ -65,7 +65,7 @@ abbrev pub never_out : Setup → MatchValue Take
 never_out setup = after_answers (countdown 10) (ready 10 0 setup)
     ((0, late) ∷ ((1, says (codes "noop")) ∷ ((0, late) ∷ ((1, says (codes "(take 1)")) ∷ ((0, late) ∷ ((1, says (codes "noop")) ∷ []))))))
 
--- a role that is out waits for the others, and its answer is one too many
+-- a retired role waits for the others, and its answer is refused
 pub red_waits : (setup : Setup) → (due (countdown 10) (red_is_out setup) 0 ≡ Hold 3) × (refusal (countdown 10) (red_is_out setup) 0 3 ≡ Some Twice)
 unfolding stage settled judgement retired_by answer_reading reading run
 red_waits setup = (refl, refl)
@@ -74,7 +74,7 @@ pub blue_plays_alone : (setup : Setup) → (due (countdown 10) (blue_goes_on set
 unfolding stage settled judgement retired_by answer_reading reading run
 blue_plays_alone setup = (refl, refl)
 
--- once all roles are out the match is aborted; a role that is out is owed ABORT as any other
+-- once all roles are retired, the match is aborted, and a retired role is owed ABORT like any other
 pub match_is_aborted : (setup : Setup) → (due (countdown 10) (both_are_out setup) 0 ≡ Owe 6 Abort) × (status (countdown 10) (both_are_out setup) ≡ record { phase = Aborting; round = 6; turns = 5; substitutions = 7 }) × (cause (countdown 10) (both_are_out setup) ≡ Some AllRetired)
 unfolding stage settled judgement retired_by answer_reading reading run
 match_is_aborted setup = (refl, refl, refl)

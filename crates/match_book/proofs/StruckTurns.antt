@@ -66,7 +66,7 @@ module _ {M : Type 0} (role : ℕ) where
       step true l a c e = e
       step false l a c e = refl
 
-  -- all turns struck is one row
+  -- if all turns are struck, they are one row
   in_a_row-all : (ts : List (Turn M)) → all_struck role ts ≡ true → in_a_row role ts ≡ length ts
   in_a_row-all [] all = refl
   in_a_row-all (t ∷ ts) all = step (all_struck role (t ∷ ts)) all
@@ -121,7 +121,7 @@ module _ {M : Type 0} (role : ℕ) where
       step true l a c e = e ∙ ap (λ b. a || (b && c)) (sym (one_more k (length xs)))
       step false l a c e = sym (and_false (eqb (suc k) (suc (length xs) + 1)))
 
-  -- so many in some row, with one turn more
+  -- this many in some row, with one turn more
   some_struck-push : (k : ℕ) (ts : List (Turn M)) (t : Turn M) → 1 ≤ k → some_struck k role (ts ++ t ∷ []) ≡ (some_struck k role ts || nat_le k (in_a_row role (ts ++ t ∷ [])))
   some_struck-push zero ts t le = absurd (omega arith)
   some_struck-push (suc k) [] t le = step k (is_struck role t)
@@ -163,7 +163,7 @@ module _ {M : Type 0} (role : ℕ) where
           last b' (eqb (suc k) (suc (length xs) + 1)) s' (nat_le (suc k) (length xs + 1)) (nat_le (suc k) (suc (length (xs ++ t ∷ [])))) (begins ∙ and_true (eqb (suc k) (suc (length xs) + 1)))
           (later ∙ ap (nat_le (suc k)) (whole is)) (numbers (eqb (suc k) (suc (length xs) + 1)) refl ∙ ap (nat_le (suc k)) (sym wide))
 
-  -- a turn more retires the role where its row is long enough
+  -- one more turn retires the role if its row is long enough
   retired_by-push : (k : ℕ) (ts : List (Turn M)) (t : Turn M) → retired_by k (ts ++ t ∷ []) role ≡ (if retired_by k ts role then true else is_enough k (in_a_row role (ts ++ t ∷ [])))
   unfolding retired_by
   retired_by-push zero ts t = refl
@@ -212,7 +212,7 @@ strikes-push roles k ts t kept after are wide each = record {
   each = λ r d lt. each r d (omega (arith, are.one_each)) ∙ (ap (λ old. after_turn k old (is_struck r t)) (are.each r unstruck lt) ∙ sym (role_strikes-push r k ts t));
 }
 
--- as it is called: the lists are those of a slice
+-- the same for the lists of a slice, as it is called
 pub strikes-pushed : {M : Type 0} (roles k : ℕ) (ts : List (Turn M)) (t : Turn M) (kept after kept' : List RoleStrikes) (errors : List (List ℕ)) → AreStrikes roles k ts kept → kept' ≡ kept → errors ≡ t.errors → length after ≡ length kept'
     → ((r : ℕ) (d : RoleStrikes) → r < length kept' → slice_index_or after r d ≡ after_turn k (slice_index_or kept' r unstruck) (is_error (slice_index_or errors r []))) → AreStrikes roles k (ts ++ t ∷ []) after
 strikes-pushed roles k ts t kept after kept' errors are same same_errors wide each =
@@ -236,11 +236,11 @@ strikes-retired roles k ts kept are r d lt = ap (λ (x : RoleStrikes). x.is_reti
 pub strikes-count : {M : Type 0} (roles k : ℕ) (ts : List (Turn M)) (kept : List RoleStrikes) → AreStrikes roles k ts kept → count_roles (length kept) (is_retired_in kept) ≡ count_roles roles (retired_by k ts)
 strikes-count roles k ts kept are = ap (λ n. count_roles n (is_retired_in kept)) are.one_each ∙ count_roles-same roles (retired_by k ts) (is_retired_in kept) (λ r lt. strikes-retired roles k ts kept are r unstruck lt)
 
--- all roles are retired where as many are as there are
+-- all roles are retired if as many are as there are
 pub all_retired-count : {M : Type 0} (roles k : ℕ) (ts : List (Turn M)) (count : ℕ) → count ≡ count_roles roles (retired_by k ts) → every_role roles (retired_by k ts) ≡ (count == roles)
 all_retired-count roles k ts count is = every_role-count roles (retired_by k ts) ∙ ap (λ n. n == roles) (sym is)
 
--- before the first turn not all are retired
+-- before the first turn, not all roles are retired
 pub all_retired-none : (M : Type 0) (roles k : ℕ) → 1 ≤ roles → every_role roles (retired_by {M = M} k []) ≡ false
 all_retired-none M roles k some = every_role-but roles 0 (retired_by {M = M} k []) (omega arith) (retired_by-none M k 0)
 

@@ -34,7 +34,7 @@ present-at f (None ∷ xs) q d x all lt is = let w : false ≡ true = all 0 (ome
 present-at f (Some y ∷ xs) zero d x all lt is = let w : y ≡ x = cc in ap f w
 present-at f (Some y ∷ xs) (suc q) d x all lt is = present-at f xs q d x (λ k less. all (suc k) (omega arith)) (omega arith) is
 
--- what a role's place has, once the open answers have become a turn
+-- the value in a role's place, once the open answers have become a turn
 pub present-get : {A B : Type 0} (f : A → B) (xs : List (Option A)) (q : ℕ) (x : A) → ((k : ℕ) → k < length xs → is_there xs k ≡ true) → q < length xs → at_role xs q ≡ Some x → slice_get (map f (present xs)) q ≡ Some (f x)
 present-get f [] q x all lt is = absurd (omega arith)
 present-get f (None ∷ xs) q x all lt is = let w : false ≡ true = all 0 (omega arith) in absurd cc
@@ -50,7 +50,7 @@ at_role-read [] k d lt = absurd (omega arith)
 at_role-read (x ∷ xs) zero d lt = refl
 at_role-read (x ∷ xs) (suc k) d lt = at_role-read xs k d (omega arith)
 
--- what is kept of a role gives its part
+-- a role's strikes give its part
 pub kept_part-is : {M : Type 0} (answers : List (Option (Judgement M))) (strikes : List RoleStrikes) (legal : List (List M)) (r : ℕ) (answer : Option (Judgement M)) (retired : Bool) (moves : List M)
     → r < length legal → r < length answers → answer ≡ slice_index_or answers r answer → retired ≡ is_retired_in strikes r → moves ≡ slice_index_or legal r moves
     → (if retired then substitute moves Retired else answer) ≡ kept_part answers strikes legal r

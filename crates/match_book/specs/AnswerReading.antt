@@ -1,17 +1,18 @@
--- What an answered text says.
+-- How an answer's text is read.
 use Rattle.std.specs.Prelude.{ℕ, ◌*◌, nat_le, if◌then◌else◌, List, length, Option, None, option_map}
 use Rattle.game_core.specs.Expression.{folded}
 use Rattle.game_core.specs.Canonical.{canonical}
 use Rattle.kif_text.specs.Reading.{reading}
 
--- the length of an answer that is read at all, white space and comments included
+-- the limit of bytes in an answer that is read, white space and comments included
 abbrev pub max_answer : ℕ
 max_answer = 4096
 
--- how long the text of an answer can become: printing at most doubles what is read
+-- the limit of bytes in what is read of an answer: printing at most doubles what is read
 abbrev pub max_reading : ℕ
 max_reading = 2 * max_answer
 
--- the folded canonical text of the one expression that the answer spells: none where it spells none, or is too long
+-- the folded canonical text of the one expression that the answer spells: none if it is too long or does not spell
+-- exactly one
 unfoldable pub answer_reading : List ℕ → Option (List ℕ)
 answer_reading text = if nat_le (length text) max_answer then option_map (λ x. canonical (folded x)) (reading text) else None

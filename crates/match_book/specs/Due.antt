@@ -39,7 +39,7 @@ OwesMoves (Owe round owed) = CarriesMoves owed
 OwesMoves (Hold round) = ⊥
 OwesMoves Over = ⊥
 
--- What is due, where there is such a role. Memory can be wanted for the texts of a joint move alone.
+-- What is due, if there is such a role. Only the texts of a joint move need memory.
 abbrev pub IsDueAnswer : {S M : Type 0} → Rules S M → MatchValue M → ℕ → Result Due OwedFault → Type 0
 IsDueAnswer g m r (Ok d) = (r < g.roles) × (d ≡ due g m r)
 IsDueAnswer g m r (Err NoRole) = ¬ (r < g.roles)

@@ -15,7 +15,7 @@ use Rattle.match_book.specs.declared.answer.Answer.TheVariants.{Text, Silent, Br
 abbrev pub unreadable_text : List ℕ
 unreadable_text = codes "IL ?"
 
--- what stands before an answer that is no legal move
+-- the prefix of an answer that is no legal move
 abbrev pub illegal_prefix : List ℕ
 illegal_prefix = codes "IL "
 
@@ -31,15 +31,15 @@ error_text Unreadable = unreadable_text
 error_text (Illegal x) = illegal_prefix ++ x
 error_text Retired = retired_text
 
--- the first of these moves in place of the one answered, with the error: none where there is no move
+-- the first of these moves, with the error, in place of the answered one: none if there is no move
 abbrev pub substitute : {M : Type 0} → List M → Substitution → Option (Judgement M)
 substitute moves why = option_map (λ m. record { taken = m; error = error_text why }) (slice_get moves 0)
 
--- the one of these moves that has this text
+-- the move with this text
 abbrev pub move_named : {S M : Type 0} → Rules S M → List M → List ℕ → Option M
 move_named g moves x = find (λ m. bytes_eq (g.move_text m) x) moves
 
--- the text is that of none of these moves
+-- none of these moves has this text
 abbrev pub NamesNone : {S M : Type 0} → Rules S M → List M → List ℕ → Type 0
 NamesNone g moves x = All (λ m. g.move_text m ≢ x) moves
 
@@ -62,11 +62,11 @@ judged_answer g moves (Text t) = judged_reading g moves (answer_reading t)
 judged_answer g moves Silent = substitute moves TimeOut
 judged_answer g moves Broken = substitute moves ConnectionError
 
--- the judgement of an answer of the role r in the state s: none where the role has no legal move
+-- the judgement of an answer of the role r in the state s: none if the role has no legal move
 unfoldable pub judgement : {S M : Type 0} → Rules S M → S → ℕ → Answer → Option (Judgement M)
 judgement g s r answer = judged_answer g (g.legal s r) answer
 
--- an answer may have come to this where these moves are legal
+-- an answer may have been substituted for this reason, if these moves are legal
 abbrev pub MayStand : {S M : Type 0} → Rules S M → List M → Substitution → Type 0
 MayStand g moves TimeOut = Unit {0}
 MayStand g moves ConnectionError = Unit {0}
@@ -82,7 +82,8 @@ IsSubstitution g moves e = (why : Substitution) × (e ≡ error_text why) × May
 abbrev pub IsJudged : {S M : Type 0} → Rules S M → List M → M → List ℕ → Type 0
 IsJudged g moves m e = Contains moves m × ((e ≡ []) ⊎ ((slice_get moves 0 ≡ Some m) × IsSubstitution g moves e))
 
--- what a role gives to a turn, by whether it is retired: the first legal move with the error that says so, or what an answer counts as
+-- a role's part of a turn: if the role is retired, the first legal move with the error that says so, or else the judgement of an
+-- answer
 abbrev pub IsPart : {S M : Type 0} → Rules S M → Bool → List M → M → List ℕ → Type 0
 IsPart g true moves m e = (slice_get moves 0 ≡ Some m) × (e ≡ retired_text)
 IsPart g false moves m e = IsJudged g moves m e

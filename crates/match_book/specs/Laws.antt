@@ -18,7 +18,7 @@ use Rattle.match_book.specs.declared.phase.Stage.TheVariants.{Playing}
 abbrev pub NewMatchIsLawful : {S M : Type 0} → Rules S M → Type 0
 NewMatchIsLawful {S} {M} g = (setup : Setup) → length setup.players ≡ g.roles → IsLawfulMatch g (new_match {M = M} g setup)
 
--- a lawful match stays lawful, whatever is answered, and by whom
+-- a lawful match stays lawful after any answer of any role
 abbrev pub AnswersKeepLawful : {S M : Type 0} → Rules S M → Type 0
 AnswersKeepLawful {S} {M} g = (m : MatchValue M) (role round : ℕ) (answer : Answer) → IsLawfulMatch g m → IsLawfulMatch g (after_answer g m role round answer)
 
@@ -35,11 +35,11 @@ Names g (Text t) m = answer_reading t ≡ Some (g.move_text m)
 Names g Silent m = ⊥
 Names g Broken m = ⊥
 
--- a judgement has no error exactly where the answer names the move that is taken
+-- a judgement has an empty error if and only if the answer names the move that is taken
 abbrev pub NoErrorMeansNamed : {S M : Type 0} → Rules S M → Type 0
 NoErrorMeansNamed {S} {M} g = (s : S) (role : ℕ) (answer : Answer) (j : Judgement M) → judgement g s role answer ≡ Some j → (j.error ≡ []) ↔ Names g answer j.taken
 
--- What an answer that is taken in play makes of the match, by the role's judgement: it stands open, or is recorded with the others.
+-- What an answer that is taken in play does, by the role's judgement: it stays open, or is recorded with the others.
 pub record IsPlayed {S M : Type 0} (g : Rules S M) (m n : MatchValue M) (role : ℕ) (answer : Answer) : Type 0 where
   pub judged : Judgement M
   pub is_judgement : judgement g (state_after g m.turns) role answer ≡ Some judged
@@ -49,11 +49,11 @@ pub record IsPlayed {S M : Type 0} (g : Rules S M) (m n : MatchValue M) (role : 
 abbrev pub AnswersInPlay : {S M : Type 0} → Rules S M → Type 0
 AnswersInPlay {S} {M} g = (m : MatchValue M) (role round : ℕ) (answer : Answer) → IsLawfulMatch g m → stage g m ≡ Playing → refusal g m role round ≡ None → IsPlayed g m (after_answer g m role round answer) role answer
 
--- outside of play no answer changes the turns, nor the open answers
+-- outside of play, no answer changes the turns or the open answers
 abbrev pub AnswersOutOfPlay : {S M : Type 0} → Rules S M → Type 0
 AnswersOutOfPlay {S} {M} g = (m : MatchValue M) (role round : ℕ) (answer : Answer) → stage g m ≢ Playing
     → ((after_answer g m role round answer).turns ≡ m.turns) × ((after_answer g m role round answer).open_answers ≡ m.open_answers)
 
--- an answer is taken for the present round alone, of a role of the game
+-- an answer is taken only for the present round, and only from a role of the game
 abbrev pub TakenForTheRound : {S M : Type 0} → Rules S M → Type 0
 TakenForTheRound {S} {M} g = (m : MatchValue M) (role n : ℕ) → refusal g m role n ≡ None → (role < g.roles) × (n ≡ round g m)

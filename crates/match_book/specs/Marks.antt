@@ -1,4 +1,4 @@
--- Answers, and what is kept of them outside of play.
+-- Answers, and the marks that are kept of them outside of play.
 use Rattle.std.specs.Prelude.{List, ℕ, [], codes}
 use Rattle.match_book.specs.declared.answer.Answer.{Answer}
 use Rattle.match_book.specs.declared.answer.Answer.TheVariants.{Text, Silent, Broken}
@@ -7,7 +7,7 @@ use Rattle.match_book.specs.declared.answer.LentAnswer.TheVariants.{Text as Lent
 use Rattle.match_book.specs.declared.answer.Mark.{Mark}
 use Rattle.match_book.specs.declared.answer.Mark.TheVariants.{Clear, TimeOut, ConnectionError}
 
--- the answer that is lent
+-- the answer that is borrowed
 abbrev pub answer_lent : LentAnswer → Answer
 answer_lent (LentText text) = Text text.now
 answer_lent LentSilent = Silent
@@ -17,7 +17,7 @@ answer_lent LentBroken = Broken
 abbrev pub time_out_text : List ℕ
 time_out_text = codes "TO"
 
--- no answer came, for want of a connection
+-- no answer came: the connection failed
 abbrev pub connection_error_text : List ℕ
 connection_error_text = codes "CE"
 

@@ -6,8 +6,8 @@ use Rattle.match_book.specs.declared.answer.Mark.{Mark}
 use Rattle.match_book.specs.declared.judgement.Judgement.{Judgement}
 use Rattle.match_book.specs.declared.turn.Turn.{Turn}
 
--- The setup, what was answered, and whether an abort was asked: no state and no phase, which follow from these.
--- The open answers are those of the turn that is not yet recorded. Marks and open answers have a place for each role.
+-- The setup, the answers, and whether an abort was asked. The state and the phase follow from these. The open answers
+-- are those of the turn that is not yet recorded. Marks and open answers have a place for each role.
 pub record MatchValue (M : Type 0) : Type 0 where
   pub setup : Setup
   pub start_marks : List (Option Mark)
@@ -16,7 +16,7 @@ pub record MatchValue (M : Type 0) : Type 0 where
   pub abort_asked : Bool
   pub end_marks : List (Option Mark)
 
--- a match and the game that it is of
+-- a match and its game
 pub record GameMatch (G M : Type 0) : Type 0 where
   pub game : G
   pub value : MatchValue M
@@ -28,11 +28,11 @@ joint_moves turns = map (λ t. t.moves) turns
 abbrev pub state_after : {S M : Type 0} → Rules S M → List (Turn M) → S
 state_after g turns = play g (joint_moves turns)
 
--- an error that is not empty stands beside a substituted move
+-- a move is substituted if the error beside it is not empty
 abbrev pub is_error : List ℕ → Bool
 is_error e = not (length e == 0)
 
--- how many of the recorded moves are substituted
+-- the number of substituted moves among the recorded ones
 abbrev pub substitutions : {M : Type 0} → List (Turn M) → ℕ
 substitutions turns = sum_by (λ t. count_by is_error t.errors) turns
 

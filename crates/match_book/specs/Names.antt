@@ -12,11 +12,11 @@ full_stop = 46
 abbrev pub underscore : ℕ
 underscore = 95
 
--- how long a name is at most
+-- the limit of bytes in a name
 abbrev pub max_name : ℕ
 max_name = 64
 
--- how many seconds a clock has at most: a day
+-- the limit of seconds on a clock: a day
 abbrev pub max_clock : ℕ
 max_clock = 86400
 
@@ -42,11 +42,11 @@ is_name text = is_between 1 max_name (length text) && list_all is_name_byte text
 abbrev pub is_clock : ℕ → Bool
 is_clock seconds = is_between 1 max_clock seconds
 
--- how many substitutions in a row can be asked for
+-- the limit of the number of substitutions in a row that retire a role
 abbrev pub max_strikes : ℕ
 max_strikes = 255
 
--- a lawful number of substitutions in a row that retire a role: 0 is never
+-- a lawful number of substitutions in a row that retire a role: 0 means never
 abbrev pub is_strikes : ℕ → Bool
 is_strikes n = nat_le n max_strikes
 

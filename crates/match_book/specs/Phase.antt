@@ -12,16 +12,17 @@ use Rattle.match_book.specs.declared.phase.Phase.{Phase}
 use Rattle.match_book.specs.declared.phase.Phase.TheVariants.{Starting as InStarting, Playing as InPlaying, Stopping as InStopping, Finished, Aborting as InAborting, Aborted}
 use Rattle.match_book.specs.declared.phase.Status.{Status}
 
--- how many turns a match has at most
+-- the limit of turns in a match
 abbrev pub max_turns : ℕ
 max_turns = 10000
 
--- in a terminal state, by the lowest role without a goal
+-- the stage in a terminal state, by the lowest role without a goal
 abbrev pub after_the_end : Option ℕ → Stage
 after_the_end None = Stopping
 after_the_end (Some r) = Aborting (NoGoal r)
 
--- before it, by the lowest role without a legal move, and whether all roles are retired
+-- the stage in any other state, by the lowest role without a legal move, and whether all roles are
+-- retired
 abbrev pub before_the_end : Option ℕ → Bool → Stage
 before_the_end None all_retired = if all_retired then Aborting AllRetired else Playing
 before_the_end (Some r) all_retired = Aborting (NoLegal r)
@@ -32,7 +33,7 @@ has_no_goal g s r = is_none (g.goal s r)
 abbrev pub has_no_move : {S M : Type 0} → Rules S M → S → ℕ → Bool
 has_no_move g s r = length (g.legal s r) == 0
 
--- the settling rule, in the state s after t turns, which retire all roles or not
+-- the settling rule, in the state s after t turns, which have retired all roles or not
 unfoldable pub settled : {S M : Type 0} → Rules S M → ℕ → Bool → S → Stage
 settled g t all_retired s = if g.terminal s then after_the_end (lowest_role g.roles (has_no_goal g s))
     else (if nat_le max_turns t then Aborting TooLong else before_the_end (lowest_role g.roles (has_no_move g s)) all_retired)
@@ -45,7 +46,7 @@ stage g m = if m.abort_asked then Aborting Asked else (if every_role g.roles (is
 abbrev pub still_answers : {M : Type 0} → MatchValue M → ℕ → Bool
 still_answers m r = not (is_retired m r)
 
--- the role has answered this round, where the match is at this stage
+-- the role has answered this round, if the match is at this stage
 abbrev pub answered_in : {M : Type 0} → Stage → MatchValue M → ℕ → Bool
 answered_in Starting m r = is_there m.start_marks r
 answered_in Playing m r = if still_answers m r then is_there m.open_answers r else true
@@ -74,7 +75,7 @@ is_last Finished = true
 is_last InAborting = false
 is_last Aborted = true
 
--- nothing more can come
+-- the match is over
 abbrev pub is_over : {S M : Type 0} → Rules S M → MatchValue M → Bool
 is_over g m = is_last (phase g m)
 
@@ -99,7 +100,7 @@ aborting_round (NoGoal r) all_started t = t + 1
 aborting_round TooLong all_started t = t + 1
 aborting_round AllRetired all_started t = t + 1
 
--- by whether all START marks are there, and the number of turns
+-- the round of an asked abort, by whether all START marks are there, and the number of turns
 abbrev pub round_in : Stage → Bool → ℕ → ℕ
 round_in Starting all_started t = 0
 round_in Playing all_started t = t + 1

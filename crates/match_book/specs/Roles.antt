@@ -2,22 +2,22 @@
 use Rattle.std.specs.Prelude.{ℕ, zero, suc, Bool, true, false, if◌then◌else◌, List, [], ◌∷◌, ◌++◌, Option, Some, None, is_some, slice_index_or, replicate}
 use Rattle.std.specs.Option.{option_or}
 
--- the test passes at each role of n
+-- the test passes at each role below n
 abbrev pub every_role : ℕ → (ℕ → Bool) → Bool
 every_role zero p = true
 every_role (suc n) p = if p n then every_role n p else false
 
--- the lowest role of n at which the test passes
+-- the lowest role below n at which the test passes
 abbrev pub lowest_role : ℕ → (ℕ → Bool) → Option ℕ
 lowest_role zero p = None
 lowest_role (suc n) p = option_or (lowest_role n p) (if p n then Some n else None)
 
--- what each role of n gives, in the order of the roles
+-- the values of the roles below n, in the order of the roles
 abbrev pub of_each_role : {A : Type 0} → ℕ → (ℕ → A) → List A
 of_each_role zero f = []
 of_each_role (suc n) f = of_each_role n f ++ f n ∷ []
 
--- what stands in the role's place
+-- the value in the role's place
 abbrev pub at_role : {A : Type 0} → List (Option A) → ℕ → Option A
 at_role xs r = slice_index_or xs r None
 
@@ -28,7 +28,7 @@ is_there xs r = is_some (at_role xs r)
 abbrev pub blank : {A : Type 0} → ℕ → List (Option A)
 blank n = replicate n None
 
--- what stands in the places, in order, without the empty ones
+-- the values in the places, in order, without the empty ones
 abbrev pub present : {A : Type 0} → List (Option A) → List A
 present [] = []
 present (None ∷ xs) = present xs

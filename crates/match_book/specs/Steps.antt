@@ -1,4 +1,4 @@
--- What an answer and an abort make of a match.
+-- What an answer and an abort do to a match.
 use Rattle.std.specs.Prelude.{◌≡◌, ◌≢◌, ◌⊎◌, ◌<◌, ℕ, nat_lt, ◌==◌, true, false, if◌then◌else◌, List, [], ◌∷◌, ◌++◌, map, Option, Some, None, is_none, slice_set, Result, Ok, Err}
 use Rattle.game_core.specs.Play.{Rules}
 use Rattle.match_book.specs.Roles.{every_role, of_each_role, at_role, is_there, blank, present}
@@ -23,22 +23,22 @@ use Rattle.match_book.specs.declared.phase.Stage.TheVariants.{Starting, Playing,
 abbrev pub new_match : {S M : Type 0} → Rules S M → Setup → MatchValue M
 new_match g setup = record { setup = setup; start_marks = blank g.roles; turns = []; open_answers = blank g.roles; abort_asked = false; end_marks = blank g.roles }
 
--- why an answer of the role r for the round n is refused: none where it is taken
+-- why an answer of the role r for the round n is refused: none if it is taken
 abbrev pub refusal : {S M : Type 0} → Rules S M → MatchValue M → ℕ → ℕ → Option AnswerRefusal
 refusal g m r n = if nat_lt r g.roles then (if is_over g m then Some Over else (if n == round g m then (if has_answered g m r then Some Twice else None) else Some (Stale (round g m)))) else Some NoRole
 
--- the turn that is made of these judgements, one for each role
+-- the turn that these judgements make, one for each role
 abbrev pub turn_of : {M : Type 0} → List (Option (Judgement M)) → Turn M
 turn_of parts = record { moves = map (λ j. j.taken) (present parts); errors = map (λ j. j.error) (present parts) }
 
--- what the role gives to the turn: its open answer, or the first legal move in its place where it is retired
+-- the role's part of the turn: its open answer, or the first legal move if it is retired
 abbrev pub part : {S M : Type 0} → Rules S M → MatchValue M → ℕ → Option (Judgement M)
 part g m r = if still_answers m r then at_role m.open_answers r else substitute (g.legal (state_after g m.turns) r) Retired
 
 abbrev pub parts : {S M : Type 0} → Rules S M → MatchValue M → List (Option (Judgement M))
 parts g m = of_each_role g.roles (part g m)
 
--- once all roles that are not retired have answered, a turn is made of what the roles give
+-- once all roles that are not retired have answered, the roles' parts make a turn
 abbrev pub recorded : {S M : Type 0} → Rules S M → MatchValue M → MatchValue M
 recorded g m = if every_role g.roles (answered_in Playing m) then record m { turns = m.turns ++ turn_of (parts g m) ∷ []; open_answers = blank g.roles } else m
 
@@ -61,15 +61,15 @@ with_answer_in (Aborting c) g m r a = with_end_mark m r (mark_of a)
 abbrev pub with_answer : {S M : Type 0} → Rules S M → MatchValue M → ℕ → Answer → MatchValue M
 with_answer g m r a = with_answer_in (stage g m) g m r a
 
--- the match after an answer of the role r for the round n: as it was, where the answer is refused
+-- the match after an answer of the role r for the round n: unchanged if the answer is refused
 abbrev pub after_answer : {S M : Type 0} → Rules S M → MatchValue M → ℕ → ℕ → Answer → MatchValue M
 after_answer g m r n a = if is_none (refusal g m r n) then with_answer g m r a else m
 
--- the match whose abort is asked: the answers of the open turn are dropped
+-- the match after a request to abort it: the answers of the open turn are dropped
 abbrev pub with_abort : {S M : Type 0} → Rules S M → MatchValue M → MatchValue M
 with_abort g m = record m { abort_asked = true; open_answers = blank g.roles }
 
--- the match after an abort: as it was, where the match is already stopping or aborting
+-- the match after an abort: unchanged if the match is already stopping or aborting
 abbrev pub after_abort : {S M : Type 0} → Rules S M → MatchValue M → MatchValue M
 after_abort g m = if is_live (stage g m) then with_abort g m else m
 
@@ -77,18 +77,19 @@ after_abort g m = if is_live (stage g m) then with_abort g m else m
 abbrev pub IsLastToStart : {S M : Type 0} → Rules S M → MatchValue M → ℕ → Type 0
 IsLastToStart g m r = (stage g m ≡ Starting) × ((k : ℕ) → k < g.roles → k ≢ r → is_there m.start_marks k ≡ true)
 
--- Memory may be wanted to take an answer of the role r: in play, and for the last START mark.
+-- Taking an answer of the role r may need memory: in play, and for the last START mark.
 abbrev pub MayWantMemory : {S M : Type 0} → Rules S M → MatchValue M → ℕ → Type 0
 MayWantMemory g m r = (stage g m ≡ Playing) ⊎ IsLastToStart g m r
 
--- the fault that a refusal is
+-- the fault of a refusal
 abbrev pub fault_of : AnswerRefusal → AnswerFault
 fault_of NoRole = FaultNoRole
 fault_of Over = FaultOver
 fault_of (Stale n) = FaultStale n
 fault_of Twice = FaultTwice
 
--- An answer is taken where nothing refuses it, and else its refusal is given. Want of memory comes after the tests.
+-- An answer is taken if nothing refuses it; otherwise the result is its refusal. Out of memory comes after these
+-- tests.
 abbrev pub IsTakenUnless : Option AnswerRefusal → Result (Unit {0}) AnswerFault → Type 0
 IsTakenUnless o (Ok u) = o ≡ None
 IsTakenUnless o (Err FaultNoRole) = o ≡ Some NoRole

@@ -15,11 +15,11 @@ pub enum Answer {
     Text(Text),
     /// No answer came in time.
     Silent,
-    /// No answer came, for want of a connection.
+    /// No answer came: the connection failed.
     Broken,
 }
 
-/// An answer whose text whoever gives it keeps.
+/// An answer that borrows its text.
 #[derive(Clone, Copy)]
 pub enum LentAnswer<'a> {
     Text(&'a Text),
@@ -27,7 +27,7 @@ pub enum LentAnswer<'a> {
     Broken,
 }
 
-/// What is kept of an answer to START, STOP or ABORT, whatever the answer says.
+/// The part of an answer to START, STOP or ABORT that is kept, whatever its text says.
 #[derive(Clone, Copy)]
 pub enum Mark {
     /// There was an answer.
@@ -43,13 +43,13 @@ pub enum AnswerRefusal {
     NoRole,
     /// The match is finished or aborted.
     Over,
-    /// The answer is for another round than this, the present one.
+    /// The answer is not for the present round, which is this one.
     Stale(u64),
     /// The role has answered this round.
     Twice,
 }
 
-/// Why an answer is not taken: it is refused, or else memory is wanted. Nothing changes then.
+/// Why an answer is not taken: it is refused, or memory ran out. In both cases nothing changes.
 #[derive(Clone, Copy, Debug, PartialEq, Eq, Error)]
 pub enum AnswerFault {
     /// The game has no such role.
@@ -58,13 +58,13 @@ pub enum AnswerFault {
     /// The match is finished or aborted.
     #[error("the match is over")]
     Over,
-    /// The answer is for another round than this, the present one.
+    /// The answer is not for the present round, which is this one.
     #[error("the present round is {0}")]
     Stale(u64),
     /// The role has answered this round.
     #[error("the role has answered this round")]
     Twice,
-    /// Want of memory.
+    /// Out of memory.
     #[error("want of memory")]
     Memory,
 }
@@ -99,7 +99,7 @@ pub enum AbortFault {
 }
 
 impl Answer {
-    /// The answer, lent.
+    /// Borrows the answer.
     pub fn lend(&self) -> LentAnswer<'_>
         ensures { answer_lent result ≡ self.now }
     {

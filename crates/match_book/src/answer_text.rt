@@ -1,4 +1,4 @@
-//! The reading of an answered text.
+//! How an answer's text is read.
 ghost use Rattle.std.specs.Prelude.{◌≡◌, IfOk};
 ghost use Rattle.match_book.specs.AnswerReading.{answer_reading};
 
@@ -6,10 +6,10 @@ use game_core::Text;
 use kif_text::{KifFault, fold, print, read_one};
 use std::alloc::{AllocError, Global};
 
-/// An answer of more bytes is not read.
+/// The limit of bytes in an answer. A longer one is not read.
 pub const MAX_ANSWER: usize = 4096;
 
-/// What an answer is read as has at most as many bytes: printing adds at most a space for each byte.
+/// The limit of bytes in what is read of an answer: printing adds at most one space for each byte.
 pub const MAX_READING: usize = 2 * MAX_ANSWER;
 
 /// The folded canonical text of the one expression that the answer spells, if it spells one.

@@ -6,8 +6,8 @@ use game_core::Texts;
 use std::alloc::AllocError;
 use thiserror::Error;
 
-/// A message that is owed. PLAY and STOP carry the texts of the last joint move, in the order of the roles:
-/// `None` before the first turn.
+/// A message that is owed. PLAY and STOP carry the texts of the last joint move, in the order of the roles.
+/// They carry `None` before the first turn.
 #[derive(Drop)]
 pub enum Owed {
     Start,
@@ -19,21 +19,21 @@ pub enum Owed {
 /// What is due to a role.
 #[derive(Drop)]
 pub enum Due {
-    /// The message, whose answer is for this round.
+    /// The role is owed this message, and its answer is for this round.
     Owe { round: u64, owed: Owed },
-    /// The role has answered this round, and waits for the others.
+    /// The role has answered this round and waits for the others.
     Hold { round: u64 },
     /// The match is finished or aborted.
     Over,
 }
 
-/// Why nothing can be said of what is due.
+/// Why `owed` does not say what is due.
 #[derive(Clone, Copy, Debug, PartialEq, Eq, Error)]
 pub enum OwedFault {
     /// The game has no such role.
     #[error("there is no such role")]
     NoRole,
-    /// Want of memory.
+    /// Out of memory.
     #[error("want of memory")]
     Memory,
 }

@@ -1,4 +1,4 @@
-//! The judge of the answers in play.
+//! How answers are judged in play.
 ghost use Rattle.std.specs.Prelude.{◌≡◌, IfOk, All, Some, []};
 ghost use Rattle.match_book.specs.AnswerReading.{answer_reading};
 ghost use Rattle.match_book.specs.Marks.{answer_lent};
@@ -9,16 +9,16 @@ use crate::answer_text::{MAX_ANSWER, read_answer};
 use game_core::{Game, Text};
 use std::alloc::{AllocError, Global};
 
-/// The error of an answer that spells no expression, or more than one, or is too long.
+/// The error of an answer that is too long, or does not spell exactly one expression.
 pub const UNREADABLE: &[u8] = b"IL ?";
 
-/// What stands before the answered text in the error of an answer that is no legal move.
+/// The prefix of the error of an answer that is no legal move. The answer's text follows it.
 pub const ILLEGAL_PREFIX: &[u8] = b"IL ";
 
-/// The error beside the move of a retired role.
+/// The error beside a retired role's move.
 pub const RETIRED: &[u8] = b"RT";
 
-/// A move, and the error of the answer that it stands for: empty where the answer named the move.
+/// A move, and the error beside it. The error is empty if an answer named the move.
 #[derive(Drop)]
 pub struct Judgement<M> {
     pub taken: M,
@@ -30,16 +30,16 @@ pub struct Judgement<M> {
 pub enum Substitution {
     TimeOut,
     ConnectionError,
-    /// The answer spells no expression, or more than one, or is too long.
+    /// The answer is too long, or does not spell exactly one expression.
     Unreadable,
-    /// The answer spells this text, which is no legal move's.
+    /// The answer spells this text, but no legal move has it.
     Illegal(Text),
-    /// The role is retired, and was not asked.
+    /// The role is retired and was not asked.
     Retired,
 }
 
 impl Substitution {
-    /// The error beside the move.
+    /// The error that stands beside the move.
     fn error(&self, alloc: Global) -> Result<Text, AllocError>
         ensures { IfOk result (λ t. t ≡ error_text self.now) }
     {
@@ -57,7 +57,7 @@ impl Substitution {
     }
 }
 
-/// The first of these moves, if there is one, with the error of this reason.
+/// The first of these moves, with the error of this reason. `None` if there is no move.
 pub fn substitute<G: Game>(
     alloc: Global,
     game: &G,
@@ -88,7 +88,7 @@ pub fn place_of<G: Game>(game: &G, moves: &[G::Move], wanted: &[u8]) -> Option<u
     None
 }
 
-/// A move that an answer names.
+/// The judgement of an answer that names this move.
 fn take_named<G: Game>(
     alloc: Global,
     game: &G,
@@ -104,7 +104,7 @@ fn take_named<G: Game>(
     Ok(Some(Judgement { taken, error }))
 }
 
-/// The move with this text, which an answer is read as, or the first in its place.
+/// The judgement of an answer that is read as this text: the move with the text, or else the first move.
 fn judge_reading<G: Game>(
     alloc: Global,
     game: &G,
@@ -120,8 +120,8 @@ fn judge_reading<G: Game>(
     }
 }
 
-/// What an answered text counts as. Most are a legal move's text as it stands, which is not read first: it would
-/// be read as itself.
+/// The judgement of an answer with this text. Most texts are a legal move's canonical text, which would be read
+/// as itself, so they are compared before they are read.
 fn judge_text<G: Game>(
     alloc: Global,
     game: &G,
@@ -142,7 +142,7 @@ fn judge_text<G: Game>(
     }
 }
 
-/// What an answer counts as where these are the role's legal moves: `None` where there is none.
+/// The judgement of an answer, given the role's legal moves. `None` if there is no move.
 pub fn judge<G: Game>(
     alloc: Global,
     game: &G,

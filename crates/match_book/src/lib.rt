@@ -1,8 +1,8 @@
-//! A match of any game: what each role owes, how an answer is judged, when a move is substituted, and when
-//! the match stops or is aborted.
+//! A match of any game: what each role is owed, how an answer is judged, when a move is substituted, and
+//! when the match stops or is aborted.
 //!
-//! Methods take the allocator right after `self`, free functions take it first. A match is driven by its
-//! answers alone: it sends nothing, and keeps no time.
+//! Methods take the allocator right after `self`, free functions take it first. Only answers and aborts
+//! change a match: it sends nothing, and keeps no time.
 #![tactic(auto)]
 
 mod answer;

@@ -30,10 +30,10 @@ use std::marker::Model;
 use std::mem;
 use std::snapshot::Snapshot;
 
-/// A match: what was answered, and what is known of the present, so that no call goes over the turns.
+/// A match: the answers so far, and what is known of the present, so that no call goes over all turns.
 ///
-/// Contracts see a match as its value and the game that it is of. The game itself is kept by the caller,
-/// who hands it to each call that needs it. Each match is lawful, as `state` says.
+/// Contracts see a match as its value and its game. The caller keeps the game itself, and passes it to each call that needs
+/// it. Each match is lawful, as `state` says.
 #[derive(Drop)]
 pub struct Match<G: Game> {
     game: Snapshot<G>,
@@ -81,8 +81,8 @@ impl<G: Game> Model for Match<G> {
     }) m.past.items m.state m.stage m.answered m.substituted m.strikes.items m.legal.items m.goals.items };
 }
 
-/// Records a turn: the present state is kept behind the past ones, and the next one takes its place. Where a growth is refused
-/// nothing has changed.
+/// Records a turn: the present state becomes the last past state, and `next` becomes the present state. If an allocation is
+/// refused, nothing has changed.
 fn go_on<T: Drop, S: Drop>(
     turns: &mut Vec<T>,
     turn: T,
@@ -106,7 +106,7 @@ fn go_on<T: Drop, S: Drop>(
 }
 
 impl<G: Game> Match<G> {
-    /// A match with nothing in it: each role owes an answer to START.
+    /// A match with nothing in it. Each role owes an answer to START.
     pub fn new(alloc: Global, game: &G, setup: Setup) -> Result<Match<G>, AllocError>
         requires { length setup.players ≡ (G.rules game.now).roles }
         ensures { IfOk result (λ m. m ≡ record { game = game.now; value = new_match (G.rules game.now) setup }) }
@@ -136,7 +136,7 @@ impl<G: Game> Match<G> {
         })
     }
 
-    /// The id, the clocks and the players that the match was made with.
+    /// The setup that the match was made with.
     pub fn setup(&self) -> &Setup
         ensures { result.now ≡ self.now.value.setup }
     {
@@ -164,7 +164,7 @@ impl<G: Game> Match<G> {
         &self.state
     }
 
-    /// The state after so many of the recorded turns. No turn is played again for it.
+    /// The state after the first `turns` recorded turns. It is kept, so no turn is played again.
     pub fn state_after(&self, turns: usize) -> &G::State
         requires { turns ≤ length self.now.value.turns }
         ensures state { result.now ≡ state_after (G.rules self.now.game) (take turns self.now.value.turns) }
@@ -187,7 +187,7 @@ impl<G: Game> Match<G> {
         self.turns[turn].moves.at(role)
     }
 
-    /// The error beside the role's move in a recorded turn: empty where the role's answer named the move.
+    /// The error beside the role's move in a recorded turn. It is empty if the role's answer named the move.
     pub fn error_at(&self, turn: usize, role: usize) -> &[u8]
         requires turn { turn < length self.now.value.turns }
         requires role { role < (G.rules self.now.game).roles }
@@ -218,7 +218,7 @@ impl<G: Game> Match<G> {
         }
     }
 
-    /// The role's goal: none before the match stops.
+    /// The role's goal. `None` before the match stops.
     pub fn goal_of(&self, role: usize) -> Option<u8>
         requires { role < (G.rules self.now.game).roles }
         ensures { result ≡ goal_of (G.rules self.now.game) self.now.value role }
@@ -283,7 +283,7 @@ impl<G: Game> Match<G> {
         Ok(Due::Owe { round, owed })
     }
 
-    /// The message that this round owes to the roles.
+    /// The message that is owed to the roles in this round.
     fn owed_message(&self, alloc: Global, game: &G) -> Result<Owed, AllocError>
         requires { self.now.game ≡ game.now }
         ensures ok { IfOk result (λ o. o ≡ owed_in (stage (G.rules self.now.game) self.now.value) (last_move_texts (G.rules self.now.game) self.now.value.turns)) }
@@ -310,7 +310,7 @@ impl<G: Game> Match<G> {
         Ok(Some(move_texts(alloc, game, turn.moves.as_slice())?))
     }
 
-    /// Why an answer of the role for a round is refused: none where `answer` takes it.
+    /// Why an answer of the role for a round is refused. `None` if `answer` takes it.
     pub fn refusal(&self, role: usize, round: u64) -> Option<AnswerRefusal>
         ensures { result ≡ refusal (G.rules self.now.game) self.now.value role round }
     {
@@ -330,7 +330,7 @@ impl<G: Game> Match<G> {
         None
     }
 
-    /// Takes a role's answer for a round. Once all roles have answered, the next round begins.
+    /// Takes a role's answer for a round. The next round begins once all roles have answered.
     pub fn answer(
         &mut self,
         alloc: Global,
@@ -352,7 +352,7 @@ impl<G: Game> Match<G> {
         }
     }
 
-    /// Takes a role's answer for a round as `answer` does, or says why it is refused: none where it is taken.
+    /// Takes a role's answer for a round as `answer` does. Returns why it is refused, or `None` if it is taken.
     pub fn offer(
         &mut self,
         alloc: Global,
@@ -465,8 +465,8 @@ impl<G: Game> Match<G> {
         self.record_turn(alloc, game, role, judged)
     }
 
-    /// The turn of the open answers, of the role's, the last one, and of the first legal moves of the roles that
-    /// are retired. The open answers are copied, so that they stay where a later growth is refused.
+    /// The turn that the open answers make with `judged`, the last answer, and the first legal moves of the retired roles. The
+    /// open answers are copied, so that they stay if a later allocation is refused.
     fn turn_with(
         &self,
         alloc: Global,
@@ -487,7 +487,7 @@ impl<G: Game> Match<G> {
         turn_of(alloc, parts)
     }
 
-    /// Makes a turn of the open answers and of the role's, the last one.
+    /// Makes a turn of the open answers and the last one, `judged`, and records it.
     fn record_turn(
         &mut self,
         alloc: Global,

@@ -5,13 +5,13 @@ ghost use Rattle.match_book.specs.Names.{is_between, max_name, is_name_byte, is_
 
 use game_core::Text;
 
-/// The most bytes of a name.
+/// The limit of bytes in a name.
 const MAX_NAME: usize = 64;
 
-/// The most seconds of a clock.
+/// The limit of seconds on a clock.
 pub const MAX_CLOCK: u32 = 86_400;
 
-/// The most substitutions in a row that can be asked for to retire a role.
+/// The limit of the number of substitutions in a row that retire a role.
 pub const MAX_STRIKES: u32 = 255;
 
 fn is_name_byte(byte: u8) -> bool
@@ -46,7 +46,7 @@ pub fn are_names(texts: &[Text]) -> bool
     texts.iter().all(|text| is_name(text.as_slice()))
 }
 
-/// Whether these are the seconds of a lawful clock.
+/// Whether a clock may have this many seconds.
 pub fn is_clock(seconds: u32) -> bool
     ensures { result ≡ is_clock seconds }
 {
@@ -60,7 +60,7 @@ pub fn are_clocks(start: u32, play: u32) -> bool
     is_clock(start) && is_clock(play)
 }
 
-/// Whether so many substitutions in a row can be asked for to retire a role. 0 is never.
+/// Whether `strikes` may be the number of substitutions in a row that retire a role. 0 means never.
 pub fn is_strikes(strikes: u32) -> bool
     ensures { result ≡ is_strikes strikes }
 {

@@ -7,9 +7,9 @@ ghost use Rattle.match_book.specs.Phase.{phase_in, is_last, round_in, aborting_r
 pub enum Cause {
     /// The referee asked for it.
     Asked,
-    /// In a state that is not terminal this role, the lowest such, has no legal move.
+    /// This role has no legal move in a state that is not terminal. It is the lowest such role.
     NoLegal(usize),
-    /// In a terminal state this role, the lowest such, has not exactly one goal.
+    /// This role does not have exactly one goal in a terminal state. It is the lowest such role.
     NoGoal(usize),
     /// 10,000 turns led to no terminal state.
     TooLong,
@@ -17,7 +17,7 @@ pub enum Cause {
     AllRetired,
 }
 
-/// The phase of a match, leaving open whether every role has answered STOP or ABORT.
+/// The phase of a match, apart from whether every role has answered STOP or ABORT.
 #[derive(Clone, Copy)]
 pub enum Stage {
     Starting,
@@ -33,11 +33,11 @@ pub enum Phase {
     Starting,
     /// Turns are played.
     Playing,
-    /// The game has ended, and not every role has answered STOP.
+    /// The game has ended, but not every role has answered STOP.
     Stopping,
     /// The game has ended, and every role has answered STOP.
     Finished,
-    /// The match is aborted, as its cause says, and not every role has answered ABORT.
+    /// The match is being aborted, as its cause says, but not every role has answered ABORT.
     Aborting,
     /// The match was aborted, and every role has answered ABORT.
     Aborted,
@@ -47,17 +47,17 @@ pub enum Phase {
 #[derive(Clone, Copy, Debug, PartialEq, Eq)]
 pub struct Status {
     pub phase: Phase,
-    /// 0 while the match is starting, and then one more than the recorded turns. An asked abort adds one more, or is round 1
-    /// where a role has not answered START.
+    /// 0 while the match is starting; after that, the number of recorded turns plus one. An abort that was asked for adds
+    /// one more, or makes the round 1 if a role has not answered START.
     pub round: u64,
     /// How many turns are recorded.
     pub turns: u64,
-    /// How many recorded moves stand in place of an answer that named no legal move.
+    /// The number of recorded moves that were substituted, retired roles' moves included.
     pub substitutions: u64,
 }
 
 impl Stage {
-    /// The phase, by whether all end marks are there.
+    /// The phase. `all_ended` says whether all end marks are there.
     pub fn phase(self, all_ended: bool) -> Phase
         ensures { result ≡ phase_in self all_ended }
     {
@@ -83,7 +83,7 @@ impl Stage {
 }
 
 impl Phase {
-    /// Whether nothing more can come.
+    /// Whether the match is over.
     pub fn is_last(self) -> bool
         ensures { result ≡ is_last self }
     {

@@ -4,7 +4,7 @@ ghost use Rattle.match_book.specs.Roles.{every_role, is_there, blank};
 
 use std::alloc::{AllocError, Global};
 
-/// As many empty places.
+/// `count` empty places.
 pub fn blank<T: Drop>(alloc: Global, count: usize) -> Result<Vec<Option<T>>, AllocError>
     ensures { IfOk result (λ v. v.items ≡ blank count) }
 {
@@ -24,7 +24,7 @@ pub fn clear<T: Drop>(places: &mut Vec<Option<T>>)
     }
 }
 
-/// Whether something stands in each place.
+/// Whether no place is empty.
 pub fn are_all_there<T>(places: &[Option<T>]) -> bool
     ensures { result ≡ every_role (length places.now) (is_there places.now) }
 {

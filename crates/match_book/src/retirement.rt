@@ -1,4 +1,4 @@
-//! Which roles are retired: their moves were substituted too often in a row.
+//! Which roles are retired, because their moves were substituted too often in a row.
 ghost use Rattle.std.specs.Prelude.{◌≡◌, ◌<◌, ◌≤◌, ℕ, All, IfOk, List, length, replicate, slice_index_or, []};
 ghost use Rattle.match_book.specs.MatchValue.{is_error};
 ghost use Rattle.match_book.specs.Phase.{max_turns};
@@ -8,22 +8,22 @@ use crate::phase::Stage;
 use game_core::Text;
 use std::alloc::{AllocError, Global};
 
-/// What is kept of a role's substitutions.
+/// A role's strikes: its substitutions in a row, and whether they have retired it.
 #[derive(Clone, Copy)]
 pub struct RoleStrikes {
-    /// In how many turns in a row, up to the last, the role's move was substituted.
+    /// The number of turns in a row, up to the last turn, in which the role's move was substituted.
     pub in_a_row: usize,
     pub is_retired: bool,
 }
 
-/// What is kept of a role before the first turn.
+/// A role's strikes before the first turn.
 const UNSTRUCK: RoleStrikes = RoleStrikes {
     in_a_row: 0,
     is_retired: false,
 };
 
 impl RoleStrikes {
-    /// What is kept with one turn more, where `limit` substitutions in a row retire a role, and 0 is never.
+    /// The strikes after one more turn. `limit` substitutions in a row retire a role; 0 means never.
     fn after_turn(self, limit: u8, is_struck: bool) -> RoleStrikes
         requires { self.in_a_row ≤ max_turns }
         ensures { result ≡ after_turn limit self is_struck }
@@ -42,7 +42,7 @@ impl RoleStrikes {
     }
 }
 
-/// What is kept of each role before the first turn.
+/// Each role's strikes before the first turn.
 pub fn all_unstruck(alloc: Global, roles: usize) -> Result<Vec<RoleStrikes>, AllocError>
     ensures { IfOk result (λ v. v.items ≡ replicate roles unstruck) }
 {
@@ -53,8 +53,8 @@ pub fn all_unstruck(alloc: Global, roles: usize) -> Result<Vec<RoleStrikes>, All
     Ok(kept)
 }
 
-/// What is kept of each role with one turn more, whose errors these are. `limit` substitutions in a row retire
-/// a role, and 0 is never.
+/// Each role's strikes after one more turn with these errors. `kept` holds the strikes after the earlier
+/// turns. `limit` substitutions in a row retire a role; 0 means never.
 pub fn strikes_after(
     alloc: Global,
     limit: u8,
@@ -95,7 +95,7 @@ pub fn count_retired(kept: &[RoleStrikes]) -> usize
     count
 }
 
-/// How many roles have answered a round as it begins: in play those that are retired.
+/// The number of roles that have answered when a round begins: in play, the retired roles.
 pub fn answered_at_first(stage: Stage, retired: usize) -> usize
     ensures { result ≡ answered_at_first stage retired }
 {

@@ -30,7 +30,8 @@ impl<M> RoleMoves<M> {
     }
 }
 
-/// The lowest role without a legal move, if there is one, and the legal moves of the roles below it.
+/// The lowest role without a legal move, if there is one, with the legal moves of the roles below
+/// it.
 pub fn legal_moves<G: Game>(
     alloc: Global,
     game: &G,

@@ -10,11 +10,11 @@ use crate::role_moves::{RoleMoves, legal_moves};
 use game_core::Game;
 use std::alloc::{AllocError, Global};
 
-/// The most turns of a match.
+/// The limit of turns in a match.
 pub const MAX_TURNS: usize = 10_000;
 
-/// What a match does in a state: where it plays on with the legal moves of each role, and where it stops with
-/// the roles' goals.
+/// What a match does in a state. If it plays on, `legal` has each role's legal moves. If it stops, `goals`
+/// has the roles' goals.
 #[derive(Drop)]
 pub struct Settlement<M> {
     pub stage: Stage,
@@ -22,7 +22,7 @@ pub struct Settlement<M> {
     pub goals: Vec<Option<u8>>,
 }
 
-/// The lowest role without a goal, if there is one, and the goals of the roles below it.
+/// The lowest role without a goal, if there is one, with the goals of the roles below it.
 fn goals_of<G: Game>(
     alloc: Global,
     game: &G,
@@ -43,7 +43,7 @@ fn goals_of<G: Game>(
     Ok((None, goals))
 }
 
-/// What comes in the state after as many turns, where so many roles are retired.
+/// What a match does in a state that comes after `turns` turns, with `retired` roles retired.
 #[tactic(auto, unfolding(crate::specs::Phase::settled))]
 pub fn settle<G: Game>(
     alloc: Global,

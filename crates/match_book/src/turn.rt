@@ -1,4 +1,4 @@
-//! Turns, and how open answers become one.
+//! Turns, and how open answers become a turn.
 ghost use Rattle.std.specs.Prelude.{◌≡◌, ◌<◌, ◌++◌, if◌then◌else◌, All, IfOk, IfSome, OnOk, Some, map, count_by, length, option_to_list, slice_set};
 ghost use Rattle.match_book.specs.Judgement.{substitute};
 ghost use Rattle.match_book.specs.declared.judgement.Substitution.TheVariants.{Retired};
@@ -20,7 +20,7 @@ pub struct Turn<M> {
     pub errors: Texts,
 }
 
-/// An equal judgement in memory of its own.
+/// A copy of the judgement.
 fn copy_judgement<G: Game>(
     alloc: Global,
     game: &G,
@@ -34,8 +34,7 @@ fn copy_judgement<G: Game>(
     Ok(Judgement { taken, error })
 }
 
-/// What a role gives to the turn: an equal judgement to its open answer, or the first of its legal moves where
-/// it is retired.
+/// A role's part of the turn: a copy of its open answer, or its first legal move if it is retired.
 fn part_of<G: Game>(
     alloc: Global,
     game: &G,
@@ -56,7 +55,7 @@ fn part_of<G: Game>(
     }
 }
 
-/// What each role gives to the turn.
+/// Each role's part of the turn.
 fn parts_of<G: Game>(
     alloc: Global,
     game: &G,
@@ -80,7 +79,7 @@ fn parts_of<G: Game>(
     Ok(parts)
 }
 
-/// What each role gives to the turn, this judgement being what the role gives whose answer is the last.
+/// Each role's part of the turn. `judged` is the part of `role`, the last role to answer.
 pub fn parts_with<G: Game>(
     alloc: Global,
     game: &G,
@@ -118,7 +117,7 @@ fn push_part<M: Drop>(
     Ok(())
 }
 
-/// The turn that is made of these judgements.
+/// The turn that these judgements make.
 pub fn turn_of<M: Drop>(
     alloc: Global,
     parts: Vec<Option<Judgement<M>>>,

@@ -12,6 +12,6 @@ use Rattle.match_book.specs.declared.retirement.RoleStrikes.{RoleStrikes}
 abbrev pub AreMoves : {S M : Type 0} → Rules S M → List (Option (Judgement M)) → Type 0
 AreMoves g answers = All (λ o. IfSome o (λ j. g.IsMove j.taken)) answers
 
--- what the role gives to the turn, by what is kept of it
+-- the role's part of the turn, by its strikes
 abbrev pub kept_part : {M : Type 0} → List (Option (Judgement M)) → List RoleStrikes → List (List M) → ℕ → Option (Judgement M)
 kept_part answers strikes legal r = if is_retired_in strikes r then substitute (slice_index_or legal r []) Retired else at_role answers r
