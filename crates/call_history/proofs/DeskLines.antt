@@ -1,4 +1,5 @@
--- For callers of desks over rings: its lines stay its lines, whatever is posted, taken and served.
+-- For callers of desks over rings: a desk's lines stay its lines while calls are posted, taken and
+-- served.
 use Rattle.std.proofs.Common.{◌≡◌, ℕ, ◌+◌, ◌<◌, List, [], ◌∷◌, ◌++◌, length, get_or, refl, sym, ◌∙◌, ap, subst, arith, rules}
 use Rattle.std.specs.List.{All}
 use Rattle.call_history.specs.declared.port.Port.{Port}
@@ -70,7 +71,7 @@ module _ {O C R : Type 0} {G : Ghosts O C R} where
   pub lines_of_new : (ps : List (Port C R)) (ls : List (RingLine O C R G)) → AreNewLines ps ls → length ls ≡ length ps → All (IsLineOf ps) ls
   lines_of_new ps ls new count = λ k l below. line_of_new ps k (get_or ls k l) (omega (arith, below, count)) (new k l below)
 
-  -- lines stay the desk's, and so do ends, through its rounds
+  -- lines and ends stay the desk's through its rounds
   pub lines_of_ports : (ps qs : List (Port C R)) (ls : List (RingLine O C R G)) → SamePorts ps qs → All (IsLineOf ps) ls → All (IsLineOf qs) ls
   lines_of_ports ps qs ls s all = λ k l below. line_of_same ps qs (get_or ls k l) (get_or ls k l) s (search rules) (all k l below)
 

@@ -9,7 +9,7 @@ use Rattle.call_history.specs.declared.ring_line.RingLine.{RingLine}
 use Rattle.call_history.specs.declared.object.Object.{Ghosts}
 use Rattle.call_history.specs.RingLines.{posted_calls, taken_replies, AreNewLines, IsNewLine, IsPortOf}
 
--- the i-th of a list with one more, for i below the length, and at the length
+-- the i-th element of a list with one more, for i below the length, and at the length
 pub before_last : {X : Type 0} (xs : List X) (x : X) (i : ℕ) (d : X) → i < length xs → get_or (xs ++ x ∷ []) i d ≡ get_or xs i d
 before_last xs x i d lt = grind (arith, common_steps)
 

@@ -26,7 +26,7 @@ module _ {C R : Type 0} where
   part_there : (e : Entry C R) (h : List (Entry C R)) (i : ℕ) → i ≢ e.line → part i (e ∷ h) ≡ part i h
   part_there e h i ne = grind (arith, common_steps)
 
-  -- where each count is the length of the line's part, they add up to the history's length
+  -- if each count is the length of the line's part, the counts add up to the history's length
   pub total : (h : List (Entry C R)) (made : List ℕ) → ((i : ℕ) → i < length made → get_or made i 0 ≡ length (part i h)) → All (λ e. e.line < length made) h → sum made ≡ length h
   total [] made each lines = sum_zero made each
   total (e ∷ h) made each lines =

@@ -49,7 +49,7 @@ module _ {O C R : Type 0} {G : Ghosts O C R} where
       → ((j : ℕ) (e : LineEnd O C R G) → j < i → P (get_or es j e)) → P f → (j : ℕ) (e : LineEnd O C R G) → j < i + 1 → P (get_or (set es i f) j e)
   upto_set P es i f lt before one = λ j e below. get_set P es i j f e lt (λ at. one) (λ n. before j e (omega (arith, n)))
 
-  -- what the first `count` ends show: that all are served, or the lowest number of those that are not
+  -- what the first `count` ends show: all are served, or the lowest number of an unserved one
   abbrev pub Compared : List (Entry C R) → List (LineEnd O C R G) → ℕ → Option ℕ → Type 0
   Compared h es count lowest = MatchOption lowest ((i : ℕ) (e : LineEnd O C R G) → i < count → IsServed h (get_or es i e)) (λ n. IsLowestUnserved h es count n)
 
@@ -106,7 +106,7 @@ module _ {O C R : Type 0} {G : Ghosts O C R} where
       let rest : end_numbers fs ≡ end_numbers es = numbers_of_same es fs (record { count = omega (arith, s.count); each = λ i d below. s.each (suc i) d (omega arith) }) in
       ap (λ n. n ∷ end_numbers fs) here ∙ ap (λ ns. e.line.number ∷ ns) rest
 
-  -- where a number is among those of the ends, one of them has it
+  -- if a number is among those of the ends, one of them has it
   pub has_end : (es : List (LineEnd O C R G)) (n : ℕ) → has_number n (end_numbers es) ≡ true → (k : ℕ) × (k < length es) × ((e : LineEnd O C R G) → (get_or es k e).line.number ≡ n)
   has_end [] n has = absurd (cc)
   has_end (e ∷ es) n has = elim (eqb_tells e.line.number n) [
@@ -120,7 +120,7 @@ module _ {O C R : Type 0} {G : Ghosts O C R} where
   pub prefix_of_same : (h : List (Entry C R)) (a b : LineEnd O C R G) → SameEnd a b → TakesPrefix h b → TakesPrefix h a
   prefix_of_same h a b s p = (p.0, ap (λ x. x ++ p.0) (sym s.taken) ∙ p.1 ∙ ap (λ n. replies_of (part n h)) s.line.0)
 
--- an element of a list that has one
+-- an element of a list that is not empty
 pub some_of : {X : Type 0} (xs : List X) (k : ℕ) → k < length xs → X
 some_of [] k lt = absurd (omega arith)
 some_of (x ∷ xs) k lt = x

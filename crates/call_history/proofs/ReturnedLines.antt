@@ -7,8 +7,8 @@ use Rattle.std.proofs.lemmas.List.Sums.{sum_by-set, sum_by-cons}
 use Rattle.std.proofs.lemmas.List.Folds.{sum_by-replicate}
 use Rattle.call_history.specs.Lines.{Line, numbers, has_number, HasAll}
 
--- Of these lines, rest are still to come. The numbers awaited have had none yet. The others have their lines' calls in
--- made; parts and amount are of the shares that were put together.
+-- Of these lines, rest are still to come. No line has come yet for an awaited number. For the other numbers, made has
+-- the lines' calls. The parts and the amount are those of the shares that were put together.
 pub record IsGathering (lines rest : List Line) (awaited : List Bool) (made : List ℕ) (parts amount : ℕ) : Type 0 where
   pub width : length made ≡ length awaited
   pub parts_so_far : parts + count_by (λ b. b) awaited ≡ length awaited
@@ -33,7 +33,7 @@ count_by-none (false ∷ bs) none =
     let step : count_by (λ (x : Bool). x) (false ∷ bs) ≡ 0 + count_by (λ (x : Bool). x) bs = sum_by-cons (λ (x : Bool). cond x 1 0) false bs in
     step ∙ omega (arith, count_by-none bs (λ k h. none (suc k) h))
 
--- what is read as true stands within
+-- a place that is read as true is within the list
 within_of_true : (bs : List Bool) (k : ℕ) → get_or bs k false ≡ true → k < length bs
 within_of_true [] k h = absurd (cc)
 within_of_true (b ∷ bs) zero h = omega arith

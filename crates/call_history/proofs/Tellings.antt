@@ -1,13 +1,13 @@
--- What is told grows step by step.
+-- What is shown grows step by step.
 use Rattle.std.proofs.Common.{◌≡◌, List, [], ◌++◌, Option, Some, None, refl, ap, append_assoc, append-nil}
 use Rattle.call_history.specs.Told.{told_with}
 
--- xs came, and then ys
+-- the events xs, and then ys
 pub told_with-append : {A : Type 0} (told : Option (List A)) (xs ys : List A) → told_with (told_with told xs) ys ≡ told_with told (xs ++ ys)
 told_with-append None xs ys = refl
 told_with-append (Some before) xs ys = ap Some (append_assoc before xs ys)
 
--- nothing came
+-- no events
 pub told_with-nil : {A : Type 0} (told : Option (List A)) → told_with told [] ≡ told
 told_with-nil None = refl
 told_with-nil (Some before) = ap Some (append-nil before)

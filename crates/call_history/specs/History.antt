@@ -1,5 +1,5 @@
--- What a history leaves, and when it is legal: the same for every object. An object is spoken of by its reply to a
--- call, its value after a call, and its opening, the value before any call.
+-- What a history leaves, and when it is legal, for any object. An object is given by its reply to a call, its
+-- value after a call, and its opening, the value before any call.
 use Rattle.std.specs.Prelude.{◌≡◌, ℕ, List, [], ◌∷◌, ◌++◌}
 use Rattle.call_history.specs.declared.journal.Entry.{Entry}
 
@@ -19,7 +19,7 @@ abbrev pub IsLegalHistory : {S C R : Type 0} → (S → C → R) → (S → C �
 IsLegalHistory reply after s [] = Unit {0}
 IsLegalHistory reply after s (e ∷ es) = (e.reply ≡ reply s e.call) × IsLegalHistory reply after (after s e.call) es
 
--- the history is legal from the object's opening, and the object is what it leaves
+-- the history is legal from the object's opening, and leaves the object
 pub record IsReplay {S C R : Type 0} (reply : S → C → R) (after : S → C → S) (opening : S → S) (object : S) (history : List (Entry C R)) : Type 0 where
   pub legal : IsLegalHistory reply after (opening object) history
   pub leaves : object ≡ run after (opening object) history

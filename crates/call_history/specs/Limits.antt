@@ -1,4 +1,4 @@
--- How much a desk holds at most.
+-- The limits of a desk.
 use Rattle.std.specs.Prelude.{ℕ}
 
 -- the entries of a history

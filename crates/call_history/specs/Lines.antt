@@ -2,12 +2,12 @@
 use Rattle.std.specs.Prelude.{◌≡◌, ◌==◌, ℕ, ◌<◌, zero, suc, Bool, true, false, List, [], ◌∷◌, ◌++◌, map}
 use Rattle.std.specs.List.{list_any}
 
--- a line, as contracts see it: its number, and how many of its calls were answered with a reply
+-- a line, as contracts see it: its number, and the number of its calls that got a reply
 pub record Line : Type 0 where
   pub number : ℕ
   pub made : ℕ
 
--- a desk, as contracts see it: how many lines it has
+-- a desk, as contracts see it: the number of its lines
 pub record Desk : Type 0 where
   pub lines : ℕ
 

@@ -1,4 +1,4 @@
--- The part that a line has in a history.
+-- A line's part of a history.
 use Rattle.std.specs.Prelude.{◌==◌, ℕ, List, map}
 use Rattle.std.specs.List.{filter}
 use Rattle.call_history.specs.declared.journal.Entry.{Entry}

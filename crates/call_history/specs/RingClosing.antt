@@ -17,7 +17,7 @@ module _ {O C R : Type 0} {G : Ghosts O C R} where
   abbrev pub end_numbers : List (LineEnd O C R G) → List ℕ
   end_numbers ends = map (λ e. e.line.number) ends
 
-  -- the line's part of the history has exactly the calls that it posted, in their order
+  -- the line's part of the history has exactly the calls that the line posted, in their order
   abbrev pub IsServed : List (Entry C R) → LineEnd O C R G → Type 0
   IsServed history end = posted_calls end.line ≡ calls_of (part end.line.number history)
 
@@ -25,11 +25,12 @@ module _ {O C R : Type 0} {G : Ghosts O C R} where
   abbrev pub IsUnserved : List (Entry C R) → LineEnd O C R G → Type 0
   IsUnserved history end = length (part end.line.number history) < length (posted_calls end.line)
 
-  -- the replies that it took are, in their order, the first of those to its calls
+  -- the replies that the line took are the first replies to its calls, in their order
   abbrev pub TakesPrefix : List (Entry C R) → LineEnd O C R G → Type 0
   TakesPrefix history end = IsPrefix (taken_replies end.line) (replies_of (part end.line.number history))
 
-  -- Of the first `count` ends, one with this number is unserved, and all of lower numbers are served.
+  -- Among the first `count` ends, one with this number is unserved, and all with lower numbers are
+  -- served.
   pub record IsLowestUnserved (history : List (Entry C R)) (ends : List (LineEnd O C R G)) (count number : ℕ) : Type 0 where
     pub at : ℕ
     pub within : at < count
@@ -37,7 +38,7 @@ module _ {O C R : Type 0} {G : Ghosts O C R} where
     pub unserved : (e : LineEnd O C R G) → IsUnserved history (slice_index_or ends at e)
     pub lowest : (i : ℕ) (e : LineEnd O C R G) → i < count → (slice_index_or ends i e).line.number < number → IsServed history (slice_index_or ends i e)
 
-  -- What a closed desk leaves: the history and the object as they stood, and the account of each line.
+  -- What a closed desk leaves: its history and its object, and the account of each line.
   pub record IsClosed (desk : RingDeskValue O C R) (ends : List (LineEnd O C R G)) (history : List (Entry C R)) (object : O) (made_by_line : List ℕ) : Type 0 where
     pub history_is : history ≡ desk.journal.history
     pub object_is : object ≡ desk.journal.object
@@ -47,7 +48,7 @@ module _ {O C R : Type 0} {G : Ghosts O C R} where
     -- the line's own calls
     pub served : All (IsServed history) ends
     pub replies : All (TakesPrefix history) ends
-    -- how many calls each made, by the lines' numbers
+    -- the number of calls that each line made, by the lines' numbers
     pub one_each : length made_by_line ≡ length desk.ports
     pub made : (i : ℕ) → i < length desk.ports → slice_index_or made_by_line i 0 ≡ length (part i history)
 
@@ -56,7 +57,7 @@ module _ {O C R : Type 0} {G : Ghosts O C R} where
   IsCauseOf desk ends (MissingLine number) = IsLowestMissing (end_numbers ends) (length desk.ports) number
   IsCauseOf desk ends (Unserved number) = HasAll (end_numbers ends) (length desk.ports) × IsLowestUnserved desk.journal.history ends (length ends) number
 
-  -- the same end, which posted and took what it had
+  -- the same end, with the same posted calls and taken replies
   pub record SameEnd (a b : LineEnd O C R G) : Type 0 where
     pub line : SameLine a.line b.line
     pub posted : posted_calls b.line ≡ posted_calls a.line
@@ -67,7 +68,7 @@ module _ {O C R : Type 0} {G : Ghosts O C R} where
     pub count : length after ≡ length before
     pub each : (i : ℕ) (e : LineEnd O C R G) → i < length before → SameEnd (slice_index_or before i e) (slice_index_or after i e)
 
-  -- What a refusal hands back: the desk and the ends, as they were.
+  -- A refusal hands the desk and the ends back as they were.
   pub record HandsBack (desk desk' : RingDeskValue O C R) (ends ends' : List (LineEnd O C R G)) : Type 0 where
     pub journal : desk'.journal ≡ desk.journal
     pub ports : SamePorts desk.ports desk'.ports

@@ -1,4 +1,4 @@
--- A line over rings, as contracts see it: what it posted and took, and which rings it stands for.
+-- A line over rings, as contracts see it: what it posted and took, and its rings.
 use Rattle.std.specs.Prelude.{◌≡◌, ℕ, ◌<◌, List, [], length, slice_index_or}
 use Rattle.std.specs.List.{All}
 use Rattle.rtrb.specs.Ring.{sent, received, IsPair, SameProducer, SameConsumer}
@@ -12,7 +12,7 @@ pub record SamePort {C R : Type 0} (a b : Port C R) : Type 0 where
   pub calls : SameConsumer a.calls b.calls
   pub replies : SameProducer a.replies b.replies
 
--- so it is line by line: the desk stands for the same lines
+-- the same for each line: the desk stands for the same lines
 pub record SamePorts {C R : Type 0} (before after : List (Port C R)) : Type 0 where
   pub count : length after ≡ length before
   pub each : (i : ℕ) (p : Port C R) → i < length before → SamePort (slice_index_or before i p) (slice_index_or after i p)
@@ -22,7 +22,7 @@ module _ {O C R : Type 0} {G : Ghosts O C R} where
   abbrev pub posted_calls : RingLine O C R G → List C
   posted_calls line = sent line.calls
 
-  -- the replies that it took, in their order
+  -- the replies that the line took, in their order
   abbrev pub taken_replies : RingLine O C R G → List R
   taken_replies line = received line.replies
 

@@ -12,13 +12,13 @@ pub record RingDeskValue (S C R : Type 0) : Type 0 where
   pub journal : Recorded S C R
   pub ports : List (Port C R)
 
--- What the desk received of a line are the calls of the line's part of the history, and then the call that it keeps, if it keeps one.
--- What it sent are the replies of that part.
+-- The desk received from a line the calls of the line's part of the history, and then the call that it keeps, if there is one. It
+-- sent the replies of that part.
 pub record Serves {C R : Type 0} (served : List (Entry C R)) (port : Port C R) : Type 0 where
   pub calls : received port.calls ≡ calls_of served ++ option_to_list port.kept
   pub replies : sent port.replies ≡ replies_of served
 
--- The desk's account of its lines, whenever no round runs: each entry is of one of them, and each line was served by its part.
+-- The desk's account of its lines, whenever no round runs: each entry is of one of its lines, and each line was served by its part.
 pub record IsAccount {C R : Type 0} (history : List (Entry C R)) (ports : List (Port C R)) : Type 0 where
   pub lines : All (λ e. e.line < length ports) history
   pub parts : (i : ℕ) (p : Port C R) → i < length ports → Serves (part i history) (slice_index_or ports i p)
@@ -29,7 +29,7 @@ pub record IsUnused {C R : Type 0} (port : Port C R) : Type 0 where
   pub kept : port.kept ≡ None
   pub replies : sent port.replies ≡ []
 
--- The history gained so many entries, of rising numbers of lines, each below this bound.
+-- The history gained this many entries. Their lines have rising numbers below this bound.
 pub record Gains {C R : Type 0} (before after : List (Entry C R)) (bound count : ℕ) : Type 0 where
   pub gained : List (Entry C R)
   pub behind : after ≡ before ++ gained
@@ -43,16 +43,16 @@ pub record GainsOne {C R : Type 0} (line : ℕ) (before after : List (Entry C R)
   pub behind : after ≡ before ++ entry ∷ []
   pub line_is : entry.line ≡ line
 
--- The desk can do nothing more for the line: it found no room for a reply, or else it keeps no call and found none that waits.
+-- The desk can do nothing more for the line: there is no room for a reply, or the desk keeps no call and found none that waits.
 abbrev pub IsIdle : {C R : Type 0} → Port C R → Type 0
 IsIdle port = (known_free port.replies ≡ 0) ⊎ ((port.kept ≡ None) × (known_items port.calls ≡ []))
 
--- Each line below this bound was visited: its part of the history gained an entry, or else it is idle.
+-- Each line below this bound was visited: its part of the history gained an entry, or the line is idle.
 abbrev pub Visits : {C R : Type 0} → (before after : List (Entry C R)) → List (Port C R) → ℕ → Type 0
 Visits {C} {R} before after ports bound = (i : ℕ) (p : Port C R) → i < bound
     → IsIdle (slice_index_or ports i p) ⊎ (length (part i before) < length (part i after))
 
--- A round stopped at this line, whose call the desk keeps; the history was the cause exactly where it is full.
+-- A round stopped at this line, and the desk keeps the line's call. The history was the cause if and only if it is full.
 pub record StopsAt {S C R : Type 0} (line : ℕ) (for_full : Type 0) (desk : RingDeskValue S C R) : Type 0 where
   pub within : line < length desk.ports
   pub kept : (p : Port C R) → IsSome (slice_index_or desk.ports line p).kept

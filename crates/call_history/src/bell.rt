@@ -1,4 +1,4 @@
-//! How the threads of a desk over rings and of its lines tell each other what happens.
+//! How the thread of a desk over rings and the threads of its lines signal each other.
 use std::sync::Wait;
 use std::sync::atomic::{AtomicU64, Ordering};
 use std::time::Duration;
@@ -7,10 +7,10 @@ const AWAKE: u64 = 0;
 
 const ASLEEP: u64 = 1;
 
-/// The bell of a desk over rings: a line that posted a call rings it, and so does one that is done. The thread of the desk sleeps
-/// by it while no call comes, and says by it when it makes no further call.
+/// The bell of a desk over rings. A line rings it after posting a call, and when it is done. The desk's thread sleeps on it while
+/// no call comes, and signals through it when it makes no further call.
 ///
-/// Nothing that is promised of a desk or of a line rests on it.
+/// No promise of a desk or of a line depends on it.
 #[derive(Drop)]
 pub struct Bell {
     sleep: AtomicU64,
@@ -19,7 +19,7 @@ pub struct Bell {
 }
 
 impl Bell {
-    /// A bell that nobody rang.
+    /// A bell that has not been rung.
     pub const fn new() -> Bell {
         Bell {
             sleep: AtomicU64::new(AWAKE),
@@ -28,7 +28,7 @@ impl Bell {
         }
     }
 
-    /// Wakes the thread of the desk, where it sleeps or is about to. It costs little where it is awake.
+    /// Wakes the desk's thread if it sleeps or is about to. It costs little if the thread is awake.
     pub fn ring(&self) {
         if self.sleep.load(Ordering::SeqCst) == ASLEEP
             && self.sleep.swap(AWAKE, Ordering::SeqCst) == ASLEEP
@@ -37,18 +37,18 @@ impl Bell {
         }
     }
 
-    /// Says that one more line is done.
+    /// Signals that one more line is done.
     pub fn leave(&self) {
         self.left.fetch_add(1, Ordering::SeqCst);
         self.ring();
     }
 
-    /// How many lines are done.
+    /// The number of lines that are done.
     pub fn left(&self) -> u64 {
         self.left.load(Ordering::SeqCst)
     }
 
-    /// Says that the desk makes no further call: who waits for a reply need wait no longer.
+    /// Signals that the desk makes no further call. A line that waits for a reply can give up.
     pub fn stop(&self) {
         self.stopped.store(1, Ordering::SeqCst);
     }
@@ -58,13 +58,13 @@ impl Bell {
         self.stopped.load(Ordering::SeqCst) > 0
     }
 
-    /// Says that its caller is about to sleep: what it sees after that it need not be woken for, and for all else it is.
+    /// Announces that the caller is about to sleep. The caller looks for calls once more after this; any later call wakes it.
     pub(crate) fn lie_down(&self) {
         self.sleep.store(ASLEEP, Ordering::SeqCst);
     }
 
-    /// Sleeps until the bell is rung, and for so long at most. It returns at once where it was rung since its caller lay down, and it
-    /// may return for no reason.
+    /// Sleeps until the bell is rung, or for the time `most`. It returns at once if the bell was rung since the caller lay down,
+    /// and it may return for no reason.
     pub(crate) fn sleep<R: Wait>(&self, rt: &R, most: Duration) {
         self.sleep.park_timeout(rt, ASLEEP as u32, most);
         self.get_up();

@@ -1,4 +1,4 @@
-//! The lines of a desk over rings that come back: whether all that they posted was served.
+//! Lines that come back to a desk over rings: whether all their calls were served.
 ghost use Rattle.std.specs.Prelude.{◌≡◌, ◌<◌, ◌≤◌, ℕ, slice_index_or, length, MatchBool, MatchOption, min};
 ghost use Rattle.std.specs.List.{All};
 ghost use Rattle.call_history.specs.Parts.{part};
@@ -11,8 +11,8 @@ use crate::object::Object;
 use crate::port::Port;
 use crate::ring_line::LineEnd;
 
-/// Compares the two ends of each ring of a line, now in one thread: whether no call waits. The journal is not read: the clauses
-/// speak of its history.
+/// Whether no call of a line waits. Both ends of each ring are in one thread now, so they can be compared. The journal is not
+/// read: only the clauses speak of its history.
 fn compare<O: Object>(
     journal: &Journal<O>,
     port: &mut Port<O::Call, O::Reply>,
@@ -31,7 +31,7 @@ fn compare<O: Object>(
     waiting == 0 && port.kept.is_none()
 }
 
-/// The lower of the lowest number so far and this one.
+/// The lower of this number and the lowest one so far.
 fn lower(lowest: Option<u32>, number: u32) -> u32
     ensures { MatchOption lowest (result ≡ number) (λ n. result ≡ min n number) }
 {
@@ -41,7 +41,7 @@ fn lower(lowest: Option<u32>, number: u32) -> u32
     }
 }
 
-/// Compares all ends with the desk's: the lowest number of a line that posted more than its part of the history has.
+/// Compares all ends with the desk's. Returns the lowest number of a line that posted more than its part of the history has.
 pub(crate) fn lowest_unserved<O: Object>(
     journal: &Journal<O>,
     ports: &mut Vec<Port<O::Call, O::Reply>>,
@@ -71,7 +71,7 @@ pub(crate) fn lowest_unserved<O: Object>(
     lowest
 }
 
-/// Notes for each number how many calls its line made. The journal is not read: the clauses speak of its history.
+/// Notes how many calls the line of each number made. The journal is not read: only the clauses speak of its history.
 pub(crate) fn note_made<O: Object>(
     journal: &Journal<O>,
     made_by_line: &mut Vec<u64>,

@@ -1,4 +1,4 @@
-//! Lines that come back to their desk: which numbers are there, and what they made.
+//! Lines that come back to their desk: their numbers, and the calls that they made.
 //!
 //! The tables `found`, `awaited` and `made_by_line` have one place for each number, and never grow.
 ghost use Rattle.std.specs.Prelude.{◌≡◌, ◌<◌, ◌^◌, IfSome, IfNone, ℕ, true, false, length, map, replicate, slice_index, slice_index_or, sum, Contains};
@@ -7,7 +7,7 @@ ghost use Rattle.call_history.specs.Lines.{numbers, has_number, HasAll, IsLowest
 use crate::line::LockLine;
 use std::sync::ledger::{Ledger, Share};
 
-/// A line that comes back to its desk, whatever it is made of.
+/// A line that comes back to its desk. It may be a lock's or a ring's.
 pub(crate) trait Numbered {
     /// Its number.
     ghost number: { Self → ℕ };
@@ -24,7 +24,7 @@ impl<L: Ledger> Numbered for LockLine<L> {
     }
 }
 
-/// Notes for each number whether a line with it is among these.
+/// Notes for each number whether one of these lines has it.
 fn note_numbers<N: Numbered>(lines: &[N], found: &mut [bool])
     ensures { (k : ℕ) → k < length found.old → slice_index_or found.new k false ≡ has_number k (map N.number lines.now) }
 {
@@ -37,8 +37,8 @@ fn note_numbers<N: Numbered>(lines: &[N], found: &mut [bool])
     }
 }
 
-/// The lowest number, of those that `found` has a place for, of which no line is among these. Where
-/// there is none, each place of `found` is left true.
+/// The lowest number with a place in `found` that none of these lines has. If there is none, each
+/// place of `found` is left true.
 pub(crate) fn lowest_missing<N: Numbered>(lines: &[N], found: &mut [bool]) -> Option<u32>
     requires { length found.old < 2 ^ 32 }
     ensures some { IfSome result (λ n. IsLowestMissing (map N.number lines.now) (length found.old) n) }
@@ -55,8 +55,8 @@ pub(crate) fn lowest_missing<N: Numbered>(lines: &[N], found: &mut [bool]) -> Op
 }
 
 /// Puts the shares of the lines together, and notes for each number what its line made. A place of
-/// `awaited` is true until a line of its number has come; a further one is let go, and so is a line
-/// of a number without a place.
+/// `awaited` is true until a line with its number has come. A further line with that number is
+/// dropped, and so is a line with a number that has no place.
 pub(crate) fn gather<L: Ledger>(
     lines: Vec<LockLine<L>>,
     awaited: &mut [bool],

@@ -9,16 +9,16 @@ use std::alloc::{AllocError, Global};
 use std::marker::Model;
 use thiserror::Error;
 
-/// The most entries that a history may be opened for.
+/// The limit of entries that a history may be opened for.
 pub const MAX_ENTRIES: u64 = 1_000_000;
 
-/// Why a call was not made. It stands in no history then, and nothing has changed.
+/// Why a call was not made. The history does not hold it, and nothing has changed.
 #[derive(Clone, Copy, Debug, PartialEq, Eq, Error)]
 pub enum CallFault {
-    /// The history holds as many entries as it was opened for.
+    /// The history has reached the limit of entries that it was opened with.
     #[error("the history is full")]
     Full,
-    /// Want of memory.
+    /// Out of memory.
     #[error("want of memory")]
     Memory,
 }
@@ -39,7 +39,7 @@ pub struct Entry<C, R> {
     pub reply: R,
 }
 
-/// An object, and the history of the calls that it was given, in their order.
+/// An object, and the history of its calls in their order.
 #[derive(Drop)]
 pub struct Journal<O: Object> {
     alloc: Global,
@@ -63,7 +63,7 @@ impl<O: Object> Model for Journal<O> {
 }
 
 impl<O: Object> Journal<O> {
-    /// A journal without entries, of at most `most`.
+    /// A journal without entries. `most` is the limit of its entries.
     pub fn new(alloc: Global, object: O, most: u64) -> Journal<O>
         requires most { (1 ≤ most) × (most ≤ max_entries) }
         requires opening { O.opening object ≡ object }
@@ -92,7 +92,7 @@ impl<O: Object> Journal<O> {
         // No call changes the opening.
         ensures opening { O.opening self.new.object ≡ O.opening self.old.object }
 
-        // What the type keeps.
+        // The invariant of the type.
         ensures kept { IsReplay O.reply O.after O.opening self.new.object self.new.history }
         ensures within { length self.new.history ≤ self.new.most }
         ensures bound { self.new.most ≤ max_entries }
@@ -104,7 +104,7 @@ impl<O: Object> Journal<O> {
         let kept = self.object.answer(self.alloc, call)?;
         let reply = self.object.answer(self.alloc, call)?;
         let copy = O::copy_call(self.alloc, call)?;
-        // The change comes last: whatever can be refused stands before it.
+        // The change comes last, after everything that can be refused.
         self.object.apply(self.alloc, call)?;
         self.entries.push_reserved(Entry {
             line,
@@ -118,14 +118,14 @@ impl<O: Object> Journal<O> {
     pub fn entries(&self) -> &[Entry<O::Call, O::Reply>]
         ensures entries { result.now ≡ self.now.history }
 
-        // What the type keeps.
+        // The invariant of the type.
         ensures kept { IsReplay O.reply O.after O.opening self.now.object self.now.history }
         ensures within { length self.now.history ≤ self.now.most }
     {
         self.entries.as_slice()
     }
 
-    /// The object as the calls have left it.
+    /// The object after the calls.
     pub fn object(&self) -> &O
         ensures { result.now ≡ self.now.object }
     {

@@ -1,7 +1,7 @@
 //! Laws of the definitions of this crate, each on a function that does nothing.
 //!
-//! The definitions read a history from its front. Two laws say what they make of its end, and so, by
-//! the number of entries, of each entry. One law says that the constants are the definitions' limits.
+//! The definitions read a history from its front. Two laws say what they give at its end, and so, by the number of entries, for
+//! each entry. One law says that the constants are the limits of the definitions.
 ghost use Rattle.std.specs.Prelude.{◌≡◌, ◌↔◌, [], ◌∷◌, ◌++◌};
 ghost use Rattle.call_history.specs.History.{run, IsLegalHistory};
 ghost use Rattle.call_history.specs.Limits.{max_entries, max_lines, max_room};
@@ -11,7 +11,7 @@ use crate::lock::MAX_LINES;
 use crate::object::Object;
 use crate::ring_opening::MAX_ROOM;
 
-/// A history with one more entry leaves what the last call leaves.
+/// A history with one more entry leaves the object as its last call leaves it.
 pub fn run_with_one_more<O: Object>(
     object: &O,
     history: &[Entry<O::Call, O::Reply>],
@@ -21,8 +21,8 @@ pub fn run_with_one_more<O: Object>(
         ≡ O.after (run O.after object.now history.now) last.now.call }
 {}
 
-/// A history with one more entry is legal exactly where it was, and the last reply is the one at the
-/// object that it left.
+/// A history with one more entry is legal if and only if it was legal before and the last reply is the reply of the object that it
+/// left.
 pub fn legal_with_one_more<O: Object>(
     object: &O,
     history: &[Entry<O::Call, O::Reply>],
@@ -33,8 +33,7 @@ pub fn legal_with_one_more<O: Object>(
         × (last.now.reply ≡ O.reply (run O.after object.now history.now) last.now.call)) }
 {}
 
-/// A history may be opened for as many entries as `MAX_ENTRIES` says, a desk for as many lines as `MAX_LINES` says, and a ring for
-/// as many slots as `MAX_ROOM` says.
+/// `MAX_ENTRIES` is the limit of entries in a history, `MAX_LINES` of lines at a desk, and `MAX_ROOM` of slots in a ring.
 pub fn constants_are_the_limits()
     ensures entries { MAX_ENTRIES ≡ max_entries }
     ensures lines { MAX_LINES ≡ max_lines }

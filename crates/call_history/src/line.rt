@@ -1,12 +1,12 @@
-//! The lines of a desk.
+//! The lines of a desk behind a lock.
 ghost use Rattle.std.specs.Prelude.{◌≡◌};
 
 use std::marker::Model;
 use std::sync::ledger::{Ledger, Share};
 
-/// One line of a desk: a caller's way to it. It can be sent to a thread of its own.
+/// One line of a desk, by which a caller makes calls. It can be sent to a thread of its own.
 ///
-/// `L` is the ledger of its desk, so lines of two desks have two types.
+/// `L` is the ledger of its desk, so the lines of two desks have two types.
 #[derive(Drop)]
 pub struct LockLine<L: Ledger> {
     pub(crate) number: u32,
@@ -34,7 +34,7 @@ impl<L: Ledger> LockLine<L> {
         self.number
     }
 
-    /// How many of its calls were answered with a reply.
+    /// The number of its calls that got a reply.
     pub fn made(&self) -> u64
         ensures { result ≡ self.now.made }
     {

@@ -14,23 +14,23 @@ use std::sync::ledger::{Blank, Book, Ledger, Share};
 use std::sync::{Mutex, Wait};
 use thiserror::Error;
 
-/// The most lines that a desk may have.
+/// The limit of lines at a desk.
 pub const MAX_LINES: u32 = 4_096;
 
-/// What lies under the lock: the journal, beside the total of the calls that the lines made.
+/// The data under the lock: the journal, and the total of the calls that the lines made.
 #[derive(Drop)]
 struct Locked<O: Object, L: Ledger> {
     journal: Journal<O>,
     calls: Book<L>,
     gathered: Share<L>,
     ghost counted: { length journal.history ≡ calls.total },
-    // The lines' shares are put to this one at the end.
+    // The lines' shares are added to this one at the end.
     ghost no_parts: { gathered.parts ≡ 0 },
     ghost no_amount: { gathered.amount ≡ 0 },
 }
 
 impl<O: Object, L: Ledger> Locked<O, L> {
-    /// The whole critical section: one call of the journal, and its one step on the total and on the
+    /// The whole critical section: one call of the journal, and one step of the total and of the
     /// line's share.
     fn call(
         &mut self,
@@ -63,14 +63,14 @@ impl<O: Object, L: Ledger> Locked<O, L> {
     }
 }
 
-/// An object with its history, behind a lock, for callers that each hold a line.
+/// An object with its history behind a lock, for callers with a line each.
 ///
-/// Contracts see of a desk the number of its lines. What lies under the lock has no name in a
-/// contract: what is known of it comes out at `close`.
+/// Contracts see only the number of a desk's lines. A contract cannot name the data under the lock:
+/// what is known of it comes out at `close`.
 #[derive(Drop)]
 pub struct LockDesk<O: Object, L: Ledger> {
     locked: Mutex<Locked<O, L>>,
-    // A place for each line in both, taken at the opening, so that `close` takes no memory.
+    // Both have a place for each line from the opening on, so that `close` takes no memory.
     found: Vec<bool>,
     made_by_line: Vec<u64>,
 }
@@ -89,21 +89,21 @@ impl<O: Object, L: Ledger> Model for LockDesk<O, L> {
         × (d.made_by_line.items ≡ replicate (length d.found.items) 0) };
 }
 
-/// What is left of a desk whose lines have all come back.
+/// The result of closing a desk once all its lines have come back.
 #[derive(Drop)]
 pub struct Closed<O: Object> {
-    /// The calls that were answered with a reply, in their order.
+    /// The calls that got a reply, in their order.
     pub history: Vec<Entry<O::Call, O::Reply>>,
-    /// The object as these calls have left it.
+    /// The object after these calls.
     pub object: O,
-    /// How many of its calls each line made, by the lines' numbers.
+    /// The number of calls that each line made, by the lines' numbers.
     pub made_by_line: Vec<u64>,
 }
 
 /// Why a desk was not closed.
 #[derive(Clone, Copy, Debug, PartialEq, Eq, Error)]
 pub enum CloseFault {
-    /// The lowest number of which no line was handed in.
+    /// No line with this number was handed in. It is the lowest such number.
     #[error("line {0} is missing")]
     MissingLine(u32),
 }
@@ -116,11 +116,11 @@ pub struct Unclosed<O: Object, L: Ledger> {
     pub cause: CloseFault,
 }
 
-/// Opens a desk with an empty history of at most `most` entries, and its lines. For want of memory
+/// Opens a desk with an empty history of at most `most` entries, and its lines. If memory runs out,
 /// the object comes back.
 ///
-/// The blank has one part for each line. The function is called in a function over `L`, which is
-/// itself called with `Brand`, as std's `sync::ledger` says.
+/// The blank has one part for each line. Call this function in a function over `L`, and call that one
+/// with `Brand`, as std's `sync::ledger` says.
 pub fn open_lock<O: Object, L: Ledger>(
     alloc: Global,
     blank: Blank,
@@ -172,8 +172,8 @@ pub fn open_lock<O: Object, L: Ledger>(
 impl<O: Object, L: Ledger> LockDesk<O, L> {
     /// Makes a call of the line. It waits for the lock, and holds it for this one call.
     ///
-    /// At `Ok` the entry stands in the history that `close` gives, and `Full` comes only where that
-    /// history is full. No contract says either, since none can name what lies under the lock.
+    /// At `Ok` the entry stands in the history that `close` returns. `Full` comes only if that
+    /// history is full. No contract says either, since none can name the data under the lock.
     pub fn ask<R: Wait>(
         &self,
         rt: &R,
@@ -191,8 +191,8 @@ impl<O: Object, L: Ledger> LockDesk<O, L> {
         Ok(reply)
     }
 
-    /// Closes the desk, where all its lines are handed in; else they and the desk come back. It takes
-    /// no memory, and looks at each line twice.
+    /// Closes the desk if all its lines are handed in. Otherwise the desk and the lines come back. It
+    /// takes no memory, and looks at each line twice.
     pub fn close(self, lines: Vec<LockLine<L>>) -> Result<Closed<O>, Unclosed<O, L>>
         ensures all { IsOk result ↔ HasAll (numbers lines.items) self.lines }
 

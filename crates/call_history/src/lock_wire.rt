@@ -10,7 +10,7 @@ use std::marker::Model;
 use std::sync::Wait;
 use std::sync::ledger::Ledger;
 
-/// A line of a desk, together with the desk. Contracts see the line.
+/// A line of a desk, with the desk. Contracts see the line.
 #[derive(Drop)]
 pub struct LockWire<'a, O: Object, L: Ledger, R: Wait> {
     rt: &'a R,
@@ -27,14 +27,14 @@ impl<'a, O: Object, L: Ledger, R: Wait> Model for LockWire<'a, O, L, R> {
 }
 
 impl<'a, O: Object, L: Ledger, R: Wait> LockWire<'a, O, L, R> {
-    /// A wire that makes the line's calls on this desk, and waits for the lock by this runtime.
+    /// A wire that makes the line's calls on this desk. It waits for the lock with this runtime.
     pub fn new(rt: &'a R, desk: &'a LockDesk<O, L>, line: LockLine<L>) -> LockWire<'a, O, L, R>
         ensures { result ≡ line }
     {
         LockWire { rt, desk, line }
     }
 
-    /// Gives the line back.
+    /// Returns the line.
     pub fn end(self) -> LockLine<L>
         ensures { result ≡ self.entry }
     {
@@ -61,7 +61,7 @@ impl<'a, O: Object, L: Ledger, R: Wait> Wire for LockWire<'a, O, L, R> {
 
     ghost same_line = { λ v w. v.number ≡ w.number };
 
-    /// Makes the call on the desk, and waits for the lock. It never stalls.
+    /// Waits for the lock, and makes the call on the desk. It never stalls.
     fn ask(&mut self, call: O::Call) -> Result<O::Reply, AskFault>
         ensures number { self.new.number ≡ self.old.number }
         ensures made { OnOk result (self.new.made ≡ self.old.made + 1) }

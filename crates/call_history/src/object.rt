@@ -1,12 +1,12 @@
-//! What an object is.
+//! The trait of objects that take calls.
 ghost use Rattle.std.specs.Prelude.{◌≡◌, IfOk, OnOk, OnErr};
 
 use std::alloc::{AllocError, Global};
 
-/// What takes calls and replies to them. A value of it, with a call, determines the reply and the
-/// value that the call leaves; so a list of calls can be made again, with the same replies.
+/// A value that takes calls and replies to them. The value and a call determine the reply and the
+/// value that the call leaves, so a list of calls can be made again with the same replies.
 ///
-/// A refusal that belongs to the object is a reply. The only fault of these methods is want of
+/// A refusal that belongs to the object is a reply. The only fault of these methods is out of
 /// memory.
 pub trait Object {
     type Call: Drop;
@@ -22,7 +22,7 @@ pub trait Object {
     /// The value that the object had before any call.
     ghost opening: { Self → Self };
 
-    /// The reply that the call gets here. The call is not made.
+    /// The reply that the call would get now. The call is not made.
     fn answer(&self, alloc: Global, call: &Self::Call) -> Result<Self::Reply, AllocError>
         ensures { IfOk result (λ r. r ≡ reply self.now call.now) };
 
@@ -31,7 +31,7 @@ pub trait Object {
         ensures ok { OnOk result (self.new ≡ after self.old call.now) }
         ensures err { OnErr result (self.new ≡ self.old) };
 
-    /// An equal call, in memory of its own.
+    /// A copy of the call.
     fn copy_call(alloc: Global, call: &Self::Call) -> Result<Self::Call, AllocError>
         ensures { IfOk result (λ c. c ≡ call.now) };
 

@@ -4,14 +4,14 @@ use std::sync::Wait;
 use std::time::Duration;
 use std::{hint, thread};
 
-/// The first rests in a row only wait for a moment, which is about what a line needs for its next call.
+/// The number of rests in a row that only spin: about the time that a line needs for its next call.
 const SPINS: u32 = 64;
 
-/// After so many further rests that give the processor to another thread, it sleeps.
+/// The number of rests after these that give the processor to another thread. Then it sleeps.
 const YIELDS: u32 = 8;
 
-/// The rests in a row of the thread that serves a desk: a call that comes soon is found soon, and a long wait takes no time of a
-/// processor.
+/// The rests in a row of the thread that serves a desk. A call that comes soon is found soon, and a long wait takes no processor
+/// time.
 #[derive(Drop)]
 pub struct Pause<'a> {
     bell: &'a Bell,
@@ -22,7 +22,7 @@ pub struct Pause<'a> {
 }
 
 impl<'a> Pause<'a> {
-    /// Before the first rest. No sleep is longer than this, even where nobody rings.
+    /// The state before the first rest. No sleep is longer than `longest`, even if nobody rings.
     pub fn new(bell: &'a Bell, longest: Duration) -> Pause<'a> {
         Pause {
             bell,
@@ -33,7 +33,7 @@ impl<'a> Pause<'a> {
         }
     }
 
-    /// Rests once, after a look for calls that found none. The last look before a sleep comes after its caller lay down, so no ring is
+    /// Rests once, after a look for calls that found none. The last look before a sleep comes after `lie_down`, so no ring is
     /// missed.
     pub fn rest<R: Wait>(&mut self, rt: &R) {
         if self.spins > 0 {

@@ -10,15 +10,14 @@ use crate::serving::serve_round;
 use std::marker::Model;
 use thiserror::Error;
 
-/// An object with its history, for callers that each hold a line: what they post is served in rounds, by the thread that holds
-/// the desk.
+/// An object with its history, for callers with a line each. The thread that holds the desk serves the posted calls in rounds.
 ///
 /// Contracts see the journal, and the desk's ends of the rings.
 #[derive(Drop)]
 pub struct RingDesk<O: Object> {
     journal: Journal<O>,
     ports: Vec<Port<O::Call, O::Reply>>,
-    // A place for each line in both, taken at the opening, so that `close` takes no memory.
+    // Both have a place for each line from the opening on, so that `close` takes no memory.
     found: Vec<bool>,
     made_by_line: Vec<u64>,
 }
@@ -39,7 +38,7 @@ impl<O: Object> Model for RingDesk<O> {
         × (length d.journal.history ≤ d.journal.most) };
 }
 
-/// Why a round stopped: at this line, whose call is kept for the next round. The calls that were served before it stand.
+/// Why a round stopped at this line. The line's call is kept for the next round, and the calls that were served before it stand.
 #[derive(Clone, Copy, Debug, PartialEq, Eq, Error)]
 #[error("line {line}: {cause}")]
 pub struct DeskFault {
@@ -51,10 +50,10 @@ pub struct DeskFault {
 /// Why a desk over rings was not closed.
 #[derive(Clone, Copy, Debug, PartialEq, Eq, Error)]
 pub enum RingCloseFault {
-    /// The lowest number of which no end was handed in.
+    /// No end with this number was handed in. It is the lowest such number.
     #[error("line {0} is missing")]
     MissingLine(u32),
-    /// The lowest number of a line of which a call waits, or is kept.
+    /// A call of the line with this number waits or is kept. It is the lowest such number.
     #[error("line {0} is not served")]
     Unserved(u32),
 }
@@ -100,20 +99,20 @@ impl<O: Object> RingDesk<O> {
         }
     }
 
-    /// The journal. What the rings carried of each line is told by the line's part of its history.
+    /// The journal. The line's part of its history says what the line's rings carried.
     pub fn journal(&self) -> &Journal<O>
         ensures journal { result.now ≡ self.now.journal }
 
-        // What the type keeps, whenever no round runs.
+        // The invariant of the type, whenever no round runs.
         ensures account { IsAccount self.now.journal.history self.now.ports }
     {
         &self.journal
     }
 
-    /// Visits the lines by their numbers, and serves at most one call of each: it answers how many it served. A line that has no
-    /// room for a reply is passed over.
+    /// Visits the lines in the order of their numbers, and serves at most one call of each. Returns how many calls it served. A
+    /// line without room for a reply is skipped.
     ///
-    /// A call that can't be made stops the round. The desk keeps it, and the next round tries it in its line's place, before that
+    /// A call that can't be made stops the round. The desk keeps it, and the next round tries it at its line's turn, before the
     /// line's later calls.
     pub fn round(&mut self) -> Result<u64, DeskFault>
         ensures lines { SamePorts self.old.ports self.new.ports }
@@ -123,20 +122,20 @@ impl<O: Object> RingDesk<O> {
             (λ served. Gains self.old.journal.history self.new.journal.history (length self.old.ports) served)
             (λ fault. Gains self.old.journal.history self.new.journal.history fault.line fault.served) }
 
-        // No line is left out, of those before the one at which it stops.
+        // No line is left out before the one at which it stops.
         ensures visits { MatchResult result
             (λ _. Visits self.old.journal.history self.new.journal.history self.new.ports (length self.old.ports))
             (λ fault. Visits self.old.journal.history self.new.journal.history self.new.ports fault.line) }
         ensures idle { IfOk result (λ served. served ≡ 0 → All IsIdle self.new.ports) }
         ensures fault { IfErr result (λ fault. StopsAt fault.line (fault.cause ≡ Full) self.new) }
 
-        // What the type keeps.
+        // The invariant of the type.
         ensures within { length self.new.journal.history ≤ self.new.journal.most }
     {
         serve_round(&mut self.journal, &mut self.ports)
     }
 
-    /// Serves rounds until one serves nothing. Each of the others makes the history longer, so there is an end.
+    /// Serves rounds until one serves nothing. Each other round makes the history longer, so there is an end.
     pub fn serve_all(&mut self) -> Result<(), DeskFault>
         ensures lines { SamePorts self.old.ports self.new.ports }
         ensures most { self.new.journal.most ≡ self.old.journal.most }
@@ -152,8 +151,8 @@ impl<O: Object> RingDesk<O> {
         }
     }
 
-    /// Closes the desk, where the ends of all its lines are handed in and all that they posted was served; else they and the desk
-    /// come back. It takes no memory.
+    /// Closes the desk if the ends of all its lines are handed in and all their calls were served. Otherwise the desk and the
+    /// ends come back. It takes no memory.
     pub fn close(self, ends: Vec<LineEnd<O>>) -> Result<Closed<O>, RingUnclosed<O>>
         requires lines { AreEndsOf self.ports ends.items }
 

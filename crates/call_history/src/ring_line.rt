@@ -6,8 +6,8 @@ use crate::gathering::Numbered;
 use crate::object::Object;
 use rtrb::{Consumer, Producer, PushError};
 
-/// One line of a desk: a caller's ends of two rings, of which one takes its calls to the desk and the other brings the replies.
-/// It can be sent to a thread of its own, and never waits.
+/// One line of a desk: a caller's ends of two rings. One takes its calls to the desk, the other brings the replies. It can be
+/// sent to a thread of its own, and never waits.
 #[derive(Drop)]
 pub struct RingLine<O: Object> {
     number: u32,
@@ -19,7 +19,7 @@ pub struct RingLine<O: Object> {
     ghost taken_is: { taken ≡ length (received replies) },
 }
 
-/// What is left of a line that posts no more. The desk is closed with it.
+/// A line that posts no more. The desk is closed with it.
 #[derive(Drop)]
 pub struct LineEnd<O: Object> {
     pub(crate) line: RingLine<O>,
@@ -55,21 +55,21 @@ impl<O: Object> RingLine<O> {
         self.number
     }
 
-    /// How many calls it posted.
+    /// The number of calls that it posted.
     pub fn posted(&self) -> u64
         ensures { result ≡ length (posted_calls self.now) }
     {
         self.posted
     }
 
-    /// How many replies it took.
+    /// The number of replies that it took.
     pub fn taken(&self) -> u64
         ensures { result ≡ length (taken_replies self.now) }
     {
         self.taken
     }
 
-    /// Posts a call. It is handed back where its ring has no free slot, or where the line has posted 2^64 - 1 calls.
+    /// Posts a call. The call is handed back if its ring has no free slot, or if the line has posted 2^64 - 1 calls.
     pub fn post(&mut self, call: O::Call) -> Result<(), O::Call>
         ensures line { SameLine self.old self.new }
         ensures taken { taken_replies self.new ≡ taken_replies self.old }
@@ -89,7 +89,7 @@ impl<O: Object> RingLine<O> {
         }
     }
 
-    /// Takes the next reply, where one has come; none after 2^64 - 1 replies.
+    /// Takes the next reply, if one has come. There is none after 2^64 - 1 replies.
     pub fn take(&mut self) -> Option<O::Reply>
         ensures line { SameLine self.old self.new }
         ensures posted { posted_calls self.new ≡ posted_calls self.old }
@@ -109,7 +109,7 @@ impl<O: Object> RingLine<O> {
         }
     }
 
-    /// Ends the posting.
+    /// Ends the posting, so that the desk can be closed.
     pub fn finish(self) -> LineEnd<O>
         ensures { result.line ≡ self }
     {
@@ -122,7 +122,7 @@ impl<O: Object> LineEnd<O> {
     ghost use Rattle.rtrb.specs.Ring.{known_items};
     ghost use Rattle.call_history.specs.RingLines.{posted_calls, taken_replies, SameLine};
 
-    /// Takes the next reply, where one has come; none after 2^64 - 1 replies.
+    /// Takes the next reply, if one has come. There is none after 2^64 - 1 replies.
     pub fn take(&mut self) -> Option<O::Reply>
         ensures line { SameLine self.old.line self.new.line }
         ensures posted { posted_calls self.new.line ≡ posted_calls self.old.line }

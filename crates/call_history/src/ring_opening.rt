@@ -13,11 +13,11 @@ use crate::ring_line::RingLine;
 use rtrb::RingBuffer;
 use std::alloc::{AllocError, Global};
 
-/// The most slots that a ring may have.
+/// The limit of slots in a ring.
 pub const MAX_ROOM: u64 = 1_024;
 
-/// Opens a desk with an empty history of at most `most` entries, and its lines, each with two rings of so much room. For want of
-/// memory the object comes back.
+/// Opens a desk with an empty history of at most `most` entries, and its lines. Each line has two rings of `room` slots. If
+/// memory runs out, the object comes back.
 pub fn open_rings<O: Object>(
     alloc: Global,
     object: O,
@@ -72,7 +72,7 @@ fn make_line<O: Object>(
     Ok((port, RingLine::new(number, post, take)))
 }
 
-/// So many lines, numbered from 0, and the desk's sides of them.
+/// `count` lines, numbered from 0, and the desk's sides of them.
 fn make_lines<O: Object>(
     alloc: Global,
     count: u32,

@@ -9,10 +9,10 @@ use crate::wire::{AskFault, Wire};
 use std::sync::Arc;
 use std::{hint, thread};
 
-/// One of so many tries in a row gives the processor to another thread.
+/// The number of tries in a row of which one gives the processor to another thread.
 const YIELD_EACH: u64 = 64;
 
-/// A line of a desk over rings, with so many tries for each call.
+/// A line of a desk over rings, with a limit of tries for each call.
 #[derive(Drop)]
 pub struct RingWire<O: Object> {
     line: RingLine<O>,
@@ -22,8 +22,8 @@ pub struct RingWire<O: Object> {
 }
 
 impl<O: Object> RingWire<O> {
-    /// A wire that makes the line's calls, on a desk whose thread doesn't sleep. Each try to post or to take is a turn; a call that
-    /// got no reply in so many turns stalls the wire.
+    /// A wire that makes the line's calls on a desk with a thread that does not sleep. Each try to post or to take is a turn. A
+    /// call that gets no reply within `turns` turns stalls the wire.
     pub fn new(line: RingLine<O>, turns: u64) -> RingWire<O>
         ensures line { result.line ≡ line }
         ensures turns { result.turns ≡ turns }
@@ -37,8 +37,8 @@ impl<O: Object> RingWire<O> {
         }
     }
 
-    /// The same, where the thread of the desk may sleep: each call that is posted rings this bell. A desk that makes no further call
-    /// stalls the wire too.
+    /// The same for a desk with a thread that may sleep: each posted call rings this bell. A desk that makes no further call stalls
+    /// the wire too.
     pub fn with_bell(line: RingLine<O>, turns: u64, bell: Arc<Bell>) -> RingWire<O>
         ensures line { result.line ≡ line }
         ensures turns { result.turns ≡ turns }
@@ -52,7 +52,7 @@ impl<O: Object> RingWire<O> {
         }
     }
 
-    /// Gives the line back.
+    /// Returns the line.
     pub fn end(self) -> RingLine<O>
         ensures { result ≡ self.line }
     {
@@ -74,9 +74,9 @@ impl<O: Object> Wire for RingWire<O> {
 
     ghost same_line = { λ v w. SameLine v.line w.line };
 
-    /// Posts the call and takes one reply: on a line that had taken as many replies as it posted calls, the reply to this call.
-    /// Where none comes in its turns, or from a desk that has stopped, it stalls, and from then on it does nothing more; a call that
-    /// was posted stays posted.
+    /// Posts the call and takes one reply. This is the reply to the call if the line had taken as many replies as it posted calls.
+    /// The wire stalls if no reply comes within its turns, or if the desk has stopped. A stalled wire does nothing more, but a call
+    /// that was posted stays posted.
     fn ask(&mut self, call: O::Call) -> Result<O::Reply, AskFault>
         ensures line { SameLine self.old.line self.new.line }
         ensures turns { self.new.turns ≡ self.old.turns }
@@ -93,7 +93,7 @@ impl<O: Object> Wire for RingWire<O> {
         if self.has_stalled {
             return Err(AskFault::Stalled);
         }
-        // Till the reply is there.
+        // The wire counts as stalled until the reply is there.
         self.has_stalled = true;
         let Some(left) = post_within(&mut self.line, call, self.turns, &self.bell) else {
             return Err(AskFault::Stalled);
@@ -124,7 +124,7 @@ fn has_stopped(bell: &Option<Arc<Bell>>) -> bool {
     }
 }
 
-/// Lets a moment pass after so many tries. Most moments are shorter than a call takes: on a busy computer a thread that gives its
+/// Lets a moment pass after a try. Most moments are shorter than a call takes, since on a busy computer a thread that gives its
 /// processor away gets it back late.
 fn pause(tried: u64) {
     if tried % YIELD_EACH == YIELD_EACH - 1 {
@@ -134,7 +134,7 @@ fn pause(tried: u64) {
     }
 }
 
-/// Tries to post a call in so many turns while the desk goes on, and answers how many are left after the one that did.
+/// Tries to post a call within `turns` turns, while the desk goes on. Returns how many turns are left.
 fn post_within<O: Object>(
     line: &mut RingLine<O>,
     call: O::Call,
@@ -160,7 +160,7 @@ fn post_within<O: Object>(
     None
 }
 
-/// Tries to take a reply in so many turns while the desk goes on.
+/// Tries to take a reply within `turns` turns, while the desk goes on.
 fn take_within<O: Object>(
     line: &mut RingLine<O>,
     turns: u64,
@@ -176,7 +176,7 @@ fn take_within<O: Object>(
             return Some(reply);
         }
         if has_stopped(bell) {
-            // A reply that was not there before may have come before the desk stopped.
+            // A reply may have come after the last look and before the desk stopped.
             return line.take();
         }
         pause(tried);

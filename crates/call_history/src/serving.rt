@@ -10,8 +10,8 @@ use crate::object::Object;
 use crate::port::Port;
 use crate::ring_desk::DeskFault;
 
-/// Serves at most one call of a line: the one that is kept, or else the next that has come. A line that has no room for a reply
-/// is passed over.
+/// Serves at most one call of a line: the kept call, or else the next one that has come. A line without room for a reply is
+/// skipped.
 fn serve<O: Object>(
     journal: &mut Journal<O>,
     port: &mut Port<O::Call, O::Reply>,
@@ -53,7 +53,7 @@ fn serve<O: Object>(
     }
 }
 
-/// Visits the lines by their numbers, and serves at most one call of each.
+/// Visits the lines in the order of their numbers, and serves at most one call of each.
 pub(crate) fn serve_round<O: Object>(
     journal: &mut Journal<O>,
     ports: &mut Vec<Port<O::Call, O::Reply>>,

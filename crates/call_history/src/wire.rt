@@ -1,4 +1,4 @@
-//! What a caller asks its calls over, whatever lies behind it.
+//! The trait of a caller's way to a desk, behind a lock or over rings. It is no network connection.
 ghost use Rattle.std.specs.Prelude.{◌≡◌, [], ◌∷◌, List, Option, ◌⊎◌, IfOk, OnOk, OnErr};
 ghost use Rattle.call_history.specs.Told.{told_with};
 ghost use Rattle.call_history.specs.Faults.{ask_fault};
@@ -9,13 +9,13 @@ use thiserror::Error;
 /// Why a call got no reply.
 #[derive(Clone, Copy, Debug, PartialEq, Eq, Error)]
 pub enum AskFault {
-    /// The history holds as many entries as it was opened for.
+    /// The history has reached the limit of entries that it was opened with.
     #[error("the history is full")]
     Full,
-    /// Want of memory.
+    /// Out of memory.
     #[error("want of memory")]
     Memory,
-    /// The wire gave up waiting. Whether the call is made is not known.
+    /// The wire gave up waiting. It is not known whether the call is made.
     #[error("no reply came")]
     Stalled,
 }
@@ -31,26 +31,26 @@ impl From<CallFault> for AskFault {
     }
 }
 
-/// A way to make calls one after another and to take the reply of each. It stands for one line of a
-/// desk, and goes on doing so.
+/// A caller's way to make calls in one process, one after another, and to take the reply of each.
+/// It is no network connection. It stands for one line of a desk, and goes on doing so.
 ///
-/// A wire may tell the calls that went out over it and the replies that came. One over a lock tells
-/// neither.
+/// A wire may show contracts the calls that went out over it and the replies that came. One over a
+/// lock shows neither.
 pub trait Wire {
     type Call: Drop;
 
     type Reply: Drop;
 
-    /// The calls that it made, in their order: none where it does not tell them.
+    /// The calls that it made, in their order: none if it does not show them.
     ghost calls: { Self → Option (List Self.Call) };
 
-    /// The replies that it took, in their order: none where it does not tell them.
+    /// The replies that it took, in their order: none if it does not show them.
     ghost replies: { Self → Option (List Self.Reply) };
 
     /// The two stand for the same line.
     ghost same_line: { Self → Self → Type 0 };
 
-    /// Makes a call and takes its reply. At a fault no reply was taken, and the call may have been
+    /// Makes a call and takes its reply. At a fault, no reply was taken, but the call may have been
     /// made.
     fn ask(&mut self, call: Self::Call) -> Result<Self::Reply, AskFault>
         ensures line { same_line self.old self.new }

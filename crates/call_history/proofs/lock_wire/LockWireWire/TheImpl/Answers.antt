@@ -1,4 +1,5 @@
--- A wire over a lock tells nothing, so all that it has to show of what it tells is that nothing stays nothing.
+-- A wire over a lock shows no calls and no replies, so only one thing is to be proved of them: nothing stays
+-- nothing.
 use Rattle.std.proofs.Common.{Result, Ok, Err, OnOk, OnErr, refl, inl, rules}
 use Rattle.call_history.proofs.lock_wire.LockWireWire.TheImpl.Goals as goal
 
