@@ -45,7 +45,7 @@ nothing : {A : Type 0} (b : Bool) → ◌≡◌ {A = List A} (if b then option_t
 nothing true = refl
 nothing false = refl
 
--- the match that has the id is the one that is found
+-- the match with the id is the one that is found
 find-at : {M : Type 0} (id : List ℕ) (ms : List (DeskMatch M)) → AllPairs (λ (m n : DeskMatch M). m.value.setup.id ≢ n.value.setup.id) ms
     → (k : ℕ) (d : DeskMatch M) → k < length ms → has_id id (slice_index_or ms k d) ≡ true → find (has_id id) ms ≡ Some (slice_index_or ms k d)
 find-at id [] differ k d lt mine = absurd (omega arith)
@@ -378,7 +378,7 @@ module _ {G S M : Type 0} (rules : G → Rules S M) (laws : (g : G) → IsLawful
     accounted = replay-accounted;
   }
 
--- the same, where the desk is closed
+-- the same for a closed desk
 pub closed-headline : {G S M X U : Type 0} (rules : G → Rules S M) (laws : (g : G) → IsLawful (rules g)) (lines : ℕ) (object : X → ManagerValue G M) (history : X → List (Entry Call Reply)) (made : X → List ℕ) (r : Result X U)
     → IfOk r (λ c. IsReplay (reply rules) (after rules) opening (object c) (history c)) → IfOk r (λ c. length (made c) ≡ lines) → IfOk r (λ c. sum (made c) ≡ length (history c))
     → IfOk r (λ c. HasHeadline rules lines (object c) (history c) (made c))

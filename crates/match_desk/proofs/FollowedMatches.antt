@@ -31,8 +31,8 @@ use Rattle.match_book.proofs.Judgements.{judgement-judged}
 use Rattle.match_book.proofs.AnswerLaws.{taken_for_the_round, no_error_means_named, still-answers}
 use Rattle.match_desk.specs.Accepted.{IsAnswered, AreTaken}
 
--- The answers that were taken for a match, by role and round: one for each role of each recorded turn that is not retired and for each
--- open answer, and none for a later round.
+-- The answers that were taken for a match, by role and round: one for each role in each recorded turn, retired roles apart, and one
+-- for each open answer, and none for a later round.
 pub record IsFollowed {S M : Type 0} (g : Rules S M) (m : MatchValue M) (taken : ℕ → ℕ → List Answer) : Type 0 where
   pub recorded : (turn role : ℕ) → turn < length m.turns → role < g.roles → AreTaken (retired_by m.setup.strikes (take turn m.turns) role) g m.turns turn role (taken role (turn + 1))
   pub open_one : (role : ℕ) (j : Judgement M) → role < g.roles → at_role m.open_answers role ≡ Some j → (a : Answer) × (taken role (length m.turns + 1) ≡ a ∷ []) × (judgement g (state_after g m.turns) role a ≡ Some j)
@@ -83,7 +83,7 @@ round-turns g m lawful turn lt = step (every_role g.roles (is_there m.start_mark
 round-playing : {S M : Type 0} (g : Rules S M) (m : MatchValue M) → stage g m ≡ Playing → round g m ≡ length m.turns + 1
 round-playing g m playing = ap (λ (x : Stage). round_in x (every_role g.roles (is_there m.start_marks)) (length m.turns)) playing
 
--- what refuses nothing: the role has not answered this round
+-- if nothing refuses the answer, the role has not answered this round
 not_answered : {S M : Type 0} (g : Rules S M) (m : MatchValue M) (role n : ℕ) → refusal g m role n ≡ None → has_answered g m role ≡ false
 not_answered g m role n e = step (nat_lt role g.roles) (is_over g m) (n == round g m) (has_answered g m role) e
   where
@@ -98,7 +98,7 @@ is_none-none : {A : Type 0} (o : Option A) → is_some o ≡ false → o ≡ Non
 is_none-none None e = refl
 is_none-none (Some x) e = absurd cc
 
--- turns that stand are not changed by one turn more
+-- one more turn does not change the turns before it
 move_at-before : {M : Type 0} (turns : List (Turn M)) (t : Turn M) (turn role : ℕ) → turn < length turns → move_at (turns ++ t ∷ []) turn role ≡ move_at turns turn role
 move_at-before [] t turn role lt = absurd (omega arith)
 move_at-before (x ∷ xs) t zero role lt = refl
@@ -163,7 +163,7 @@ module _ {S M : Type 0} (g : Rules S M) (laws : IsLawful g) (m : MatchValue M) (
     later-same : (r n : ℕ) → round g m < n → new r n ≡ []
     later-same r n after = others r n (inr (λ e. omega arith)) ∙ follows.later r n after
 
-    -- an answer that is no answer of a turn
+    -- an answer outside of play
     module _ (n : MatchValue M) (setup : n.setup ≡ m.setup) (turns : n.turns ≡ m.turns) (answers : n.open_answers ≡ blank g.roles) (past : round g m ≤ round g n) (begins : stage g n ≡ Playing → round g m < length m.turns + 1) where
       followed-mark : IsFollowed g n new
       followed-mark = record {
@@ -192,7 +192,7 @@ module _ {S M : Type 0} (g : Rules S M) (laws : IsLawful g) (m : MatchValue M) (
       none_before = follows.open_none playing role is_role open_here
 
       module _ (j : Judgement M) (is : judgement g (state_after g m.turns) role answer ≡ Some j) where
-        -- the open answers with this one, each with the one answer that was taken for it
+        -- the open answers and this one, each with the one answer that was taken for it
         more : List (Option (Judgement M))
         more = set m.open_answers role (Some j)
 
@@ -228,7 +228,7 @@ module _ {S M : Type 0} (g : Rules S M) (laws : IsLawful g) (m : MatchValue M) (
           t : Turn M
           t = turn_of (parts g (record m { open_answers = set m.open_answers role (Some j) }))
 
-          -- a role that is retired has no open answer, and none was taken
+          -- a retired role has no open answer, and none was taken
           retired-none : (r : ℕ) → r < g.roles → is_retired m r ≡ true → new r (length m.turns + 1) ≡ []
           retired-none r within out =
               let other : r ≢ role = λ e. let w : false ≡ true = sym (ap not (subst (λ (k : ℕ). is_retired m k ≡ true) e out)) ∙ still in cc in
@@ -238,7 +238,7 @@ module _ {S M : Type 0} (g : Rules S M) (laws : IsLawful g) (m : MatchValue M) (
               none None e = e
               none (Some i) e = absurd (let w : false ≡ true = sym (ap not out) ∙ (lawful.judged r i within e).0 in cc)
 
-          -- a role that is not has an open answer
+          -- a role that is not retired has an open answer
           more-there : (r : ℕ) → r < g.roles → is_retired m r ≡ false → is_there more r ≡ true
           unfolding more
           more-there r within in' = step (is_retired m r) in' (every_role-at g.roles r (answered_in Playing (record m { open_answers = set m.open_answers role (Some j) })) all within)

@@ -64,7 +64,7 @@ after_abort-setup {S} {M} g m = step (is_live (stage g m))
     step true = refl
     step false = refl
 
--- what a rule makes of a match keeps it lawful, and its setup
+-- a change by a rule keeps a match lawful, and keeps its setup
 pub record IsKeptBy {S M : Type 0} (g : Rules S M) (f : Rules S M → MatchValue M → MatchValue M) : Type 0 where
   pub lawful : (m : MatchValue M) → IsLawfulMatch g m → IsLawfulMatch g (f g m)
   pub setup : (m : MatchValue M) → (f g m).setup ≡ m.setup

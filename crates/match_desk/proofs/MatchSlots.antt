@@ -1,4 +1,4 @@
--- The matches of a manager, as they lie under their ids.
+-- The matches of a manager, stored under their ids.
 use Rattle.std.proofs.Common.{◌≡◌, ◌≢◌, ℕ, zero, suc, ◌<◌, Bool, true, false, Option, Some, None, Result, Ok, Err, List, [], ◌∷◌, length, slice_index_or, refl, arith, ap, sym, ◌∙◌, subst, Vec, cond}
 use Rattle.std.proofs.lemmas.Slice.Eq.{bytes_eq-Decides}
 use Rattle.std.proofs.lemmas.Map.Entries.{All-lookup}
@@ -135,7 +135,7 @@ module _ {G S M : Type 0} (id : List ℕ) (h : DeskMatch M → DeskMatch M) (oth
           let tail = later found in
           cc
 
--- what is written in the place of a match with the same id and the same game lies there as well
+-- a match with the same id and the same game, written in another's place, is stored there as well
 pub slots-set_value : {G S M : Type 0} (games : List G) (id : List ℕ) (s w : Slot G S M) → w.held.value.setup.id ≡ s.held.value.setup.id → slice_get games w.game ≡ Some w.held.game
     → (entries : List (Vec ℕ Global × Slot G S M)) → All (IsSlotOf games) entries → lookup (λ key. bytes_eq id key.items) entries ≡ Some s → All (IsSlotOf games) (set_value (λ key. bytes_eq id key.items) entries w)
 slots-set_value games id s w same of_game [] slots found = slots
@@ -154,7 +154,7 @@ slots-set_value {G} {S} {M} games id s w same of_game (e ∷ es) slots found =
     step true rest found later = both (e.0, w) es (first cc) (λ k d lt. slots (suc k) d (omega arith))
     step false rest found later = both e (set_value (λ key. bytes_eq id key.items) es w) (slots 0 e (omega arith)) (later found)
 
--- writing what is there changes nothing
+-- writing a value where it already is changes nothing
 pub set_value-same : {G S M : Type 0} (id : List ℕ) (s : Slot G S M) (entries : List (Vec ℕ Global × Slot G S M)) → lookup (λ key. bytes_eq id key.items) entries ≡ Some s → set_value (λ key. bytes_eq id key.items) entries s ≡ entries
 set_value-same id s [] found = absurd cc
 set_value-same {G} {S} {M} id s (e ∷ es) found = step (bytes_eq id e.0.items) (lookup (λ key. bytes_eq id key.items) es) found (set_value-same id s es)

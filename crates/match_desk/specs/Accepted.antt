@@ -1,4 +1,4 @@
--- The answers that a history took, and what became of them.
+-- The answers that a history took, and what came of them.
 use Rattle.std.specs.Prelude.{◌≡◌, ◌↔◌, ℕ, ◌+◌, ◌<◌, ◌==◌, ◌&&◌, Bool, true, false, if◌then◌else◌, List, [], ◌∷◌, ◌++◌, length, take, Option, Some, None, option_to_list, slice_get, bytes_eq, All}
 use Rattle.game_core.specs.Play.{Rules}
 use Rattle.match_book.specs.Judgement.{judgement}
@@ -17,7 +17,7 @@ use Rattle.match_desk.specs.declared.call.Call.TheVariants.{Open, Next, Submit, 
 use Rattle.match_desk.specs.declared.call.Reply.{Reply}
 use Rattle.match_desk.specs.declared.call.Reply.TheVariants.{Opened, Due, Taken, Status, Aborting, Refused}
 
--- the answer a, where these are the match, the role and the round that are asked for
+-- the answer a, if these are the wanted match, role and round
 abbrev pub answer_if : Bool → Answer → Option Answer
 answer_if wanted a = if wanted then Some a else None
 
@@ -47,8 +47,8 @@ abbrev pub taken_answers : List ℕ → ℕ → ℕ → List (Entry Call Reply) 
 taken_answers id role round [] = []
 taken_answers id role round (e ∷ es) = taken_answer id role round e ++ taken_answers id role round es
 
--- These answers are one answer, and what the role's place in the turn has is its judgement in the state before the
--- turn. The error is empty exactly where the answer names the move.
+-- These answers are one answer, and the role's place in the turn has its judgement in the state before the turn. The error is empty
+-- if and only if the answer names the move.
 pub record IsAnswered {S M : Type 0} (g : Rules S M) (turns : List (Turn M)) (turn role : ℕ) (answers : List Answer) : Type 0 where
   pub answer : Answer
   pub one : answers ≡ answer ∷ []
@@ -58,19 +58,19 @@ pub record IsAnswered {S M : Type 0} (g : Rules S M) (turns : List (Turn M)) (tu
   pub error_is : error_at turns turn role ≡ Some judged.error
   pub no_error : (judged.error ≡ []) ↔ Names g answer judged.taken
 
--- these answers were taken of a role for a recorded turn, by whether the turns before retire the role: none then, and else the one that is judged
+-- these answers were taken of a role for a recorded turn: none if the earlier turns retire the role, or else the one that is judged
 abbrev pub AreTaken : {S M : Type 0} → Bool → Rules S M → List (Turn M) → ℕ → ℕ → List Answer → Type 0
 AreTaken true g turns turn role answers = answers ≡ []
 AreTaken false g turns turn role answers = IsAnswered g turns turn role answers
 
--- For each recorded turn of the match, and each role that the turns before do not retire, the history took one answer for the turn's
--- round, and the turn has its judgement. Of a role that they retire it took none.
+-- For each recorded turn of the match, and each role that the earlier turns do not retire, the history took one answer for the
+-- turn's round, and the turn has its judgement. It took no answer of a role that they retire.
 pub record IsAccounted {G S M : Type 0} (rules : G → Rules S M) (games : List G) (history : List (Entry Call Reply)) (m : DeskMatch M) : Type 0 where
   pub game : G
   pub is_game : slice_get games m.game ≡ Some game
   pub answered : (turn role : ℕ) → turn < length m.value.turns → role < (rules game).roles
       → AreTaken (retired_by m.value.setup.strikes (take turn m.value.turns) role) (rules game) m.value.turns turn role (taken_answers m.value.setup.id role (turn + 1) history)
 
--- so it is for each match
+-- the same for each match
 abbrev pub AreAccounted : {G S M : Type 0} → (G → Rules S M) → ManagerValue G M → List (Entry Call Reply) → Type 0
 AreAccounted rules d history = All (IsAccounted rules d.games history) d.matches

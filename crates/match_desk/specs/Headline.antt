@@ -1,4 +1,4 @@
--- The headline: what is known of a closed desk of matches, however its calls came to it.
+-- The headline: what is known of a closed desk of matches, however its calls reached it.
 use Rattle.std.specs.Prelude.{◌≡◌, ℕ, List, length, sum, Some, All, slice_get}
 use Rattle.game_core.specs.Play.{Rules, AreLegal}
 use Rattle.match_book.specs.MatchValue.{joint_moves}
@@ -16,11 +16,11 @@ pub record IsPlayedLegally {G S M : Type 0} (rules : G → Rules S M) (games : L
   pub is_game : slice_get games m.game ≡ Some game
   pub legal : AreLegal (rules game) (joint_moves m.value.turns)
 
--- so it is for each match
+-- the same for each match
 abbrev pub ArePlayedLegally : {G S M : Type 0} → (G → Rules S M) → ManagerValue G M → Type 0
 ArePlayedLegally rules d = All (IsPlayedLegally rules d.games) d.matches
 
--- A desk of so many lines has closed with this manager, this history, and these numbers of calls that its lines made.
+-- A desk with this many lines has closed with this manager, this history, and these numbers of calls by line.
 pub record HasHeadline {G S M : Type 0} (rules : G → Rules S M) (lines : ℕ) (d : ManagerValue G M) (history : List (Entry Call Reply)) (made_by_line : List ℕ) : Type 0 where
   -- the history, replayed call by call on one thread from the games without a match, gives every kept reply and this manager
   pub replay : IsReplay (reply rules) (after rules) opening d history
@@ -32,6 +32,6 @@ pub record HasHeadline {G S M : Type 0} (rules : G → Rules S M) (lines : ℕ) 
   pub lawful : IsLawfulManager rules d
   -- each match's recorded joint moves are legal turns of its game
   pub legal : ArePlayedLegally rules d
-  -- for each recorded move of a role that the turns before do not retire, the history took exactly one answer of the role, and the move and its
-  -- error are that answer's judgement; of a role that they retire it took none
+  -- For each recorded move of a role that the earlier turns do not retire, the history took exactly one answer of the role, and the
+  -- move and its error are that answer's judgement. It took no answer of a role that the earlier turns retire.
   pub accounted : AreAccounted rules d history

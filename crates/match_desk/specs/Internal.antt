@@ -1,4 +1,4 @@
--- What private functions and proofs alone cite: nothing in it needs to be believed.
+-- What only private functions and proofs cite: nothing in it needs to be believed.
 pub mod Slots
 pub mod AskedSetups
 pub mod StepLaws

@@ -5,7 +5,7 @@ use Rattle.match_book.specs.MatchValue.{MatchValue, GameMatch}
 use Rattle.match_book.specs.Lawful.{IsLawfulMatch}
 use Rattle.match_book.specs.Names.{IsLawfulSetup}
 
--- how many matches a desk holds at most
+-- the limit of matches at a desk
 abbrev pub max_matches : ℕ
 max_matches = 1024
 

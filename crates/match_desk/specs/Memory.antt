@@ -1,4 +1,4 @@
--- Which calls can want memory, apart from what is kept of them.
+-- Which calls may need memory, apart from the memory for their entries in the history.
 use Rattle.std.specs.Prelude.{ℕ, List, IsSomeAnd, ⊤}
 use Rattle.game_core.specs.Play.{Rules}
 use Rattle.match_book.specs.Due.{OwesMoves}
@@ -18,11 +18,11 @@ CarriesTexts (Status status) = ⊥
 CarriesTexts Aborting = ⊥
 CarriesTexts (Refused reason) = ⊥
 
--- the match with this id may want memory to take an answer of the role
+-- the match with this id may need memory to take an answer of the role
 abbrev pub AnswerWantsMemory : {G S M : Type 0} → (G → Rules S M) → ManagerValue G M → List ℕ → ℕ → Type 0
 AnswerWantsMemory rules d id role = IsSomeAnd (match_with_id d id) (λ m. MayWantMemory (rules m.game) m.value role)
 
--- What the call makes of the manager may want memory: a new match, or an answer.
+-- The call may need memory to change the manager: for a new match, or for an answer.
 abbrev pub WantsMemory : {G S M : Type 0} → (G → Rules S M) → ManagerValue G M → Call → Type 0
 WantsMemory rules d (Open id game start play strikes players) = ⊤
 WantsMemory rules d (Next id role) = ⊥

@@ -14,7 +14,7 @@ abbrev pub first_refusal : List (Bool × Refusal) → Option Refusal
 first_refusal [] = None
 first_refusal (test ∷ tests) = if test.0 then first_refusal tests else Some test.1
 
--- the game with this number has as many roles
+-- the game with this number has this many roles
 abbrev pub has_roles : {G S M : Type 0} → (G → Rules S M) → Option G → ℕ → Bool
 has_roles rules o n = unwrap_or (option_map (λ g. n == (rules g).roles) o) false
 
@@ -31,7 +31,7 @@ open_tests rules d game setup =
     ∷ ((nat_lt (length d.matches) max_matches, DeskFull)
     ∷ [])))))))
 
--- why a match is not opened: none where it is
+-- why a match is not opened: none if it is opened
 abbrev pub open_refusal : {G S M : Type 0} → (G → Rules S M) → ManagerValue G M → ℕ → Setup → Option Refusal
 open_refusal rules d game setup = first_refusal (open_tests rules d game setup)
 
@@ -40,6 +40,6 @@ abbrev pub with_new_match : {G S M : Type 0} → (G → Rules S M) → ManagerVa
 with_new_match rules d game setup None = d
 with_new_match rules d game setup (Some g) = record d { matches = d.matches ++ (record { game = game; value = new_match (rules g) setup }) ∷ [] }
 
--- the manager after `Open`: as it was, where the match is not opened
+-- the manager after `Open`: unchanged if the match is not opened
 abbrev pub after_open : {G S M : Type 0} → (G → Rules S M) → ManagerValue G M → ℕ → Setup → ManagerValue G M
 after_open rules d game setup = if is_none (open_refusal rules d game setup) then with_new_match rules d game setup (slice_get d.games game) else d

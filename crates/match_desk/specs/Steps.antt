@@ -1,4 +1,4 @@
--- What a manager replies to a call, and what the call makes of it.
+-- What a manager replies to a call, and how the call changes it.
 use Rattle.std.specs.Prelude.{ℕ, Bool, true, false, nat_lt, if◌then◌else◌, List, map, Option, Some, None, option_map, unwrap_or}
 use Rattle.game_core.specs.Play.{Rules}
 use Rattle.match_book.specs.MatchValue.{MatchValue}
@@ -36,7 +36,7 @@ setup_of id start play strikes players = record { id = id; start = start; play =
 abbrev pub missed : Bool → Answer
 missed broken = if broken then Broken else Silent
 
--- refused for this reason, or else this reply
+-- the refusal with this reason, or else this reply
 abbrev pub refused_or : Option Refusal → Reply → Reply
 refused_or None reply = reply
 refused_or (Some reason) reply = Refused reason
@@ -75,11 +75,11 @@ reply rules d (Miss id role round broken) = reply_of rules d id (answer_reply ro
 reply rules d (Query id) = reply_of rules d id query_reply
 reply rules d (Abort id) = reply_of rules d id abort_reply
 
--- a match, as f changes it by the rules of its game
+-- a match after the change f, by the rules of its game
 abbrev pub changed_match : {G S M : Type 0} → (G → Rules S M) → ManagerValue G M → (Rules S M → MatchValue M → MatchValue M) → DeskMatch M → DeskMatch M
 changed_match rules d f m = record m { value = unwrap_or (option_map (λ g. f (rules g) m.value) (game_of d m)) m.value }
 
--- the manager in which f has changed the match with this id, and no other
+-- the manager after the change f of the match with this id, and of no other
 abbrev pub with_change : {G S M : Type 0} → (G → Rules S M) → ManagerValue G M → List ℕ → (Rules S M → MatchValue M → MatchValue M) → ManagerValue G M
 with_change rules d id f = record d { matches = map (λ m. if has_id id m then changed_match rules d f m else m) d.matches }
 

@@ -1,4 +1,4 @@
-//! What an `Open` carries.
+//! The setup that an `Open` carries.
 ghost use Rattle.std.specs.Prelude.{◌≡◌, ◌≤◌, IfOk};
 ghost use Rattle.match_book.specs.Names.{max_strikes};
 ghost use Rattle.match_desk.specs.Internal.AskedSetups.{asked_setup};
@@ -9,7 +9,7 @@ use game_core::{Text, Texts};
 use match_book::Setup;
 use std::alloc::{AllocError, Global};
 
-/// The setup that an `Open` asks for, with its game's number. The texts are the call's own.
+/// The setup that an `Open` asks for, with its game's number. It borrows the call's texts.
 #[derive(Clone, Copy)]
 pub struct AskedSetup<'a> {
     pub id: &'a Text,
@@ -20,7 +20,7 @@ pub struct AskedSetup<'a> {
     pub players: &'a Texts,
 }
 
-/// Equal texts in memory of their own.
+/// A copy of the texts.
 pub fn copy_texts(alloc: Global, texts: &[Text]) -> Result<Texts, AllocError>
     ensures { IfOk result (λ copies. copies ≡ texts.now) }
 {
@@ -52,7 +52,7 @@ impl<'a> AskedSetup<'a> {
         }
     }
 
-    /// The call that asks for it, in memory of its own.
+    /// An `Open` that asks for this setup, with copies of the texts.
     pub fn to_call(&self, alloc: Global) -> Result<Call, AllocError>
         ensures { IfOk result (λ call. call ≡ Open self.now.id.now self.now.game self.now.start self.now.play self.now.strikes self.now.players.now) }
     {
@@ -74,7 +74,7 @@ impl<'a> AskedSetup<'a> {
         })
     }
 
-    /// The setup of the match that is asked for.
+    /// The setup of the match, with copies of the texts.
     pub fn setup(&self, alloc: Global) -> Result<Setup, AllocError>
         requires { self.now.strikes ≤ max_strikes }
         ensures { IfOk result (λ setup. setup ≡ asked_setup self.now) }

@@ -3,11 +3,12 @@ use game_core::{Text, Texts};
 use match_book::{Due, Status};
 use thiserror::Error;
 
-/// A call on the desk. Games and roles are numbered from 0; a match is named by its id, compared byte for byte.
+/// A call on the desk. Games and roles are numbered from 0. A match is named by its id, which is compared byte
+/// for byte.
 #[derive(Drop)]
 pub enum Call {
-    /// Opens a match of a game. The clocks are in seconds, the players in the order of the roles. So many
-    /// substitutions in a row retire a role; 0 is never.
+    /// Opens a match of a game. The clocks are in seconds, the players in the order of the roles. `strikes`
+    /// substitutions in a row retire a role; 0 means never.
     Open {
         id: Text,
         game: usize,
@@ -28,7 +29,7 @@ pub enum Call {
         round: u64,
         text: Text,
     },
-    /// A role has no answer for a round: for want of a connection where `broken`, and else in time.
+    /// A role has no answer for a round. If `broken`, its connection failed; otherwise no answer came in time.
     Miss {
         id: Text,
         role: usize,
@@ -74,10 +75,10 @@ pub enum Refusal {
     /// There is no game with this number.
     #[error("there is no such game")]
     NoGame,
-    /// There is not one player for each role.
+    /// The number of players is not the number of roles.
     #[error("there is not one player for each role")]
     WrongPlayers,
-    /// A player's name is not made as an id is.
+    /// A player's name is not lawful. The rule is that of ids.
     #[error("a player's name is not lawful")]
     BadName,
     /// A clock is not 1 to 86,400 seconds.
@@ -98,7 +99,7 @@ pub enum Refusal {
     /// The match is finished or aborted.
     #[error("the match is over")]
     Over,
-    /// The answer is for another round than this, the present one.
+    /// The answer is not for the present round, which is this one.
     #[error("the present round is {0}")]
     Stale(u64),
     /// The role has answered this round.

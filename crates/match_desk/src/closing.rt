@@ -1,4 +1,4 @@
-//! The closing of a desk of matches through which many threads shared one manager behind a lock.
+//! How a desk of matches is closed, when many threads shared its manager behind a lock.
 ghost use Rattle.std.specs.Prelude.{◌≡◌, ◌<◌, ◌↔◌, ℕ, slice_index, IsOk, IfOk, IfErr, Contains};
 ghost use Rattle.call_history.specs.Lines.{numbers, HasAll, IsLowestMissing};
 ghost use Rattle.match_desk.specs.Headline.{HasHeadline};
@@ -8,13 +8,14 @@ use call_history::{CloseFault, Closed, LockDesk, LockLine, Unclosed};
 use game_core::Game;
 use std::sync::ledger::Ledger;
 
-/// Closes a desk of matches, where all its lines are handed in.
+/// Closes a desk of matches if all its lines are handed in.
 ///
-/// Then the kept history, replayed call by call on a manager of one thread from the games without a match, gives every kept reply
-/// and the manager as it stands, and holds as many calls as the lines made. Each match is lawful, and its recorded joint moves
-/// were legal; that its state is the game's after them is the promise of `Match::state`. For each recorded move the history
-/// took exactly one answer of its role, and the move and its error are the judgement of that answer: the error is empty exactly
-/// where the answer named the move, so each substituted move stands among the errors.
+/// A closed desk's history replays: made again call by call on one thread, by a manager of the same games without a match, it
+/// gives every kept reply and the manager as it stands. It holds as many calls as the lines made. Each match is lawful, and its
+/// recorded joint moves were legal; `Match::state` promises that its state is the game's after these moves. For each recorded
+/// move of a role that the earlier turns do not retire, the history took exactly one answer of the role, and the move and its
+/// error are the judgement of that answer. The error is empty if and only if the answer named the move. Of a role that the
+/// earlier turns retire, the history took no answer.
 pub fn close_desk<G: Game, L: Ledger>(
     desk: LockDesk<Manager<G>, L>,
     lines: Vec<LockLine<L>>,

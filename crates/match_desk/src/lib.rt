@@ -1,8 +1,8 @@
-//! The desk of all matches: a manager that holds many matches at once behind six calls, with a stated reply
-//! and a stated effect for each, so that a history of calls can be made again on one thread.
+//! The desk of all matches: a manager that holds many matches behind six calls. Each call has a stated reply
+//! and a stated effect, so that a history of calls can be made again on one thread.
 //!
-//! Methods take the allocator right after `self`, free functions take it first. `close_desk` puts together what
-//! is known of a manager that many threads shared.
+//! Methods take the allocator right after `self`, free functions take it first. `close_desk` states what is
+//! known of a manager that many threads shared.
 #![tactic(auto)]
 
 mod asked_setup;

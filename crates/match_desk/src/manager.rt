@@ -19,13 +19,13 @@ use match_book::{LentAnswer, Match, are_clocks, are_names, is_name, is_strikes};
 use std::alloc::{AllocError, Global};
 use std::marker::Model;
 
-/// The most matches of a desk.
+/// The limit of matches at a desk.
 const MAX_MATCHES: usize = 1_024;
 
-/// For how many matches there is room from the start.
+/// The number of matches for which there is room from the start.
 const FIRST_ROOM: usize = 8;
 
-/// A fixed list of games, and matches of them, in order of opening. No match is ever removed.
+/// A fixed list of games, and matches of these games in order of opening. No match is ever removed.
 #[derive(Drop)]
 pub struct Manager<G: Game> {
     games: Vec<G>,
@@ -54,11 +54,11 @@ impl<G: Game> Manager<G> {
         Ok(Manager { games, matches })
     }
 
-    /// How many matches there are.
+    /// The number of matches.
     pub fn matches(&self) -> usize
         ensures count { result ≡ length self.now.matches }
 
-        // What the type keeps.
+        // The invariant of the type.
         ensures lawful { IsLawfulManager G.rules self.now }
     {
         self.matches.len()
@@ -111,7 +111,7 @@ impl<G: Game> Manager<G> {
         self.matches.contains_key(id)
     }
 
-    /// Why a match is not opened, if it is not: the tests in their order.
+    /// Why a match is not opened, by the tests in their order. `None` if it is opened.
     fn open_refusal(&self, asked: &AskedSetup<'_>) -> Option<Refusal>
         ensures { result ≡ open_refusal G.rules self.now asked.now.game (asked_setup asked.now) }
     {
@@ -143,7 +143,7 @@ impl<G: Game> Manager<G> {
         None
     }
 
-    /// What an `Open` gets.
+    /// The reply to an `Open`.
     fn open_reply(&self, asked: &AskedSetup<'_>) -> Reply
         ensures { result ≡ refused_or (open_refusal G.rules self.now asked.now.game (asked_setup asked.now)) Opened }
     {
@@ -153,7 +153,7 @@ impl<G: Game> Manager<G> {
         }
     }
 
-    /// Opens a match, where nothing refuses it.
+    /// Opens a match if nothing refuses it.
     fn open(&mut self, alloc: Global, asked: &AskedSetup<'_>) -> Result<(), AllocError>
         ensures ok { OnOk result (self.new ≡ after_open G.rules self.old asked.now.game (asked_setup asked.now)) }
         ensures err { OnErr result (self.new ≡ self.old) }
@@ -175,7 +175,7 @@ impl<G: Game> Manager<G> {
         Ok(())
     }
 
-    /// What is due to a role of a match.
+    /// The reply that says what is due to a role of a match.
     fn next_reply(&self, alloc: Global, id: &[u8], role: usize) -> Result<Reply, AllocError>
         ensures reply { IfOk result (λ r. r ≡ reply_of G.rules self.now id.now (next_reply role)) }
         ensures accepted { OnErr result (is_refused (reply_of G.rules self.now id.now (next_reply role)) ≡ false) }
@@ -187,7 +187,7 @@ impl<G: Game> Manager<G> {
         }
     }
 
-    /// What an answer of a role of a match for a round gets.
+    /// The reply to an answer of a role of a match for a round.
     fn answer_reply(&self, id: &[u8], role: usize, round: u64) -> Reply
         ensures { result ≡ reply_of G.rules self.now id.now (answer_reply role round) }
     {
@@ -197,7 +197,7 @@ impl<G: Game> Manager<G> {
         }
     }
 
-    /// Where a match stands.
+    /// The reply that says where a match stands.
     fn query_reply(&self, id: &[u8]) -> Reply
         ensures { result ≡ reply_of G.rules self.now id.now query_reply }
     {
@@ -207,7 +207,7 @@ impl<G: Game> Manager<G> {
         }
     }
 
-    /// What an abort of a match gets.
+    /// The reply to an abort of a match.
     fn abort_reply(&self, id: &[u8]) -> Reply
         ensures { result ≡ reply_of G.rules self.now id.now abort_reply }
     {
@@ -267,7 +267,7 @@ impl<G: Game> Object for Manager<G> {
 
     fn answer(&self, alloc: Global, call: &Call) -> Result<Reply, AllocError>
         ensures reply { IfOk result (λ r. r ≡ reply G.rules self.now call.now) }
-        // A refused call wants no memory, and of the others those alone that are told moves' texts.
+        // A refused call needs no memory. Among the others, only those with a reply that carries moves' texts need it.
         ensures accepted { OnErr result (is_refused (reply G.rules self.now call.now) ≡ false) }
         ensures memory { OnErr result (CarriesTexts (reply G.rules self.now call.now)) }
     {
@@ -301,7 +301,8 @@ impl<G: Game> Object for Manager<G> {
     fn apply(&mut self, alloc: Global, call: &Call) -> Result<(), AllocError>
         ensures ok { OnOk result (self.new ≡ after G.rules self.old call.now) }
         ensures err { OnErr result (self.new ≡ self.old) }
-        // A refused call wants no memory, and of the others those alone that open a match or take an answer into a turn.
+        // A refused call needs no memory. Among the others, only those that open a match or take an answer into a turn
+        // need it.
         ensures accepted { OnErr result (is_refused (reply G.rules self.old call.now) ≡ false) }
         ensures memory { OnErr result (WantsMemory G.rules self.old call.now) }
     {

@@ -17,7 +17,7 @@ pub struct Slot<G: Game> {
     pub held: Match<G>,
 }
 
-/// What is due to a role, as a reply.
+/// The reply that says what is due to a role.
 pub fn next_reply<G: Game>(
     alloc: Global,
     game: &G,
@@ -36,7 +36,7 @@ pub fn next_reply<G: Game>(
     }
 }
 
-/// What an answer of a role for a round gets as a reply.
+/// The reply to an answer of a role for a round.
 pub fn answer_reply<G: Game>(held: &Match<G>, role: usize, round: u64) -> Reply
     ensures { result ≡ answer_reply role round (G.rules held.now.game) held.now.value }
 {
@@ -50,14 +50,14 @@ pub fn answer_reply<G: Game>(held: &Match<G>, role: usize, round: u64) -> Reply
     Reply::Refused(refusal)
 }
 
-/// Where the match stands, as a reply.
+/// The reply that says where the match stands.
 pub fn query_reply<G: Game>(held: &Match<G>) -> Reply
     ensures { result ≡ query_reply (G.rules held.now.game) held.now.value }
 {
     Reply::Status(held.status())
 }
 
-/// What an abort gets as a reply.
+/// The reply to an abort.
 pub fn abort_reply<G: Game>(held: &Match<G>) -> Reply
     ensures { result ≡ abort_reply (G.rules held.now.game) held.now.value }
 {
@@ -67,7 +67,8 @@ pub fn abort_reply<G: Game>(held: &Match<G>) -> Reply
     }
 }
 
-/// Gives the match an answer. A refusal of the match leaves it as it is, and is no fault.
+/// Gives the match an answer. If the match refuses it, the match stays as it is, and that is no
+/// fault.
 pub fn take_answer<G: Game>(
     alloc: Global,
     game: &G,
@@ -87,7 +88,7 @@ pub fn take_answer<G: Game>(
     Ok(())
 }
 
-/// Aborts the match, where it is neither stopping nor aborting.
+/// Aborts the match if it is neither stopping nor aborting.
 pub fn take_abort<G: Game>(held: &mut Match<G>)
     ensures game { held.new.game ≡ held.old.game }
     ensures value { held.new.value ≡ after_abort (G.rules held.old.game) held.old.value }
