@@ -1,4 +1,4 @@
--- Expressions by their members, and those that have not the form of a message.
+-- Expressions by their members, and those without the form of a message.
 use Rattle.std.proofs.Common.{◌≡◌, ◌≢◌, ◌<◌, ◌≤◌, Some, None, Err, List, [], ◌∷◌, map, length, refl, ap, arith}
 use Rattle.game_core.specs.Expression.{Expression, atom, list, more, folded, all_folded}
 use Rattle.kif_text.specs.View.{view, views, expressions}

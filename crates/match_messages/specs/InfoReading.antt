@@ -21,7 +21,7 @@ abbrev pub is_key : Expression → Bool
 is_key (atom word) = bytes_eq word (codes "status")
 is_key (list xs) = false
 
--- the status S of the members `status S`: none, where they are others
+-- the status S of the members `status S`: none for other members
 abbrev pub status_pair : Expressions → Option Info
 status_pair (more key (more status none)) = if is_key key then Some (status_named status) else None
 status_pair _ = None
@@ -30,16 +30,16 @@ abbrev pub status_member : Expression → Option Info
 status_member (atom word) = None
 status_member (list members) = status_pair members
 
--- the status of the first member that has the form `(status S)`
+-- the status of the first member of the form `(status S)`
 abbrev pub first_status : Expressions → Option Info
 first_status none = None
 first_status (more x xs) = option_or (status_member x) (first_status xs)
 
--- the status that an answer tells
+-- the status that an answer gives
 abbrev pub info_in : Expression → Info
 info_in (atom word) = status_named (atom word)
 info_in (list xs) = unwrap_or (first_status xs) Unknown
 
--- what is told by the one expression of a text
+-- the status that the one expression of a text gives
 abbrev pub info_reading : List ℕ → Info
 info_reading text = unwrap_or (option_map (λ x. info_in (folded x)) (reading text)) Unknown

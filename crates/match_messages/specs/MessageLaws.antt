@@ -12,13 +12,13 @@ use Rattle.match_messages.specs.MessageValue.{MessageValue, info, start, play, s
 use Rattle.match_messages.specs.MessageText.{message_text}
 use Rattle.match_messages.specs.MessageReading.{message_reading}
 
--- no moves, or at least one, and none with an atom that no text spells
+-- no moves, or at least one move, and each move has only atoms that some text spells
 abbrev pub AreMoves : Option Expressions → Type 0
 AreMoves None = Unit {0}
 AreMoves (Some none) = ⊥
 AreMoves (Some (more x xs)) = AllHaveAtoms (more x xs)
 
--- a message with a lawful id and lawful clocks, whose expressions have atoms that some text spells
+-- a message with a lawful id and lawful clocks, and with expressions that have only atoms that some text spells
 abbrev pub IsLawfulMessage : MessageValue → Type 0
 IsLawfulMessage info = Unit {0}
 IsLawfulMessage (start id role rules s p) = (is_name id ≡ true) × HasAtoms role × AllHaveAtoms rules × (is_clock s ≡ true) × (is_clock p ≡ true)
@@ -26,7 +26,7 @@ IsLawfulMessage (play id moves) = (is_name id ≡ true) × AreMoves moves
 IsLawfulMessage (stop id moves) = (is_name id ≡ true) × AreMoves moves
 IsLawfulMessage (abort id) = is_name id ≡ true
 
--- a message whose text is within the limits of length and depth
+-- a lawful message with a text within the limits of length and depth
 pub record IsSayable (m : MessageValue) : Type 0 where
   pub lawful : IsLawfulMessage m
   pub short : length (canonical (message_form m)) ≤ max_length
@@ -50,7 +50,7 @@ MovesHaveTexts None (Some texts) = ⊥
 MovesHaveTexts (Some moves) None = ⊥
 MovesHaveTexts (Some moves) (Some texts) = HaveTexts moves texts
 
--- the owed message says this to the role: an expression stands for the name of the role, and for the text of each move
+-- The owed message says this to the role. Expressions stand for the role's name and for the texts of the moves.
 abbrev pub Says : Brief → ℕ → Owed → MessageValue → Type 0
 Says b role Start (start id name rules s p) = (id ≡ b.id) × (slice_index_or b.roles role [] ≡ canonical name) × (rules ≡ views b.rules.items) × (s ≡ b.start) × (p ≡ b.play)
 Says b role (Play texts) (play id moves) = (id ≡ b.id) × MovesHaveTexts moves texts

@@ -8,12 +8,13 @@ use Rattle.match_book.specs.declared.due.Owed.TheVariants.{Start, Play, Stop, Ab
 use Rattle.match_messages.specs.declared.brief.Brief.{Brief}
 use Rattle.match_messages.specs.MessageValue.{MessageValue, start, play, stop, abort, message_form}
 
--- texts in the places of expressions: they are printed as they are
+-- texts in place of expressions: they are printed as they are
 abbrev pub as_printed : List (List ℕ) → Expressions
 as_printed [] = none
 as_printed (t ∷ ts) = more (atom t) (as_printed ts)
 
--- What an owed message tells the role. The role's name and the moves' texts stand as they are.
+-- The content of an owed message for the role. The role's name and the moves' texts stand as they
+-- are.
 abbrev pub told : Brief → ℕ → Owed → MessageValue
 told b role Start = start b.id (atom (slice_index_or b.roles role [])) (views b.rules.items) b.start b.play
 told b role (Play moves) = play b.id (option_map as_printed moves)

@@ -1,4 +1,4 @@
--- What a message says, as a plain value, and the expression that says it.
+-- A message's content, as a plain value, and the expression of the message.
 use Rattle.std.specs.Prelude.{ℕ, List, Option, Some, None, option_map, codes}
 use Rattle.std.specs.Fmt.{decimal}
 use Rattle.game_core.specs.Expression.{Expression, atom, list, Expressions, none, more, folded, all_folded}

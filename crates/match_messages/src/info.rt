@@ -6,13 +6,13 @@ ghost use Rattle.match_messages.specs.InfoReading.{status_named, is_key, status_
 use kif_text::{Expr, KifFault, fold, read_one};
 use std::alloc::{AllocError, Global};
 
-/// What a player says of itself.
+/// A player's status, by its own answer.
 #[derive(Clone, Copy, Debug, PartialEq, Eq)]
 pub enum Info {
     Available,
     Ready,
     Busy,
-    /// The answer tells none of these.
+    /// The answer gives none of these.
     Unknown,
 }
 
@@ -84,7 +84,7 @@ fn first_status(members: &[Expr]) -> Option<Info>
     None
 }
 
-/// The status that a folded answer tells.
+/// The status that a folded answer gives.
 fn info_in(expr: &Expr) -> Info
     ensures { result ≡ info_in (view expr.now) }
 {
@@ -94,8 +94,8 @@ fn info_in(expr: &Expr) -> Info
     }
 }
 
-/// Reads an answer to INFO, in any ASCII case: the atom `available`, `ready` or `busy`, or a list in which
-/// the first member `(status S)` gives the status S. A text that is not one expression tells nothing.
+/// Reads an answer to INFO, in any ASCII case: the atom `available`, `ready` or `busy`, or a list with a
+/// first member `(status S)` that gives the status S. Any other text gives `Unknown`.
 pub fn read_info(alloc: Global, text: &[u8]) -> Result<Info, AllocError>
     ensures { IfOk result (λ i. i ≡ info_reading text.now) }
 {

@@ -1,12 +1,15 @@
-//! What holds of messages, whatever the match.
+//! Laws of messages, for any match.
 ghost use Rattle.match_messages.specs.MessageLaws.{MessagesReadBack, OwedMessagesReadBack};
 
-/// the text is within the limits of length and depth.
+/// A lawful message is read back from its text, with role, rules and moves folded, if the text is
+/// within the limits of length and depth.
 pub fn messages_read_back()
     ensures { MessagesReadBack }
 {}
 
-/// the role's name and the texts of the moves are canonical texts.
+/// The text of an owed message is read back as what it says to the role, with role, rules and moves
+/// folded, if the role's name and the texts of the moves are canonical texts and the message's text
+/// is within the limits.
 pub fn owed_messages_read_back()
     ensures { OwedMessagesReadBack }
 {}

@@ -1,7 +1,7 @@
 //! The messages of a match, by the Stanford GGP communication specification.
 //!
-//! `message` writes what is due to a role as the referee sends it, `read_message` reads it as a player does,
-//! and `read_info` reads what a player answers to `info_message`.
+//! `message` writes what is due to a role as the referee sends it, and `read_message` reads it as a player
+//! does. `read_info` reads a player's answer to `info_message`.
 //!
 //! Free functions take the allocator first.
 #![tactic(auto)]

@@ -1,4 +1,4 @@
-//! Messages, as a player reads them.
+//! Messages as a player reads them.
 ghost use Rattle.std.specs.Prelude.{◌≡◌};
 ghost use Rattle.match_messages.specs.declared.messages.MessageFault.TheVariants.{Memory};
 
@@ -7,8 +7,8 @@ use kif_text::Expr;
 use std::alloc::{AllocError, AllocFailed};
 use thiserror::Error;
 
-/// What a message says. Role, rules and moves are without capitals, the id is as it was sent. The moves are
-/// those of the last turn, in the order of the roles: `None` before the first turn.
+/// A message's content. Role, rules and moves are without capitals, the id is as it was sent. The moves are
+/// those of the last turn, in the order of the roles. They are `None` before the first turn.
 #[derive(Drop)]
 pub enum Message {
     Info,
@@ -38,13 +38,13 @@ pub enum MessageFault {
     /// The text is not one expression within the limits of length and depth.
     #[error("the text is not one expression")]
     Unreadable,
-    /// The expression is none of the messages.
+    /// The expression is not a message.
     #[error("the expression is no message")]
     BadMessage,
     /// A clock of START is not a number from 1 to 86,400.
     #[error("a clock is out of range")]
     BadClock,
-    /// Want of memory.
+    /// Out of memory.
     #[error("want of memory")]
     Memory,
 }

@@ -1,4 +1,4 @@
-//! Messages read from their texts.
+//! How messages are read from their texts.
 ghost use Rattle.std.specs.Prelude.{◌≡◌, map, option_copied, option_map, IfOk};
 ghost use Rattle.game_core.specs.Bytes.{lower};
 ghost use Rattle.game_core.specs.Expression.{folded, all_folded};
@@ -13,7 +13,7 @@ use kif_text::{Expr, KifFault, copy, fold, read_one};
 use match_book::is_name;
 use std::alloc::{AllocError, Global};
 
-/// Whether this is the word, which is given in small letters, in any case.
+/// Whether this is the word in any case. `small` gives the word in small letters.
 fn is_word(expr: &Expr, small: &[u8]) -> bool
     requires { map lower small.now ≡ small.now }
     ensures { result ≡ is_word small.now (view expr.now) }
@@ -24,7 +24,7 @@ fn is_word(expr: &Expr, small: &[u8]) -> bool
     }
 }
 
-/// The lawful id that an expression is.
+/// The lawful id that an expression gives.
 fn id_in(expr: &Expr) -> Option<&Text>
     ensures { option_copied result ≡ id_in (view expr.now) }
 {
@@ -68,7 +68,7 @@ fn all_folded(alloc: Global, exprs: &[Expr]) -> Result<Vec<Expr>, AllocError>
     Ok(all)
 }
 
-/// The moves that an expression is: none for `NIL` and for the empty list.
+/// The moves that an expression gives: `None` for `NIL` and for the empty list.
 #[tactic(auto, using(crate::proofs::Forms::moves_listed))]
 fn moves_in(alloc: Global, expr: &Expr) -> Result<Option<Vec<Expr>>, MessageFault>
     ensures { GivesMoves result (moves_in (view expr.now)) }
@@ -86,7 +86,7 @@ fn moves_in(alloc: Global, expr: &Expr) -> Result<Option<Vec<Expr>>, MessageFaul
     Ok(Some(all_folded(alloc, moves)?))
 }
 
-/// START of an id, a role, rules and both clocks. The clocks are looked at last.
+/// START with an id, a role, rules and both clocks. The clocks are tested last.
 fn start_of(
     alloc: Global,
     id: Option<&Text>,
@@ -143,7 +143,7 @@ fn id_and_moves(alloc: Global, members: &[Expr]) -> Result<(Text, Option<Vec<Exp
     Ok((id.copy(alloc)?, moves))
 }
 
-/// ABORT of an id.
+/// ABORT with an id.
 fn abort_of(alloc: Global, id: Option<&Text>) -> Result<Message, MessageFault>
     ensures { Gives result (abort_of (option_copied id.entry)) }
 {
@@ -175,7 +175,7 @@ fn info_in(members: &[Expr]) -> Result<Message, MessageFault>
     }
 }
 
-/// The message of a keyword and the members behind it.
+/// The message of a keyword and the members after it.
 fn message_of(alloc: Global, keyword: &Expr, rest: &[Expr]) -> Result<Message, MessageFault>
     ensures { Gives result (message_of (view keyword.now) (views rest.now)) }
 {
@@ -196,7 +196,7 @@ fn message_of(alloc: Global, keyword: &Expr, rest: &[Expr]) -> Result<Message, M
     }
 }
 
-/// The message that an expression is: the atom `INFO` stands for the list of it.
+/// The message that an expression gives. The atom `INFO` stands for the list `(INFO)`.
 fn message_in(alloc: Global, expr: &Expr) -> Result<Message, MessageFault>
     ensures { Gives result (message_in (view expr.now)) }
 {

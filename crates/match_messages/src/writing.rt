@@ -22,7 +22,7 @@ fn push_word(text: &mut Vec<u8>, word: &[u8]) -> Result<(), AllocError>
     text.extend_from_slice(word)
 }
 
-/// The text of a list whose members have these texts.
+/// The text of a list of members with these texts.
 fn list_text(alloc: Global, members: &[Text]) -> Result<Text, AllocError>
     ensures { IfOk result (λ t. t ≡ canonical (list (as_printed members.now))) }
 {
@@ -70,7 +70,7 @@ fn push_rules(alloc: Global, text: &mut Vec<u8>, rules: &[Expr]) -> Result<(), A
     Ok(())
 }
 
-/// The text of START, written in one piece: the rules may be long.
+/// The text of START. It is written in one piece, since the rules may be long.
 fn start_text(alloc: Global, brief: &Brief, role: usize) -> Result<Text, AllocError>
     requires { role < length brief.now.roles }
     ensures { IfOk result (λ t. t ≡ message_text brief.now role Owed.Start) }

@@ -1,4 +1,4 @@
--- What the reader of a message gives for its parts. Want of memory may stand in the place of each.
+-- The parts that the reader of a message returns. Each may be out of memory instead.
 use Rattle.std.specs.Prelude.{◌≡◌, List, ℕ, Option, Some, None, option_map, Result, Ok, Err, Vec}
 use Rattle.std.specs.Global.{Global}
 use Rattle.game_core.specs.Expression.{Expressions}
@@ -7,7 +7,7 @@ use Rattle.kif_text.specs.declared.expr.Expr.{Expr}
 use Rattle.match_messages.specs.declared.messages.MessageFault.{MessageFault}
 use Rattle.match_messages.specs.declared.messages.MessageFault.TheVariants.{Unreadable, BadMessage, BadClock, Memory}
 
--- what was found, seen through f, or nothing was
+-- the result that was found, seen through f, or nothing
 abbrev pub GivesPart : {A B : Type 0} → (A → B) → Result A MessageFault → Option B → Type 0
 GivesPart f (Ok part) found = found ≡ Some (f part)
 GivesPart f (Err Unreadable) found = ⊥
@@ -19,10 +19,10 @@ GivesPart f (Err Memory) found = Unit {0}
 abbrev pub moves_value : Option (Vec Expr Global) → Option Expressions
 moves_value moves = option_map (λ v. views v.items) moves
 
--- the moves that an expression is, or it is none
+-- the moves that an expression gives, or no moves
 abbrev pub GivesMoves : Result (Option (Vec Expr Global)) MessageFault → Option (Option Expressions) → Type 0
 GivesMoves = GivesPart moves_value
 
--- an id and moves, or one of them is not there
+-- an id and moves, or one of them is missing
 abbrev pub GivesIdAndMoves : Result (List ℕ × Option (Vec Expr Global)) MessageFault → Option (List ℕ × Option Expressions) → Type 0
 GivesIdAndMoves = GivesPart (λ p. (p.0, moves_value p.1))
