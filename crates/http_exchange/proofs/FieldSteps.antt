@@ -22,7 +22,7 @@ one before field =
     if has_name transfer_encoding field.0 then wrong
     else (if has_name content_length field.0 then agree before field.1 else before)
 
--- what is said after all these fields too
+-- the result after all these fields too
 abbrev pub after : BodyLength → List Header → BodyLength
 after before [] = before
 after before (field ∷ fields) = after (one before field) fields

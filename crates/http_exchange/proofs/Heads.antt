@@ -14,7 +14,7 @@ use Rattle.http_exchange.specs.declared.head.Head.TheVariants.{Whole, Refused}
 use Rattle.http_exchange.specs.declared.wire_fault.FrameFault.{FrameFault}
 use Rattle.http_exchange.specs.declared.wire_fault.FrameFault.TheVariants.{TooLong}
 
--- what a head's bytes and the rest are
+-- the bytes of a head, and the rest
 pub record Split (kind : HttpKind) (bytes : List ℕ) (parts : Parts) (rest : List ℕ) : Type 0 where
   pub text : List ℕ
   pub is : bytes ≡ text ++ rest
@@ -35,7 +35,7 @@ split Request bytes parts rest reads = record {
   before_any = λ more. (reads.0, (reads.1.0, refl), reads.2);
 }
 
--- bytes have one head at most
+-- bytes have at most one head
 pub one_head : (kind : HttpKind) (bytes : List ℕ) (p q : Parts) (r s : List ℕ) → Reads kind bytes p r → Reads kind bytes q s → (p ≡ q) × (r ≡ s)
 one_head Reply bytes p q r s a b =
     let same = response_unique bytes a.0 b.0 r s a.1 b.1 in
@@ -86,7 +86,7 @@ front_split (x ∷ xs) (suc n) ys =
     let same : suc n - suc (length xs) ≡ n - length xs = omega arith in
     ap (λ (l : List ℕ). x ∷ l) (front_split xs n ys ∙ ap (λ k. take n xs ++ take k ys) (sym same))
 
--- and they may be cut behind the head
+-- the bytes may be cut after the head
 pub reads_cut : (kind : HttpKind) (n : ℕ) (bytes : List ℕ) (parts : Parts) (rest : List ℕ) → Reads kind bytes parts rest → parts.size ≤ n
     → Reads kind (take n bytes) parts (take (n - parts.size) rest)
 reads_cut kind n bytes parts rest reads small =
@@ -151,11 +151,11 @@ head_stays kind bytes more head is =
           ]
     ]
 
--- more bytes, of which nothing or something was known
+-- what is known of bytes is known of more bytes
 pub known_on : (kind : HttpKind) (bytes more : List ℕ) (head : Head) → IsKnown kind bytes head → IsKnown kind (bytes ++ more) head
 known_on kind bytes more head known = elim known [ inl nothing ↦ inl nothing | inr is ↦ head_stays kind bytes more head is ]
 
--- nothing more is said of a head that has few enough fields
+-- bytes that begin with a head of few enough fields are not hopeless
 pub not_hopeless : (kind : HttpKind) (bytes : List ℕ) (parts : Parts) (rest : List ℕ) → IsHopeless kind bytes → Reads kind bytes parts rest
     → length parts.fields ≤ max_fields → ⊥
 not_hopeless kind bytes parts rest hopeless reads few =

@@ -104,7 +104,7 @@ one_number xs ys e f first other same =
     let turned = one_backwards (reverse xs) (reverse ys) (all_reverse xs e) (all_reverse ys f) (ends_reverse xs first) (ends_reverse ys other) (sym (number xs) ∙ same ∙ number ys) in
     sym (reverse-reverse xs) ∙ ap reverse turned ∙ reverse-reverse ys
 
--- Digits without leading zeros are the same exactly where they write the same number.
+-- Digits without leading zeros are the same if and only if they write the same number.
 pub same_number : (xs ys : List ℕ) → list_all is_ascii_digit xs ≡ true → list_all is_ascii_digit ys ≡ true
     → get_or xs 0 0 ≢ 48 → get_or ys 0 0 ≢ 48 → bytes_eq xs ys ≡ (digits_value 10 xs == digits_value 10 ys)
 same_number xs ys e f first other =

@@ -23,7 +23,7 @@ use Rattle.http_exchange.specs.declared.wire_fault.WireFault.{WireFault}
 use Rattle.http_exchange.specs.declared.wire_fault.WireFault.TheVariants.{WriteFault, ReadFault, BadHead, BadStatus, BadLength, TooLong, CutShort, TooManyReads, Memory}
 use Rattle.http_exchange.proofs.Heads.{known_on}
 
--- what was given so far, and then by one more read
+-- the bytes given so far, and then by one more read
 pub reached : (a b c : Option (List ℕ)) (held given now : List ℕ) (ended : Bool) → Consumes a b held → Gives b c given ended
     → now ≡ held ++ given → Gives a c now ended
 reached a b c held given now ended before gives grew = record {
@@ -31,7 +31,7 @@ reached a b c held given now ended before gives grew = record {
   at_end = gives.at_end;
 }
 
--- why a read failed is why the reading stops
+-- the reading stops for the reason why a read failed
 pub read_stops : {S : Type 0} (kind : HttpKind) (fault : WireFault) (a b c : Option (List ℕ)) (held : List ℕ) (first before after : Counting S)
     → Consumes a b held → WantsMore kind held → first.faults ≤ before.faults → ReadOnceStops fault b c before after
     → (given : List ℕ) × (ended : Bool) × Gives a c given ended × ReadStops kind fault given ended first after
@@ -64,7 +64,7 @@ pub want_of_memory : {S : Type 0} (kind : HttpKind) (fault : WireFault) (given :
     → ReadStops kind fault given ended old new
 want_of_memory kind fault given ended old new is = subst (λ (f : WireFault). ReadStops kind f given ended old new) (sym is) tt
 
--- ---- at the end of the stream no more is wanted
+-- ---- at the end of the stream no more is needed
 
 neither : (b : Bool) (x y : Look) → (looks.More ≡ x → ⊥) → (looks.More ≡ y → ⊥) → looks.More ≡ cond b x y → ⊥
 neither true x y p q h = p h
@@ -89,7 +89,7 @@ not_ended : (head : Head) (have : ℕ) (ended : Bool) → looks.More ≡ look_pa
 not_ended head have true h = absurd (no_more_past head have h)
 not_ended head have false h = refl
 
--- what is said of the bytes, by what is said of their number
+-- the result for the bytes, by the result for their number
 pub looks_at : (kind : HttpKind) (seen now : List ℕ) (head : Head) (have : ℕ) (ended : Bool) (look : Look) → seen ≡ now → have ≡ length now
     → HeadIs kind seen head → look ≡ look_past head have ended → Looks kind now ended look
 looks_at kind seen now head have ended look same count is said =

@@ -1,4 +1,4 @@
--- What was said of the bytes so far stays said.
+-- A result for the bytes so far stays the same.
 use Rattle.std.proofs.Common.{◌≡◌, ◌≢◌, ℕ, ◌+◌, ◌≤◌, Bool, true, false, List, ◌++◌, length, Option, Some, None, refl, sym, ap, ◌∙◌, arith, inl, inr, length-append}
 use Rattle.std.specs.Prelude.{◌⊎◌, nat_lt, nat_le}
 use Rattle.std.proofs.lemmas.List.{take-append-le}
@@ -48,7 +48,7 @@ look_past_stays Unfinished have more ended h =
 look_past_stays (Refused refusal) have more ended h = refl
 look_past_stays (Whole frame) have more ended h = look_from_stays frame.start frame.length have more ended h
 
--- an unfinished head of which something is said fills the front
+-- if an unfinished head gives a final result, it fills the front
 full : (have : ℕ) → look_past Unfinished have false ≢ More → max_head ≤ have
 full have h =
     filled (nat_le max_head have) refl
@@ -64,7 +64,7 @@ same_front kind bytes more head long is =
     let same : front (bytes ++ more) ≡ front bytes = take-append-le max_head bytes more long in
     rw same is
 
--- one thing is said of a head, unless it is undecided
+-- a head has one result, unless it is undecided
 head_alone : (kind : HttpKind) (bytes : List ℕ) (head other : Head) → HeadIs kind bytes head → HeadIs kind bytes other → (other ≡ head) ⊎ IsUndecided kind bytes
 head_alone kind bytes head other is also =
     elim is [

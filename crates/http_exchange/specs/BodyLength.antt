@@ -1,4 +1,4 @@
--- What the fields of a head say of the length of the body.
+-- The length of the body, by the fields of a head.
 use Rattle.std.specs.Prelude.{ℕ, Bool, ◌&&◌, ◌==◌, if◌then◌else◌, List, [], ◌∷◌, map, filter, codes, Option, Some, None}
 use Rattle.std.specs.List.{list_all, list_any}
 use Rattle.std.specs.Char.{to_ascii_lowercase}
@@ -10,7 +10,7 @@ use Rattle.game_core.specs.Numerals.{are_digits}
 abbrev pub Header : Type 0
 Header = List ℕ × List ℕ
 
--- the name is this one, which is in small letters, in any ASCII case
+-- the name is this one in any ASCII case; it is given in small letters
 abbrev pub has_name : List ℕ → List ℕ → Bool
 has_name small name = bytes_eq (map to_ascii_lowercase name) small
 
@@ -24,7 +24,7 @@ content_length = codes "content-length"
 abbrev pub writes_number : ℕ → List ℕ → Bool
 writes_number n value = are_digits value && digits_value 10 value == n
 
--- nothing; that the body has so many bytes; or nothing that can be taken
+-- no length; a length in bytes; or fields that can't be accepted
 pub data BodyLength : Type 0 where
   unsaid : BodyLength
   said : ℕ → BodyLength
@@ -34,7 +34,7 @@ pub data BodyLength : Type 0 where
 abbrev pub lengths : List Header → List (List ℕ)
 lengths fields = map (λ (field : Header). field.1) (filter (λ (field : Header). has_name content_length field.0) fields)
 
--- Lengths agree where all are digits of the same number, whatever their leading zeros.
+-- Lengths agree if all are digits of the same number, whatever their leading zeros.
 abbrev pub agreed : List (List ℕ) → BodyLength
 agreed [] = unsaid
 agreed (value ∷ values) =

@@ -7,8 +7,8 @@ use Rattle.http_exchange.specs.WireFaults.{ReadStops, WriteStops}
 use Rattle.http_exchange.specs.declared.head.HttpKind.{HttpKind}
 use Rattle.http_exchange.specs.declared.wire_fault.WireFault.{WireFault}
 
--- What a stream gave, by the bytes that it had left before and those that it has left now: where it ended,
--- none.
+-- The bytes that a stream gave, by the bytes left before and the bytes left now. A stream that has ended
+-- has none left.
 pub record Gives (old new : Option (List ℕ)) (given : List ℕ) (ended : Bool) : Type 0 where
   pub consumed : Consumes old new given
   pub at_end : ended ≡ true → IsAtEnd new
@@ -17,7 +17,7 @@ pub record Gives (old new : Option (List ℕ)) (given : List ℕ) (ended : Bool)
 abbrev pub WritesText : {S : Type 0} → (S → Option (List ℕ)) → Counting S → Counting S → List ℕ → Type 0
 WritesText contents old new text = (old.faults ≤ new.faults) × Appends (contents old.stream) (contents new.stream) text
 
--- a part of this text was written, and then came the fault
+-- a part of this text was written before the fault
 abbrev pub BreaksOff : {S : Type 0} → (S → Option (List ℕ)) → Counting S → Counting S → List ℕ → WireFault → Type 0
 BreaksOff contents old new text fault =
     (taken : ℕ) × (taken < length text) × Appends (contents old.stream) (contents new.stream) (take taken text)
@@ -29,7 +29,7 @@ TakesBody kind remaining old new body =
     (given : List ℕ) × (ended : Bool) × Gives (remaining old.stream) (remaining new.stream) given ended
     × Carried kind given ended body
 
--- the bytes that the stream gave are why there is this fault
+-- the bytes that the stream gave explain this fault
 abbrev pub TakesNone : {S : Type 0} → HttpKind → (S → Option (List ℕ)) → Counting S → Counting S → WireFault → Type 0
 TakesNone kind remaining old new fault =
     (given : List ℕ) × (ended : Bool) × Gives (remaining old.stream) (remaining new.stream) given ended

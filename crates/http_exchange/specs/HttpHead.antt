@@ -11,29 +11,28 @@ use Rattle.http_exchange.specs.declared.head.Head.TheVariants.{Unfinished, Whole
 use Rattle.http_exchange.specs.declared.wire_fault.FrameFault.{FrameFault}
 use Rattle.http_exchange.specs.declared.wire_fault.FrameFault.TheVariants.{BadHead, BadStatus, BadLength, TooLong}
 
--- how many bytes a head takes at most
+-- the limit of bytes in a head
 abbrev pub max_head : ℕ
 max_head = 16384
 
--- how many fields a head has at most
+-- the limit of fields in a head
 abbrev pub max_fields : ℕ
 max_fields = 64
 
--- how many bytes a body has at most
+-- the limit of bytes in a body
 abbrev pub max_body : HttpKind → ℕ
 max_body Reply = 65536
 max_body Request = 2097152
 
--- the status of a reply that is taken
+-- the status that a reply must have
 abbrev pub good_status : ℕ
 good_status = 200
 
--- the method of a request that is taken
+-- the method that a request must have
 abbrev pub post : List ℕ
 post = codes "POST"
 
--- What is read of a head: how many bytes it takes, why its first line is refused, if it is, and its
--- fields.
+-- The parts of a head: its size in bytes, why its first line is refused, if it is, and its fields.
 pub record Parts : Type 0 where
   pub size : ℕ
   pub refusal : Option FrameFault
@@ -62,20 +61,20 @@ Reads Request bytes parts rest = (head : RequestHead) × ReadsRequest bytes head
 abbrev pub HasNoHead : HttpKind → List ℕ → Type 0
 HasNoHead kind bytes = (parts : Parts) (rest : List ℕ) → ¬ (Reads kind bytes parts rest)
 
--- some bytes can follow that make the bytes a head; or they end inside a request's target, which is
--- judged at its end
+-- Some further bytes make the bytes a head, or the bytes end inside a request's target, which is
+-- judged at its end.
 abbrev pub MayBecomeHead : HttpKind → List ℕ → Type 0
 MayBecomeHead Reply bytes = MayBecomeResponse bytes
 MayBecomeHead Request bytes = MayBecomeRequest bytes
 
--- whatever bytes follow, no head with few enough fields stands at the front
+-- no head with few enough fields stands at the front, whatever bytes follow
 abbrev pub IsHopeless : HttpKind → List ℕ → Type 0
 IsHopeless kind bytes =
     (more : List ℕ) (parts : Parts) (rest : List ℕ) → Reads kind (bytes ++ more) parts rest
     → max_fields < length parts.fields
 
--- the body behind a head of this size, by what the fields say of its length: without one a reply's
--- body runs to the end of the stream
+-- The body after a head of this size, by the length that the fields give. Without a length, a reply's
+-- body runs to the end of the stream.
 abbrev pub framed_by : HttpKind → ℕ → BodyLength → Head
 framed_by kind size wrong = Refused BadLength
 framed_by kind size (said n) =
@@ -87,7 +86,7 @@ abbrev pub unless_refused : Option FrameFault → Head → Head
 unless_refused None head = head
 unless_refused (Some refusal) head = Refused refusal
 
--- what a whole head says: its first line is looked at first, then its fields
+-- what a whole head says: its first line is tested first, then its fields
 abbrev pub framed : HttpKind → Parts → Head
 framed kind parts = unless_refused parts.refusal (framed_by kind parts.size (body_length parts.fields))
 
@@ -95,8 +94,8 @@ framed kind parts = unless_refused parts.refusal (framed_by kind parts.size (bod
 abbrev pub front : List ℕ → List ℕ
 front bytes = take max_head bytes
 
--- What the bytes so far say of the head. The three cases exclude one another, but for bytes that begin
--- a head and are hopeless, of which only the refusal is said.
+-- What the bytes so far say of the head. The three cases exclude one another, with one exception:
+-- bytes that begin a head and are hopeless are only refused.
 abbrev pub HeadIs : HttpKind → List ℕ → Head → Type 0
 HeadIs kind bytes head =
     ((parts : Parts) × (rest : List ℕ) × Reads kind (front bytes) parts rest × (length parts.fields ≤ max_fields)

@@ -1,4 +1,4 @@
--- What each fault of reading or writing a message says.
+-- The meaning of each fault of reading or writing a message.
 use Rattle.std.specs.Prelude.{◌≡◌, ◌≢◌, ◌⊎◌, ℕ, ◌<◌, Bool, false, List, [], ⊤}
 use Rattle.std.specs.declared.io.ErrorKind.TheVariants.{Interrupted}
 use Rattle.game_core.specs.Counting.{Counting, CallsMade, last_count, max_stream_calls}
@@ -18,16 +18,16 @@ fault_of refusals.BadLength = BadLength
 fault_of refusals.TooLong = TooLong
 fault_of refusals.CutShort = CutShort
 
--- a failure was counted, but at the last count
+-- a failure was counted, unless the count was at its limit
 abbrev pub HasFailed : ℕ → ℕ → Type 0
 HasFailed old new = new < last_count → old < new
 
--- nothing was given yet, or what was given asks for more
+-- no bytes were given yet, or the given bytes ask for more
 abbrev pub WantsMore : HttpKind → List ℕ → Type 0
 WantsMore kind given = (given ≡ []) ⊎ Looks kind given false More
 
--- What a fault of reading says of the bytes given, of the stream's end and of its counts before and after:
--- each but the first three is that of a refusal.
+-- The meaning of a fault of reading, for the bytes given, the stream's end, and its counts before and
+-- after. Each fault but the first three is that of a refusal.
 abbrev pub ReadStops : {S : Type 0} → HttpKind → WireFault → List ℕ → Bool → Counting S → Counting S → Type 0
 ReadStops kind (ReadFault cause) given ended old new =
     (cause ≢ Interrupted) × (ended ≡ false) × WantsMore kind given × HasFailed old.faults new.faults
@@ -37,7 +37,7 @@ ReadStops kind Memory given ended old new = ⊤
 ReadStops kind fault given ended old new =
     (refusal : FrameFault) × (fault ≡ fault_of refusal) × Looks kind given ended (Refused refusal)
 
--- what a fault of writing says of the stream's counts before and after
+-- the meaning of a fault of writing, for the stream's counts before and after
 abbrev pub WriteStops : {S : Type 0} → WireFault → Counting S → Counting S → Type 0
 WriteStops WriteFault old new = HasFailed old.faults new.faults
 WriteStops TooManyReads old new = CallsMade max_stream_calls old.calls new.calls

@@ -1,4 +1,4 @@
-//! What the fields of a head say of the length of the body.
+//! The length of the body, by the fields of a head.
 ghost use Rattle.std.specs.Prelude.{◌≡◌, All, IsTrue, IfOk, IfSome, MatchResult, map, length};
 ghost use Rattle.std.specs.Char.{to_ascii_lowercase};
 ghost use Rattle.std.specs.Option.{option_copied};
@@ -16,7 +16,7 @@ const CONTENT_LENGTH: &[u8] = b"content-length";
 
 const TRANSFER_ENCODING: &[u8] = b"transfer-encoding";
 
-/// Whether a name is this one, which is in small letters, in any ASCII case.
+/// Whether a name is `small` in any ASCII case. `small` is in small letters.
 fn has_name(name: &[u8], small: &[u8]) -> bool
     requires { map to_ascii_lowercase small.now ≡ small.now }
     ensures { result ≡ has_name small.now name.now }
@@ -24,7 +24,7 @@ fn has_name(name: &[u8], small: &[u8]) -> bool
     name.eq_ignore_ascii_case(small)
 }
 
-/// Whether a value is digits, and of the same number as the one before it.
+/// Whether a value is digits, and writes the same number as the value before it, if there is one.
 fn agrees(before: Option<&[u8]>, value: &[u8]) -> bool
     requires { IfSome (option_copied before) (λ digits. IsTrue (are_digits digits)) }
     ensures { result ≡ agrees (option_copied before.entry) value.now }
@@ -35,7 +35,7 @@ fn agrees(before: Option<&[u8]>, value: &[u8]) -> bool
     }
 }
 
-/// The digits of the length that the fields agree on, none where no field gives one.
+/// The digits of the length that the fields agree on. `None` if no field gives one.
 pub(crate) fn said_length<'b>(
     buf: &'b [u8],
     headers: &[HeaderSpan],

@@ -13,17 +13,17 @@ use game_core::{Counted, Text};
 use std::alloc::Global;
 use std::io::{Read, Write};
 
-/// Sends a player a request with that body, and answers the body of the reply.
+/// Sends a player a request with that body, and returns the body of the reply.
 ///
-/// The player's name goes into the head as it is, so it may hold no line end. Whatever follows the
-/// body of the reply is ignored, and may have been read. What the stream took is not flushed.
+/// The player's name goes into the head as it is, so it may hold no line end. The bytes after the body of
+/// the reply are ignored, but may have been read. The stream is not flushed.
 pub fn exchange<S: Read + Write>(
     alloc: Global,
     stream: &mut Counted<S>,
     player: &[u8],
     body: &[u8],
 ) -> Result<Text, WireFault>
-    // Between writing and reading there is a state of the stream in which exactly the request was written.
+    // `sent` is the stream between writing and reading, when exactly the request was written.
     ensures carries { IfOk result (λ reply. (sent : Counting S)
         × WritesText S.contents stream.old sent (request_text player.now body.now)
         × TakesBody HttpKind.Reply S.remaining sent stream.new reply) }
@@ -39,8 +39,8 @@ pub fn exchange<S: Read + Write>(
     receive(alloc, stream, HttpKind::Reply)
 }
 
-/// Reads a request, and answers its body. Whatever follows the body is ignored, and may have been read.
-/// It writes nothing: all that it asks of the stream is to be read.
+/// Reads a request, and returns its body. The bytes after the body are ignored, but may have been read. It
+/// only reads the stream, and writes nothing.
 pub fn take_request<S: Read>(alloc: Global, stream: &mut Counted<S>) -> Result<Text, WireFault>
     ensures carries { IfOk result (λ body. TakesBody HttpKind.Request S.remaining stream.old stream.new body) }
     ensures fails { IfErr result (λ fault. TakesNone HttpKind.Request S.remaining stream.old stream.new fault) }
@@ -48,7 +48,7 @@ pub fn take_request<S: Read>(alloc: Global, stream: &mut Counted<S>) -> Result<T
     receive(alloc, stream, HttpKind::Request)
 }
 
-/// Writes the reply with that body. What the stream took is not flushed.
+/// Writes the reply with that body. The stream is not flushed.
 pub fn give_reply<S: Write>(
     alloc: Global,
     stream: &mut Counted<S>,

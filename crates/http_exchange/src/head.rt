@@ -1,4 +1,4 @@
-//! What the head of a message says of the body after it.
+//! The head of a message, and what it says of the body.
 ghost use Rattle.std.specs.Prelude.{◌≡◌, ◌<◌, ◌^◌, All, map, length};
 ghost use Rattle.httparse.specs.Spans.{IsHeaderWithin, header_bytes};
 ghost use Rattle.http_exchange.specs.BodyLength.{body_length};
@@ -11,46 +11,46 @@ use game_core::numeral::number_up_to;
 use httparse::Status;
 use httparse::spans::{EMPTY_HEADER_SPAN, HeaderSpan, parse_request, parse_response};
 
-/// Which message is read.
+/// The kind of message that is read.
 #[derive(Clone, Copy)]
 pub enum HttpKind {
     Reply,
     Request,
 }
 
-/// Where a body begins in the bytes, and how long it is, if the head says so. Else it runs to the end
-/// of the stream.
+/// Where a body begins in the bytes, and its length, if the head gives one. Without a length the body
+/// runs to the end of the stream.
 #[derive(Clone, Copy)]
 pub struct Frame {
     pub start: usize,
     pub length: Option<usize>,
 }
 
-/// What the bytes so far say of the head.
+/// What the bytes read so far say of the head.
 #[derive(Clone, Copy)]
 pub enum Head {
-    /// More bytes can make them a head.
+    /// More bytes may make them a head.
     Unfinished,
     Whole(Frame),
     Refused(FrameFault),
 }
 
-/// How many bytes a head takes at most.
+/// The limit of bytes in a head.
 pub(crate) const MAX_HEAD: usize = 16_384;
 
-/// How many fields a head has at most.
+/// The limit of fields in a head.
 const MAX_FIELDS: usize = 64;
 
-/// The status of a reply that is taken.
+/// The status that a reply must have.
 const GOOD_STATUS: u16 = 200;
 
-/// The method of a request that is taken.
+/// The method that a request must have.
 const POST: &[u8] = b"POST";
 
-/// How many bytes the body of a reply has at most.
+/// The limit of bytes in the body of a reply.
 pub(crate) const MAX_REPLY_BODY: usize = 65_536;
 
-/// How many bytes the body of a request has at most.
+/// The limit of bytes in the body of a request.
 const MAX_REQUEST_BODY: usize = 2_097_152;
 
 fn max_body(kind: HttpKind) -> usize
@@ -63,7 +63,7 @@ fn max_body(kind: HttpKind) -> usize
     }
 }
 
-/// What a head of this size says of the body behind it, by its fields.
+/// What the fields of a head of this size say of the body.
 fn framed(kind: HttpKind, size: usize, buf: &[u8], headers: &[HeaderSpan]) -> Head
     requires { All (IsHeaderWithin (length buf.now)) headers.now }
     ensures { result ≡ framed_by kind size (body_length (map (header_bytes buf.now) headers.now)) }
@@ -128,7 +128,7 @@ fn request_head(bytes: &[u8]) -> Head
     }
 }
 
-/// What the bytes so far say of the head.
+/// What the bytes read so far say of the head.
 fn head_at(kind: HttpKind, bytes: &[u8]) -> Head
     ensures { HeadIs kind bytes.now result }
 {
@@ -138,8 +138,8 @@ fn head_at(kind: HttpKind, bytes: &[u8]) -> Head
     }
 }
 
-/// What the bytes so far say of the head, where this was said of some prefix of them: only an unfinished
-/// head is looked at again.
+/// What the bytes so far say of the head, given what a prefix of them said. Only an unfinished head is
+/// parsed again.
 pub(crate) fn head_after(kind: HttpKind, before: Head, bytes: &[u8]) -> Head
     requires { IsKnown kind bytes.now before }
     ensures head { HeadIs kind bytes.now result }

@@ -1,27 +1,28 @@
-//! What holds of exchanges, whatever their bytes.
+//! Laws of exchanges, for any bytes.
 ghost use Rattle.http_exchange.specs.WireLaws.{LooksStay, FoundIsCarried, CarriedIsFound, CarriesOneAtMost, CarriedHasNoFault, ReplyIsCarried, RequestIsCarried};
 
-/// Once no more bytes are asked for, the same is said of all longer bytes, unless they are hopeless.
+/// A result that asks for no more bytes stays the same when more bytes come, unless the bytes are
+/// hopeless.
 pub fn looks_stay()
     ensures { LooksStay }
 {}
 
-/// A body that is found in the bytes is carried by them.
+/// If a body is found in the bytes, they carry it.
 pub fn found_is_carried()
     ensures { FoundIsCarried }
 {}
 
-/// Where the bytes carry a body, nothing else is said of them than where it stands.
+/// If the bytes carry a body, the only result is the place of that body.
 pub fn carried_is_found()
     ensures { CarriedIsFound }
 {}
 
-/// Bytes carry one body at most.
+/// Bytes carry at most one body.
 pub fn carries_one_at_most()
     ensures { CarriesOneAtMost }
 {}
 
-/// Where the bytes carry a body, no fault comes but want of memory.
+/// If the bytes carry a body, the only possible fault is out of memory.
 pub fn carried_has_no_fault<S>()
     ensures { CarriedHasNoFault S }
 {}

@@ -1,8 +1,8 @@
 //! HTTP exchanges, one message each, over any stream.
 //!
-//! A player is an HTTP server: `exchange` sends it a request and reads its reply; `take_request` and
-//! `give_reply` are a player's side. A body is taken only where it is whole, within the limits, and framed
-//! by one length or by the end of the stream; each other outcome has a name.
+//! A player is an HTTP server. `exchange` sends it a request and reads its reply; `take_request` and
+//! `give_reply` are the player's side. A body is accepted only if it is whole, within the limits, and
+//! framed by one length or by the end of the stream. Each other outcome has a name.
 //!
 //! Free functions take the allocator first.
 #![tactic(auto)]

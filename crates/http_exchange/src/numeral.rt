@@ -1,4 +1,4 @@
-//! Numbers in decimal digits, compared whatever their leading zeros.
+//! Comparison of numbers in decimal digits, whatever their leading zeros.
 ghost use Rattle.std.specs.Prelude.{◌≡◌, ◌≢◌, ◌==◌, IsTrue, slice_index};
 ghost use Rattle.std.specs.List.{list_all};
 ghost use Rattle.std.specs.Char.{is_ascii_digit};

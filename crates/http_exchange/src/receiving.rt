@@ -1,4 +1,4 @@
-//! The reading of a message, one read after another.
+//! How a message is read, by one read after another.
 ghost use Rattle.std.specs.Prelude.{◌≡◌, ◌<◌, ◌≤◌, List, ℕ, length, slice_range, IfOk, IfErr};
 ghost use Rattle.http_exchange.specs.Exchange.{TakesBody, TakesNone};
 ghost use Rattle.http_exchange.specs.Internal.Reads.{ReadsOnce, ReadOnceFails};
@@ -10,10 +10,10 @@ use game_core::{Counted, MAX_STREAM_CALLS, Text};
 use std::alloc::{AllocError, Global};
 use std::io::{ErrorKind, Read};
 
-/// How many bytes a read is given room for.
+/// The room for one read, in bytes.
 const READ_SIZE: usize = 4_096;
 
-/// One call of `read`. Whether the stream has ended is answered.
+/// Calls `read` once. Returns whether the stream has ended.
 fn read_once<S: Read>(
     stream: &mut Counted<S>,
     bytes: &mut Vec<u8>,
@@ -39,7 +39,7 @@ fn read_once<S: Read>(
     }
 }
 
-/// A copy of the part of the bytes that is the body.
+/// A copy of the body, which is a part of the bytes.
 fn body_of(alloc: Global, bytes: &[u8], start: usize, end: usize) -> Result<Text, AllocError>
     requires ordered { start ≤ end }
     requires within { end ≤ length bytes.now }
@@ -48,7 +48,7 @@ fn body_of(alloc: Global, bytes: &[u8], start: usize, end: usize) -> Result<Text
     Text::from_slice(alloc, &bytes[start..end])
 }
 
-/// Reads a message, and answers its body. What follows the body may have been read too.
+/// Reads a message, and returns its body. Bytes after the body may have been read too.
 pub(crate) fn receive<S: Read>(
     alloc: Global,
     stream: &mut Counted<S>,

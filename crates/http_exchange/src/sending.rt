@@ -1,4 +1,4 @@
-//! The writing of a message, one write after another.
+//! How a message is written, by one write after another.
 ghost use Rattle.std.specs.Prelude.{◌≡◌, ◌<◌, ◌≤◌, length, take, IfOk, OnOk, OnErr, IfErr, []};
 ghost use Rattle.std.specs.Io.KnownBytes.{Appends};
 ghost use Rattle.game_core.specs.Counting.{one_more};
@@ -9,8 +9,7 @@ use crate::wire_fault::WireFault;
 use game_core::{Counted, MAX_STREAM_CALLS};
 use std::io::{ErrorKind, Write};
 
-/// One call of `write`. How many bytes it took is answered, none where it was
-/// interrupted.
+/// Calls `write` once. Returns how many bytes it took: 0 if it was interrupted.
 fn write_once<S: Write>(stream: &mut Counted<S>, rest: &[u8]) -> Result<usize, WireFault>
     requires { 0 < length rest.now }
     ensures bound { IfOk result (λ taken. taken ≤ length rest.now) }

@@ -15,22 +15,22 @@ abbrev pub length_of : Option (List ℕ) → BodyLength
 length_of None = unsaid
 length_of (Some digits) = said (digits_value 10 digits)
 
--- the value is digits, and of the same number as the one before it
+-- the value is digits, and writes the same number as the value before it, if there is one
 abbrev pub agrees : Option (List ℕ) → List ℕ → Bool
 agrees None value = are_digits value
 agrees (Some before) value = writes_number (digits_value 10 before) value
 
--- nothing is known of the head, or this is what the bytes say of it
+-- nothing is known of the head yet, or this is what the bytes say of it
 abbrev pub IsKnown : HttpKind → List ℕ → Head → Type 0
 IsKnown kind bytes head = (head ≡ Unfinished) ⊎ HeadIs kind bytes head
 
--- a body behind the head begins within so many bytes
+-- a body after the head begins within this many bytes
 abbrev pub StartsWithin : ℕ → Head → Type 0
 StartsWithin have Unfinished = ⊤
 StartsWithin have (Refused refusal) = ⊤
 StartsWithin have (Whole frame) = frame.start ≤ have
 
--- a body that is found lies within so many bytes
+-- a body that is found lies within this many bytes
 abbrev pub BodyWithin : ℕ → Look → Type 0
 BodyWithin have looks.More = ⊤
 BodyWithin have (looks.Body start end) = (start ≤ end) × (end ≤ have)
