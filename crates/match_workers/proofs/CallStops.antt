@@ -16,7 +16,7 @@ use Rattle.match_workers.specs.AttendFaults.{attend_fault, next_fault}
 use Rattle.match_workers.specs.Attending.{CallStops, not_made, without_reply, at_reply, StopsAmid, at_the_last, at_a_call, for_memory}
 use Rattle.match_workers.proofs.Tellings.{same_telling, told_after}
 
--- what happened when a worker stopped amid these events, of which the last is some reply
+-- the events that happened when a worker stopped amid these events, with some reply as the last one
 pub record StopsIn (whole : Reply → List Event) (fault_at : Reply → Option AttendFault) (fault : AttendFault) (before after : Telling) : Type 0 where
   pub reply : Reply
   pub events : List Event
@@ -27,7 +27,7 @@ pub record StopsIn (whole : Reply → List Event) (fault_at : Reply → Option A
 abbrev pub then_calls : List Event → Call → Reply → List Event
 then_calls front call reply = front ++ makes call ∷ takes reply ∷ []
 
--- what is told after a call that went out without a reply, and after one with its reply
+-- what is shown after a call that went out without a reply, and after one with its reply
 told_call : (call : Call) (cs cs' : Option (List Call)) (rs rs' : Option (List Reply)) (ms : Option (List Handed))
     → cs' ≡ told_with cs (call ∷ []) → rs' ≡ rs → telling cs' rs' ms ≡ telling_with (telling cs rs ms) (makes call ∷ [])
 told_call call cs cs' rs rs' ms c r = same_telling _ _ _ _ _ _ c (r ∙ sym (told_with-nil rs)) (sym (told_with-nil ms))
@@ -73,7 +73,7 @@ stray_reply (Status status) not_due not_refused = refl
 stray_reply Aborting not_due not_refused = refl
 stray_reply (Refused reason) not_due not_refused = absurd (not_refused reason refl)
 
--- A call that went out in the place of an equal one: no reply came, or this one, which brings the fault.
+-- A call went out in place of an equal one: no reply came, or this reply, which brings the fault.
 pub stops_without_reply : (call call' : Call) (fault_at : Reply → Option AttendFault) (fault : AttendFault) (cause : AskFault) (cs cs' : Option (List Call)) (rs rs' : Option (List Reply))
     → call' ≡ call → fault ≡ attend_fault cause → (cs' ≡ cs) ⊎ (cs' ≡ told_with cs (call' ∷ [])) → rs' ≡ rs → CallStops call fault_at fault cs cs' rs rs'
 stops_without_reply call call' fault_at fault cause cs cs' rs rs' same is (inl none) r = without_reply cause is (inl none) r

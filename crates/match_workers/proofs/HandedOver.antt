@@ -1,4 +1,4 @@
--- A message that is handed over, with the call that gives its answer back.
+-- A message that is handed over, with the call that brings its answer to the desk.
 use Rattle.std.proofs.Common.{◌≡◌, ℕ, List, [], ◌∷◌, Option, None, Result, Ok, Err, OnOk, IfErr, refl, ap, sym, ◌∙◌}
 use Rattle.call_history.specs.Told.{told_with}
 use Rattle.call_history.proofs.Tellings.{told_with-nil}

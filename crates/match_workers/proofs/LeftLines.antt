@@ -1,4 +1,4 @@
--- The lines of a match's desk, as its workers leave them.
+-- The lines of a match's desk after its workers have ended.
 use Rattle.std.proofs.Common.{◌≡◌, ℕ, ◌+◌, ◌<◌, ◌≤◌, List, [], ◌∷◌, ◌++◌, length, map, Option, Some, option_map, Result, refl, ap, sym, subst, ◌∙◌, arith, rules, get_or, length-append}
 use Rattle.std.specs.Prelude.{slice_get, Contains, All}
 use Rattle.std.proofs.lemmas.List.{length-map}
@@ -28,7 +28,7 @@ use Rattle.match_workers.proofs.Places.{map_at}
 use Rattle.match_workers.proofs.SeatEnds.{same_ended}
 use Rattle.match_workers.proofs.Tellings.{same_telling}
 
--- one of a list is one of a longer list
+-- a member of a list is a member of a longer one
 pub contains_before : {X : Type 0} (xs ys : List X) (last x : X) → ys ≡ xs ++ last ∷ [] → Contains xs x → Contains ys x
 contains_before {X} xs ys last x is (k, within, at) =
     subst (λ zs. Contains zs x) (sym is) (k, omega (arith, within, length-append xs (last ∷ [])), before_last xs last k x within ∙ at)
@@ -36,7 +36,7 @@ contains_before {X} xs ys last x is (k, within, at) =
 pub contains_last : {X : Type 0} (xs ys : List X) (last : X) → ys ≡ xs ++ last ∷ [] → Contains ys last
 contains_last {X} xs ys last is = subst (λ zs. Contains zs last) (sym is) (length xs, omega (arith, length-append xs (last ∷ [])), at_last xs last (length xs) last refl)
 
--- what stands at a place
+-- the value at a place
 pub place_of : {X : Type 0} (xs : List X) (k : ℕ) → k < length xs → (x : X) × (slice_get xs k ≡ Some x)
 place_of [] k within = absurd (omega arith)
 place_of (x ∷ xs) k within = (get_or (x ∷ xs) k x, slice_get-get_or (x ∷ xs) k x within)
@@ -106,7 +106,7 @@ module _ {O : Type 0} {G : Ghosts O Call Reply} {P : Type 0} (w : Wire.Ghosts (R
   pub desk_ends : (ports' : List (Port Call Reply)) → SamePorts ports ports' → length ports ≡ length others + 1 → AreEndsOf ports' lines
   desk_ends ports' same count k end within = desk_line ports' same count k (get_or lines k end) (slice_get-get_or lines k end within)
 
-  -- each end of a worker is told with its line
+  -- each end of a worker is shown with its line
   left_line : (all : List (LineEnd O Call Reply G)) → ((end : LineEnd O Call Reply G) → Contains lines end → Contains all end) → (role : ℕ) (end : Result ℕ AttendFault)
       → slice_get (map (λ (a : Attended (RingWire O Call Reply G)). a.end) attended) role ≡ Some end
       → (line : LineEnd O Call Reply G) × Contains all line × IsLeftLine p.handed brief tries players role line end
@@ -155,7 +155,7 @@ module _ {O : Type 0} {G : Ghosts O Call Reply} {P : Type 0} (w : Wire.Ghosts (R
             (λ k e below. omega (arith, line_within k (get_or lines k e) (slice_get-get_or lines k e below), as_many)) (omega (arith, zeroth)));
       }
 
--- new lines stay new, whatever the desk serves
+-- new lines stay new while the desk serves
 module _ {O C R : Type 0} {G : Ghosts O C R} where
   pub seats_of_ports : (ports ports' : List (Port C R)) (others : List (RingLine O C R G)) → SamePorts ports ports' → length ports ≡ length others + 1 → AreSeatLines ports others → AreSeatLines ports' others
   seats_of_ports ports ports' others same count new role line at =

@@ -1,4 +1,4 @@
--- What the closed desk's history has of each line.
+-- Each line's part of the closed desk's history.
 use Rattle.std.proofs.Common.{◌≡◌, ◌==◌, ℕ, ◌+◌, ◌<◌, ◌≤◌, true, ⊎_elim, List, [], ◌∷◌, ◌++◌, length, map, All, Option, Some, Result, IsOk, refl, ap, sym, subst, ◌∙◌, arith, append_assoc, append-nil, length-append, get_or}
 use Rattle.std.specs.Prelude.{slice_get, Contains}
 use Rattle.std.specs.List.{filter}
@@ -70,7 +70,7 @@ module _ {O : Type 0} {G : Ghosts O Call Reply} where
       prefix_trans (Opened ∷ []) (taken_replies end.line) (replies_of (part 0 history)) (subst (λ l. IsPrefix l (taken_replies end.line)) taken finished.taken) (subst (λ n. IsPrefix (taken_replies end.line) (replies_of (part n history))) zeroth first) in
       one_entry (part 0 history) (open_call setup) Opened (part_lines 0 history) (sym posted ∙ sym finished.posted ∙ calls ∙ ap (λ n. calls_of (part n history)) zeroth) reply
 
-  -- what is known of each line is known of the one with this number
+  -- the property of each line holds for the one with this number
   some_line : (lines : List (LineEnd O Call Reply G)) (number : ℕ) (k : ℕ) → k < length lines → ((e : LineEnd O Call Reply G) → (get_or lines k e).line.number ≡ number)
       → (bound : ℕ) → All (λ e. e.line.number ≤ bound) lines → number ≤ bound
   some_line [] number k below is bound all = absurd (omega arith)

@@ -1,4 +1,4 @@
--- Lists of which something is known at each place.
+-- Lists with a known property at each place.
 use Rattle.std.proofs.Common.{◌≡◌, ℕ, zero, suc, ◌+◌, ◌<◌, List, [], ◌∷◌, ◌++◌, Some, length, map, drop, refl, subst, sym, ap, ◌∙◌, arith}
 use Rattle.std.specs.Prelude.{slice_get, slice_index_or}
 use Rattle.std.proofs.lemmas.Option.{slice_get_within, get_or_from_slice_get}
@@ -16,7 +16,7 @@ push_at Q (y ∷ ys) x each here (suc k) a is = push_at (λ n. Q (suc n)) ys x (
 pub EachAt-push : {A : Type 0} (Q : ℕ → A → Type 0) (xs xs' : List A) (x : A) → xs' ≡ xs ++ x ∷ [] → EachAt Q xs → Q (length xs) x → EachAt Q xs'
 EachAt-push Q xs xs' x more each here = subst (EachAt Q) (sym more) (push_at Q xs x each here)
 
--- the first of what is left behind n places stands at place n
+-- the first element after n places stands at place n
 pub record FirstOf {A : Type 0} (n : ℕ) (all : List A) (x : A) (rest : List A) : Type 0 where
   pub at : slice_get all n ≡ Some x
   pub left : rest ≡ drop (n + 1) all
@@ -34,13 +34,13 @@ first_of n all x rest e =
     let next : suc n ≡ n + 1 = omega arith in
     record { at = found.0; left = found.1 ∙ ap (λ m. drop m all) next; within = found.2 }
 
--- what stands at a place of a mapped list
+-- the value at a place of a mapped list
 pub map_at : {A B : Type 0} (f : A → B) (xs : List A) (k : ℕ) (b : B) → slice_get (map f xs) k ≡ Some b → (a : A) × (slice_get xs k ≡ Some a) × (f a ≡ b)
 map_at f [] k b is = absurd cc
 map_at f (x ∷ xs) zero b is = (x, refl, cc)
 map_at f (x ∷ xs) (suc k) b is = map_at f xs k b is
 
--- what stands behind the first of a list stands one place later in the list
+-- an element after the first of a list stands one place later in the list
 pub behind_first_at : {A : Type 0} (all rest : List A) → rest ≡ drop 1 all → (k : ℕ) (x : A) → slice_get rest k ≡ Some x → (k + 1 < length all) × (slice_index_or all (k + 1) x ≡ x)
 behind_first_at {A} all rest is k x at = at_behind all k x (subst (λ xs. slice_get xs k ≡ Some x) is at)
   where

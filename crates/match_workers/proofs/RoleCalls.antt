@@ -1,4 +1,4 @@
--- What a worker says over its line.
+-- The calls of a worker over its line.
 use Rattle.std.proofs.Common.{◌≡◌, ℕ, ◌+◌, List, [], ◌∷◌, ◌++◌, length, All, Option, None, Some, Result, Ok, Err, IsOk, unwrap_or, inl, inr, refl, ap, sym, ◌∙◌, subst, append_assoc, append-nil, length-append, arith}
 use Rattle.std.specs.List.{filter_map}
 use Rattle.std.proofs.lemmas.List.Concat.{flat_map-append}
@@ -51,7 +51,7 @@ module _ (brief : Brief) (role : ℕ) where
   front_calls : (xs ys : List Event) → AreRoleEvents (xs ++ ys) → AreRoleEvents xs
   front_calls xs ys all = all_front (IsRoleCall brief.id role) (filter_map call_in xs) (filter_map call_in ys) (subst (All (IsRoleCall brief.id role)) (filter_map-append call_in xs ys) all)
 
-  -- what happened of a step is its front
+  -- the events of a step that happened are a front of it
   amid_front : (whole : List Event) (last_fault : Option AttendFault) (fault : AttendFault) (events : List Event) → StopsAmid whole last_fault fault events → (others : List Event) × (events ++ others ≡ whole)
   amid_front whole last_fault fault events (at_the_last is all) = ([], append-nil events ∙ all)
   amid_front whole last_fault fault events (at_a_call cause front call reply others is part upto) =
@@ -78,7 +78,7 @@ module _ (brief : Brief) (role : ℕ) where
       → telling cs' (Some rs) ms' ≡ telling_with (telling cs (Some []) ms) events → rs ≡ filter_map reply_in events
   told_replies cs cs' rs ms ms' events told = ap (λ (t : Telling). unwrap_or t.replies []) told
 
-  -- it makes calls of its role alone
+  -- a worker makes only calls of its role
   pub role_calls : (tries : ℕ) (cs : List Call) (rs rs' : Option (List Reply)) (ms ms' : Option (List Handed)) (end : Result ℕ AttendFault)
       → HasEnded brief role tries (telling (Some []) rs ms) (telling (Some cs) rs' ms') end → All (IsRoleCall brief.id role) cs
   role_calls tries cs rs rs' ms ms' (Ok messages) ended =

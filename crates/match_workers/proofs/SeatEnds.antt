@@ -1,4 +1,4 @@
--- Seats and what they leave, place by place.
+-- Seats and their results, place by place.
 use Rattle.std.proofs.Common.{◌≡◌, ℕ, List, Some, Result, Ok, Err, IfOk, IfErr}
 use Rattle.std.specs.Prelude.{slice_get}
 use Rattle.call_history.specs.declared.wire.Wire as Wire
@@ -30,7 +30,7 @@ pub record IsPromisedFor {P W : Type 0} (tries : ℕ) (seats : List (Seat P W)) 
   pub player : promise.player.value ≡ seat.player
   pub wire : promise.wire.value ≡ seat.wire
 
--- what keeps it is what attending that seat left
+-- a result that keeps the promise is that of attending the seat
 pub left_at : {P W : Type 0} (w : Wire.Ghosts W Call Reply) (p : Player.Ghosts P) (tries : ℕ) (seats : List (Seat P W)) (k : ℕ) (promise : LeftBy P W) (left : Attended W) → IsPromisedFor tries seats k promise
     → IsLeftBy w p promise.brief.now promise.role promise.tries promise.player.value promise.wire.value left → IsLeftAt w p tries seats k left
 left_at w p tries seats k promise left it by = record {

@@ -1,4 +1,4 @@
--- What is told grows event by event.
+-- What is shown grows event by event.
 use Rattle.std.proofs.Common.{◌≡◌, List, [], ◌++◌, Option, ap, sym, ◌∙◌}
 use Rattle.std.specs.List.{filter_map}
 use Rattle.std.proofs.lemmas.List.Elements.{filter_map-append}
@@ -14,7 +14,7 @@ pub same_telling : (calls calls' : Option (List Call)) (replies replies' : Optio
 same_telling calls calls' replies replies' messages messages' c r m =
     ap (λ x. telling x replies messages) c ∙ ap (λ x. telling calls' x messages) r ∙ ap (λ x. telling calls' replies' x) m
 
--- no event came
+-- no events
 pub telling_with-nil : (t : Telling) → telling_with t [] ≡ t
 telling_with-nil t = same_telling _ t.calls _ t.replies _ t.messages (told_with-nil t.calls) (told_with-nil t.replies) (told_with-nil t.messages)
 
@@ -22,11 +22,11 @@ told_parts : {A : Type 0} (part : Event → Option A) (told : Option (List A)) (
     → told_with (told_with told (filter_map part xs)) (filter_map part ys) ≡ told_with told (filter_map part (xs ++ ys))
 told_parts part told xs ys = told_with-append told (filter_map part xs) (filter_map part ys) ∙ sym (ap (told_with told) (filter_map-append part xs ys))
 
--- some events came, and then others
+-- some events, and then others
 pub telling_with-append : (t : Telling) (xs ys : List Event) → telling_with (telling_with t xs) ys ≡ telling_with t (xs ++ ys)
 telling_with-append t xs ys =
     same_telling _ _ _ _ _ _ (told_parts call_in t.calls xs ys) (told_parts reply_in t.replies xs ys) (told_parts message_in t.messages xs ys)
 
--- these events came after others
+-- these events, after others
 pub told_after : (before now after : Telling) (xs ys : List Event) → now ≡ telling_with before xs → after ≡ telling_with now ys → after ≡ telling_with before (xs ++ ys)
 told_after before now after xs ys first then = then ∙ ap (λ t. telling_with t ys) first ∙ telling_with-append before xs ys

@@ -24,7 +24,7 @@ use Rattle.match_workers.specs.Attending.{events_of_all, Attends, StopsAmid, at_
 use Rattle.match_workers.proofs.Tellings.{telling_with-nil, told_after}
 use Rattle.match_workers.proofs.CallStops.{stops_in_call, told_reply}
 
--- the worker is still at it after so many tries, and has handed so many messages over
+-- the worker still goes on after this many tries, and has handed this many messages over
 pub record Goes (brief : Brief) (role : ℕ) (tried : ℕ) (before now : Telling) (messages : ℕ) : Type 0 where
   pub steps : List Step
   pub go_on : All (λ step. goes_on step ≡ true) steps
@@ -39,7 +39,7 @@ events_of_all-push : (brief : Brief) (role : ℕ) (steps : List Step) (last : St
 events_of_all-push brief role steps last =
     flat_map-append (events_of brief role) steps (last ∷ []) ∙ ap (λ events. events_of_all brief role steps ++ events) (append-nil (events_of brief role last))
 
--- one step more is told
+-- one more step is shown
 told_step : (brief : Brief) (role : ℕ) (before now next : Telling) (steps : List Step) (last : Step) → now ≡ telling_with before (events_of_all brief role steps) → next ≡ telling_with now (events_of brief role last)
     → next ≡ telling_with before (events_of_all brief role (steps ++ last ∷ []))
 told_step brief role before now next steps last told more =
@@ -61,7 +61,7 @@ goes-more brief role tried before now next messages more last goes on told count
       ∙ sym (ap (λ events. length (filter_map message_in events)) (events_of_all-push brief role goes.steps last));
 }
 
--- what is told once the worker has asked what is due
+-- what is shown once the worker has asked what is due
 told_due : (brief : Brief) (role : ℕ) (due due' : Due) (cs cs' : Option (List Call)) (rs rs' : Option (List Reply)) (ms : Option (List Handed))
     → due ≡ due' → cs' ≡ told_with cs (Next brief.id role ∷ []) → rs' ≡ told_with rs (IsDue due ∷ []) → telling cs' rs' ms ≡ telling_with (telling cs rs ms) (asking brief role (IsDue due'))
 told_due brief role due due' cs cs' rs rs' ms is c r = told_reply (Next brief.id role) (IsDue due') cs cs' rs rs' ms c (r ∙ ap (λ x. told_with rs (IsDue x ∷ [])) is)
@@ -97,7 +97,7 @@ attends-over brief role tried tries due before cs cs' rs rs' ms messages goes wi
   count = goes.count;
 }
 
--- it stops in a step
+-- the worker stops in a step
 pub stops-in : (brief : Brief) (role tried tries : ℕ) (before now next : Telling) (messages : ℕ) (step : Step) (fault : AttendFault) (events : List Event) → Goes brief role tried before now messages → tried < tries
     → StopsAmid (events_of brief role step) (fault_after step) fault events → next ≡ telling_with now events → StopsEarly brief role tries before next fault
 stops-in brief role tried tries before now next messages step fault events goes within stops told = record {
@@ -127,14 +127,14 @@ stops_behind front whole last_fault fault events (at_a_call cause before call re
 stops_behind front whole last_fault fault events (for_memory next others is part) =
     for_memory next others is (append_assoc front events (next ∷ others) ∙ ap (λ xs. front ++ xs) part)
 
--- it stops as it asks what is due
+-- the worker stops as it asks what is due
 pub stops-asking : (brief : Brief) (role tried tries : ℕ) (before : Telling) (cs cs' : Option (List Call)) (rs rs' : Option (List Reply)) (ms : Option (List Handed)) (messages : ℕ) (fault : AttendFault)
     → Goes brief role tried before (telling cs rs ms) messages → tried < tries → CallStops (Next brief.id role) next_fault fault cs cs' rs rs' → StopsEarly brief role tries before (telling cs' rs' ms) fault
 stops-asking brief role tried tries before cs cs' rs rs' ms messages fault goes within stops =
     let s = stops_in_call (Next brief.id role) next_fault fault cs cs' rs rs' ms [] (telling cs rs ms) (sym (telling_with-nil (telling cs rs ms))) stops in
     stops-in brief role tried tries before (telling cs rs ms) (telling cs' rs' ms) messages (finds_no_due s.reply) fault s.events goes within s.stops s.told
 
--- it stops as it hands a message over
+-- the worker stops as it hands a message over
 pub stops-handing : (brief : Brief) (role tried tries round : ℕ) (owed : Owed) (due : Due) (before : Telling) (cs cs' : Option (List Call)) (rs rs' : Option (List Reply)) (ms : Option (List Handed)) (next : Telling) (messages : ℕ) (fault : AttendFault)
     → Goes brief role tried before (telling cs rs ms) messages → tried < tries → due ≡ Owe round owed → cs' ≡ told_with cs (Next brief.id role ∷ []) → rs' ≡ told_with rs (IsDue due ∷ [])
     → ((answer : Answer) × (reply : Reply) × (events : List Event) × StopsAmid (handing_over brief role round owed answer reply) (answer_fault reply) fault events
@@ -146,7 +146,7 @@ stops-handing brief role tried tries round owed due before cs cs' rs rs' ms next
     (stops_behind asked (handing_over brief role round owed answer reply) (answer_fault reply) fault events stops)
     (told_after (telling cs rs ms) (telling cs' rs' ms) next asked events (told_due brief role due (Owe round owed) cs cs' rs rs' ms is c r) told)
 
--- a player that tells its messages has as many more as were counted
+-- a player that shows its messages has as many more as were counted
 pub messages_told : (brief : Brief) (role tries : ℕ) (cs cs' : Option (List Call)) (rs rs' : Option (List Reply)) (old new : List Handed) (messages : ℕ)
     → Attends brief role tries (telling cs rs (Some old)) (telling cs' rs' (Some new)) messages → length new ≡ length old + messages
 messages_told brief role tries cs cs' rs rs' old new messages attends =

@@ -8,21 +8,21 @@ use Rattle.match_desk.specs.declared.call.Refusal.TheVariants.{Over, Stale, Twic
 use Rattle.match_workers.specs.declared.attend_fault.AttendFault.{AttendFault}
 use Rattle.match_workers.specs.declared.attend_fault.AttendFault.TheVariants.{Refused as StopsRefused, Stalled as StopsStalled, Full as StopsFull, Memory as StopsMemory}
 
--- the fault of a worker at the fault of its wire
+-- the fault of a worker for a fault of its wire
 abbrev pub attend_fault : AskFault → AttendFault
 attend_fault Full = StopsFull
 attend_fault Memory = StopsMemory
 attend_fault Stalled = StopsStalled
 
--- the fault at which a worker stops when `Next` gets this reply: none where the reply says what is due, the reason of a refusal, and
--- `Stalled` at a reply that `Next` never gets
+-- The fault at which a worker stops when `Next` gets this reply: none if the reply says what is due, the reason if it refuses, and
+-- `Stalled` if `Next` never gets it.
 abbrev pub next_fault : Reply → Option AttendFault
 next_fault (Due due) = None
 next_fault (Refused reason) = Some (StopsRefused reason)
 next_fault _ = Some StopsStalled
 
--- the fault at which a worker stops when its player's answer gets this reply: none where it is taken, or comes too late, again or
--- after the end
+-- The fault at which a worker stops when its player's answer gets this reply: none if the answer is taken, or is late, repeated or
+-- after the end.
 abbrev pub answer_fault : Reply → Option AttendFault
 answer_fault Taken = None
 answer_fault (Refused (Stale round)) = None

@@ -1,4 +1,4 @@
--- What it is to attend a role of a match.
+-- How a role of a match is attended.
 use Rattle.std.specs.Prelude.{◌≡◌, ℕ, ◌<◌, true, List, [], ◌∷◌, ◌++◌, length, All, Option, Some, ◌⊎◌}
 use Rattle.std.specs.List.{flat_map, filter_map}
 use Rattle.call_history.specs.Told.{told_with}
@@ -16,8 +16,8 @@ use Rattle.match_workers.specs.Steps.{Step, finds_the_end, events_of, goes_on, f
 abbrev pub events_of_all : Brief → ℕ → List Step → List Event
 events_of_all brief role steps = flat_map (events_of brief role) steps
 
--- The worker attended the role to the end of the match, in at most so many tries: some steps after each of which it goes on, and the
--- one that finds the end. It handed over so many messages.
+-- The worker attended the role to the end of the match, in at most this many tries: some steps after which it goes on, and the step
+-- that finds the end. It handed over this many messages.
 pub record Attends (brief : Brief) (role tries : ℕ) (before after : Telling) (messages : ℕ) : Type 0 where
   pub steps : List Step
   pub go_on : All (λ step. goes_on step ≡ true) steps
@@ -25,26 +25,26 @@ pub record Attends (brief : Brief) (role tries : ℕ) (before after : Telling) (
   pub told : after ≡ telling_with before (events_of_all brief role (steps ++ finds_the_end ∷ []))
   pub count : messages ≡ length (filter_map message_in (events_of_all brief role steps))
 
--- Of these events, those that happened when the worker stopped at a fault.
+-- The events that happened, among these, when the worker stopped at a fault.
 pub data StopsAmid (whole : List Event) (last_fault : Option AttendFault) (fault : AttendFault) (events : List Event) : Type 0 where
   -- all of them: the last reply brings the fault
   at_the_last : last_fault ≡ Some fault → events ≡ whole → StopsAmid whole last_fault fault events
-  -- those before a call that gets no reply, and that went out or did not
+  -- the events before a call that gets no reply; the call went out or did not
   at_a_call : (cause : AskFault) (front : List Event) (call : Call) (reply : Reply) (others : List Event)
       → fault ≡ attend_fault cause → front ++ makes call ∷ takes reply ∷ others ≡ whole
       → (events ≡ front) ⊎ (events ≡ front ++ makes call ∷ []) → StopsAmid whole last_fault fault events
-  -- those before one for which memory is wanting
+  -- the events before one for which memory ran out
   for_memory : (next : Event) (others : List Event) → fault ≡ Memory → events ++ next ∷ others ≡ whole → StopsAmid whole last_fault fault events
 
 -- Why the worker stopped after these steps, with these events of a further one.
 pub data StopsAfter (brief : Brief) (role tries : ℕ) (steps : List Step) (fault : AttendFault) (events : List Event) : Type 0 where
   -- its tries are used up
   out_of_tries : length steps ≡ tries → fault ≡ Stalled → events ≡ [] → StopsAfter brief role tries steps fault events
-  -- a step of which the end may be missing
+  -- a step, whose end may be missing
   in_a_step : length steps < tries → (step : Step) → StopsAmid (events_of brief role step) (fault_after step) fault events
       → StopsAfter brief role tries steps fault events
 
--- The worker stopped early: some whole steps after each of which it goes on, and of one more step a part, or none.
+-- The worker stopped early: some whole steps after which it goes on, and a part of one more step, or none.
 pub record StopsEarly (brief : Brief) (role tries : ℕ) (before after : Telling) (fault : AttendFault) : Type 0 where
   pub steps : List Step
   pub go_on : All (λ step. goes_on step ≡ true) steps
@@ -52,8 +52,8 @@ pub record StopsEarly (brief : Brief) (role tries : ℕ) (before after : Telling
   pub told : after ≡ telling_with before (events_of_all brief role steps ++ events)
   pub why : StopsAfter brief role tries steps fault events
 
--- A call stopped the worker with this fault: there is no memory for it, or no reply came, and it went out or did not, or the reply
--- brings the fault.
+-- A call stopped the worker with this fault. Either there is no memory for the call; or no reply came, and the call went out or did
+-- not; or the reply brings the fault.
 pub data CallStops (call : Call) (fault_at : Reply → Option AttendFault) (fault : AttendFault) (calls calls' : Option (List Call)) (replies replies' : Option (List Reply)) : Type 0 where
   not_made : fault ≡ Memory → calls' ≡ calls → replies' ≡ replies → CallStops call fault_at fault calls calls' replies replies'
   without_reply : (cause : AskFault) → fault ≡ attend_fault cause → (calls' ≡ calls) ⊎ (calls' ≡ told_with calls (call ∷ [])) → replies' ≡ replies

@@ -1,4 +1,4 @@
--- What the players of a match are told of it.
+-- The data of a match that its players get.
 use Rattle.std.specs.Prelude.{◌≡◌, ℕ, ◌<◌, List, [], length, slice_index_or}
 use Rattle.game_core.specs.Play.{Rules}
 use Rattle.kif_text.specs.declared.expr.Expr.{Expr}

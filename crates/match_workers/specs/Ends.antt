@@ -12,16 +12,16 @@ use Rattle.match_workers.specs.Events.{Telling, telling}
 use Rattle.match_workers.specs.Attending.{Attends, StopsEarly}
 use Rattle.match_workers.specs.LineParts.{line_of}
 
--- with the end of the match, after so many messages, or with a fault
+-- with the end of the match, after this many messages, or with a fault
 abbrev pub HasEnded : Brief → ℕ → ℕ → Telling → Telling → Result ℕ AttendFault → Type 0
 HasEnded brief role tries before after (Ok messages) = Attends brief role tries before after messages
 HasEnded brief role tries before after (Err fault) = StopsEarly brief role tries before after fault
 
--- The role was attended with this player over a line that has these entries of the history, and this was the end of it.
+-- The role was attended with this player over a line that has these entries of the history, and this was its end.
 pub record IsEndOf {P : Type 0} (handed : P → Option (List Handed)) (brief : Brief) (tries role : ℕ) (player : P) (entries : List (Entry Call Reply)) (end : Result ℕ AttendFault) : Type 0 where
   -- the player, as it was left
   pub left : P
-  -- the replies that came to the worker: the first of those to its calls, and all of them where it found the end of the match
+  -- the replies that came to the worker: the first replies to its calls, and all of them if it found the end of the match
   pub replies : List Reply
   pub are_first : IsPrefix replies (replies_of entries)
   pub are_all : IsOk end → replies ≡ replies_of entries
@@ -29,7 +29,7 @@ pub record IsEndOf {P : Type 0} (handed : P → Option (List Handed)) (brief : B
       (telling (Some []) (Some []) (handed player))
       (telling (Some (calls_of entries)) (Some replies) (handed left)) end
 
--- Each role was attended with the player at its place over the role's line, and the ends stand in the order of the roles.
+-- Each role was attended with the player at its place, over the role's line. The ends stand in the order of the roles.
 pub record AreEndsOf {P : Type 0} (handed : P → Option (List Handed)) (brief : Brief) (tries : ℕ) (players : List P) (history : List (Entry Call Reply)) (ends : List (Result ℕ AttendFault)) : Type 0 where
   pub one_each : length players ≡ length brief.roles → length ends ≡ length brief.roles
   pub each : (role : ℕ) (end : Result ℕ AttendFault) → slice_get ends role ≡ Some end

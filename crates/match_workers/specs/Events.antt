@@ -1,4 +1,4 @@
--- What happens between a worker, its wire and its player, and what a wire and a player tell of it.
+-- The events between a worker, its wire and its player, and what a wire and a player show of them.
 use Rattle.std.specs.Prelude.{List, Option, Some, None}
 use Rattle.std.specs.List.{filter_map}
 use Rattle.call_history.specs.Told.{told_with}
@@ -6,7 +6,7 @@ use Rattle.match_desk.specs.declared.call.Call.{Call}
 use Rattle.match_desk.specs.declared.call.Reply.{Reply}
 use Rattle.match_workers.specs.Handing.{Handed}
 
--- it makes a call over the wire, takes a reply, or hands a message to the player, who answers it
+-- the worker makes a call over the wire, takes a reply, or hands a message to the player, who answers it
 pub data Event : Type 0 where
   makes : (call : Call) → Event
   takes : (reply : Reply) → Event
@@ -27,8 +27,8 @@ message_in (makes call) = None
 message_in (takes reply) = None
 message_in (hands message) = Some message
 
--- what a wire and a player tell: the calls that went out, the replies that came and the messages that were handed over, each in
--- their order, and none of those that are not told
+-- What a wire and a player show: the calls that went out, the replies that came and the messages that were handed over, each in
+-- their order. Any of these may be hidden.
 pub record Telling : Type 0 where
   pub calls : Option (List Call)
   pub replies : Option (List Reply)
@@ -37,7 +37,7 @@ pub record Telling : Type 0 where
 abbrev pub telling : Option (List Call) → Option (List Reply) → Option (List Handed) → Telling
 telling calls replies messages = record { calls = calls; replies = replies; messages = messages }
 
--- what they tell once these events came to it, one after another
+-- what they show after these events
 abbrev pub telling_with : Telling → List Event → Telling
 telling_with t events = record {
   calls = told_with t.calls (filter_map call_in events);

@@ -11,7 +11,7 @@ pub record Handed : Type 0 where
   pub body : List ℕ
   pub answer : Answer
 
--- the seconds that a player has for a message: the start clock for START, the play clock for each other
+-- the seconds that a player has for a message: the start clock for START, the play clock for any other
 abbrev pub seconds_for : Brief → Owed → ℕ
 seconds_for brief Start = brief.start
 seconds_for brief (Play moves) = brief.play

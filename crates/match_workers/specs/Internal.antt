@@ -1,4 +1,4 @@
--- What private functions alone cite: nothing in it needs to be believed.
+-- What only private functions cite: nothing in it needs to be believed.
 pub mod LeftLines
 pub mod Seats
 pub mod Promises

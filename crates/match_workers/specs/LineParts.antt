@@ -1,4 +1,5 @@
--- What the lines of a match's desk said: the first opened the match, and each other asked and answered for one role.
+-- The calls of the lines of a match's desk: the first line opened the match, and each other asked and answered for
+-- one role.
 use Rattle.std.specs.Prelude.{◌≡◌, ℕ, ◌+◌, ◌<◌, List, [], ◌∷◌, All, length, slice_index_or}
 use Rattle.call_history.specs.declared.journal.Entry.{Entry}
 use Rattle.call_history.specs.Parts.{part, calls_of}
@@ -20,17 +21,17 @@ OpensMatch setup history = part 0 history ≡ record { line = 0; call = open_cal
 abbrev pub line_of : ℕ → ℕ
 line_of role = role + 1
 
--- it asks what is due to this role of the match with this id, or gives the role's answer back
+-- the call asks what is due to this role of the match with this id, or brings the role's answer
 abbrev pub IsRoleCall : List ℕ → ℕ → Call → Type 0
 IsRoleCall id role (Next match asked) = (match ≡ id) × (asked ≡ role)
 IsRoleCall id role (Submit match answering round text) = (match ≡ id) × (answering ≡ role)
 IsRoleCall id role (Miss match answering round broken) = (match ≡ id) × (answering ≡ role)
 IsRoleCall id role _ = ⊥
 
--- over the line of each role went that role's calls alone
+-- only a role's own calls went over its line
 abbrev pub AreRoleLines : List ℕ → ℕ → List (Entry Call Reply) → Type 0
 AreRoleLines id roles history = (role : ℕ) → role < roles → All (IsRoleCall id role) (calls_of (part (line_of role) history))
 
--- how many entries each line has
+-- the number of entries of each line
 abbrev pub AreCounts : List (Entry Call Reply) → List ℕ → Type 0
 AreCounts history made_by_line = (line : ℕ) → line < length made_by_line → slice_index_or made_by_line line 0 ≡ length (part line history)

@@ -15,17 +15,17 @@ use Rattle.match_workers.specs.Handing.{seconds_for}
 use Rattle.match_workers.specs.Events.{Event, makes, takes, hands}
 use Rattle.match_workers.specs.AttendFaults.{next_fault, answer_fault}
 
--- the call that gives a player's answer back for a round
+-- the call that brings a player's answer to the desk for a round
 abbrev pub answer_call : List ℕ → ℕ → ℕ → Answer → Call
 answer_call id role round (Text text) = Submit id role round text
 answer_call id role round Silent = Miss id role round false
 answer_call id role round Broken = Miss id role round true
 
--- it asks what is due to the role, and this reply comes
+-- the worker asks what is due to the role, and this reply comes
 abbrev pub asking : Brief → ℕ → Reply → List Event
 asking brief role reply = makes (Next brief.id role) ∷ takes reply ∷ []
 
--- the owed message is handed over once, and the answer to it goes back in one call for that round, which gets this reply
+-- the owed message is handed over once, and one call brings the answer to the desk for that round and gets this reply
 abbrev pub handing_over : Brief → ℕ → ℕ → Owed → Answer → Reply → List Event
 handing_over brief role round owed answer reply =
     hands (record { seconds = seconds_for brief owed; body = message_text brief role owed; answer = answer })

@@ -11,17 +11,17 @@ use thiserror::Error;
 /// Why a role is no longer attended, before its match is over.
 #[derive(Clone, Copy, Debug, PartialEq, Eq, Error)]
 pub enum AttendFault {
-    /// The desk refused a call, for this reason. An answer that came too late, that was given before,
-    /// or that no one waits for any more is no such refusal: it is passed by.
+    /// The desk refused a call, for this reason. A worker skips the refusal of an answer that is
+    /// late, repeated or after the end.
     #[error("refused: {0}")]
     Refused(Refusal),
-    /// The tries are used up, the wire gave up, or a reply came that its call never gets.
+    /// The tries are used up, the wire gave up, or the reply is one that its call never gets.
     #[error("no reply came")]
     Stalled,
     /// The desk's history is full.
     #[error("the history is full")]
     Full,
-    /// Want of memory.
+    /// Out of memory.
     #[error("want of memory")]
     Memory,
 }

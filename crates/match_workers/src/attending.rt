@@ -40,7 +40,7 @@ fn next_due<W: Wire<Call = Call, Reply = Reply>>(
     }
 }
 
-/// The call that gives an answer back for a round.
+/// The call that brings a player's answer to the desk for a round.
 fn answer_call(
     alloc: Global,
     brief: &Brief,
@@ -73,8 +73,8 @@ fn answer_call(
     })
 }
 
-/// The fault of a worker at this reply to its player's answer. An answer that came too late, or again, or
-/// after the end has no effect, and is passed by.
+/// The fault of a worker at this reply to its player's answer. The refusal of an answer that is late,
+/// repeated or after the end has no effect, and is skipped.
 fn answer_fault(reply: &Reply) -> Option<AttendFault>
     ensures { result ≡ answer_fault reply.now }
 {
@@ -85,7 +85,7 @@ fn answer_fault(reply: &Reply) -> Option<AttendFault>
     }
 }
 
-/// Gives an answer back.
+/// Brings a player's answer to the desk.
 fn give_back<W: Wire<Call = Call, Reply = Reply>>(
     alloc: Global,
     wire: &mut W,
@@ -119,7 +119,7 @@ fn seconds_for(brief: &Brief, owed: &Owed) -> u32
     }
 }
 
-/// Hands the owed message to the player, and gives the answer back.
+/// Hands the owed message to the player, and brings the answer to the desk.
 fn hand_over<W: Wire<Call = Call, Reply = Reply>, P: Player>(
     alloc: Global,
     wire: &mut W,
@@ -145,12 +145,13 @@ fn hand_over<W: Wire<Call = Call, Reply = Reply>, P: Player>(
     give_back(alloc, wire, brief, role, round, answer)
 }
 
-/// Attends one role of a match to its end: asks what is due to the role, hands each owed message to the
-/// player once and gives the answer back for its round. It answers how many messages it handed over.
+/// Attends one role of a match to its end. It asks what is due to the role, hands each owed message to
+/// the player once, and brings the answer to the desk for its round. Returns how many messages it handed
+/// over.
 ///
-/// Each time that it asks is a try, also where the player has to rest; after the last try it stops
-/// with `Stalled`. What came before a fault stays: the messages that were handed over, the calls that
-/// were made and the player's rests.
+/// Each question is a try, also if the player has to rest. After the last try it stops with `Stalled`.
+/// What happened before a fault stays: the messages that were handed over, the calls that were made and
+/// the player's rests.
 pub fn attend<W: Wire<Call = Call, Reply = Reply>, P: Player>(
     alloc: Global,
     wire: &mut W,

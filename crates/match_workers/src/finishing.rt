@@ -17,17 +17,17 @@ use game_core::Game;
 use match_desk::Manager;
 use std::alloc::AllocError;
 
-/// How many calls, and how many replies, of a line may wait.
+/// The limit of calls, and of replies, that wait on a line.
 pub const ROOM: u64 = 2;
 
-/// The lines of roles that were attended, and how attending each role ended, both in the order of the roles.
+/// The lines of the attended roles, and how attending each role ended, both in the order of the roles.
 #[derive(Drop)]
 pub struct Finished<O: Object> {
     pub lines: Vec<LineEnd<O>>,
     pub ends: Vec<Result<u64, AttendFault>>,
 }
 
-/// Ends the posting of a line, and takes what it still holds.
+/// Ends the posting of a line, and takes the replies that still wait.
 pub fn finish_line<O: Object>(line: RingLine<O>) -> LineEnd<O>
     ensures { IsFinishedOf line result }
 {
@@ -38,7 +38,7 @@ pub fn finish_line<O: Object>(line: RingLine<O>) -> LineEnd<O>
     end
 }
 
-/// Finishes the lines of roles that were attended, and puts them and the ends into lists that are empty and have room for them.
+/// Finishes the lines of the attended roles. The lines and the ends go into lists that are empty and have room for them.
 pub fn finish_all<O: Object + Drop>(
     attended: Vec<Attended<RingWire<O>>>,
     room: Finished<O>,
@@ -59,7 +59,7 @@ pub fn finish_all<O: Object + Drop>(
     Ok(Finished { lines, ends })
 }
 
-/// Serves what still waits on the desk of a match, and closes it.
+/// Serves the calls that still wait at the desk of a match, and closes it.
 pub fn close_match<G: Game + Drop>(
     desk: RingDesk<Manager<G>>,
     lines: Vec<LineEnd<Manager<G>>>,
@@ -72,7 +72,7 @@ pub fn close_match<G: Game + Drop>(
     ensures replies { IfOk result (λ c. All (TakesPrefix c.history.items) lines.items) }
     ensures made { IfOk result (λ c. AreCounts c.history.items c.made_by_line.items) }
 
-    // What still waits is served before: else a full history would be told as a desk that is unclosed.
+    // The waiting calls are served first, or else a full history would be reported as an unclosed desk.
     ensures unclosed { IfErr result (λ fault. fault ≡ IsUnclosed → WasIdle desk lines.items) }
 {
     let mut desk = desk;

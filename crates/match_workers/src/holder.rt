@@ -1,4 +1,4 @@
-//! A desk over rings, in the thread that serves it.
+//! A desk over rings, with the thread that serves it.
 ghost use Rattle.std.specs.Prelude.{◌≡◌, ◌∷◌, ◌++◌, [], IfOk, OnOk, IsErrOf, MatchResult, length};
 ghost use Rattle.call_history.specs.Faults.{ask_fault};
 ghost use Rattle.call_history.specs.RingLines.{posted_calls, taken_replies, SameLine, SamePorts};
@@ -7,17 +7,17 @@ use call_history::{AskFault, Bell, CallFault, DeskFault, Object, Pause, RingDesk
 use std::sync::Wait;
 use std::time::Duration;
 
-/// The longest sleep of a desk's thread, in milliseconds: after so long a call that could not be made is tried again.
+/// The longest sleep of a desk's thread, in milliseconds. Then a call that could not be made is tried again.
 const LONGEST_SLEEP: u64 = 1_000;
 
-/// A desk over rings, and the line of it that its own thread has.
+/// A desk over rings, and the line of its own thread.
 #[derive(Drop)]
 pub struct DeskHolder<O: Object> {
     pub desk: RingDesk<O>,
     pub line: RingLine<O>,
 }
 
-/// Makes a call over the line of the desk's own thread. A call that the desk can't make is kept by it.
+/// Makes a call over the line of the desk's own thread. If the desk can't make the call, it keeps it.
 pub fn ask_own<O: Object>(holder: &mut DeskHolder<O>, call: O::Call) -> Result<O::Reply, AskFault>
     ensures line { SameLine holder.old.line holder.new.line }
     ensures ports { SamePorts holder.old.desk.ports holder.new.desk.ports }
@@ -29,7 +29,7 @@ pub fn ask_own<O: Object>(holder: &mut DeskHolder<O>, call: O::Call) -> Result<O
     if holder.line.post(call).is_err() {
         return Err(AskFault::Stalled);
     }
-    // One round serves the first line, whatever stops it at a later one.
+    // The first line is served in one round, even if the round stops at a later line.
     let served = holder.desk.round();
     match holder.line.take() {
         Some(reply) => Ok(reply),
@@ -47,8 +47,8 @@ fn fault_of(served: Result<u64, DeskFault>) -> AskFault
     }
 }
 
-/// Serves the lines until so many workers have ended. A call that can't be made is tried again, round by round; but over a full
-/// history no call can be made any more, and the workers are told so.
+/// Serves the lines until `workers` workers have ended. A call that can't be made is tried again, round by round. If the
+/// history is full, no call can be made any more, and the bell says so to the workers.
 pub fn serve_until<O: Object, R: Wait>(rt: &R, desk: &mut RingDesk<O>, bell: &Bell, workers: u64)
     ensures ports { SamePorts desk.old.ports desk.new.ports }
     ensures opening { O.opening desk.new.journal.object ≡ O.opening desk.old.journal.object }

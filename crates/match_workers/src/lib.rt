@@ -1,7 +1,7 @@
-//! Matches between players: each role of a match has a player, and is attended in a thread of its own.
+//! Matches between players: each role of a match has a player, and a thread of its own attends it.
 //!
-//! `attend` takes what is due to a role from a wire, hands it to the role's player and gives the answer back;
-//! `referee` does so for a whole match, and leaves the closed desk with the match's history.
+//! `attend` asks over a wire what is due to a role, hands it to the role's player and returns the answer to
+//! the desk. `referee` does so for a whole match, and returns the closed desk with the match's history.
 #![tactic(auto)]
 
 mod attend_fault;

@@ -33,7 +33,7 @@ use std::sync::{Arc, Wait};
 use std::thread::Threads;
 use thiserror::Error;
 
-/// How many calls a worker's wire tries to post, or replies to take, before it gives up.
+/// A worker's wire gives up after this many tries to post a call and take its reply.
 const TURNS: u64 = 1_000_000_000;
 
 /// Why a match was not refereed to a closed desk.
@@ -45,10 +45,10 @@ pub enum RefereeFault {
     /// The desk did not close.
     #[error("the desk did not close")]
     Unclosed,
-    /// The desk's history was full: before the match was opened, or at the closing, while calls still waited.
+    /// The desk's history was full before the match was opened, or at the closing, while calls still waited.
     #[error("the history is full")]
     Full,
-    /// Want of memory, or of a thread.
+    /// Out of memory, or a thread can't be made.
     #[error("want of memory")]
     Memory,
 }
@@ -90,17 +90,17 @@ impl From<DeskFault> for RefereeFault {
     }
 }
 
-/// What is left of a refereed match.
+/// The result of a refereed match.
 #[derive(Drop)]
 pub struct Refereed<G: Game> {
     /// The desk's history, and its manager with the one match.
     pub closed: Closed<Manager<G>>,
-    /// How attending each role ended, in the order of the roles: with the number of messages that its player was handed, or
-    /// with a fault.
+    /// How attending each role ended, in the order of the roles: with the number of messages that its player was handed, or with a
+    /// fault.
     pub ends: Vec<Result<u64, AttendFault>>,
 }
 
-/// What a match is played by, beside its game and its setup.
+/// The data for playing a match, beside its game and its setup.
 #[derive(Drop)]
 struct Plan<P> {
     brief: Brief,
@@ -108,7 +108,7 @@ struct Plan<P> {
     tries: u64,
 }
 
-/// A match that is over: its desk, the ends of all lines, and how attending each role ended.
+/// A match that is over: its desk, all lines, which post no more, and how attending each role ended.
 #[derive(Drop)]
 struct Played<O: Object> {
     desk: RingDesk<O>,
@@ -127,7 +127,7 @@ fn role_names<G: Game>(alloc: Global, game: &G) -> Result<Texts, AllocError>
     Ok(Texts { items })
 }
 
-/// What the players are told of the match.
+/// The data of the match that its players get.
 fn brief_of<G: Game>(
     alloc: Global,
     game: &G,
@@ -146,7 +146,7 @@ fn brief_of<G: Game>(
     })
 }
 
-/// A desk of this one game, with a line for the calling thread, which holds the desk, and one for each role.
+/// A desk of this one game. It has a line for the calling thread, which holds the desk, and one for each role.
 fn open_desk<G: Game + Drop>(
     alloc: Global,
     game: G,
@@ -169,7 +169,7 @@ fn open_desk<G: Game + Drop>(
     Ok((DeskHolder { desk, line }, lines))
 }
 
-/// Opens the match, which is of the desk's one game.
+/// Opens a match of the desk's one game.
 fn open_match<G: Game + Drop>(
     holder: &mut DeskHolder<Manager<G>>,
     setup: Setup,
@@ -202,7 +202,7 @@ fn open_match<G: Game + Drop>(
     }
 }
 
-/// A wire over each line of a desk, which rings this bell.
+/// A wire over each line of a desk. The wires ring this bell.
 fn wires_over<O: Object + Drop>(
     alloc: Global,
     lines: Vec<RingLine<O>>,
@@ -217,7 +217,8 @@ fn wires_over<O: Object + Drop>(
     Ok(wires)
 }
 
-/// Attends the roles of a match, each over its line of the desk, while the calling thread serves the desk. Then no line posts any more.
+/// Attends each role of a match over its line of the desk, while the calling thread serves the desk. After that, no line posts any
+/// more.
 fn attend_match<G, P, R>(
     rt: &R,
     alloc: Global,
@@ -247,7 +248,7 @@ where
         players,
         tries,
     } = plan;
-    // The lists that are filled at the end have their room before the first thread starts.
+    // The lists that are filled at the end get their room before the first thread starts.
     let count = others.len();
     let room = Finished {
         lines: Vec::with_capacity(alloc, count + 1)?,
@@ -263,14 +264,17 @@ where
     Ok(Played { desk, lines, ends })
 }
 
-/// Referees a match of the game between these players, one for each name in the setup, to its end.
+/// Referees a match of the game between these players to its end. There is one player for each name in the setup.
 ///
-/// A desk of this one game is opened, with a line for the calling thread and one for each role. The calling thread opens the
-/// match, and each role is attended in a thread of its own, for so many tries at most, with these rules in START, while the calling
-/// thread serves the desk. Then the desk is closed. What it leaves is known as of any closed desk of matches: the history, replayed call by call on a manager of one
-/// thread from the games without a match, gives every kept reply and the manager as it stands, and holds as many calls as the
-/// lines made; each match is lawful, its recorded moves were legal, and the history took exactly one answer for each of them, of
-/// which the move and its error are the judgement. Of each player it is known what it was told, and how attending it ended.
+/// A desk of this one game is opened, with a line for the calling thread and one for each role. The calling thread opens the match
+/// and serves the desk, while each role is attended in a thread of its own, in at most `tries` tries. START carries these rules.
+/// Then the desk is closed.
+///
+/// The result is that of any closed desk of matches. Its history replays: made again call by call on one thread, by a manager of
+/// the same game without a match, it gives every kept reply and the manager as it stands. It holds as many calls as the lines
+/// made. Each match is lawful, and its recorded moves were legal. For each recorded move of a role that the earlier turns do not
+/// retire, the history took exactly one answer, and the move and its error are the judgement of that answer. For each player, it
+/// is known which messages it was handed, and how attending it ended.
 pub fn referee<G, P, R>(
     rt: &R,
     alloc: Global,
@@ -290,17 +294,17 @@ where
 
     ensures headline { IfOk result (λ r. HasHeadline G.rules ((G.rules game).roles + 1) r.closed.object r.closed.history.items r.closed.made_by_line.items) }
 
-    // The history begins at the game handed in without a match, and its first line opened the match with the setup handed in.
+    // The history begins at the given game without a match, and its first line opened the match with the given setup.
     ensures game { IfOk result (λ r. opening r.closed.object ≡ record { games = game ∷ []; matches = [] }) }
     ensures first_line { IfOk result (λ r. OpensMatch setup r.closed.history.items) }
 
-    // Each other line is a role's, and made that role's calls alone.
+    // Each other line is a role's, and made only that role's calls.
     ensures role_lines { IfOk result (λ r. AreRoleLines setup.id (G.rules game).roles r.closed.history.items) }
     ensures counts { IfOk result (λ r. AreCounts r.closed.history.items r.closed.made_by_line.items) }
 
     ensures one_end_each { IfOk result (λ r. length r.ends.items ≡ (G.rules game).roles) }
 
-    // Each player was told of this match, and attended as the role at its place, over the role's line.
+    // Each player got this match's data, and was attended as the role at its place, over the role's line.
     ensures ends { IfOk result (λ r. (told : Told) × IsBriefOf (G.rules game) setup rules.items told × AreEndsOf P.handed told tries players.items r.closed.history.items r.ends.items) }
 {
     let brief = brief_of(alloc, &game, &setup, rules)?;

@@ -1,4 +1,4 @@
-//! A seat: a role of a match that is to be attended.
+//! A seat: a role of a match that will be attended.
 ghost use Rattle.std.specs.Prelude.{◌<◌, length};
 
 use crate::attend_fault::AttendFault;
@@ -14,7 +14,7 @@ pub struct Seat<'a, P, W> {
     ghost is_role: { role < length brief.now.roles },
 }
 
-/// What attending a role leaves.
+/// The result of attending a role.
 #[derive(Drop)]
 pub struct Attended<W> {
     pub wire: W,

@@ -20,14 +20,14 @@ use std::sync::Wait;
 use std::thread;
 use std::thread::{Promise, PromisedHandle, Threads};
 
-/// What seats leave that were all attended, each in its place, beside the desk that served them.
+/// The result of `attend_all`: the desk, and one result for each seat in order.
 #[derive(Drop)]
 pub struct Attendance<O: Object, W> {
     pub holder: DeskHolder<O>,
     pub attended: Vec<Attended<W>>,
 }
 
-/// What the thread of a seat promises of its result.
+/// The promise that a seat's thread gives of its result.
 #[derive(Drop)]
 struct LeftBy<'a, P, W> {
     brief: &'a Brief,
@@ -43,14 +43,14 @@ impl<'a, P: Player, W: Wire<Call = Call, Reply = Reply>> Promise<Attended<W>> fo
     ghost kept_by = { λ p left. IsLeftBy W.Wire P.Player p.brief.now p.role p.tries p.player.value p.wire.value left };
 }
 
-/// A role of a match that nobody attends.
+/// A role of a match without a thread that attends it.
 #[derive(Clone, Copy)]
 struct Unattended<'a> {
     brief: &'a Brief,
     role: usize,
 }
 
-/// A seat for each role of the match: the roles, the wires and the players are taken in their order.
+/// A seat for each role of the match. The roles, the wires and the players are taken in their order.
 pub fn seat_players<'a, P: Drop, W: Drop>(
     alloc: Global,
     brief: &'a Brief,
@@ -79,7 +79,7 @@ pub fn seat_players<'a, P: Drop, W: Drop>(
     Ok(seats)
 }
 
-/// Attends a role over its wire, and then counts itself as ended.
+/// Attends a role over its wire, and then signals its end.
 fn attend_seat<P: Player + Drop, W: Wire<Call = Call, Reply = Reply>>(
     alloc: Global,
     brief: &Brief,
@@ -117,8 +117,8 @@ fn roles_of<'a, P, W>(
     Ok(roles)
 }
 
-/// Aborts the matches of these roles, and misses the roles' answers: so the matches end, and with them the work of those who
-/// attend their other roles.
+/// Aborts the matches of these roles, and reports that the roles have no answer. So the matches end, and with them the work of the
+/// threads that attend the other roles.
 fn abort_without<O: Object<Call = Call, Reply = Reply>>(
     alloc: Global,
     holder: &mut DeskHolder<O>,
@@ -147,7 +147,7 @@ fn abort_without<O: Object<Call = Call, Reply = Reply>>(
     Ok(())
 }
 
-/// Joins the threads of seats, and puts what they leave into this list, which is empty and has room for it.
+/// Joins the threads of seats. Their results go into `attended`, which is empty and has room for them.
 fn join_seats<'a, P: Player, W: Wire<Call = Call, Reply = Reply> + Drop, R: Threads>(
     rt: &R,
     handles: Vec<PromisedHandle<Attended<W>, LeftBy<'a, P, W>>>,
@@ -164,11 +164,11 @@ fn join_seats<'a, P: Player, W: Wire<Call = Call, Reply = Reply> + Drop, R: Thre
     Ok(attended)
 }
 
-/// Attends each seat in a thread of its own, for so many tries at most, while the calling thread serves the desk: the seats' wires
-/// ring this bell. What the seats leave stands in their order.
+/// Attends each seat in a thread of its own, in at most `tries` tries, while the calling thread serves the desk. The seats' wires
+/// ring this bell. The results stand in the order of the seats.
 ///
-/// Where a thread can't be made no further one starts, and the matches of the seats that are left are aborted over the holder's
-/// line: a match waits for all its roles. Once those that run have ended, the answer is want of memory.
+/// If a thread can't be made, no further one starts. A match waits for all its roles, so the matches of the remaining seats are
+/// aborted over the holder's line. Once the running threads have ended, the result is out of memory.
 pub fn attend_all<O, W, P, R>(
     rt: &R,
     alloc: Global,

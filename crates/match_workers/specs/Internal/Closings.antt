@@ -10,7 +10,7 @@ use Rattle.call_history.specs.RingClosing.{SameEnds, IsCauseOf}
 use Rattle.call_history.specs.Rounds.{RingDeskValue, IsIdle}
 
 module _ {O C R : Type 0} {G : Ghosts O C R} where
-  -- The last rounds left each line of the desk idle, and it was not closed all the same, for this cause.
+  -- The last rounds left each line of the desk idle, but the desk was still not closed, for this cause.
   pub record WasIdle (desk : RingDeskValue O C R) (ends : List (LineEnd O C R G)) : Type 0 where
     pub last : RingDeskValue O C R
     pub ports : SamePorts desk.ports last.ports

@@ -1,4 +1,4 @@
--- The lines of a match's desk, as its workers leave them.
+-- The lines of a match's desk after its workers have ended.
 use Rattle.std.specs.Prelude.{◌≡◌, ℕ, ◌≤◌, List, [], length, Option, Some, Result, slice_get, Contains, All}
 use mathlib.Core.List.{IsPrefix}
 use Rattle.call_history.specs.declared.object.Object.{Ghosts}
@@ -34,7 +34,7 @@ module _ {O C R : Type 0} {G : Ghosts O C R} where
   abbrev pub IsFinishedAt : List (RingLine O C R G) → ℕ → LineEnd O C R G → Type 0
   IsFinishedAt lines k end = (line : RingLine O C R G) × (slice_get lines k ≡ Some line) × IsFinishedOf line end
 
-  -- so it is place by place
+  -- the same for each place
   pub record AreFinishedOf (lines : List (RingLine O C R G)) (ends : List (LineEnd O C R G)) : Type 0 where
     pub one_each : length ends ≡ length lines
     pub each : (k : ℕ) (end : LineEnd O C R G) → slice_get ends k ≡ Some end → IsFinishedAt lines k end
@@ -53,10 +53,10 @@ module _ {O : Type 0} {G : Ghosts O Call Reply} {P : Type 0} (handed : P → Opt
         (telling (Some []) (Some []) (handed player))
         (telling (Some (posted_calls line.line)) (Some replies) (handed left)) end
 
-  -- each role was, over the line of one of these ends
+  -- each role was attended, over the line of one of these ends
   pub record AreLeftLines (lines : List (LineEnd O Call Reply G)) (ends : List (Result ℕ AttendFault)) : Type 0 where
     pub one_each : length players ≡ length brief.roles → length ends ≡ length brief.roles
     pub each : (role : ℕ) (end : Result ℕ AttendFault) → slice_get ends role ≡ Some end
         → (line : LineEnd O Call Reply G) × Contains lines line × IsLeftLine role line end
-    -- no line is of a role that was not attended
+    -- no line belongs to a role that was not attended
     pub within : All (λ line. line.line.number ≤ length ends) lines

@@ -1,4 +1,4 @@
--- What the threads of seats promise.
+-- The promises of the seats' threads.
 use Rattle.std.specs.Prelude.{◌≡◌, ℕ, List, Some, slice_get}
 use Rattle.std.specs.declared.thread.PromisedHandle.{PromisedHandle}
 use Rattle.call_history.specs.declared.wire.Wire as Wire
@@ -9,7 +9,7 @@ use Rattle.match_workers.specs.declared.seat.Attended.{Attended}
 use Rattle.match_workers.specs.declared.seats.LeftBy.{LeftBy}
 use Rattle.match_workers.specs.Internal.Seats.{IsLeftBy}
 
--- what the thread at this place left keeps the promise that it was started with
+-- the result of the thread at this place keeps the promise that it was started with
 pub record IsKept {P W : Type 0} (w : Wire.Ghosts W Call Reply) (p : Player.Ghosts P) (handles : List (PromisedHandle (Attended W) (LeftBy P W))) (k : ℕ) (left : Attended W) : Type 0 where
   pub handle : PromisedHandle (Attended W) (LeftBy P W)
   pub is_handle : slice_get handles k ≡ Some handle

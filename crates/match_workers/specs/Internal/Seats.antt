@@ -1,4 +1,4 @@
--- Seats, and what attending them leaves.
+-- Seats, and the results of attending them.
 use Rattle.std.specs.Prelude.{◌≡◌, ℕ, List, length, Some, slice_get}
 use Rattle.call_history.specs.declared.wire.Wire as Wire
 use Rattle.match_desk.specs.declared.call.Call.{Call}
@@ -23,7 +23,8 @@ pub record AreSeatsOf {P W : Type 0} (brief : Brief) (players : List P) (wires :
   pub each : (role : ℕ) (seat : Seat P W) → slice_get seats role ≡ Some seat → IsSeatOf brief players wires role seat
 
 module _ {P W : Type 0} (w : Wire.Ghosts W Call Reply) (p : Player.Ghosts P) where
-  -- What attending a role leaves, with this player and over this wire: a wire of the same line, and how it ended.
+  -- The result of attending a role with this player and over this wire: a wire of the same line, and how it
+  -- ended.
   pub record IsLeftBy (brief : Brief) (role tries : ℕ) (player : P) (wire : W) (left : Attended W) : Type 0 where
     pub line : w.same_line wire left.wire
     -- the player, as it was left
@@ -32,7 +33,7 @@ module _ {P W : Type 0} (w : Wire.Ghosts W Call Reply) (p : Player.Ghosts P) whe
         (telling (w.calls wire) (w.replies wire) (p.handed player))
         (telling (w.calls left.wire) (w.replies left.wire) (p.handed player_left)) left.end
 
-  -- it is what attending the seat at this place left
+  -- it is the result of attending the seat at this place
   pub record IsLeftAt (tries : ℕ) (seats : List (Seat P W)) (k : ℕ) (left : Attended W) : Type 0 where
     pub seat : Seat P W
     pub is_seat : slice_get seats k ≡ Some seat

@@ -11,7 +11,7 @@ use Rattle.match_workers.specs.RefereeFaults.{referee_fault}
 use Rattle.match_workers.specs.declared.refereeing.RefereeFault.TheVariants.{Unclosed}
 use Rattle.match_workers.proofs.finishing.close_match.Goals as goal
 
--- a fault of the last rounds is told as what it is
+-- a fault of the last rounds is reported as what it is
 never_unclosed : (cause : CallFault) → referee_fault (ask_fault cause) ≡ Unclosed → ⊥
 never_unclosed Full is = cc
 never_unclosed Memory is = cc

@@ -4,7 +4,7 @@ use Rattle.match_workers.specs.Internal.LeftLines.{IsFinishedAt}
 use Rattle.match_workers.proofs.Places.{EachAt}
 use Rattle.match_workers.proofs.finishing.finish_all.Given as goal
 
--- what is still to come, behind what has come
+-- the elements that have come, and then those still to come
 abbrev pub invariant-loop-wire : goal.invariant-loop-wire
 invariant-loop-wire g l = record {
   rest : into_iter_items l.wire-iterator ≡ drop (length l.lines.items) l.fn.attended.items;
