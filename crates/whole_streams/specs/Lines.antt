@@ -1,4 +1,4 @@
--- Taking an input line by line. Of what was read, the bytes that are at hand are those of no line yet.
+-- Reading an input line by line. The bytes at hand were read, but belong to no line yet.
 use Rattle.std.specs.Prelude.{◌≡◌, ◌≢◌, ℕ, ◌<◌, ◌≤◌, Bool, true, false, List, [], ◌∷◌, ◌++◌, length, All, Option}
 use Rattle.std.specs.Io.KnownBytes.{IsAtEnd}
 use Rattle.std.specs.Str.Lines.{strip_carriage_return}
@@ -11,11 +11,12 @@ use Rattle.whole_streams.specs.declared.whole.InputFault.TheVariants.{ReadFault,
 abbrev pub HasNoLineFeed : List ℕ → Type 0
 HasNoLineFeed bytes = All (λ b. b ≢ line_feed) bytes
 
--- these bytes begin with this line, without its line feed and one carriage return before that, and that is left behind it
+-- these bytes begin with this line, without its line feed and one carriage return before that; `left` is the rest after it
 abbrev pub BeginsWithLine : List ℕ → List ℕ → List ℕ → Type 0
 BeginsWithLine bytes line left = (whole : List ℕ) × (bytes ≡ whole ++ line_feed ∷ left) × HasNoLineFeed whole × (line ≡ strip_carriage_return whole)
 
--- What comes next of an input of which these bytes are at hand, and what is at hand behind it. Only a last line may have no line feed, and it is taken as it is.
+-- The next part of an input with these bytes at hand, and the bytes at hand after it. Only a last line may have no line feed, and
+-- it is kept as it is.
 abbrev pub IsNextLine : Option (List ℕ) → List ℕ → NextLine → List ℕ → Type 0
 IsNextLine remaining bytes (Ended line) left = BeginsWithLine bytes line.items left
 IsNextLine remaining bytes (Last line) left = (0 < length bytes) × (line.items ≡ bytes) × HasNoLineFeed bytes × (left ≡ []) × IsAtEnd remaining
@@ -32,12 +33,13 @@ IsEnd bytes (Ended line) = ⊥
 IsEnd bytes (Last line) = (line.items ≡ bytes) × (0 < length bytes)
 IsEnd bytes Nothing = bytes ≡ []
 
--- Of the bytes at hand this piece belongs to the line that is read, and that is left. Where the line ends, its line feed is passed by; else all bytes are of it.
+-- This piece of the bytes at hand belongs to the line that is read, and `left` is the rest. If the line ends, its line feed is
+-- skipped; otherwise all bytes belong to the line.
 abbrev pub IsPiece : List ℕ → Bool → List ℕ → List ℕ → Type 0
 IsPiece bytes true piece left = bytes ≡ piece ++ line_feed ∷ left
 IsPiece bytes false piece left = (bytes ≡ piece) × (left ≡ [])
 
--- why a line is not continued to this length
+-- why a line does not go on to this length
 abbrev pub StopsLine : ℕ → InputFault → ℕ → Type 0
 StopsLine most ReadFault count = ⊥
 StopsLine most TooLong count = most < count

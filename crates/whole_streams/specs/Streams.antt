@@ -1,14 +1,14 @@
--- What reading a whole input and writing a whole output do to the streams.
+-- The effect on the streams of reading a whole input and writing a whole output.
 use Rattle.std.specs.Prelude.{◌≡◌, ℕ, ◌<◌, ◌≤◌, ◌⊎◌, List, length}
 use Rattle.game_core.specs.Counting.{Counting, CallsMade, max_stream_calls, one_more}
 use Rattle.whole_streams.specs.declared.whole.InputFault.{InputFault}
 use Rattle.whole_streams.specs.declared.whole.InputFault.TheVariants.{ReadFault, TooLong, Memory}
 
--- The last read failed; or as many reads as there may be were made, and each gave a byte at least.
+-- The last read failed; or the limit of reads was reached, and each read gave at least one byte.
 abbrev pub StopsReading : {R : Type 0} → ℕ → Counting R → Counting R → Type 0
 StopsReading given old new = (new.faults ≡ one_more old.faults) ⊎ (CallsMade max_stream_calls old.calls new.calls × (max_stream_calls ≤ given) × (new.faults ≡ old.faults))
 
--- What a fault says of the bytes given before it, where an input has at most this many, and of the reader before and after.
+-- The meaning of a fault, for the bytes given before it, the limit of bytes, and the reader before and after.
 abbrev pub InputFails : {R : Type 0} → ℕ → InputFault → List ℕ → Counting R → Counting R → Type 0
 InputFails most ReadFault given old new = (length given ≤ most) × StopsReading (length given) old new
 InputFails most TooLong given old new = (most < length given) × (new.faults ≡ old.faults)

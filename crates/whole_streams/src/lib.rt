@@ -1,5 +1,5 @@
-//! Whole inputs and whole outputs over streams that count their calls and faults: `read_to_end`, `write_all`, and text that is
-//! formatted to a stream piece by piece.
+//! Whole inputs and whole outputs over streams that count their calls and faults: `read_to_end`, `write_all`, input line by
+//! line, and text that is formatted to a stream piece by piece.
 #![tactic(auto)]
 
 mod lines;

@@ -1,4 +1,4 @@
-//! Taking an input line by line, with one line in memory at a time.
+//! Reading an input line by line, with one line in memory at a time.
 ghost use Rattle.std.specs.Prelude.{◌≡◌, ◌≢◌, ◌<◌, ◌≤◌, ◌+◌, ◌++◌, ◌∷◌, [], ℕ, List, length, take, drop, slice_index, IfOk, OnOk, OnErr, IfErr, MatchOption, MatchBool};
 ghost use Rattle.std.specs.Io.KnownBytes.{Consumes, IsAtEnd};
 ghost use Rattle.std.specs.Str.Lines.{strip_carriage_return};
@@ -14,19 +14,19 @@ use std::alloc::Global;
 use std::io::Read;
 use std::marker::Model;
 
-/// What comes next of an input that is taken line by line.
+/// The next part of an input that is read line by line.
 #[derive(Debug, Drop)]
 pub enum NextLine {
-    /// A line that ended with a line feed: without it, and without one carriage return before it.
+    /// A line that ended with a line feed. Neither the line feed nor one carriage return before it is kept.
     Ended(Vec<u8>),
-    /// The last line, which has no line feed: as it is. Nothing is left of the input.
+    /// The last line, which has no line feed. It is kept as it is, and nothing is left of the input.
     Last(Vec<u8>),
     /// Nothing is left of the input.
     Nothing,
 }
 
-/// What was read of an input and is of no line yet. It is seen as these bytes: with what the stream has left behind them, they
-/// are the input that is left.
+/// The bytes of an input that were read but belong to no line yet. Contracts see these bytes: together with the bytes left in the
+/// stream they are the rest of the input.
 #[derive(Drop)]
 pub struct LineBuffer {
     chunk: [u8; READ_SIZE],
@@ -44,7 +44,7 @@ impl Model for LineBuffer {
     ghost invariant = { λ b. (b.start ≤ b.end) × (b.end ≤ length b.chunk) };
 }
 
-/// Where the first line feed is.
+/// The place of the first line feed.
 fn line_end(bytes: &[u8]) -> Option<usize>
     ensures { MatchOption result (HasNoLineFeed bytes.now)
         (λ end. (end < length bytes.now) × HasNoLineFeed (take end bytes.now) × (slice_index bytes.now end ≡ line_feed)) }
@@ -52,7 +52,7 @@ fn line_end(bytes: &[u8]) -> Option<usize>
     bytes.iter().position(|b| *b == b'\n')
 }
 
-/// A line without the one carriage return before its line feed.
+/// A line without one carriage return at its end.
 fn without_return(mut line: Vec<u8>) -> Vec<u8>
     ensures { result.items ≡ strip_carriage_return line.items }
 {
@@ -62,7 +62,7 @@ fn without_return(mut line: Vec<u8>) -> Vec<u8>
     line
 }
 
-/// What was read behind the last line feed, where nothing follows it.
+/// The bytes after the last line feed, at the end of the input.
 fn at_end(line: Vec<u8>) -> NextLine
     ensures { IsEnd line.items result }
 {
@@ -73,7 +73,7 @@ fn at_end(line: Vec<u8>) -> NextLine
     }
 }
 
-/// Adds a piece to a line that has at most `most` bytes then.
+/// Adds a piece to a line, if the line then has at most `most` bytes.
 fn push_within(line: &mut Vec<u8>, piece: &[u8], most: usize) -> Result<(), InputFault>
     requires { length line.old.items ≤ most }
     ensures grown { OnOk result (line.new.items ≡ line.old.items ++ piece.now) }
@@ -90,7 +90,7 @@ fn push_within(line: &mut Vec<u8>, piece: &[u8], most: usize) -> Result<(), Inpu
 }
 
 impl LineBuffer {
-    /// Nothing of the input has been read.
+    /// The buffer before anything of the input was read.
     pub fn new() -> LineBuffer
         ensures { result ≡ [] }
     {
@@ -101,7 +101,7 @@ impl LineBuffer {
         }
     }
 
-    /// Reads once, into the place of what was at hand. Whether there was more of the input is answered.
+    /// Reads once, in place of the bytes at hand. Returns whether there was more of the input.
     fn refill<R: Read>(&mut self, reader: &mut Counted<R>) -> Result<bool, InputFault>
         ensures given { OnOk result (Consumes (R.remaining reader.old.stream) (R.remaining reader.new.stream) self.new) }
         ensures no_fault { OnOk result (reader.new.faults ≡ reader.old.faults) }
@@ -121,8 +121,8 @@ impl LineBuffer {
         }
     }
 
-    /// Moves what is at hand of the line to its end, up to its line feed. Whether the line ends there is answered. At a fault the
-    /// piece is lost.
+    /// Moves the bytes at hand to the line's end, up to a line feed. Returns whether the line ends there. At a fault the piece is
+    /// lost.
     fn take_piece(&mut self, line: &mut Vec<u8>, most: usize) -> Result<bool, InputFault>
         requires { length line.old.items ≤ most }
         ensures piece { IfOk result (λ ended. (piece : List ℕ) × (line.new.items ≡ line.old.items ++ piece)
@@ -153,8 +153,8 @@ impl LineBuffer {
         }
     }
 
-    /// The next line of the input. Before its line feed it has at most `most` bytes, and it comes within 200,000 reads. At a fault
-    /// what was read of it is lost.
+    /// The next line of the input. It has at most `most` bytes before its line feed, and comes within 200,000 reads. At a fault,
+    /// the part of it that was read is lost.
     pub fn next_line<R: Read>(
         &mut self,
         alloc: Global,

@@ -3,8 +3,8 @@
 use std::fmt;
 use std::io::Write;
 
-/// A stream to which text is formatted, each piece in as many writes as it takes. The first write that fails, that was
-/// interrupted or that takes nothing ends it: std's `write_all` would go on for as long as a stream is interrupted.
+/// A stream to which text is formatted, each piece in as many writes as it takes. A write that fails, is interrupted
+/// or takes nothing ends it. std's `write_all` would go on for as long as a stream is interrupted.
 #[derive(Drop)]
 pub struct Pieces<'a, E> {
     pub stream: &'a mut E,

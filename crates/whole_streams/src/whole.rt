@@ -8,14 +8,14 @@ use game_core::{Counted, MAX_STREAM_CALLS};
 use std::alloc::Global;
 use std::io::{Read, Write};
 
-/// Why an input was not read: the first of these to come.
+/// Why an input was not read: the first of these that happened.
 #[derive(Clone, Copy, Debug, PartialEq, Eq)]
 pub enum InputFault {
-    /// A read failed, interruptions included, or 200,000 reads came to no end.
+    /// A read failed, interruptions included, or 200,000 reads did not reach the end.
     ReadFault,
-    /// The input has more bytes than it may have.
+    /// The input has more bytes than the limit.
     TooLong,
-    /// Want of memory.
+    /// Out of memory.
     Memory,
 }
 
@@ -23,10 +23,10 @@ pub enum InputFault {
 #[derive(Clone, Copy, Debug, PartialEq, Eq)]
 pub struct WriteFault;
 
-/// How many bytes a read is given room for.
+/// The room for one read, in bytes.
 pub(crate) const READ_SIZE: usize = 16_384;
 
-/// Reads all bytes up to the end of the stream, at most `most` of them.
+/// Reads all bytes up to the end of the stream. `most` is the limit of bytes.
 pub fn read_to_end<R: Read>(
     alloc: Global,
     reader: &mut Counted<R>,
