@@ -1,4 +1,4 @@
--- An account that is made again grows line by line.
+-- An account, made again, grows line by line.
 use Rattle.std.proofs.Common.{◌≡◌, ℕ, ◌+◌, List, [], ◌∷◌, ◌++◌, map, refl, sym, ap, ◌∙◌, append_assoc, append-nil}
 use Rattle.std.proofs.lemmas.List.{map-append, length-append}
 use Rattle.call_history.specs.declared.journal.Entry.{Entry}
@@ -7,7 +7,7 @@ use Rattle.match_desk.specs.declared.call.Call.{Call}
 use Rattle.match_desk.specs.declared.call.Reply.{Reply}
 use Rattle.desk_text.specs.Account.{entry_text, IsAccount}
 
--- of these lines the first ones tell a history that leaves the object, and the others are to come
+-- the first of these lines hold a history that leaves the object, and the others are still to come
 pub record IsAccountSoFar {S : Type 0} (reply : S → Call → Reply) (after : S → Call → S) (start : S) (told rest : List (List ℕ)) (object : S) (calls : ℕ) : Type 0 where
   pub before : List (List ℕ)
   pub is_cut : told ≡ before ++ rest

@@ -9,7 +9,7 @@ use Rattle.match_record.specs.RecordTree.{record_text}
 use Rattle.match_record.proofs.RecordLists.{take-next}
 use Rattle.desk_text.specs.Script.{record_line, records}
 
--- the record of a match with its game, as a line: nothing where there is none
+-- the record of a match with its game, as a line: nothing if there is no such match
 abbrev pub line_of : {G S M : Type 0} → (G → Rules S M) → Option (GameMatch G M) → List ℕ
 line_of rules held = unwrap_or (option_map (λ x. record_text (rules x.game) x.value ++ line_feed ∷ []) held) []
 
@@ -24,7 +24,7 @@ records-next rules d k m at =
     ap (records rules d) (take-next d.matches k m at) ∙ records-append rules d (take k d.matches) (m ∷ [])
     ∙ ap (λ z. records rules d (take k d.matches) ++ z) (append-nil (record_line rules d m))
 
--- the match at a place, as the readers of the manager give it, adds its record
+-- the match at a place, as the manager's functions return it, adds its record
 pub one_match : {G S M : Type 0} (rules : G → Rules S M) (d : ManagerValue G M) (k : ℕ) (g : G) (held : GameMatch G M)
     → option_and_then (game_of d) (slice_get d.matches k) ≡ Some g → option_and_then (game_match d) (slice_get d.matches k) ≡ Some held
     → records rules d (take (k + 1) d.matches) ≡ records rules d (take k d.matches) ++ (record_text (rules g) held.value ++ line_feed ∷ [])
@@ -47,14 +47,14 @@ one_match {G} {S} {M} rules d k g held is_game is_held = at (slice_get d.matches
     at None found is_game is_held = absurd cc
     at (Some m) found is_game is_held = with_game m (game_of d m) found refl is_game is_held
 
--- a line more in what is written
+-- one more line in the output
 pub one_line : (written before text after out out' out'' : List ℕ) → out ≡ written ++ before → out' ≡ out ++ text → out'' ≡ out' ++ line_feed ∷ [] → after ≡ before ++ (text ++ line_feed ∷ []) → out'' ≡ written ++ after
 one_line written before text after out out' out'' so_far with_text with_feed whole =
     with_feed ∙ ap (λ z. z ++ line_feed ∷ []) (with_text ∙ ap (λ z. z ++ text) so_far)
     ∙ append_assoc (written ++ before) text (line_feed ∷ []) ∙ append_assoc written before (text ++ line_feed ∷ [])
     ∙ ap (λ z. written ++ z) (sym whole)
 
--- the game that the manager's readers give beside a match is that match's game
+-- the game that the manager's functions return beside a match is that match's game
 pub same_game : {G M : Type 0} (d : ManagerValue G M) (found : Option (DeskMatch M)) (g : G) (held : GameMatch G M)
     → option_and_then (game_of d) found ≡ Some g → option_and_then (game_match d) found ≡ Some held → g ≡ held.game
 same_game d None g held is_game is_held = absurd cc

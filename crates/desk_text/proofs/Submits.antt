@@ -1,4 +1,4 @@
--- What a `submit` line submits: its text is the rest of the line, as it stands.
+-- The text of a `submit` line is the rest of the line, as it stands.
 use Rattle.std.proofs.Common.{◌≡◌, ℕ, ◌<◌, List, [], ◌∷◌, length, Option, Some, None, refl, sym, arith, Bor}
 use Rattle.std.specs.Prelude.{option_copied, unwrap_or}
 use Rattle.match_desk.specs.declared.call.Call.TheVariants.{Submit}

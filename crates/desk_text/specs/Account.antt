@@ -10,7 +10,7 @@ use Rattle.match_desk.specs.declared.call.Reply.{Reply}
 use Rattle.desk_text.specs.Words.{behind_spaces}
 use Rattle.desk_text.specs.ScriptLines.{reply_text}
 
--- the script's line for a call; an opening is always written with its strikes
+-- the script's line for a call; an `open` is always written with its strikes
 abbrev pub call_text : Call → List ℕ
 call_text (Open id game start play strikes players) =
     codes "strict " ++ id ++ codes " " ++ decimal game ++ codes " " ++ decimal start ++ codes " " ++ decimal play ++ codes " " ++ decimal strikes ++ behind_spaces players
@@ -20,7 +20,7 @@ call_text (Miss id role round broken) = codes "miss " ++ id ++ codes " " ++ deci
 call_text (Query id) = codes "query " ++ id
 call_text (Abort id) = codes "abort " ++ id
 
--- a byte that stands as it is: from the space to the tilde, but for the backslash
+-- a byte that is written as it is: from the space to the tilde, except the backslash
 abbrev pub is_plain : ℕ → Bool
 is_plain byte = if byte == 92 then false else (if nat_lt byte 32 then false else nat_lt byte 127)
 
@@ -36,7 +36,7 @@ abbrev pub escaped : List ℕ → List ℕ
 escaped [] = []
 escaped (byte ∷ more) = escaped_byte byte ++ escaped more
 
--- between the fields of a line
+-- the byte between the fields of a line
 abbrev pub tab : ℕ
 tab = 9
 
@@ -49,7 +49,8 @@ abbrev pub history_text : List (Entry Call Reply) → List ℕ
 history_text [] = []
 history_text (e ∷ more) = entry_text e ++ line_feed ∷ history_text more
 
--- These lines tell a history: so many calls from this start on, each with the reply that it gets there, and the object is what they leave.
+-- These lines hold a history: this many calls from this start on, each with the reply that it gets there. The object is what the
+-- calls leave.
 pub record IsAccount {S : Type 0} (reply : S → Call → Reply) (after : S → Call → S) (start : S) (told : List (List ℕ)) (object : S) (calls : ℕ) : Type 0 where
   pub history : List (Entry Call Reply)
   pub is_told : told ≡ map entry_text history

@@ -1,5 +1,5 @@
--- What a script's output is, as a function of its input. The calls are made on an object that is spoken of by its reply to
--- a call and its value after a call.
+-- A script's output, as a function of its input. The calls are made on an object, which is given by its reply to a call
+-- and its value after a call.
 use Rattle.std.specs.Prelude.{ℕ, ◌+◌, List, [], ◌∷◌, ◌++◌, Option, Some, None, is_none, option_map, unwrap_or, codes, if◌then◌else◌}
 use Rattle.std.specs.Str.Lines.{lines}
 use Rattle.game_core.specs.Bytes.{line_feed}
@@ -21,7 +21,7 @@ abbrev pub after_line : {S : Type 0} → (S → Call → S) → S → Option Cal
 after_line after s None = s
 after_line after s (Some call) = after s call
 
--- the answers to these lines in order, each with a line feed, where the first comes to the object s
+-- the answers to these lines in order, each with a line feed, starting at the object s
 abbrev pub answer_lines : {S : Type 0} → (S → Call → Reply) → (S → Call → S) → S → List (List ℕ) → List ℕ
 answer_lines reply after s [] = []
 answer_lines reply after s (line ∷ more) = line_answer reply s (call_of line) ++ line_feed ∷ answer_lines reply after (after_line after s (call_of line)) more
@@ -35,7 +35,7 @@ after_lines after s (line ∷ more) = after_lines after (after_line after s (cal
 abbrev pub no_matches : {G M : Type 0} → List G → ManagerValue G M
 no_matches games = record { games = games; matches = [] }
 
--- how many of these lines are bad
+-- the number of bad lines
 abbrev pub bad_lines : List (List ℕ) → ℕ
 bad_lines [] = 0
 bad_lines (line ∷ more) = (if is_none (call_of line) then 1 else 0) + bad_lines more
@@ -53,6 +53,6 @@ records rules d (m ∷ more) = record_line rules d m ++ records rules d more
 abbrev pub desk_after : {G S M : Type 0} → (G → Rules S M) → List G → List ℕ → ManagerValue G M
 desk_after rules games input = after_lines (after rules) (no_matches games) (lines input)
 
--- what is written for an input, on a desk of these games: the answers to its lines, then the records of the matches
+-- the output for an input, on a desk of these games: the answers to its lines, then the records of the matches
 abbrev pub script_output : {G S M : Type 0} → (G → Rules S M) → List G → List ℕ → List ℕ
 script_output rules games input = answer_lines (reply rules) (after rules) (no_matches games) (lines input) ++ records rules (desk_after rules games input) (desk_after rules games input).matches

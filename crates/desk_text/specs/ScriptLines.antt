@@ -17,11 +17,11 @@ use Rattle.match_desk.specs.declared.call.Refusal.TheVariants.{BadId, IdUsed, No
 use Rattle.match_record.specs.RecordTree.{phase_text}
 use Rattle.desk_text.specs.Words.{words, spaced, number_of, name_of}
 
--- the call that f makes of a name, if the word is one
+-- the call that f makes from a name, if the word is a name
 abbrev pub with_name : List ℕ → (List ℕ → Option Call) → Option Call
 with_name word f = option_and_then f (name_of word)
 
--- the call that f makes of a number, if the word is one
+-- the call that f makes from a number, if the word is a number
 abbrev pub with_number : List ℕ → (ℕ → Option Call) → Option Call
 with_number word f = option_and_then f (number_of word)
 
@@ -67,7 +67,7 @@ abbrev pub abort_call : List (List ℕ) → Option Call
 abort_call (id ∷ []) = with_name id (λ i. Some (Abort i))
 abort_call _ = None
 
--- the call of a keyword and the words behind it
+-- the call of a keyword and the words after it
 abbrev pub call_of_words : List (List ℕ) → Option Call
 call_of_words [] = None
 call_of_words (keyword ∷ rest) =
@@ -80,7 +80,7 @@ call_of_words (keyword ∷ rest) =
     else (if bytes_eq keyword (codes "strict") then strict_call rest
     else None))))))
 
--- the call that a line makes: none, where it is a bad line
+-- the call of a line: none for a bad line
 abbrev pub call_of : List ℕ → Option Call
 call_of line = call_of_words (words line)
 
@@ -120,7 +120,7 @@ refusal_word (Stale round) = codes "stale"
 refusal_word Twice = codes "twice"
 refusal_word Ended = codes "ended"
 
--- a refusal: its word, and the present round behind `stale`
+-- a refusal: its word, and after `stale` the present round
 abbrev pub refusal_text : Refusal → List ℕ
 refusal_text (Stale round) = codes "stale " ++ decimal round
 refusal_text reason = refusal_word reason

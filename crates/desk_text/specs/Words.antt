@@ -8,12 +8,12 @@ use Rattle.game_core.specs.Numerals.{plain_number}
 abbrev pub words : List ℕ → List (List ℕ)
 words text = slice_split (λ b. b == space) text
 
--- the words behind a word: none, where no space stands after it
+-- the words after a word: none if no space stands after it
 abbrev pub words_behind : Option (List ℕ) → List (List ℕ)
 words_behind None = []
 words_behind (Some rest) = words rest
 
--- these words, each behind a space
+-- these words, each after a space
 abbrev pub behind_spaces : List (List ℕ) → List ℕ
 behind_spaces [] = []
 behind_spaces (word ∷ more) = space ∷ (word ++ behind_spaces more)
@@ -27,7 +27,7 @@ spaced (word ∷ more) = word ++ behind_spaces more
 abbrev pub max_number : ℕ
 max_number = 1000000000
 
--- the number that a word is, up to the largest
+-- the number of a word, up to the largest
 abbrev pub number_of : List ℕ → Option ℕ
 number_of word = plain_number word max_number
 

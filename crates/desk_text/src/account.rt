@@ -11,7 +11,7 @@ use game_core::Text;
 use match_desk::{Call, Reply};
 use std::alloc::{AllocError, Global};
 
-/// Writes a space and the number behind `out`.
+/// Appends a space and the number to `out`.
 fn push_behind_space(out: &mut Vec<u8>, number: u64) -> Result<(), AllocError>
     ensures { OnOk result (out.new.items ≡ out.old.items ++ codes " " ++ decimal number) }
 {
@@ -19,7 +19,7 @@ fn push_behind_space(out: &mut Vec<u8>, number: u64) -> Result<(), AllocError>
     push_number(out, number)
 }
 
-/// Writes the texts behind `out`, each behind a space.
+/// Appends the texts to `out`, each after a space.
 fn push_behind_spaces(out: &mut Vec<u8>, texts: &[Text]) -> Result<(), AllocError>
     ensures { OnOk result (out.new.items ≡ out.old.items ++ behind_spaces texts.now) }
 {
@@ -30,7 +30,7 @@ fn push_behind_spaces(out: &mut Vec<u8>, texts: &[Text]) -> Result<(), AllocErro
     Ok(())
 }
 
-/// Writes a keyword, which ends with its space, and a match's id behind `out`.
+/// Appends a keyword, which ends with its space, and a match's id to `out`.
 fn push_keyword(out: &mut Vec<u8>, keyword: &[u8], id: &Text) -> Result<(), AllocError>
     ensures { OnOk result (out.new.items ≡ out.old.items ++ keyword.now ++ id.now) }
 {
@@ -38,7 +38,7 @@ fn push_keyword(out: &mut Vec<u8>, keyword: &[u8], id: &Text) -> Result<(), Allo
     out.extend_from_slice(id.as_slice())
 }
 
-/// Writes the script's line for the call, without its line feed, behind `out`.
+/// Appends the script's line for the call to `out`, without its line feed.
 fn push_call(out: &mut Vec<u8>, call: &Call) -> Result<(), AllocError>
     ensures { OnOk result (out.new.items ≡ out.old.items ++ call_text call.now) }
 {
@@ -94,7 +94,7 @@ fn push_call(out: &mut Vec<u8>, call: &Call) -> Result<(), AllocError>
     }
 }
 
-/// Whether a byte stands in an account as it is.
+/// Whether a byte is written in an account as it is.
 fn is_plain(byte: u8) -> bool
     ensures { result ≡ is_plain byte }
 {
@@ -146,10 +146,10 @@ fn push_escaped(out: &mut Vec<u8>, text: &[u8]) -> Result<(), AllocError>
     Ok(())
 }
 
-/// The bytes of most calls with their replies are no more.
+/// The initial capacity for an entry's text. Most entries fit.
 const USUAL_LENGTH: usize = 128;
 
-/// Writes the line of an entry, without its line feed, behind `out`.
+/// Appends the line of an entry to `out`, without its line feed.
 pub(crate) fn push_entry(
     alloc: Global,
     out: &mut Vec<u8>,
@@ -168,8 +168,9 @@ pub(crate) fn push_entry(
     push_escaped(out, &told[call_end..])
 }
 
-/// Writes the lines of a history behind `out`, each with its line feed: the number of the desk's line that made the call, the call
-/// in the words of a script, and the reply, with a tab between each two. A byte that is not seen, and the backslash, is written `\xHH`.
+/// Appends the lines of a history to `out`, each with its line feed. A line has the number of the desk's line that made the call,
+/// the call in the words of a script, and the reply, with a tab between each two. A byte that is not visible ASCII or a space, and
+/// the backslash, are written `\xHH`.
 pub fn push_history(
     alloc: Global,
     out: &mut Vec<u8>,

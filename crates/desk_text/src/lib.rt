@@ -1,8 +1,8 @@
 //! The desk in text: a script's lines as calls, replies as lines, and the answers to a whole script.
 //!
 //! A line has a call's keyword and its words, with one space between each two; a reply has one line. `answer_script` answers
-//! the lines of a script one by one on a manager of its own, and writes the records of the matches behind them.
-//! `push_history` writes what a desk has kept, and `replay` makes the calls of such an account again.
+//! the lines of a script one by one on a manager of its own, and appends the records of the matches. `push_history` writes
+//! the history of a desk as an account, and `replay` makes the calls of an account again.
 //!
 //! Free functions take the allocator first.
 #![tactic(auto)]

@@ -9,7 +9,7 @@ fn line_end(text: &[u8]) -> Option<usize>
     text.iter().position(|b| *b == b'\n')
 }
 
-/// A line without the one carriage return before its line feed.
+/// A line without one carriage return at its end.
 fn without_return(line: &[u8]) -> &[u8]
     ensures { result.now ≡ strip_carriage_return line.now }
 {
@@ -20,7 +20,7 @@ fn without_return(line: &[u8]) -> &[u8]
     line
 }
 
-/// The first line of a text that is not empty, and what follows it.
+/// The first line of a text that is not empty, and the text after it.
 pub fn first_line(text: &[u8]) -> (&[u8], &[u8])
     requires { 0 < length text.now }
     ensures cut { lines text.now ≡ result.0.now ∷ lines result.1.now }

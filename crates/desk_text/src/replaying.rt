@@ -1,4 +1,4 @@
-//! An account is made again, call by call, on one thread.
+//! How the calls of an account are made again, one by one, on one thread.
 ghost use Rattle.std.specs.Prelude.{◌≡◌, ◌<◌, IfOk, IfSome, OnOk};
 ghost use Rattle.std.specs.Str.Lines.{lines};
 ghost use Rattle.match_desk.specs.Steps.{reply, after};
@@ -15,21 +15,21 @@ use game_core::Game;
 use match_desk::{Call, Manager, Reply};
 use std::alloc::{AllocError, Global};
 
-/// What an account leaves whose calls were made again.
+/// The result of making an account's calls again.
 #[derive(Drop)]
 pub struct Replayed<G: Game> {
     pub manager: Manager<G>,
-    /// How many calls were made.
+    /// The number of calls that were made.
     pub calls: u64,
 }
 
-/// Why an account is not taken: the first line that is not right, counted from 1.
+/// Why an account is refused. Each fault names the first wrong line, counted from 1.
 #[derive(Drop)]
 pub enum ReplayFault {
     Memory,
-    /// The line tells no call.
+    /// The line holds no call.
     NoEntry(u64),
-    /// The call gets another reply, or the line is written in another way: what it should be.
+    /// The call gets another reply, or the line is written in another way. The bytes are the right line.
     Differs(u64, Vec<u8>),
 }
 
@@ -54,7 +54,7 @@ fn hex_value(digit: u8) -> Option<u8>
     }
 }
 
-/// The text that is written so: none where a backslash is not followed by `xHH`.
+/// The text without its escapes. `None` if a backslash is not followed by `xHH`.
 fn unescaped(alloc: Global, text: &[u8]) -> Result<Option<Vec<u8>>, AllocError> {
     let mut bytes = Vec::new(alloc);
     let mut is_first = true;
@@ -76,7 +76,7 @@ fn unescaped(alloc: Global, text: &[u8]) -> Result<Option<Vec<u8>>, AllocError> 
     Ok(Some(bytes))
 }
 
-/// The number of the desk's line and the call that a line of an account tells.
+/// The number of the desk's line and the call in a line of an account.
 fn told_call(alloc: Global, line: &[u8]) -> Result<Option<(u32, Call)>, AllocError> {
     let mut fields = line.split(|b| *b == b'\t');
     let (Some(made_by), Some(call)) = (fields.next(), fields.next()) else {
@@ -94,7 +94,8 @@ fn told_call(alloc: Global, line: &[u8]) -> Result<Option<(u32, Call)>, AllocErr
     }
 }
 
-/// Makes the call of an account's line of that number. The line has to be the one that tells this call and the reply to it.
+/// Makes the call of the account's line with the number `place`. The line must be the one that is written for this call and its
+/// reply.
 fn replay_line<O: Object<Call = Call, Reply = Reply>>(
     alloc: Global,
     object: &mut O,
@@ -121,7 +122,7 @@ fn replay_line<O: Object<Call = Call, Reply = Reply>>(
     Ok(())
 }
 
-/// Makes the calls of an account's lines one by one. How many there are is answered.
+/// Makes the calls of an account's lines one by one. Returns how many there are.
 fn replay_lines<O: Object<Call = Call, Reply = Reply>>(
     alloc: Global,
     object: &mut O,
@@ -140,7 +141,7 @@ fn replay_lines<O: Object<Call = Call, Reply = Reply>>(
     Ok(calls)
 }
 
-/// Makes the calls of an account again on a manager of these games. It is taken where each of its lines tells the call's reply.
+/// Makes the calls of an account again on a manager of these games. Each line must hold the reply that its call gets now.
 pub fn replay<G: Game + Drop>(
     alloc: Global,
     games: Vec<G>,

@@ -95,7 +95,7 @@ fn push_status(out: &mut Vec<u8>, status: &Status) -> Result<(), AllocError>
     push_number(out, status.substitutions)
 }
 
-/// The word of a refusal, as replies and faults show it.
+/// The word of a refusal, as replies and faults print it.
 pub fn refusal_word(refusal: Refusal) -> &'static str
     ensures { result.now ≡ refusal_word refusal }
 {
@@ -128,7 +128,7 @@ fn push_refusal(out: &mut Vec<u8>, refusal: Refusal) -> Result<(), AllocError>
     Ok(())
 }
 
-/// Writes the reply's line, without its line feed, behind `out`.
+/// Appends the reply's line to `out`, without its line feed.
 pub fn push_reply(out: &mut Vec<u8>, reply: &Reply) -> Result<(), AllocError>
     ensures { OnOk result (out.new.items ≡ out.old.items ++ reply_text reply.now) }
 {

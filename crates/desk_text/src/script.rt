@@ -1,4 +1,4 @@
-//! The answers to a script: each line of the input is answered by a line of the output, and then come the records.
+//! The answers to a script: one line of output for each line of the input, and then the records.
 ghost use Rattle.std.specs.Prelude.{◌≡◌, ◌++◌, ◌∷◌, [], IfOk, OnOk, is_some};
 ghost use Rattle.std.specs.Str.Lines.{lines};
 ghost use Rattle.game_core.specs.Bytes.{line_feed};
@@ -14,15 +14,15 @@ use match_desk::{Call, Manager, Reply};
 use match_record::push_record;
 use std::alloc::{AllocError, Global};
 
-/// What is written for a script, and how many of its lines are bad.
+/// The output for a script, and the number of its bad lines.
 #[derive(Drop)]
 pub struct Answers {
-    /// The answers to the lines in their order, then the records in order of opening; each with a line feed.
+    /// The answers to the lines in their order, and then the records in order of opening. Each has a line feed.
     pub text: Vec<u8>,
     pub bad_lines: u64,
 }
 
-/// Answers one line, and says whether it is a good one.
+/// Answers one line, and returns whether it is good.
 fn answer_line<O: Object<Call = Call, Reply = Reply>>(
     alloc: Global,
     object: &mut O,
@@ -67,7 +67,7 @@ fn answer_input<O: Object<Call = Call, Reply = Reply>>(
     Ok(Answers { text, bad_lines })
 }
 
-/// Writes the record of each match in order of opening, each with a line feed.
+/// Appends the record of each match to `out`, in order of opening, each with a line feed.
 pub fn push_records<G: Game>(
     alloc: Global,
     manager: &Manager<G>,

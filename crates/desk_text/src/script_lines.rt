@@ -96,7 +96,8 @@ fn next_call(alloc: Global, words: &[&[u8]]) -> Result<Option<Call>, AllocError>
     }))
 }
 
-/// The text is the rest of the line as it stands, or empty where the line ends at the round.
+/// The call of a `submit` line. Its text is the rest of the line as it stands, or empty if the line
+/// ends at the round.
 fn submit_call(alloc: Global, rest: &[u8]) -> Result<Option<Call>, AllocError>
     ensures { IfOk result (λ o. o ≡ submit_call (words rest.now)) }
 {
@@ -181,7 +182,7 @@ fn abort_call(alloc: Global, words: &[&[u8]]) -> Result<Option<Call>, AllocError
     }
 }
 
-/// The call of a keyword other than `submit` and of the words behind it.
+/// The call of a keyword other than `submit`, and the words after it.
 fn call_of_words(alloc: Global, keyword: &[u8], words: &[&[u8]]) -> Result<Option<Call>, AllocError>
     requires { keyword.now ≢ codes "submit" }
     ensures { IfOk result (λ o. o ≡ call_of_words (keyword.now ∷ map (λ w. w.now) words.now)) }
@@ -203,7 +204,7 @@ fn call_of_words(alloc: Global, keyword: &[u8], words: &[&[u8]]) -> Result<Optio
     }
 }
 
-/// The call that a script line makes: `None` where it is a bad line.
+/// The call of a script line. `None` if it is a bad line.
 pub fn call_of(alloc: Global, line: &[u8]) -> Result<Option<Call>, AllocError>
     ensures { IfOk result (λ o. o ≡ call_of line.now) }
 {

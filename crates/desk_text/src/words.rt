@@ -6,7 +6,7 @@ ghost use Rattle.desk_text.specs.Words.{words, words_behind, number_of};
 use game_core::numeral::plain_number;
 use std::alloc::{AllocError, Global};
 
-/// The words of a text: the pieces between its spaces. A doubled space gives an empty one.
+/// The words of a text: the pieces between its spaces. A doubled space gives an empty word.
 pub fn words<'a>(alloc: Global, text: &'a [u8]) -> Result<Vec<&'a [u8]>, AllocError>
     ensures { IfOk result (λ v. map (λ w. w.now) v.items ≡ words text.now) }
 {
@@ -19,7 +19,7 @@ fn word_end(text: &[u8]) -> Option<usize>
     text.iter().position(|b| *b == b' ')
 }
 
-/// The first word of a text, and what stands behind the space after it.
+/// The first word of a text, and the text after the space that ends the word.
 pub fn first_word(text: &[u8]) -> (&[u8], Option<&[u8]>)
     ensures { words text.now ≡ result.0.now ∷ words_behind (option_copied result.1) }
 {
@@ -32,7 +32,7 @@ pub fn first_word(text: &[u8]) -> (&[u8], Option<&[u8]>)
 /// The largest number that a script line may name.
 const MAX_NUMBER: usize = 1_000_000_000;
 
-/// The number that a word is: decimal, without sign or leading zeros, at most 1,000,000,000.
+/// The number of a word: decimal, without sign or leading zeros, at most 1,000,000,000.
 pub fn number(word: &[u8]) -> Option<u64>
     ensures { result ≡ number_of word.now }
 {
