@@ -12,7 +12,7 @@ use thiserror::Error;
 use whole_streams::{InputFault, read_to_end};
 
 /// A ground description: its text, or the file that holds it.
-#[derive(Clone, Copy, Debug, PartialEq, Eq)]
+#[derive(Clone, Copy)]
 pub enum Rules<'a> {
     Text(&'a str),
     /// The file's path, from the folder in which the program runs where it doesn't begin with a slash.
@@ -20,7 +20,7 @@ pub enum Rules<'a> {
 }
 
 /// Where a game comes from.
-#[derive(Clone, Copy, Debug, PartialEq, Eq)]
+#[derive(Clone, Copy)]
 pub enum GameSource<'a> {
     /// Countdown, with a heap of this size, in or out of its range.
     Countdown(u8),

@@ -42,7 +42,7 @@ pub struct RunPlan<'a> {
 
 /// The matches of a schedule: their game, the strikes of each, how they are played and told, and whether each message is told on
 /// standard error.
-#[derive(Clone, Copy, Debug, PartialEq, Eq)]
+#[derive(Clone, Copy)]
 pub struct SeasonPlan<'a> {
     pub game: GameSource<'a>,
     pub strikes: u8,
@@ -51,7 +51,7 @@ pub struct SeasonPlan<'a> {
 }
 
 /// The check of a player: its game, its matches, and whether each message is told on standard error.
-#[derive(Clone, Copy, Debug, PartialEq, Eq)]
+#[derive(Clone, Copy)]
 pub struct PlayerTrial<'a> {
     pub game: GameSource<'a>,
     pub plan: CheckPlan<'a>,
@@ -59,7 +59,7 @@ pub struct PlayerTrial<'a> {
 }
 
 /// Why a command line is refused.
-#[derive(Clone, Copy, Debug, PartialEq, Eq)]
+#[derive(Clone, Copy, PartialEq, Eq)]
 pub enum ArgumentFault {
     WrongUse,
     Memory,

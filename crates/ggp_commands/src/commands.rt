@@ -1,7 +1,7 @@
 //! The commands, over any streams, runtime and players.
 
 use crate::arguments::{PlayerTrial, RunPlan, SeasonPlan, Task, read_arguments};
-use crate::faults::{of_arguments, of_check, of_contact, of_match, of_season};
+use crate::faults::{check_fault, contact_fault, match_fault, season_fault};
 use described_games::described_game;
 use desk_text::push_history;
 use game_commands::{Desk, Fault, Replay, Verify, VerifyLines, for_game, rules_text, told_rules};
@@ -121,10 +121,7 @@ where
     S: Reach<P>,
 {
     let words: Vec<&str> = words.iter().map(|word| word.as_str()).collect(alloc)?;
-    let task = match read_arguments(alloc, words.as_slice()) {
-        Ok(task) => task,
-        Err(fault) => return Err(of_arguments(fault)),
-    };
+    let task = read_arguments(alloc, words.as_slice())?;
     let console = Console {
         stream: Mutex::new(StatusStream::new(errors)),
         progress: Progress::new(),
@@ -186,7 +183,7 @@ where
     )?;
     let PlayedMatch { record, history } = match played_match(rt, alloc, entrants, &rules) {
         Ok(played) => played,
-        Err(fault) => return Err(of_match(fault)),
+        Err(fault) => return Err(match_fault(fault)),
     };
     let mut output = record.bytes;
     output.push(b'\n')?;
@@ -234,7 +231,7 @@ where
     match written {
         Ok(0) => Ok(()),
         Ok(count) => Err(Fault::NoRecords(count)),
-        Err(fault) => Err(of_season(fault)),
+        Err(fault) => Err(season_fault(fault)),
     }
 }
 
@@ -256,7 +253,7 @@ fn info<N: Net + Clock, W: Write>(
 ) -> Result<(), Fault> {
     let answer = match contact(rt, alloc, player, INFO_SECONDS, &info_message()) {
         Ok(answer) => answer,
-        Err(fault) => return Err(of_contact(fault)),
+        Err(fault) => return Err(contact_fault(fault)),
     };
     let info = read_info(alloc, answer.as_slice())?;
     Ok(write_all(writer, info_line(info))?)
@@ -289,6 +286,6 @@ where
     match bad {
         Ok(0) => Ok(()),
         Ok(count) => Err(Fault::BadAnswers(count)),
-        Err(fault) => Err(of_check(fault)),
+        Err(fault) => Err(check_fault(fault)),
     }
 }

@@ -8,16 +8,17 @@ use http_exchange::WireFault;
 use network_players::ContactFault;
 use player_check::CheckFault;
 
-/// Of a command line.
-pub fn of_arguments(fault: ArgumentFault) -> Fault {
-    match fault {
-        ArgumentFault::WrongUse => Fault::WrongUse,
-        ArgumentFault::Memory => Fault::Memory,
+impl From<ArgumentFault> for Fault {
+    fn from(fault: ArgumentFault) -> Fault {
+        match fault {
+            ArgumentFault::WrongUse => Fault::WrongUse,
+            ArgumentFault::Memory => Fault::Memory,
+        }
     }
 }
 
-/// Of a match.
-pub fn of_match(fault: MatchFault) -> Fault {
+/// The fault of the program where a match fails.
+pub fn match_fault(fault: MatchFault) -> Fault {
     match fault {
         MatchFault::BadDescription => Fault::BadDescription,
         MatchFault::Refused(refusal) => Fault::Refused(refusal),
@@ -26,25 +27,25 @@ pub fn of_match(fault: MatchFault) -> Fault {
     }
 }
 
-/// Of a season.
-pub fn of_season(fault: SeasonFault) -> Fault {
+/// The fault of the program where a season fails.
+pub fn season_fault(fault: SeasonFault) -> Fault {
     match fault {
         SeasonFault::WriteFault => Fault::WriteFault,
         SeasonFault::Memory => Fault::Memory,
     }
 }
 
-/// Of the check of a player.
-pub fn of_check(fault: CheckFault) -> Fault {
+/// The fault of the program where the check of a player fails.
+pub fn check_fault(fault: CheckFault) -> Fault {
     match fault {
-        CheckFault::Match(fault) => of_match(fault),
+        CheckFault::Match(fault) => match_fault(fault),
         CheckFault::WriteFault => Fault::WriteFault,
         CheckFault::Memory => Fault::Memory,
     }
 }
 
-/// Of a message to a player.
-pub fn of_contact(fault: ContactFault) -> Fault {
+/// The fault of the program where a message to a player fails.
+pub fn contact_fault(fault: ContactFault) -> Fault {
     match fault {
         ContactFault::Memory | ContactFault::Exchange(WireFault::Memory) => Fault::Memory,
         _ => Fault::NoAnswer,

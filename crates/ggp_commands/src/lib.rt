@@ -14,4 +14,5 @@ mod faults;
 
 pub use arguments::ArgumentFault;
 pub use commands::{command, report};
+pub use faults::contact_fault;
 pub use game_commands::{Fault, RulesFileFault, ScriptFault};

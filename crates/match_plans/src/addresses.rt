@@ -8,7 +8,7 @@ use std::net::Ipv6Addr;
 
 /// Where a player is reached, written `NAME@HOST:PORT`: the first `@` and the last `:` cut the word. An IPv6 address stands in
 /// brackets in the word, and without them here.
-#[derive(Clone, Copy, Debug, PartialEq, Eq)]
+#[derive(Clone, Copy, PartialEq, Eq)]
 pub struct PlayerAddress<'a> {
     pub name: &'a str,
     pub host: &'a str,

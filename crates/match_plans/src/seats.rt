@@ -4,7 +4,7 @@ use crate::addresses::PlayerAddress;
 use std::alloc::{AllocError, Global};
 
 /// Where a player sits.
-#[derive(Clone, Copy, Debug, PartialEq, Eq)]
+#[derive(Clone, Copy)]
 pub struct Seat<'a> {
     /// The match's place among those of its season, 0 where it is the only one.
     pub place: usize,

@@ -15,7 +15,7 @@ use std::thread;
 use std::thread::Threads;
 
 /// How the matches of a season are played and told.
-#[derive(Clone, Copy, Debug, PartialEq, Eq)]
+#[derive(Clone, Copy)]
 pub struct SeasonForm {
     /// How many of them are played at once at most.
     pub at_once: usize,

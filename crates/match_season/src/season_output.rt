@@ -15,7 +15,7 @@ use thiserror::Error;
 use whole_streams::{Pieces, WriteFault, write_all};
 
 /// In which order the records of a season are written.
-#[derive(Clone, Copy, Debug, PartialEq, Eq)]
+#[derive(Clone, Copy)]
 pub enum RecordOrder {
     /// That of the schedule: each record as soon as it and those before it are there.
     OfSchedule,

@@ -18,7 +18,7 @@ use thiserror::Error;
 use whole_streams::{WriteFault, write_all};
 
 /// The player that is checked, and the clocks and strikes of its matches.
-#[derive(Clone, Copy, Debug, PartialEq, Eq)]
+#[derive(Clone, Copy)]
 pub struct CheckPlan<'a> {
     pub player: PlayerAddress<'a>,
     pub start: u32,

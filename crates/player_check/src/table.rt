@@ -12,7 +12,7 @@ use std::fmt;
 pub const HEADER: &[u8] = b"role\tmessage\tanswer\tverdict\tplayed\tms\tfault\n";
 
 /// What an answer counted as.
-#[derive(Clone, Copy, Debug, PartialEq, Eq)]
+#[derive(Clone, Copy)]
 pub enum Verdict {
     /// An answer to a message that asks for no move.
     Taken,

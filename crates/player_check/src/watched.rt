@@ -10,7 +10,7 @@ use std::sync::{Mutex, Wait};
 use std::time::{Clock, Instant};
 
 /// What a message brought.
-#[derive(Clone, Copy, Debug, PartialEq, Eq)]
+#[derive(Clone, Copy)]
 pub enum Brought {
     Text,
     /// No answer in time.

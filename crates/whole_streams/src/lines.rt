@@ -15,7 +15,7 @@ use std::io::Read;
 use std::marker::Model;
 
 /// The next part of an input that is read line by line.
-#[derive(Debug, Drop)]
+#[derive(Drop)]
 pub enum NextLine {
     /// A line that ended with a line feed. Neither the line feed nor one carriage return before it is kept.
     Ended(Vec<u8>),

@@ -9,7 +9,7 @@ use std::alloc::Global;
 use std::io::{Read, Write};
 
 /// Why an input was not read: the first of these that happened.
-#[derive(Clone, Copy, Debug, PartialEq, Eq)]
+#[derive(Clone, Copy, PartialEq, Eq)]
 pub enum InputFault {
     /// A read failed, interruptions included, or 200,000 reads did not reach the end.
     ReadFault,
@@ -20,7 +20,7 @@ pub enum InputFault {
 }
 
 /// A write failed, or took none of some bytes.
-#[derive(Clone, Copy, Debug, PartialEq, Eq)]
+#[derive(Clone, Copy, PartialEq, Eq)]
 pub struct WriteFault;
 
 /// The room for one read, in bytes.
