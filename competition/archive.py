@@ -1,0 +1,195 @@
+"""One archive of a competition, from which anyone can check it: what is in it, how it is written, and how it is checked."""
+
+import gzip
+import hashlib
+import io
+import os
+import pathlib
+import re
+import shutil
+import tarfile
+import tempfile
+import zlib
+
+from competition.files import UNFINISHED
+from competition.kept import look_at_records, strangers
+from competition.pages import made_anew
+from competition.plan import Refused, read_plan, sums_text
+from competition.results import match_line
+from competition.table import tables_of
+from competition.table_text import in_order, table_files
+
+SUMS, VERSION, HOW = "SHA256SUMS", "VERSION", "CHECK.txt"
+SUM_LINE = re.compile(r"([0-9a-f]{64})  (\S+)")
+NAME = re.compile(r"[A-Za-z0-9_.-]+(/[A-Za-z0-9_.-]+){1,3}")
+MOST_BYTES = 8 << 30
+HOW_TO = """How to check this competition.
+
+    ggp_competition check {name}.tar.gz
+
+checks all that follows. By hand, in this folder:
+
+    sha256sum --check SHA256SUMS                                          each file is the one that was published
+    ggp_manager verify --rules-file rules/GAME.kif < records/ID.json      the match was played by the rules
+    ggp_manager replay --rules-file rules/GAME.kif < accounts/ID.txt      each call got its reply, and the record comes of them
+    ggp_competition plan, in a folder with competition.toml and games     the schedule is the one that competition.toml says
+    ggp_competition table                                                 the table follows from the records
+
+The rules are ground descriptions; games has the descriptions that they were made from. The version of the referee is in VERSION.
+What this does not show: that the players of these names sent these answers, and when. Keep the sum of the archive as you got it.
+"""
+
+
+class Spoilt(Exception):
+    """What is wrong with an archive, in lines."""
+
+
+def files_below(folder):
+    """Returns the files below a folder, by their names from there, in order."""
+    return {str(it.relative_to(folder)): it for it in sorted(folder.rglob("*")) if it.is_file()}
+
+
+def contents(plan, referee, results):
+    """Gives what is published: names, and bytes or the file that has them."""
+    folder = plan.folder
+    yield "competition.toml", folder.competition
+    yield "schedule.tsv", folder.schedule
+    yield "rules/SHA256SUMS", folder.rule_sums()
+    for game in plan.competition.games:
+        yield f"rules/{game.name}.kif", folder.rules_of(game.name)
+        yield f"games/{game.name}.kif", folder.path / game.file
+    for it in results:
+        for file in (folder.record(it.match.id), folder.account(it.match.id), folder.log(it.match.id)):
+            yield str(file.relative_to(folder.path)), file
+    yield "matches.jsonl", folder.matches
+    for name, data in table_files(plan, tables_of(plan.competition, results)).items():
+        yield name, data
+    for name, file in files_below(folder.pages).items():
+        yield f"pages/{name}", file
+    yield VERSION, f"{referee.version()}\n".encode("ascii")
+    yield HOW, HOW_TO.format(name=plan.competition.name).encode("ascii")
+
+
+def publish(plan, referee, results, path):
+    """Writes the archive, the same for the same files, and returns its sum."""
+    made_anew(plan, results)
+    other, sums, made = path.with_name(f"{UNFINISHED}{path.name}"), {}, hashlib.sha256()
+    with open(other, "wb") as file:
+        with gzip.GzipFile(filename="", mode="wb", fileobj=file, mtime=0) as packed, tarfile.open(fileobj=packed, mode="w|") as archive:
+            for name, data in contents(plan, referee, results):
+                data = data if isinstance(data, bytes) else data.read_bytes()
+                sums[name] = hashlib.sha256(data).hexdigest()
+                add(archive, f"{plan.competition.name}/{name}", data)
+            add(archive, f"{plan.competition.name}/{SUMS}", sums_text(sums))
+        file.flush()
+        os.fsync(file.fileno())
+    os.replace(other, path)
+    with open(path, "rb") as file:
+        while data := file.read(1 << 20):
+            made.update(data)
+    return made.hexdigest()
+
+
+def add(archive, name, data):
+    it = tarfile.TarInfo(name)
+    it.size, it.mode = len(data), 0o644
+    archive.addfile(it, io.BytesIO(data))
+
+
+def unpacked(path, room):
+    """Unpacks an archive into an empty folder, and returns the folder of the competition. It takes plain files alone, below one folder,
+    each once."""
+    top, size, known = None, 0, set()
+    try:
+        with tarfile.open(path, "r:gz") as archive:
+            for it in archive:
+                size += it.size
+                parts = it.name.split("/")
+                if not it.isreg() or not NAME.fullmatch(it.name) or {".", ".."} & set(parts) or it.name in known or size > MOST_BYTES:
+                    raise Spoilt(f"{it.name!r} is no plain file below one folder, or there twice, or too large")
+                top = top or parts[0]
+                if parts[0] != top:
+                    raise Spoilt(f"{it.name!r} is not below {top}")
+                known.add(it.name)
+                (room / it.name).parent.mkdir(parents=True, exist_ok=True)
+                with open(room / it.name, "wb") as file:
+                    shutil.copyfileobj(archive.extractfile(it), file)
+    except (tarfile.TarError, EOFError, zlib.error, gzip.BadGzipFile) as why:
+        raise Spoilt(f"it can't be unpacked: {why}") from None
+    if not top:
+        raise Spoilt("it is empty")
+    return room / top
+
+
+def faults_of_sums(folder):
+    """Gives each file that is not the one of the sums."""
+    files = files_below(folder)
+    if SUMS not in files:
+        yield f"{SUMS} is missing"
+        return
+    sums = {name: it for it, name in SUM_LINE.findall(files.pop(SUMS).read_text("utf-8", "replace"))}
+    for name in sorted(sums.keys() - files.keys()):
+        yield f"{name} is missing"
+    for name in sorted(files.keys() - sums.keys()):
+        yield f"{name} has no sum"
+    for name in sorted(files.keys() & sums.keys()):
+        if hashlib.sha256(files[name].read_bytes()).hexdigest() != sums[name]:
+            yield f"{name} is not the one of its sum"
+
+
+def faults_of_files(folder, plan, results, wanted):
+    """Gives each file that does not follow from the records, and each that should not be there."""
+    for name, data in wanted.items():
+        file = folder / name
+        if not file.is_file():
+            yield f"{name} is missing"
+        elif file.read_bytes() != data:
+            yield f"{name} does not follow from the records"
+    said = folder / "pages.said"
+    os.rename(plan.folder.pages, said) if plan.folder.pages.is_dir() else said.mkdir()
+    made_anew(plan, results)
+    pages, said = files_below(plan.folder.pages), files_below(said)
+    for name in sorted(pages.keys() | said.keys()):
+        if name not in pages or name not in said or pages[name].read_bytes() != said[name].read_bytes():
+            yield f"pages/{name} does not follow from the records"
+    known = {SUMS, VERSION, HOW, "competition.toml", "schedule.tsv", "rules/SHA256SUMS", *wanted}
+    for it in plan.competition.games:
+        known |= {f"rules/{it.name}.kif", f"games/{it.name}.kif"}
+    for it in results:
+        known |= {f"records/{it.match.id}.json", f"accounts/{it.match.id}.txt", f"logs/{it.match.id}.txt"}
+    for name in files_below(folder):
+        if name not in known and not name.startswith(("pages/", "pages.said/")):
+            yield f"{name} is nothing of this competition"
+
+
+def faults_of_matches(plan, referee):
+    """Returns the results, and what is wrong with the records and the accounts."""
+    results, faults = look_at_records(plan, referee)
+    found = [f"{match}: {why}" for match, why in faults.items()]
+    found += [f"{it.id}: it has no record" for it in plan.matches if it.id not in results and it.id not in faults]
+    found += [f"{it.id}: its log is missing" for it in plan.matches if not plan.folder.log(it.id).is_file()]
+    found += [f"records/{it}: it is of no match of the schedule" for it in strangers(plan)]
+    return in_order(plan, results), found
+
+
+def check_archive(path, referee):
+    """Returns what is wrong with an archive, and, where nothing is, what was found right."""
+    with tempfile.TemporaryDirectory() as room:
+        try:
+            folder = unpacked(path, pathlib.Path(room))
+            faults = list(faults_of_sums(folder))
+            if faults:
+                return faults, ""
+            plan = read_plan(folder, referee)
+            results, faults = faults_of_matches(plan, referee)
+            if faults:
+                return faults, ""
+            wanted = table_files(plan, tables_of(plan.competition, results))
+            lines = (match_line(it, plan.rules[it.match.game].sum, plan.folder.log(it.match.id).read_bytes()) for it in results)
+            wanted["matches.jsonl"] = b"".join(lines)
+            faults = list(faults_of_files(folder, plan, results, wanted))
+            made_by = (folder / VERSION).read_text("ascii", "replace").strip() if (folder / VERSION).is_file() else "an unknown version"
+        except (Spoilt, Refused) as why:
+            return str(why).splitlines(), ""
+    said = f"the sums, the schedule, {len(results)} records and accounts, the table and the pages are right"
+    return faults, f"{said}; played by {made_by}, checked by {referee.version()}"

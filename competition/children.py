@@ -1,0 +1,57 @@
+"""The processes that play and check matches. They end with this one, however it ends."""
+
+import ctypes
+import os
+import signal
+import subprocess
+import time
+
+END_WITH_PARENT = 1
+LIBRARY = ctypes.CDLL(None)
+# A parallel that is to end is told so twice, and then has so many seconds to end what it has started.
+SECONDS_TO_END = 3
+
+
+def end_with_parent():
+    LIBRARY.prctl(END_WITH_PARENT, signal.SIGKILL)
+
+
+class Child:
+    """A process that writes into files of a folder: NAME what it prints, and NAME.said what it says on standard error. Ctrl-C at the
+    terminal does not reach it."""
+
+    def __init__(self, words, folder, name, given=os.devnull):
+        self.out, self.said = folder / name, folder / f"{name}.said"
+        self.began = time.monotonic()
+        with open(given, "rb") as stdin, open(self.out, "wb") as out, open(self.said, "wb") as said:
+            self.process = subprocess.Popen(
+                words, stdin=stdin, stdout=out, stderr=said, start_new_session=True, preexec_fn=end_with_parent
+            )
+
+    def is_over(self):
+        return self.process.poll() is not None
+
+    def status(self):
+        return self.process.returncode
+
+    def output(self):
+        return self.out.read_bytes()
+
+    def last_words(self):
+        """Returns the last line on standard error, or how the process ended where there is none."""
+        lines = self.said.read_bytes().decode("ascii", "replace").strip().splitlines()
+        return lines[-1] if lines else f"it ended with status {self.status()}"
+
+    def end(self, is_parallel=False):
+        """Ends the process, and what it has started."""
+        if self.is_over():
+            return
+        try:
+            for _ in range(2 * is_parallel):
+                os.kill(self.process.pid, signal.SIGTERM)
+                self.process.wait(SECONDS_TO_END)
+        except (subprocess.TimeoutExpired, ProcessLookupError):
+            pass
+        if not self.is_over():
+            os.killpg(self.process.pid, signal.SIGKILL)
+            self.process.wait()

@@ -1,0 +1,151 @@
+"""The command line of `ggp_competition`."""
+
+import argparse
+import pathlib
+import sys
+
+from competition.archive import check_archive, publish
+from competition.files import write_whole
+from competition.kept import look_at_records
+from competition.pages import Pages
+from competition.plan import Refused, make_plan, read_plan
+from competition.playing import Playing, play
+from competition.referee import NoReferee, Referee, find_program
+from competition.results import match_line
+from competition.seats import Seats
+from competition.table import tables_of
+from competition.table_text import in_order, table_files, table_text
+from competition.telling import Teller
+
+MOST_AT_ONCE = 1_024
+HELP = """A competition in one folder, of which competition.toml says what is played. FOLDER is the present one if it is not given.
+
+  plan     writes the rules and schedule.tsv
+  play     plays the matches that have no lawful record yet
+  table    prints the table, and writes it as table.txt, table.csv, crosstable.csv and table.json
+  pages    writes the folder `pages`, to be opened in a browser
+  publish  writes one archive of all of it, with sums
+  check    checks such an archive
+
+Status 0: all is well; of `play`, each match has a lawful record. 1: it is not. 2: the command or competition.toml is wrong.
+"""
+
+
+def count(text):
+    found = int(text)
+    if not 1 <= found <= MOST_AT_ONCE:
+        raise argparse.ArgumentTypeError(f"{found} is not from 1 to {MOST_AT_ONCE:,}")
+    return found
+
+
+def arguments(words):
+    parser = argparse.ArgumentParser("ggp_competition", description=HELP, formatter_class=argparse.RawDescriptionHelpFormatter)
+    parser.add_argument("--program", metavar="FILE", help="the referee, ggp_manager, where it does not stand beside this program")
+    commands = parser.add_subparsers(dest="command", required=True)
+    for name in ("plan", "play", "table", "pages", "publish"):
+        command = commands.add_parser(name)
+        command.add_argument("folder", nargs="?", default=".")
+        if name == "play":
+            command.add_argument("--at-once", type=count, default=4, metavar="N", help="so many matches at once at most (4)")
+            command.add_argument("--watch", action="store_true", help="write the pages anew as matches end")
+        if name == "publish":
+            command.add_argument("--to", metavar="FILE", help="the archive (NAME.tar.gz in the folder)")
+        command.add_argument("--program", metavar="FILE", default=argparse.SUPPRESS)
+    command = commands.add_parser("check")
+    command.add_argument("archive")
+    command.add_argument("--program", metavar="FILE", default=argparse.SUPPRESS)
+    return parser.parse_args(words)
+
+
+def write_matches(plan, results):
+    """Writes matches.jsonl."""
+    lines = (match_line(it, plan.rules[it.match.game].sum, plan.folder.log(it.match.id).read_bytes()) for it in results)
+    write_whole(plan.folder.matches, b"".join(lines))
+
+
+def known_results(plan, referee):
+    """Returns the results that count, in the schedule's order; says of each record that does not."""
+    results, faults = look_at_records(plan, referee)
+    for match, why in faults.items():
+        print(f"ggp_competition: {match} does not count: {why}", file=sys.stderr)
+    return in_order(plan, results), bool(faults)
+
+
+def run_plan(asked, referee):
+    plan = make_plan(asked.folder, referee)
+    for game in plan.competition.games:
+        played = sum(it.game == game.name for it in plan.matches)
+        print(f"{game.name}: {played} matches, roles {' '.join(plan.roles(game.name))}")
+    print(f"{plan.folder.schedule}: {len(plan.matches)} matches of {len(plan.competition.players)} players")
+    return 0
+
+
+def run_play(asked, referee):
+    plan, tell = read_plan(asked.folder, referee), Teller()
+    playing = Playing(plan, referee, Seats(plan.competition), tell, asked.at_once)
+    if asked.watch:
+        pages = Pages(plan)
+        playing.ended = lambda _: pages.write_now_and_then(in_order(plan, playing.results))
+    missing = play(playing)
+    write_matches(plan, in_order(plan, playing.results))
+    if asked.watch:
+        pages.write(in_order(plan, playing.results))
+    for match, why in missing.items():
+        tell.line(f"missing {match}: {why}")
+    tell.line(f"{len(playing.results)} of {len(plan.matches)} matches have a lawful record")
+    return bool(missing)
+
+
+def run_table(asked, referee):
+    plan = read_plan(asked.folder, referee)
+    results, is_faulty = known_results(plan, referee)
+    tables = tables_of(plan.competition, results)
+    write_matches(plan, results)
+    for name, data in table_files(plan, tables).items():
+        write_whole(plan.folder.path / name, data)
+    print(table_text(plan, tables), end="")
+    return is_faulty
+
+
+def run_pages(asked, referee):
+    plan = read_plan(asked.folder, referee)
+    results, is_faulty = known_results(plan, referee)
+    pages = Pages(plan)
+    pages.write(results)
+    print(pages.folder / "index.html")
+    return is_faulty
+
+
+def run_publish(asked, referee):
+    plan = read_plan(asked.folder, referee)
+    results, is_faulty = known_results(plan, referee)
+    missing = len(plan.matches) - len(results)
+    if missing:
+        print(f"ggp_competition: nothing is published: {missing} matches have no lawful record", file=sys.stderr)
+        return 1
+    write_matches(plan, results)
+    path = pathlib.Path(asked.to or plan.folder.path / f"{plan.competition.name}.tar.gz")
+    print(f"{publish(plan, referee, results, path)}  {path}")
+    return is_faulty
+
+
+def run_check(asked, referee):
+    faults, said = check_archive(pathlib.Path(asked.archive), referee)
+    for it in faults:
+        print(f"ggp_competition: {asked.archive}: {it}", file=sys.stderr)
+    if not faults:
+        print(said)
+    return bool(faults)
+
+
+def main():
+    asked = arguments(sys.argv[1:])
+    try:
+        referee = Referee(find_program(asked.program))
+        return int(globals()[f"run_{asked.command}"](asked, referee))
+    except (Refused, NoReferee) as why:
+        print(f"ggp_competition: {why}" if "\n" not in str(why) else why, file=sys.stderr)
+        return 2
+    except OSError as why:
+        print(f"ggp_competition: {why.filename}: {why.strerror}", file=sys.stderr)
+        return 1

@@ -1,0 +1,115 @@
+"""The descriptions of games: read, looked at, instantiated where they have variables, and tried on the referee."""
+
+import hashlib
+import importlib.machinery
+import importlib.util
+import pathlib
+import re
+import subprocess
+import sys
+from dataclasses import dataclass
+
+TOP = pathlib.Path(__file__).resolve().parent.parent
+INSTANTIATE = TOP / "examples/instantiate"
+MOST_BYTES = 1 << 20
+COMMENT = re.compile(rb";[^\n]*")
+TOKEN = re.compile(rb"[()]|[^\s()]+")
+BAD_BYTE = re.compile(rb"[^\t\n\r\x20-\x7e]")
+SENTENCE = re.compile(r"sentence (\d+), ")
+
+
+class NoDescription(Exception):
+    """Why a text is no description, with the place where that is known."""
+
+
+@dataclass(frozen=True)
+class Rules:
+    """The ground description of a game: its bytes, their sum, and the names of its roles."""
+
+    text: bytes
+    sum: str
+    roles: tuple
+
+
+def script_module(path, name):
+    """Loads a script that has no ending as a module."""
+    loader = importlib.machinery.SourceFileLoader(name, str(path))
+    module = importlib.util.module_from_spec(importlib.util.spec_from_loader(name, loader))
+    sys.modules[name] = module
+    loader.exec_module(module)
+    return module
+
+
+def place_of(text, at):
+    line, column = text.count(b"\n", 0, at) + 1, at - text.rfind(b"\n", 0, at)
+    return f"line {line}, column {column}"
+
+
+def sentence_places(text):
+    """Returns where each sentence begins. Refuses a text whose parentheses do not fit, or with another byte than KIF has."""
+    text = COMMENT.sub(lambda it: b" " * len(it[0]), text)
+    if bad := BAD_BYTE.search(text):
+        raise NoDescription(f"{place_of(text, bad.start())}: a byte that is no character of KIF")
+    opened, places = [], []
+    for token in TOKEN.finditer(text):
+        if token[0] == b")" and not opened:
+            raise NoDescription(f"{place_of(text, token.start())}: a `)` with no open list")
+        if token[0] != b")" and not opened:
+            places.append(token.start())
+        if token[0] == b"(":
+            opened.append(token.start())
+        elif token[0] == b")":
+            opened.pop()
+    if opened:
+        raise NoDescription(f"{place_of(text, opened[-1])}: a list that is not closed")
+    if not places:
+        raise NoDescription("line 1, column 1: there is no sentence")
+    return places
+
+
+def look_at_sentences(text, places):
+    """Refuses a description with a sentence that is none, by the tests that `instantiate` has before it grounds."""
+    tool = script_module(INSTANTIATE, "instantiate")
+    try:
+        tool.Relations(tool.all_rules(tool.expressions(text.decode("latin-1")))).refuse_dependence()
+    except tool.Refused as why:
+        found = SENTENCE.match(str(why))
+        raise NoDescription(f"{place_of(text, places[int(found[1])])}: {why}" if found else str(why)) from None
+
+
+def has_variables(text):
+    return any(token.startswith(b"?") for token in TOKEN.findall(COMMENT.sub(b" ", text)))
+
+
+def instantiated(path):
+    """Returns the ground description that `instantiate` makes of a file."""
+    made = subprocess.run([sys.executable, str(INSTANTIATE), str(path)], capture_output=True)
+    if made.returncode:
+        raise NoDescription(made.stderr.decode(errors="replace").strip().splitlines()[-1])
+    return made.stdout
+
+
+def rules_of(text, referee):
+    """Returns the rules that a ground description says, as the referee reads it, or none."""
+    roles = referee.roles(text)
+    return Rules(text, hashlib.sha256(text).hexdigest(), roles) if roles else None
+
+
+def load_description(path, referee):
+    """Returns the rules of the game that a file describes."""
+    try:
+        with open(path, "rb") as it:
+            text = it.read(MOST_BYTES + 1)
+    except OSError as why:
+        raise NoDescription(f"it can't be read: {why.strerror}") from None
+    if len(text) > MOST_BYTES:
+        raise NoDescription(f"it has more than {MOST_BYTES:,} bytes")
+    places = sentence_places(text)
+    if has_variables(text):
+        look_at_sentences(text, places)
+        text = instantiated(path)
+    rules = rules_of(text, referee)
+    if not rules:
+        look_at_sentences(text, places)
+        raise NoDescription("the referee says: bad description")
+    return rules

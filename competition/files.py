@@ -1,0 +1,64 @@
+"""The files of a competition's folder: where each stands, and how each is written whole."""
+
+import os
+import pathlib
+
+UNFINISHED = ".unfinished-"
+
+
+def write_whole(path, data, is_lasting=True):
+    """Writes a file so that at each moment it is there whole or not at all: under another name first, then renamed. Where it is to be
+    lasting it is on the disk before this returns; else it may be lost, where the machine is."""
+    path = pathlib.Path(path)
+    other = path.with_name(f"{UNFINISHED}{path.name}")
+    with open(other, "wb") as it:
+        it.write(data)
+        it.flush()
+        if is_lasting:
+            os.fsync(it.fileno())
+    os.replace(other, path)
+    if not is_lasting:
+        return
+    folder = os.open(path.parent, os.O_RDONLY)
+    try:
+        os.fsync(folder)
+    finally:
+        os.close(folder)
+
+
+class Folder:
+    """The folder of a competition."""
+
+    def __init__(self, path):
+        self.path = pathlib.Path(path)
+        self.competition = self.path / "competition.toml"
+        self.schedule = self.path / "schedule.tsv"
+        self.rules, self.open = self.path / "rules", self.path / "open"
+        self.records, self.accounts, self.logs = (self.path / it for it in ("records", "accounts", "logs"))
+        self.matches, self.pages = self.path / "matches.jsonl", self.path / "pages"
+
+    def rules_of(self, game):
+        return self.rules / f"{game}.kif"
+
+    def rule_sums(self):
+        return self.rules / "SHA256SUMS"
+
+    def record(self, match):
+        return self.records / f"{match}.json"
+
+    def account(self, match):
+        return self.accounts / f"{match}.txt"
+
+    def log(self, match):
+        return self.logs / f"{match}.txt"
+
+    def make(self, *folders):
+        for it in (self.path, *folders):
+            it.mkdir(parents=True, exist_ok=True)
+
+    def drop_unfinished(self):
+        """Takes away what a write that was broken off has left."""
+        for folder in (self.path, self.rules, self.records, self.accounts, self.logs):
+            if folder.is_dir():
+                for it in folder.glob(f"{UNFINISHED}*"):
+                    it.unlink()

@@ -1,0 +1,74 @@
+"""The matches of a competition that count: those with a lawful record and an account that gives it again."""
+
+import os
+
+from competition.results import fault_of_record, read_record, result_of
+
+# So many matches are looked at together, so that their records stand in memory at once and no more.
+TOGETHER = 250
+
+
+def read_or_none(path):
+    try:
+        return path.read_bytes()
+    except FileNotFoundError:
+        return None
+
+
+def fault_of_files(record, account):
+    if account is None:
+        return "its account is missing"
+    if not account.endswith(b"\n"):
+        return "its account is cut off"
+    if record.count(b"\n") != 1 or not record.endswith(b"\n"):
+        return "its record is not one line"
+    return None
+
+
+def looked_at(plan, referee, game, matches):
+    """Gives for each of these matches of a game, which have records, its result, or why it does not count."""
+    rules = plan.folder.rules_of(game)
+    records = [plan.folder.record(it.id).read_bytes() for it in matches]
+    accounts = [read_or_none(plan.folder.account(it.id)) for it in matches]
+    faults = list(map(fault_of_files, records, accounts))
+    whole = [at for at, fault in enumerate(faults) if not fault]
+    verdicts = dict(zip(whole, referee.verdicts(rules, [records[at] for at in whole])))
+    lawful = [at for at in whole if verdicts.get(at) == "lawful"]
+    replays = dict(zip(lawful, referee.replays(rules, [accounts[at] for at in lawful], [records[at] for at in lawful])))
+    for at, match in enumerate(matches):
+        fault = faults[at] or (verdicts.get(at, "not looked at") if at not in replays else None)
+        if not fault and not replays[at]:
+            fault = "its account does not give its record again"
+        record = None if fault else read_record(records[at])
+        fault = fault or fault_of_record(record, match, plan.competition.strikes)
+        yield match, fault, None if fault else result_of(record, match)
+
+
+def look_at_records(plan, referee):
+    """Returns the results of the matches that count, by their ids, and for each other one that has a record why it does not count."""
+    results, faults, by_game = {}, {}, {}
+    for match in plan.matches:
+        if plan.folder.record(match.id).exists():
+            by_game.setdefault(match.game, []).append(match)
+    for game, matches in by_game.items():
+        for at in range(0, len(matches), TOGETHER):
+            for match, fault, result in looked_at(plan, referee, game, matches[at : at + TOGETHER]):
+                if fault:
+                    faults[match.id] = fault
+                else:
+                    results[match.id] = result
+    return results, faults
+
+
+def strangers(plan):
+    """Returns the records of the folder that are of no match of the schedule."""
+    known = {plan.folder.record(it.id).name for it in plan.matches}
+    found = os.listdir(plan.folder.records) if plan.folder.records.is_dir() else []
+    return sorted(it for it in found if it.endswith(".json") and it not in known)
+
+
+def set_aside(plan, match):
+    """Keeps the files of a match that do not count under another name, out of the way of those that are to come."""
+    for file in (plan.folder.record(match), plan.folder.account(match), plan.folder.log(match)):
+        if file.exists():
+            os.replace(file, file.with_name(f"{file.name}.refused"))

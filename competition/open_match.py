@@ -1,0 +1,138 @@
+"""A match from INFO to its files. It goes on in steps, and between them gives back the hand to whoever plays many at once."""
+
+import datetime
+import shutil
+import time
+
+from competition.children import Child
+from competition.files import write_whole
+from competition.hosts import host_of, parallel_words, remote_line
+from competition.results import fault_of_record, read_record, result_of
+
+THERE = ("available", "ready", "unknown")
+
+
+def moment():
+    """Returns the present time, in UTC, to the millisecond."""
+    return datetime.datetime.now(datetime.timezone.utc).isoformat(timespec="milliseconds").replace("+00:00", "Z")
+
+
+class OpenMatch:
+    """A match that is open. `stage` is asking, playing, checking or over; then there is a result, or a word why there is none, or
+    neither where the match is to be put back."""
+
+    def __init__(self, plan, referee, seats, match, tell):
+        self.plan, self.referee, self.seats, self.match, self.tell = plan, referee, seats, match, tell
+        self.room = plan.folder.open / match.id
+        self.places = [plan.competition.player(it).place() for it in match.players]
+        self.stage, self.children, self.seconds = "asking", [], 0.0
+        self.result, self.why = None, None
+        self.may_begin, self.is_broken = True, False
+        self.steps = self.go()
+
+    def go(self):
+        """The steps of the match."""
+        self.room.mkdir(parents=True, exist_ok=True)
+        if not (yield from self.ask()) or not self.may_begin:
+            self.close()
+            return
+        played = yield from self.play()
+        self.seats.leave(self.match)
+        self.stage = "checking"
+        if played:
+            yield from self.check(*played)
+        self.close()
+
+    def close(self):
+        """Takes the match's room away, but for a match that broke off: its players are still to be freed."""
+        if self.stage == "asking":
+            self.seats.leave(self.match)
+        self.stage = "over"
+        if not self.is_broken:
+            shutil.rmtree(self.room, ignore_errors=True)
+
+    def child(self, words, name, given="/dev/null"):
+        self.children.append(Child(words, self.room, name, given))
+        return self.children[-1]
+
+    def end_children(self):
+        for it in self.children:
+            it.end(bool(self.plan.competition.hosts))
+
+    def ask(self):
+        """Asks each player whether it is free. Returns whether the match can begin."""
+        asked = [self.child(self.referee.info_words(it), f"info-{at}") for at, it in enumerate(self.places)]
+        until = time.monotonic() + self.plan.competition.info
+        while time.monotonic() < until and not all(it.is_over() for it in asked):
+            yield
+        said = [it.output().decode().strip() if it.is_over() and not it.status() else "silent" for it in asked]
+        for it in asked:
+            it.end()
+        return all([self.is_there(*it) for it in zip(self.match.players, said)])
+
+    def is_there(self, player, said):
+        """Returns whether the match can begin as far as this player goes. Else it is put back, or left with the reason."""
+        if said in THERE:
+            self.seats.was_there(player)
+            return True
+        goes_on = self.seats.was_not_there(player)
+        if goes_on:
+            self.tell.line(f"back {self.match.id}: {player} is {said}")
+            return False
+        if said == "silent" and self.plan.competition.absent == "play":
+            self.tell.line(f"absent {self.match.id}: {player} is {said}, and the match is played")
+            return True
+        self.why = f"{player} is {said}"
+        return False
+
+    def play(self):
+        """Plays the match. Returns what the referee wrote and said, and when it began and ended; none where it gives no record."""
+        competition, folder = self.plan.competition, self.plan.folder
+        write_whole(self.room / "players", "".join(f"{it}\n" for it in self.places).encode())
+        words = self.referee.run_words(folder.rules_of(self.match.game), self.match, competition.strikes, self.places)
+        given, job_log, host = "/dev/null", self.room / "joblog", b""
+        if competition.hosts:
+            given = self.room / "line"
+            given.write_text(remote_line(words, self.match.id, self.places))
+            words = parallel_words(competition.hosts, competition.tries, job_log)
+        self.stage, began = "playing", moment()
+        child = self.child(words, "played", given)
+        self.tell.begins(self.match)
+        while not child.is_over():
+            yield
+        self.seconds = time.monotonic() - child.began
+        if child.status():
+            self.why, self.is_broken = child.last_words(), True
+            return None
+        if competition.hosts:
+            host = f"host {host_of(job_log)}\n".encode()
+        return child.output(), f"began {began}\n".encode() + host + child.said.read_bytes() + f"ended {moment()}\n".encode()
+
+    def check(self, played, log):
+        """Has the record verified and the account replayed, and only then puts the files of the match where they count."""
+        record, _, account = played.partition(b"\n")
+        record += b"\n"
+        for name, data in (("record", record), ("account", account)):
+            (self.room / name).write_bytes(data)
+        rules = self.plan.folder.rules_of(self.match.game)
+        verified = self.child(self.referee.verify_words(rules), "verified", self.room / "record")
+        replayed = self.child(self.referee.replay_words(rules), "replayed", self.room / "account")
+        while not (verified.is_over() and replayed.is_over()):
+            yield
+        if verified.output() != b"lawful\n":
+            self.why = verified.last_words()
+            return
+        if replayed.status() or replayed.output().partition(b"\n")[2] != record:
+            self.why = "its account does not give its record again"
+            return
+        read = read_record(record)
+        self.why = fault_of_record(read, self.match, self.plan.competition.strikes)
+        if not self.why:
+            self.keep(record, account, log)
+            self.result = result_of(read, self.match)
+
+    def keep(self, record, account, log):
+        """Writes the files of the match; the record is last, so that what has a record has the others."""
+        folder, name = self.plan.folder, self.match.id
+        for file, data in ((folder.log(name), log), (folder.account(name), account), (folder.record(name), record)):
+            write_whole(file, data)

@@ -1,0 +1,185 @@
+"""The pages of a competition: a folder of plain HTML that opens without a server. They follow from the folder's files alone."""
+
+import datetime
+import html
+import shutil
+import time
+
+from competition.descriptions import TOP, script_module
+from competition.files import write_whole
+from competition.results import times_of
+from competition.table import tables_of
+from competition.table_text import METHOD, crosstable_rows, notes, standings_rows
+
+SHOW_RECORD = TOP / "examples/show-record"
+# While matches are played the pages are written anew after so many seconds at the earliest, and never for more than a tenth of the time.
+SECONDS, SHARE = 2, 10
+
+STYLE = """
+:root { color-scheme: light dark; --ink: #1d2330; --dim: #6b7280; --paper: #fff; --band: #f3f4f6; --line: #d5d9e0; --odd: #9a3412; }
+@media (prefers-color-scheme: dark) { :root { --ink: #e5e7eb; --dim: #9ca3af; --paper: #14171d; --band: #1f242d; --line: #39404c;
+  --odd: #fdba74; } }
+body { font: 15px/1.45 system-ui, sans-serif; color: var(--ink); background: var(--paper); margin: 1.2rem 1.6rem; }
+h1 { font-size: 1.35rem; margin: 0 0 .3rem; } h2 { font-size: 1.05rem; margin: 1.6rem 0 .5rem; }
+p { margin: .2rem 0 .8rem; max-width: 60rem; } .dim { color: var(--dim); } a { color: inherit; }
+.wide { overflow-x: auto; } table { border-collapse: collapse; font-size: .9rem; }
+th { color: var(--dim); font-weight: normal; background: var(--band); } td, th { padding: .2rem .6rem; border-bottom: 1px solid var(--line);
+  text-align: right; white-space: nowrap; } .left { text-align: left; } .odd { color: var(--odd); }
+pre { font: .85rem/1.4 ui-monospace, "DejaVu Sans Mono", monospace; overflow-x: auto; background: var(--band); padding: .8rem; }
+@media (max-width: 40rem) { body { margin: .8rem; } td, th { padding: .2rem .4rem; } }
+"""
+POLICY = "default-src 'none'; style-src 'unsafe-inline'; base-uri 'none'; form-action 'none'"
+
+
+def page(title, *parts):
+    """Returns a page, in ASCII."""
+    lines = [
+        "<!DOCTYPE html>",
+        '<html lang="en"><head><meta charset="utf-8"><meta name="viewport" content="width=device-width">',
+        f'<meta http-equiv="Content-Security-Policy" content="{POLICY}">',
+        f"<title>{html.escape(title)}</title><style>{STYLE}</style></head><body>",
+        *parts,
+        "</body></html>\n",
+    ]
+    return "\n".join(lines).encode("ascii", "xmlcharrefreplace")
+
+
+def table(rows, left):
+    """Returns a table of HTML; the first row has its heads, and `left` says which columns stand to the left."""
+    kinds = [' class="left"' if at in left else "" for at in range(len(rows[0]))]
+    lines = ["".join(f"<{tag}{kind}>{it}" for kind, it in zip(kinds, row)) for tag, row in zip(["th"] + ["td"] * len(rows), rows)]
+    return '<div class="wide"><table>\n' + "\n".join(f"<tr>{it}</tr>" for it in lines) + "\n</table></div>"
+
+
+def link(target, text):
+    return f'<a href="{html.escape(target)}">{html.escape(text)}</a>'
+
+
+def standings(found):
+    """Returns the standings and the crosstable of a table."""
+    parts = ["<h2>Standings</h2>", table([list(map(html.escape, row)) for row in standings_rows(found, "\u00b1")], {1})]
+    parts += [f'<p class="odd">{html.escape(it)}</p>' for it in notes(found)]
+    if found.is_of_pairs():
+        parts += ["<h2>Points / meetings</h2>", table([list(map(html.escape, row)) for row in crosstable_rows(found)], {1})]
+    return parts
+
+
+def seconds_between(times):
+    """Returns how long a match took, as text; nothing where its log does not tell."""
+    try:
+        began, ended = (datetime.datetime.fromisoformat(times[it].replace("Z", "+00:00")) for it in ("begin", "end"))
+    except (AttributeError, ValueError):
+        return ""
+    return f"{(ended - began).total_seconds():.1f}"
+
+
+def match_row(result, times, up):
+    """Returns what the list of matches says of one: its links go from a page that stands so far below the first."""
+    match = result.match
+    goals = result.goals or ["none"] * len(match.players)
+    who = ", ".join(f"{html.escape(player)} {goal}" for player, goal in zip(match.players, goals))
+    replaced = ", ".join(f"{html.escape(it)} {result.replaced(role)}" for role, it in enumerate(match.players) if result.replaced(role))
+    begin = (times["begin"] or "").replace("T", " ")[:19]
+    cause = f" ({html.escape(result.cause)})" if result.cause else ""
+    links = link(f"{up}matches/{match.id}.html", match.id), link(f"{up}games/{match.game}.html", match.game)
+    return [*links, who + cause, str(result.turns), f'<span class="odd">{replaced}</span>', begin, seconds_between(times)]
+
+
+MATCH_HEADS = ["match", "game", "players and goals", "turns", "replaced moves", "begin (UTC)", "seconds"]
+LEFT = {0, 1, 2, 4, 5}
+
+
+class Pages:
+    """The pages of a competition. A match's page and its row are made once."""
+
+    def __init__(self, plan):
+        self.plan, self.folder = plan, plan.folder.pages
+        self.show_record = script_module(SHOW_RECORD, "show_record")
+        self.rows, self.next = {}, 0.0
+
+    def write_now_and_then(self, results):
+        """Writes the pages if that was not done just before."""
+        began = time.monotonic()
+        if began >= self.next:
+            self.write(results)
+            ended = time.monotonic()
+            self.next = ended + max(SECONDS, SHARE * (ended - began))
+
+    def write(self, results):
+        for it in ("matches", "games"):
+            (self.folder / it).mkdir(parents=True, exist_ok=True)
+        for it in results:
+            if it.match.id not in self.rows:
+                self.add(it)
+        tables = tables_of(self.plan.competition, results)
+        for it in tables[1:]:
+            self.put(f"games/{it.game}.html", self.game_page(it, [result for result in results if result.match.game == it.game]))
+        self.put("index.html", self.first_page(tables, results))
+        self.drop_others("matches", {it.match.id for it in results})
+        self.drop_others("games", {it.game for it in tables[1:]})
+
+    def put(self, name, data):
+        write_whole(self.folder / name, data, is_lasting=False)
+
+    def drop_others(self, folder, names):
+        """Takes away the pages of what is no longer there."""
+        for it in (self.folder / folder).iterdir():
+            if it.stem not in names:
+                it.unlink()
+
+    def add(self, result):
+        """Writes the page of a match, as `show-record` makes it, with the way back."""
+        match, folder = result.match, self.plan.folder
+        made = self.show_record.page_of(self.show_record.read_record(folder.record(match.id).read_bytes()))
+        way = f"<p>{link('../index.html', self.plan.competition.name)} / {link(f'../games/{match.game}.html', match.game)}</p>"
+        self.put(f"matches/{match.id}.html", made.replace(b"<body>", b"<body>\n" + way.encode("ascii"), 1) + b"\n")
+        times = times_of(folder.log(match.id).read_bytes(), len(match.players))
+        self.rows[match.id] = times["begin"], times["end"], match_row(result, times, ""), match_row(result, times, "../")
+
+    def matches(self, results, is_below):
+        if not results:
+            return "<p>No match is over.</p>"
+        return table([MATCH_HEADS, *(self.rows[it.match.id][2 + is_below] for it in results)], LEFT)
+
+    def span(self, results):
+        """Returns when the first match began and the last one ended, as text."""
+        times = [self.rows[it.match.id][:2] for it in results]
+        begins, ends = ([it[at] for it in times if it[at]] for at in (0, 1))
+        if not begins or not ends:
+            return ""
+        return f" From {min(begins).replace('T', ' ')[:19]} to {max(ends).replace('T', ' ')[:19]} UTC."
+
+    def first_page(self, tables, results):
+        plan = self.plan
+        games = ", ".join(link(f"games/{it.name}.html", it.name) for it in plan.competition.games)
+        forfeit = " A match in which a player was retired is lost for it." if plan.competition.forfeit else ""
+        return page(
+            plan.competition.name,
+            f"<h1>{html.escape(plan.competition.name)}</h1>",
+            f"<p>{len(results)} of {len(plan.matches)} matches are over.{self.span(results)}{forfeit}</p>",
+            f"<p>Games: {games}. In each the standings of that game, and its rules.</p>",
+            *standings(tables[0]),
+            f'<p class="dim">Ratings: {html.escape(METHOD)}.</p>',
+            "<h2>Matches</h2>",
+            self.matches(results, False),
+        )
+
+    def game_page(self, found, results):
+        plan, game = self.plan, next(it for it in self.plan.competition.games if it.name == found.game)
+        rules = plan.rules[found.game]
+        text = html.escape(rules.text.decode("ascii", "backslashreplace"))
+        return page(
+            f"{plan.competition.name}: {found.game}",
+            f"<p>{link('../index.html', plan.competition.name)}</p><h1>{html.escape(found.game)}</h1>",
+            f"<p>Roles: {html.escape(', '.join(rules.roles))}. Clocks: {game.start} s for START, {game.play} s for every other message.</p>",
+            *standings(found),
+            "<h2>Matches</h2>",
+            self.matches(results, True),
+            f'<h2>Rules</h2><p class="dim">SHA-256: {rules.sum}</p><pre>{text}</pre>',
+        )
+
+
+def made_anew(plan, results):
+    """Writes the pages into an empty folder."""
+    shutil.rmtree(plan.folder.pages, ignore_errors=True)
+    Pages(plan).write(results)

@@ -1,0 +1,119 @@
+"""Plans a competition: its rules and its schedule are written, once, and read again by whatever works on it later."""
+
+import os
+import re
+from dataclasses import dataclass
+
+from competition.competition_file import Competition, Mistake, Mistaken, read_competition
+from competition.descriptions import NoDescription, load_description, rules_of
+from competition.files import Folder, write_whole
+from competition.schedule import planned, schedule_text
+
+SUM_LINE = re.compile(rb"([0-9a-f]{64})  ([^\n]+)\n")
+
+
+class Refused(Exception):
+    """Why there is nothing to go on with, in lines."""
+
+
+@dataclass
+class Plan:
+    """A competition with its rules by the names of the games, and its matches in the schedule's order."""
+
+    folder: Folder
+    competition: Competition
+    rules: dict
+    matches: list
+
+    def roles(self, game):
+        return self.rules[game].roles
+
+
+def read_file(path):
+    try:
+        return path.read_bytes()
+    except OSError as why:
+        raise Refused(f"{path} can't be read: {why.strerror}") from None
+
+
+def told(path, mistakes):
+    """Returns the mistakes of a file, a line for each."""
+    return "\n".join(f"{path}:{it.line}: {it.key + ': ' if it.key else ''}{it.words}" for it in mistakes)
+
+
+def competition_of(folder):
+    try:
+        return read_competition(read_file(folder.competition))
+    except Mistaken as why:
+        raise Refused(told(folder.competition, why.mistakes)) from None
+
+
+def matches_of(folder, competition, rules):
+    try:
+        return planned(competition, {name: len(it.roles) for name, it in rules.items()})
+    except Mistaken as why:
+        raise Refused(told(folder.competition, why.mistakes)) from None
+
+
+def loaded_games(folder, competition, referee):
+    """Returns the rules of each game by its name. All descriptions that are none are told at once."""
+    found, mistakes = {}, []
+    for game in competition.games:
+        path = folder.path / game.file
+        try:
+            found[game.name] = load_description(path, referee)
+        except NoDescription as why:
+            mistakes.append(Mistake(game.line, "games.file", f"{path}: {why}"))
+    if mistakes:
+        raise Refused(told(folder.competition, mistakes))
+    return found
+
+
+def sums_text(sums):
+    """Returns sums by names in the form of `sha256sum`."""
+    return "".join(f"{it}  {name}\n" for name, it in sorted(sums.items())).encode("utf-8")
+
+
+def make_plan(path, referee):
+    """Writes the rules and the schedule of the competition in a folder, and returns it. Nothing is written where anything is wrong,
+    or where matches of another schedule were played."""
+    folder = Folder(path)
+    competition = competition_of(folder)
+    rules = loaded_games(folder, competition, referee)
+    matches = matches_of(folder, competition, rules)
+    wanted = {folder.schedule: schedule_text(matches), **{folder.rules_of(name): it.text for name, it in rules.items()}}
+    wanted[folder.rule_sums()] = sums_text({f"{name}.kif": it.sum for name, it in rules.items()})
+    played = folder.records.is_dir() and any(folder.records.glob("*.json"))
+    for file, data in wanted.items():
+        if played and (not file.exists() or file.read_bytes() != data):
+            raise Refused(f"{file} would change, and matches were played: keep the competition as it was, or take another folder")
+    try:
+        folder.make(folder.rules)
+        for file in [*folder.rules.glob("*.kif")]:
+            if file not in wanted:
+                file.unlink()
+        # The schedule is last, so that there is none without its rules.
+        for file in sorted(wanted, key=lambda it: it == folder.schedule):
+            write_whole(file, wanted[file])
+    except OSError as why:
+        raise Refused(f"{folder.path} can't be written: {why.filename}: {os.strerror(why.errno)}") from None
+    return Plan(folder, competition, rules, matches)
+
+
+def read_plan(path, referee):
+    """Returns the competition that was planned in a folder. Refuses one whose rules or schedule are not those of the plan."""
+    folder = Folder(path)
+    competition = competition_of(folder)
+    if not folder.schedule.exists():
+        raise Refused(f"{folder.schedule} is not there: `ggp_competition plan` writes it")
+    sums = {name.decode(): it.decode() for it, name in SUM_LINE.findall(read_file(folder.rule_sums()))}
+    rules = {}
+    for game in competition.games:
+        file = folder.rules_of(game.name)
+        rules[game.name] = rules_of(read_file(file), referee)
+        if not rules[game.name] or rules[game.name].sum != sums.get(f"{game.name}.kif"):
+            raise Refused(f"{file} is not what `ggp_competition plan` wrote")
+    matches = matches_of(folder, competition, rules)
+    if read_file(folder.schedule) != schedule_text(matches):
+        raise Refused(f"{folder.schedule} is not what {folder.competition} says: `ggp_competition plan` writes it anew")
+    return Plan(folder, competition, rules, matches)

@@ -1,0 +1,174 @@
+"""Plays the matches of a competition that have no lawful record yet, many at once, each when its players are free."""
+
+import collections
+import errno
+import fcntl
+import os
+import shutil
+import signal
+import time
+
+from competition.kept import look_at_records, set_aside, strangers
+from competition.messages import send_aborts
+from competition.open_match import OpenMatch
+from competition.plan import Refused
+
+REST = 0.02
+ABORT_SECONDS = 10
+
+
+class Playing:
+    """The matches that wait, those that are open, and what came of the others."""
+
+    def __init__(self, plan, referee, seats, tell, at_once):
+        self.plan, self.referee, self.seats, self.tell, self.at_once = plan, referee, seats, tell, at_once
+        self.results, self.left, self.open = {}, {}, []
+        self.waiting = collections.deque()
+        self.interrupts, self.is_full = 0, False
+        self.ended = lambda result: None
+
+    def begin(self):
+        """Opens matches as long as fewer than may be are at play and one can begin."""
+        at_play = sum(it.stage in ("asking", "playing") for it in self.open)
+        while at_play < self.at_once:
+            match = self.seats.next_match(self.waiting, time.monotonic())
+            if not match:
+                return
+            self.open.append(OpenMatch(self.plan, self.referee, self.seats, match, self.tell))
+            at_play += 1
+
+    def step(self, it):
+        """Has an open match go on. Where a file can't be written the match is lost, and no further one begins."""
+        try:
+            next(it.steps, None)
+        except OSError as why:
+            self.lose(it, f"{why.filename or 'its files'}: {os.strerror(why.errno or errno.EIO)}")
+            self.is_full = True
+        if it.stage != "over":
+            return
+        if it.is_broken:
+            abort_matches({it.match.id: it.places}, self.plan.folder, self.tell)
+        if it.result:
+            self.results[it.match.id] = it.result
+            self.tell.ends(it.result, it.seconds)
+            self.ended(it.result)
+        elif it.why:
+            self.left[it.match.id] = it.why
+            self.tell.line(f"no record {it.match.id}: {it.why}")
+        else:
+            self.waiting.append(it.match)
+
+    def lose(self, it, why):
+        """Ends a match before its end."""
+        it.end_children()
+        it.is_broken = it.stage == "playing"
+        if it.stage in ("asking", "playing"):
+            self.seats.leave(it.match)
+        it.stage, it.why = "over", why
+
+    def go(self):
+        """Goes on until no match is open, and none waits or may begin."""
+        told = 0
+        while self.open or self.waiting and not self.interrupts and not self.is_full:
+            if not self.interrupts and not self.is_full:
+                self.begin()
+            for it in self.open:
+                it.may_begin = not self.interrupts and not self.is_full
+                self.step(it)
+            self.open = [it for it in self.open if it.stage != "over"]
+            if self.interrupts > told:
+                told = self.interrupts
+                self.say_interrupt()
+            self.tell.progress(len(self.results), len(self.open), len(self.waiting))
+            time.sleep(REST)
+        self.tell.clear()
+
+    def say_interrupt(self):
+        if self.interrupts == 1:
+            at_play = sum(it.stage == "playing" for it in self.open)
+            self.tell.line(f"no more matches begin; {at_play} are played to their ends, or ended by one more Ctrl-C")
+        else:
+            self.end_open_ones()
+
+    def end_open_ones(self):
+        """Ends the matches that are at play, and tells their players. Those that are being checked go on."""
+        places = {}
+        for it in self.open:
+            if it.stage == "playing":
+                places[it.match.id] = it.places
+                self.left[it.match.id] = "it was ended before its end"
+            if it.stage in ("asking", "playing"):
+                self.lose(it, None)
+                if not it.is_broken:
+                    shutil.rmtree(it.room, ignore_errors=True)
+        abort_matches(places, self.plan.folder, self.tell)
+
+
+def abort_matches(places, folder, tell):
+    """Sends the players of these matches ABORT. The room of a match is kept where one does not answer, so that it is sent again."""
+    silent = send_aborts(places, ABORT_SECONDS)
+    for match, found in places.items():
+        tell.line(f"abort {match}: {', '.join(found)}")
+        if match in silent:
+            tell.line(f"no answer to abort {match}: {', '.join(silent[match])}")
+        else:
+            shutil.rmtree(folder.open / match, ignore_errors=True)
+
+
+def clear_open_rooms(plan, results, tell):
+    """Frees the players of the matches that were open when a run before this one was killed."""
+    places = {}
+    for room in sorted(plan.folder.open.iterdir()):
+        players = room / "players"
+        if room.name in results or not players.exists():
+            shutil.rmtree(room)
+        else:
+            places[room.name] = players.read_text().split()
+    abort_matches(places, plan.folder, tell)
+
+
+def lock(folder):
+    """Takes the folder for this run, as long as it lives."""
+    found = os.open(folder.path, os.O_RDONLY)
+    try:
+        fcntl.flock(found, fcntl.LOCK_EX | fcntl.LOCK_NB)
+    except OSError:
+        os.close(found)
+        raise Refused(f"{folder.path}: another run plays this competition") from None
+    return found
+
+
+def prepared(playing):
+    """Looks at what is there already, frees players of matches that were lost, and lets the others wait."""
+    plan, folder, tell = playing.plan, playing.plan.folder, playing.tell
+    try:
+        folder.make(folder.records, folder.accounts, folder.logs, folder.open)
+        folder.drop_unfinished()
+    except OSError as why:
+        raise Refused(f"{folder.path} can't be written: {why.filename}: {os.strerror(why.errno)}") from None
+    for it in strangers(plan):
+        raise Refused(f"{folder.records / it} is of no match of the schedule")
+    playing.results, faults = look_at_records(plan, playing.referee)
+    for match, why in faults.items():
+        tell.line(f"refused {match}: {why}; its files are set aside, and it is played again")
+        set_aside(plan, match)
+    clear_open_rooms(plan, playing.results, tell)
+    playing.waiting.extend(it for it in plan.matches if it.id not in playing.results)
+
+
+def play(playing):
+    """Plays. Returns for each match that has no lawful record why."""
+    held = lock(playing.plan.folder)
+    try:
+        prepared(playing)
+
+        def interrupted(number, _):
+            playing.interrupts += 2 if number == signal.SIGTERM else 1
+
+        for it in (signal.SIGINT, signal.SIGTERM):
+            signal.signal(it, interrupted)
+        playing.go()
+    finally:
+        os.close(held)
+    missing = dict.fromkeys((it.id for it in playing.plan.matches if it.id not in playing.results), "it was not begun")
+    return {match: playing.left.get(match, why) for match, why in missing.items()}

@@ -1,0 +1,53 @@
+"""What is told while matches are played: a line as each begins and ends, and on a terminal how far all of them are."""
+
+import sys
+import time
+
+REDRAWN = 0.5
+
+
+def spell(seconds):
+    """Returns a time as hours, minutes and seconds."""
+    minutes, rest = divmod(round(seconds), 60)
+    return f"{minutes // 60}:{minutes % 60:02}:{rest:02}"
+
+
+class Teller:
+    """Writes lines to standard output and, where standard error is a terminal, one line there that is written anew."""
+
+    def __init__(self):
+        self.is_shown = sys.stderr.isatty()
+        self.drawn, self.began, self.over_at_first = 0.0, time.monotonic(), None
+
+    def clear(self):
+        if self.is_shown:
+            print("\r\x1b[K", end="", file=sys.stderr, flush=True)
+
+    def line(self, text):
+        self.clear()
+        print(text, flush=True)
+
+    def begins(self, match):
+        self.line(f"begin {match.id} {match.game} {' '.join(match.players)}")
+
+    def ends(self, result, seconds):
+        """Says of each player its goal, and how many of its moves were replaced."""
+        match = result.match
+        goals = result.goals or ["none"] * len(match.players)
+        said = [f"{player} {goal}" for player, goal in zip(match.players, goals)]
+        replaced = [
+            f"{player} {result.replaced(role)} of {result.turns}" for role, player in enumerate(match.players) if result.replaced(role)
+        ]
+        more = f", replaced {', '.join(replaced)}" if replaced else ""
+        self.line(f"end {match.id} {match.game} {', '.join(said)}{more}, {seconds:.1f} s")
+
+    def progress(self, over, open_ones, to_come):
+        """Shows how far the matches are, and how long the rest takes if it goes on so."""
+        now = time.monotonic()
+        if self.over_at_first is None:
+            self.over_at_first = over
+        if not self.is_shown or now - self.drawn < REDRAWN:
+            return
+        self.drawn, done = now, over - self.over_at_first
+        left = spell((now - self.began) / done * (open_ones / 2 + to_come)) if done else "unknown"
+        print(f"\r\x1b[Kover {over}, open {open_ones}, to come {to_come}, left {left}", end="", file=sys.stderr, flush=True)
