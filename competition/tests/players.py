@@ -1,0 +1,116 @@
+"""Players for the tests, good ones and such as are no good, in threads of the test: they stay as they are when a run is killed."""
+
+import random
+import socket
+import threading
+import time
+
+from competition.descriptions import TOP, script_module
+
+example = script_module(TOP / "examples/players/player.py", "player")
+
+KINDS = ("good", "slow", "closing", "dripping", "lying", "dying")
+SLOW, DRIP, AWAY = 0.12, 0.3, 1.0
+# A player that dies does so at each PLAY of such a number.
+LIFE = 7
+
+
+class TestPlayer(threading.Thread):
+    """A player that is strict: while it sits in a match it says so to INFO, and takes no START. What it took is kept."""
+
+    __test__ = False
+
+    def __init__(self, name, kind="good", seed=0):
+        super().__init__(daemon=True)
+        self.name, self.kind, self.random = name, kind, random.Random(seed)
+        self.match, self.plays = None, 0
+        # The ids of matches that began, were aborted, and were offered while it sat in another.
+        self.begun, self.aborted, self.clashes = [], [], []
+        self.status = None
+        self.socket = socket.create_server(("127.0.0.1", 0), backlog=64)
+        self.port = self.socket.getsockname()[1]
+        self.start()
+
+    def place(self):
+        return f"127.0.0.1:{self.port}"
+
+    def run(self):
+        while True:
+            connection, _ = self.socket.accept()
+            with connection:
+                try:
+                    self.serve(connection)
+                except OSError:
+                    pass  # the referee has closed the connection
+
+    def serve(self, connection):
+        body = message_of(connection)
+        message = example.read(body)[0]
+        is_play = message[0] == "play"
+        self.plays += is_play
+        if self.kind == "dying" and is_play and self.plays % LIFE == 0:
+            self.die(connection)
+            return
+        answer = self.answer(message)
+        if self.kind == "slow":
+            time.sleep(SLOW)
+        if self.kind == "closing" and is_play:
+            return
+        reply = f"HTTP/1.0 200 OK\r\nContent-Length: {len(answer)}\r\n\r\n{answer}".encode()
+        if self.kind == "dripping" and is_play:
+            for byte in reply:
+                connection.sendall(bytes([byte]))
+                time.sleep(DRIP)
+        else:
+            connection.sendall(reply)
+
+    def die(self, connection):
+        """It is gone for a while, and knows nothing any more when it is there again."""
+        connection.close()
+        self.socket.close()
+        time.sleep(AWAY)
+        self.match = None
+        self.socket = socket.create_server(("127.0.0.1", self.port), backlog=64)
+
+    def answer(self, message):
+        match message:
+            case ("info",):
+                return self.status or ("busy" if self.match else "available")
+            case ("start", match, role, rules, _, _):
+                if self.match:
+                    self.clashes.append(match)
+                    return "busy"
+                self.match, self.role, self.game = match, role, example.Game(rules)
+                self.state = self.game.initial()
+                self.begun.append(match)
+                return "ready"
+            case ("play", match, moves) if match == self.match:
+                if moves not in ("nil", ()):
+                    self.state = self.game.next(self.state, moves)
+                move = example.show(self.random.choice(self.game.legal(self.state, self.role)))
+                return "(no such move)" if self.kind == "lying" else move
+            case ("play", _, _):
+                return "busy" if self.match else "lost"
+            case ("stop", match, _) | ("abort", match):
+                self.aborted += [match] * (message[0] == "abort")
+                self.match = None if match == self.match else self.match
+        return "done"
+
+
+def message_of(connection):
+    """Returns the body of a request."""
+    text = b""
+    while b"\r\n\r\n" not in text:
+        text += received(connection)
+    head, _, body = text.partition(b"\r\n\r\n")
+    size = int(head.partition(b"Content-Length: ")[2].split()[0])
+    while len(body) < size:
+        body += received(connection)
+    return body.decode("ascii")
+
+
+def received(connection):
+    more = connection.recv(65536)
+    if not more:
+        raise ConnectionError
+    return more

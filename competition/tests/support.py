@@ -1,0 +1,98 @@
+"""What the tests share: the program, a competition's folder, and runs of `ggp_competition`."""
+
+import functools
+import json
+import os
+import pathlib
+import subprocess
+import sys
+import tempfile
+import unittest
+
+from competition.descriptions import TOP
+
+COMMAND = TOP / "competition/ggp_competition"
+GAMES = TOP / "examples/games"
+# Three roles, one turn: who shows what neither of the others shows has won.
+ODD = """
+(role one) (role two) (role three) (init new)
+(<= (legal one head) (true new)) (<= (legal one tail) (true new))
+(<= (legal two head) (true new)) (<= (legal two tail) (true new))
+(<= (legal three head) (true new)) (<= (legal three tail) (true new))
+(<= odd_one (does one head) (does two tail) (does three tail)) (<= odd_one (does one tail) (does two head) (does three head))
+(<= odd_two (does two head) (does one tail) (does three tail)) (<= odd_two (does two tail) (does one head) (does three head))
+(<= odd_three (does three head) (does one tail) (does two tail)) (<= odd_three (does three tail) (does one head) (does two head))
+(<= (next (odd one)) odd_one) (<= (next (odd two)) odd_two) (<= (next (odd three)) odd_three) (<= (next over) (true new))
+(<= terminal (true over))
+(<= (goal one 100) (true (odd one))) (<= (goal one 0) (not (true (odd one))))
+(<= (goal two 100) (true (odd two))) (<= (goal two 0) (not (true (odd two))))
+(<= (goal three 100) (true (odd three))) (<= (goal three 0) (not (true (odd three))))
+"""
+
+
+@functools.cache
+def program():
+    """Returns the path of the referee: GGP_MANAGER, or what tools/program prints."""
+    return os.environ.get("GGP_MANAGER") or subprocess.run([TOP / "tools/program"], stdout=subprocess.PIPE, text=True, check=True).stdout.strip()
+
+
+def toml(players, games, form='kind = "round_robin"', head=""):
+    """Returns the text of a competition.toml: players as (name, address) and what else, games as (name, file)."""
+    lines = ['name = "cup"', *head.splitlines(), "[form]", *form.splitlines()]
+    for name, file in games:
+        lines += ["[[games]]", f'name = "{name}"', f'file = "{file}"']
+    for name, address, *more in players:
+        lines += ["[[players]]", f'name = "{name}"', f'address = "{address}"', *more]
+    return "\n".join(lines) + "\n"
+
+
+def start(folder, *words, **more):
+    """Starts a run of `ggp_competition`."""
+    return subprocess.Popen(
+        [sys.executable, COMMAND, *words, "--program", program()],
+        cwd=folder, stdout=subprocess.PIPE, stderr=subprocess.PIPE, text=True, **more,
+    )
+
+
+def run(folder, *words, **more):
+    """Returns the status of a run, what it printed and what it said."""
+    started = start(folder, *words, **more)
+    out, said = started.communicate(timeout=300)
+    return started.returncode, out, said
+
+
+def call(*words, data=b""):
+    """Returns what the referee prints."""
+    return subprocess.run([program(), *map(str, words)], input=data, capture_output=True).stdout
+
+
+class InFolder(unittest.TestCase):
+    """A test in a folder of its own."""
+
+    def setUp(self):
+        room = tempfile.TemporaryDirectory()
+        self.addCleanup(room.cleanup)
+        self.folder = pathlib.Path(room.name)
+
+    def plan(self, *words, **more):
+        """Writes competition.toml and plans it."""
+        (self.folder / "competition.toml").write_text(toml(*words, **more))
+        status, out, said = run(self.folder, "plan")
+        self.assertEqual((status, said), (0, ""), out)
+        return [line.split("\t") for line in (self.folder / "schedule.tsv").read_text().splitlines()[1:]]
+
+    def records(self):
+        return {it.stem: json.loads(it.read_bytes()) for it in sorted((self.folder / "records").glob("*.json"))}
+
+    def assert_sound(self, schedule):
+        """Looks, by the referee alone, that each match of the schedule has a lawful record, and an account that gives it again."""
+        self.assertEqual(sorted(it.stem for it in (self.folder / "records").glob("*.json")), sorted(it[0] for it in schedule))
+        for match, game, start_clock, play_clock, players in schedule:
+            record = (self.folder / f"records/{match}.json").read_bytes()
+            rules = self.folder / f"rules/{game}.kif"
+            self.assertEqual(call("verify", "--rules-file", rules, data=record), b"lawful\n", match)
+            replayed = call("replay", "--rules-file", rules, data=(self.folder / f"accounts/{match}.txt").read_bytes())
+            self.assertEqual(replayed.partition(b"\n")[2], record, match)
+            read = json.loads(record)
+            self.assertEqual((read["matchId"], " ".join(read["players"])), (match, players))
+            self.assertEqual((str(read["startClock"]), str(read["playClock"])), (start_clock, play_clock))
