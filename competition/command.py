@@ -1,6 +1,7 @@
 """The command line of `ggp_competition`."""
 
 import argparse
+import collections
 import pathlib
 import sys
 
@@ -71,11 +72,29 @@ def known_results(plan, referee):
     return in_order(plan, results), bool(faults)
 
 
+def spread(counts):
+    """Returns the least and the greatest of numbers, as text."""
+    return " to ".join(str(it) for it in sorted({min(counts), max(counts)})) if counts else "0"
+
+
+def said_of_game(plan, matches):
+    """Returns how many matches of a game there are, how often a player sits in each seat, and how often two players meet."""
+    if not matches:
+        return "no match"
+    names = [it.name for it in plan.competition.players]
+    seats = collections.Counter((seat, it) for match in matches for seat, it in enumerate(match.players))
+    met = collections.Counter((one, other) for match in matches for one in match.players for other in match.players if one < other)
+    roles = plan.roles(matches[0].game)
+    times = spread([seats[seat, it] for seat in range(len(roles)) for it in names])
+    said = f"{len(matches)} matches, roles {' '.join(roles)}; a player sits in each seat {times} times"
+    pairs = [met[one, other] for one in names for other in names if one < other]
+    return f"{said}, two players meet {spread(pairs)} times" if len(roles) > 1 else said
+
+
 def run_plan(asked, referee):
     plan = make_plan(asked.folder, referee)
     for game in plan.competition.games:
-        played = sum(it.game == game.name for it in plan.matches)
-        print(f"{game.name}: {played} matches, roles {' '.join(plan.roles(game.name))}")
+        print(f"{game.name}: {said_of_game(plan, [it for it in plan.matches if it.game == game.name])}")
     print(f"{plan.folder.schedule}: {len(plan.matches)} matches of {len(plan.competition.players)} players")
     return 0
 

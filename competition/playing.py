@@ -75,10 +75,10 @@ class Playing:
             for it in self.open:
                 it.may_begin = not self.interrupts and not self.is_full
                 self.step(it)
-            self.open = [it for it in self.open if it.stage != "over"]
             if self.interrupts > told:
                 told = self.interrupts
                 self.say_interrupt()
+            self.open = [it for it in self.open if it.stage != "over"]
             self.tell.progress(len(self.results), len(self.open), len(self.waiting))
             time.sleep(REST)
         self.tell.clear()

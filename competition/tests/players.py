@@ -26,7 +26,7 @@ class TestPlayer(threading.Thread):
         self.match, self.plays = None, 0
         # The ids of matches that began, were aborted, and were offered while it sat in another.
         self.begun, self.aborted, self.clashes = [], [], []
-        self.status = None
+        self.status, self.is_gone = None, False
         self.socket = socket.create_server(("127.0.0.1", 0), backlog=64)
         self.port = self.socket.getsockname()[1]
         self.start()
@@ -34,9 +34,19 @@ class TestPlayer(threading.Thread):
     def place(self):
         return f"127.0.0.1:{self.port}"
 
+    def leave(self):
+        """The player is there no more."""
+        self.is_gone = True
+        self.socket.shutdown(socket.SHUT_RDWR)
+        self.join()
+        self.socket.close()
+
     def run(self):
-        while True:
-            connection, _ = self.socket.accept()
+        while not self.is_gone:
+            try:
+                connection, _ = self.socket.accept()
+            except OSError:
+                continue  # it leaves
             with connection:
                 try:
                     self.serve(connection)

@@ -1,0 +1,98 @@
+"""Bad input, through the program: it is told with its place, and nothing is written."""
+
+import os
+import shutil
+import subprocess
+import sys
+import unittest
+
+from competition.tests.support import COMMAND, GAMES, InFolder, program, run, toml
+
+PLAYERS = [("ann", "127.0.0.1:9147"), ("bob", "127.0.0.1:9148")]
+FACTS = "(role a)\n(role b)\n"
+# A description, and what has to be said of it.
+DESCRIPTIONS = [
+    ("", "line 1, column 1: there is no sentence"),
+    (FACTS + "(init (x 1)", "line 3, column 1: a list that is not closed"),
+    (FACTS + "  (init (x 1)))", "line 3, column 15: a `)` with no open list"),
+    (FACTS + "(init caf\N{LATIN SMALL LETTER E WITH ACUTE})", "line 3, column 10: a byte that is no character"),
+    (FACTS + "; a comment (\n(<= (next (x 1)) (init (x 1)))", "line 4, column 1: sentence 2, (<= (next (x 1)) (init (x 1))): (init (x 1)) is in a body"),
+    (FACTS + "(<= (legal a ?m) (not (move ?m)))", "line 3, column 1: sentence 2, (<= (legal a ?m) (not (move ?m))): ?m is unsafe"),
+    (FACTS + "(<= p q)\n(<= q p)\n(<= terminal p)", "the referee says: bad description"),
+    ("(init x)", "the referee says: bad description"),
+    (FACTS + "(" * 70 + "a" + ")" * 70, "more than 64 lists"),
+]
+
+
+class BadInput(InFolder):
+    def write(self, *words, **more):
+        (self.folder / "competition.toml").write_text(toml(*words, **more))
+
+    def assert_refused(self, words, *command):
+        before = sorted(self.folder.rglob("*"))
+        status, out, said = run(self.folder, *command or ("plan",))
+        self.assertEqual((status, out), (2, ""))
+        for it in words if isinstance(words, list) else [words]:
+            self.assertIn(it, said)
+        self.assertEqual(sorted(self.folder.rglob("*")), before)
+
+    def test_descriptions(self):
+        for text, words in DESCRIPTIONS:
+            with self.subTest(words):
+                (self.folder / "game.kif").write_text(text)
+                self.write(PLAYERS, [("game", "game.kif")])
+                self.assert_refused(f"competition.toml:4: games.file: game.kif: {words}")
+
+    def test_all_descriptions_are_told_at_once(self):
+        (self.folder / "one.kif").write_text("(role a")
+        self.write(PLAYERS, [("one", "one.kif"), ("two", "two.kif"), ("three", ".")])
+        self.assert_refused(["one.kif: line 1, column 1: a list", "two.kif: it can't be read: No such file", ".: it can't be read: Is a directory"])
+
+    def test_a_number_of_players_that_does_not_fit(self):
+        self.write(PLAYERS[:1], [("tictactoe", GAMES / "tictactoe.kif")])
+        self.assert_refused("competition.toml:4: games.file: tictactoe has 2 roles, and there are 1 players")
+
+    def test_mistakes_have_line_and_key(self):
+        self.write([*PLAYERS, ("ann", "nowhere")], [("tictactoe", GAMES / "tictactoe.kif")])
+        self.assert_refused(["competition.toml:14: players.name: 'ann' stands in line 8 already", "competition.toml:15: players.address: 'nowhere' is no HOST:PORT"])
+
+    def test_what_is_missing(self):
+        self.assert_refused("competition.toml can't be read: No such file")
+        self.write(PLAYERS, [("tictactoe", GAMES / "tictactoe.kif")])
+        for command in ("play", "table", "pages", "publish"):
+            self.assert_refused("schedule.tsv is not there: `ggp_competition plan` writes it", command)
+
+    def test_what_is_not_as_it_was_planned(self):
+        self.plan(PLAYERS, [("tictactoe", GAMES / "tictactoe.kif")])
+        rules, text = self.folder / "rules/tictactoe.kif", (GAMES / "tictactoe.kif").read_text()
+        rules.write_text(text.replace("100", "99"))
+        self.assert_refused("rules/tictactoe.kif is not what `ggp_competition plan` wrote", "play")
+        rules.write_text(text)
+        schedule = self.folder / "schedule.tsv"
+        schedule.write_text(schedule.read_text().replace("ann bob", "bob ann"))
+        self.assert_refused("schedule.tsv is not what competition.toml says", "play")
+
+    def test_wrong_use(self):
+        for words in ([], ["plan", "one", "two"], ["play", "--at-once", "0"], ["check"], ["look"]):
+            self.assertEqual(subprocess.run([sys.executable, COMMAND, *words], capture_output=True).returncode, 2, words)
+        said = subprocess.run([sys.executable, COMMAND, "plan", "--program", "/none"], capture_output=True, text=True)
+        self.assertEqual((said.returncode, said.stderr), (2, "ggp_competition: /none is no program that can be run\n"))
+
+    def test_a_folder_that_is_a_file(self):
+        self.write(PLAYERS, [("tictactoe", GAMES / "tictactoe.kif")])
+        (self.folder / "rules").write_text("")
+        self.assert_refused(". can't be written: rules: File exists")
+
+    @unittest.skipIf(not os.geteuid() and not shutil.which("setpriv"), "root may write anywhere, and setpriv is not installed")
+    def test_an_unwritable_folder(self):
+        self.write(PLAYERS, [("tictactoe", GAMES / "tictactoe.kif")])
+        self.folder.chmod(0o555)
+        # Root without this capability may write where its permissions say so, and no further.
+        before = [] if os.geteuid() else ["setpriv", "--bounding-set=-dac_override"]
+        words = [*before, sys.executable, COMMAND, "plan", "--program", program()]
+        said = subprocess.run(words, cwd=self.folder, capture_output=True, text=True)
+        self.assertEqual((said.returncode, said.stderr), (2, "ggp_competition: . can't be written: rules: Permission denied\n"))
+
+
+if __name__ == "__main__":
+    unittest.main()

@@ -1,0 +1,230 @@
+"""How matches are played: players that are busy, silent, or sit in several matches; Ctrl-C; a full disk; two runs in one folder."""
+
+import json
+import os
+import pathlib
+import pty
+import shutil
+import signal
+import subprocess
+import tempfile
+import time
+import unittest
+
+from competition.tests.players import TestPlayer
+from competition.tests.support import GAMES, InFolder, program, run, start
+
+COUNTDOWN = [("countdown", GAMES / "countdown.kif")]
+HEAD = "start = 2\nplay = 1\nstrikes = 1\nwait = 1\ninfo = 1\ntries = 2\n"
+
+
+def lines(out, word):
+    return [it for it in out.splitlines() if it.startswith(word)]
+
+
+class Play(InFolder):
+    def planned(self, kinds, head=HEAD, more=(), **rest):
+        """Plans a competition among players of these kinds."""
+        self.players = [TestPlayer(f"p{at}", kind, at) for at, kind in enumerate(kinds)]
+        self.schedule = self.plan([(it.name, it.place(), *more) for it in self.players], COUNTDOWN, head=head, **rest)
+
+    def test_a_line_as_each_begins_and_ends(self):
+        self.planned(["good", "lying", "good"])
+        status, out, said = run(self.folder, "play")
+        self.assertEqual((status, said), (0, ""))
+        self.assertEqual(sorted(it.split()[1] for it in lines(out, "begin")), [it[0] for it in self.schedule])
+        ends = lines(out, "end")
+        self.assertEqual(len(ends), 6)
+        self.assertRegex(ends[0], r"^end cup-\d{3} countdown p\d \d+, p\d \d+(, replaced p1 \d of \d)?, \d+\.\d s$")
+        self.assertEqual(sum("replaced p1" in it for it in ends), 4)
+        self.assertEqual(out.splitlines()[-1], "6 of 6 matches have a lawful record")
+        self.assert_sound(self.schedule)
+        status, out, _ = run(self.folder, "play")
+        self.assertEqual((status, out), (0, "6 of 6 matches have a lawful record\n"))
+
+    def test_times_stand_in_matches_jsonl(self):
+        self.planned(["good", "slow"])
+        run(self.folder, "play")
+        found = [json.loads(it) for it in (self.folder / "matches.jsonl").read_text().splitlines()]
+        records = self.records()
+        self.assertEqual([it["id"] for it in found], ["cup-001", "cup-002"])
+        for it in found:
+            record, slow = records[it["id"]], it["players"].index("p1")
+            self.assertEqual((it["goals"], it["turns"], it["errors"]), (record["goalValues"], len(record["moves"]), [{}, {}]))
+            self.assertEqual([len(role) for role in it["messages"]], [it["turns"] + 2] * 2)
+            self.assertTrue(all(ms >= 120 for _, ms in it["messages"][slow]), it)
+            self.assertLess(it["begin"], it["end"])
+            self.assertEqual([kind for kind, _ in it["messages"][0]], ["start", *["play"] * it["turns"], "stop"])
+
+    def test_a_busy_player_is_asked_again_and_told(self):
+        self.planned(["good", "good", "good"])
+        self.players[0].status = "busy"
+        status, out, _ = run(self.folder, "play")
+        self.assertEqual(status, 1)
+        self.assertEqual(len(lines(out, "end")), 2)
+        self.assertEqual(len(lines(out, "back")), 1)
+        self.assertEqual(len(lines(out, "no record")), 4)
+        self.assertEqual({it.split(": ")[1] for it in lines(out, "missing")}, {"p0 is busy"})
+        self.players[0].status = None
+        status, out, _ = run(self.folder, "play")
+        self.assertEqual((status, len(lines(out, "end"))), (0, 4))
+        self.assert_sound(self.schedule)
+
+    def test_a_silent_player_is_left_or_played(self):
+        self.planned(["good", "good"], head=HEAD + 'absent = "play"\n')
+        self.players[1].leave()
+        status, out, _ = run(self.folder, "play")
+        self.assertEqual(status, 0, out)
+        self.assertEqual(len(lines(out, "absent")), 2)
+        self.assertEqual({tuple(sorted(set(map(str, turn)))) for it in self.records().values() for turn in it["errors"]}, {("", "CE"), ("", "RT")})
+        toml = self.folder / "competition.toml"
+        toml.write_text(toml.read_text().replace('"play"', '"leave"'))
+        shutil.rmtree(self.folder / "records")
+        status, out, _ = run(self.folder, "play")
+        self.assertEqual((status, lines(out, "begin")), (1, []))
+        self.assertEqual({it.split(": ")[1] for it in lines(out, "missing")}, {"p1 is silent"})
+
+    def most_at_once(self, more):
+        self.planned(["slow", "slow", "slow", "slow"], more=more)
+        _, out, _ = run(self.folder, "play", "--at-once", "6")
+        open_ones, most = {}, 0
+        for line in out.splitlines():
+            word, match = line.split()[:2]
+            if word == "begin":
+                open_ones[match] = line.split()[3:]
+            elif word == "end":
+                del open_ones[match]
+            most = max([most, *(sum(it in players for players in open_ones.values()) for it in ("p0", "p1", "p2", "p3"))])
+        return most
+
+    def test_a_player_sits_in_one_match_at_a_time(self):
+        self.assertEqual(self.most_at_once(()), 1)
+        self.assertEqual([it.clashes for it in self.players], [[]] * 4)
+
+    def test_a_player_may_sit_in_several(self):
+        # These players take one match at a time, and say so: that they are offered more shows that they may be.
+        self.assertGreaterEqual(self.most_at_once(("concurrent = 3",)), 1)
+        from competition.competition_file import read_competition
+        from competition.schedule import Match
+        from competition.seats import Seats
+
+        seats = Seats(read_competition((self.folder / "competition.toml").read_bytes()))
+        match = Match("m", "countdown", 1, 1, ("p0", "p1"))
+        for _ in range(3):
+            self.assertIsNotNone(seats.next_match([match], time.monotonic()))
+        self.assertIsNone(seats.next_match([match], time.monotonic()))
+
+    def interrupted(self, count):
+        """Plays among slow players, and interrupts it so often."""
+        self.planned(["slow"] * 4, head="start = 2\nplay = 1\n")
+        playing = start(self.folder, "play")
+        while len(list((self.folder / "open").glob("*/players"))) < 2:
+            time.sleep(0.02)
+        for _ in range(count):
+            playing.send_signal(signal.SIGINT)
+            time.sleep(0.1)
+        out, said = playing.communicate(timeout=60)
+        self.assertEqual((playing.returncode, said), (1, ""))
+        return out
+
+    def test_one_interrupt_waits_for_open_matches(self):
+        out = self.interrupted(1)
+        self.assertEqual(len(lines(out, "begin")), len(lines(out, "end")))
+        self.assertEqual(len(lines(out, "missing")), 12 - len(lines(out, "end")))
+        self.assertEqual([it.aborted for it in self.players], [[]] * 4)
+
+    def test_a_second_interrupt_ends_them_and_frees_the_players(self):
+        out = self.interrupted(2)
+        ended = [it.split()[1].rstrip(":") for it in lines(out, "abort")]
+        self.assertGreaterEqual(len(ended), 2)
+        self.assertEqual(sorted(match for it in self.players for match in it.aborted), sorted(2 * ended))
+        self.assertEqual({it.match for it in self.players}, {None})
+        for match in ended:
+            self.assertIn(f"missing {match}: it was ended before its end", out)
+        self.assertEqual(list((self.folder / "open").iterdir()), [])
+        self.assertEqual(run(self.folder, "play")[0], 0)
+        self.assertEqual([it.clashes for it in self.players], [[]] * 4)
+        self.assert_sound(self.schedule)
+
+    def test_two_runs_in_one_folder(self):
+        self.planned(["slow", "slow"])
+        playing = start(self.folder, "play")
+        while not list((self.folder / "open").glob("*/players")):
+            time.sleep(0.02)
+        self.assertEqual(run(self.folder, "play"), (2, "", "ggp_competition: .: another run plays this competition\n"))
+        playing.communicate(timeout=60)
+        self.assertEqual(playing.returncode, 0)
+
+    def test_what_is_not_lawful_is_played_again(self):
+        self.planned(["good", "good", "good"])
+        run(self.folder, "play")
+        changes = [
+            ("records/cup-001.json", lambda it: it.replace(b"(take 1)", b"(take 2)", 1), "not lawful"),
+            ("records/cup-002.json", lambda it: it[:-20], "not one line"),
+            ("accounts/cup-003.txt", lambda it: it.replace(b"taken", b"over", 1), "does not give its record again"),
+            ("accounts/cup-004.txt", None, "its account is missing"),
+            ("records/cup-005.json", lambda _: (self.folder / "records/cup-006.json").read_bytes(), "does not give its record again"),
+        ]
+        for name, change, _ in changes:
+            file = self.folder / name
+            file.write_bytes(change(file.read_bytes())) if change else file.unlink()
+        status, out, _ = run(self.folder, "play")
+        self.assertEqual((status, len(lines(out, "refused")), len(lines(out, "end"))), (0, 5, 5), out)
+        for (_, _, words), line in zip(changes, lines(out, "refused")):
+            self.assertIn(words, line)
+        self.assert_sound(self.schedule)
+        self.assertTrue((self.folder / "records/cup-001.json.refused").exists())
+
+    def test_plan_does_not_change_what_was_played(self):
+        self.planned(["good", "good"])
+        run(self.folder, "play")
+        self.assertEqual(run(self.folder, "plan")[0], 0)
+        file = self.folder / "competition.toml"
+        file.write_text(file.read_text().replace("play = 1", "play = 2"))
+        status, _, said = run(self.folder, "plan")
+        self.assertEqual(status, 2)
+        self.assertIn("schedule.tsv would change, and matches were played", said)
+
+    @unittest.skipIf(os.geteuid(), "only root can mount a small disk")
+    def test_a_full_disk_costs_the_open_matches_alone(self):
+        self.planned(["good"] * 4)
+        room = tempfile.mkdtemp()
+        if subprocess.run(["mount", "-t", "tmpfs", "-o", "size=120k", "none", room], capture_output=True).returncode:
+            self.skipTest("a small disk can't be mounted here")
+        try:
+            small = pathlib.Path(room) / "cup"
+            shutil.copytree(self.folder, small)
+            status, out, _ = run(small, "play", "--at-once", "2")
+            kept = [it for it in (small / "records").glob("*.json") if not it.name.startswith(".")]
+            self.assertEqual(status, 1, out)
+            self.assertIn("No space left on device", out)
+            self.assertEqual({it.match for it in self.players}, {None})
+            shutil.rmtree(self.folder)
+            shutil.copytree(small, self.folder)
+        finally:
+            subprocess.run(["umount", room], check=True)
+            os.rmdir(room)
+        status, out, _ = run(self.folder, "play")
+        self.assertEqual((status, lines(out, "refused"), len(lines(out, "end"))), (0, [], 12 - len(kept)))
+        self.assert_sound(self.schedule)
+
+    def test_progress_on_a_terminal(self):
+        self.planned(["slow", "slow"])
+        ours, theirs = pty.openpty()
+        words = [pathlib.Path(__file__).parent.parent / "ggp_competition", "play", "--program", program()]
+        subprocess.run(words, cwd=self.folder, stdout=subprocess.PIPE, stderr=theirs, check=True)
+        os.close(theirs)
+        said = os.read(ours, 65536).decode()
+        os.close(ours)
+        self.assertRegex(said, r"over 0, open 1, to come 1, left unknown")
+        self.assertRegex(said, r"over 1, open [01], to come [01], left 0:00:\d\d")
+
+    def test_watch_writes_the_pages(self):
+        self.planned(["slow", "slow"])
+        run(self.folder, "play", "--watch")
+        self.assertIn("2 of 2 matches are over", (self.folder / "pages/index.html").read_text())
+        self.assertEqual(len(list((self.folder / "pages/matches").iterdir())), 2)
+
+
+if __name__ == "__main__":
+    unittest.main()
