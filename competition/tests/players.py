@@ -16,14 +16,16 @@ LIFE = 7
 
 
 class TestPlayer(threading.Thread):
-    """A player that is strict: while it sits in a match it says so to INFO, and takes no START. What it took is kept."""
+    """A player that is strict: while it sits in as many matches as it takes it says so to INFO, and takes no START. What it took is
+    kept."""
 
     __test__ = False
 
-    def __init__(self, name, kind="good", seed=0):
+    def __init__(self, name, kind="good", seed=0, most=1):
         super().__init__(daemon=True)
         self.name, self.kind, self.random = name, kind, random.Random(seed)
-        self.match, self.plays = None, 0
+        # Of each match in which it sits its role, game and state.
+        self.matches, self.most, self.plays = {}, most, 0
         # The ids of matches that began, were aborted, and were offered while it sat in another.
         self.begun, self.aborted, self.clashes = [], [], []
         self.status, self.is_gone = None, False
@@ -79,32 +81,37 @@ class TestPlayer(threading.Thread):
         connection.close()
         self.socket.close()
         time.sleep(AWAY)
-        self.match = None
+        self.matches.clear()
         self.socket = socket.create_server(("127.0.0.1", self.port), backlog=64)
 
     def answer(self, message):
         match message:
             case ("info",):
-                return self.status or ("busy" if self.match else "available")
+                return self.status or ("busy" if len(self.matches) >= self.most else "available")
             case ("start", match, role, rules, _, _):
-                if self.match:
+                if match in self.matches or len(self.matches) >= self.most:
                     self.clashes.append(match)
                     return "busy"
-                self.match, self.role, self.game = match, role, example.Game(rules)
-                self.state = self.game.initial()
+                game = example.Game(rules)
+                self.matches[match] = role, game, game.initial()
                 self.begun.append(match)
                 return "ready"
-            case ("play", match, moves) if match == self.match:
-                if moves not in ("nil", ()):
-                    self.state = self.game.next(self.state, moves)
-                move = example.show(self.random.choice(self.game.legal(self.state, self.role)))
-                return "(no such move)" if self.kind == "lying" else move
+            case ("play", match, moves) if match in self.matches:
+                return self.move(match, moves)
             case ("play", _, _):
-                return "busy" if self.match else "lost"
+                return "busy" if self.matches else "lost"
             case ("stop", match, _) | ("abort", match):
                 self.aborted += [match] * (message[0] == "abort")
-                self.match = None if match == self.match else self.match
+                self.matches.pop(match, None)
         return "done"
+
+    def move(self, match, moves):
+        role, game, state = self.matches[match]
+        if moves not in ("nil", ()):
+            state = game.next(state, moves)
+            self.matches[match] = role, game, state
+        move = example.show(self.random.choice(game.legal(state, role)))
+        return "(no such move)" if self.kind == "lying" else move
 
 
 def message_of(connection):

@@ -23,9 +23,9 @@ def lines(out, word):
 
 
 class Play(InFolder):
-    def planned(self, kinds, head=HEAD, more=(), **rest):
+    def planned(self, kinds, head=HEAD, more=(), most=1, **rest):
         """Plans a competition among players of these kinds."""
-        self.players = [TestPlayer(f"p{at}", kind, at) for at, kind in enumerate(kinds)]
+        self.players = [TestPlayer(f"p{at}", kind, at, most) for at, kind in enumerate(kinds)]
         self.schedule = self.plan([(it.name, it.place(), *more) for it in self.players], COUNTDOWN, head=head, **rest)
 
     def test_a_line_as_each_begins_and_ends(self):
@@ -84,35 +84,29 @@ class Play(InFolder):
         self.assertEqual((status, lines(out, "begin")), (1, []))
         self.assertEqual({it.split(": ")[1] for it in lines(out, "missing")}, {"p1 is silent"})
 
-    def most_at_once(self, more):
-        self.planned(["slow", "slow", "slow", "slow"], more=more)
-        _, out, _ = run(self.folder, "play", "--at-once", "6")
-        open_ones, most = {}, 0
+    def most_at_once(self, more, most):
+        """Plays among slow players that take so many matches. Returns in how many at once one of them sat."""
+        self.planned(["slow"] * 3, more=more, most=most)
+        status, out, _ = run(self.folder, "play", "--at-once", "6")
+        self.assertEqual((status, [it.clashes for it in self.players]), (0, [[]] * 3))
+        open_ones, found = {}, 0
         for line in out.splitlines():
             word, match = line.split()[:2]
             if word == "begin":
                 open_ones[match] = line.split()[3:]
             elif word == "end":
                 del open_ones[match]
-            most = max([most, *(sum(it in players for players in open_ones.values()) for it in ("p0", "p1", "p2", "p3"))])
-        return most
+            sitting = [player for players in open_ones.values() for player in players]
+            found = max([found, *(sitting.count(it) for it in sitting)])
+        return found
 
     def test_a_player_sits_in_one_match_at_a_time(self):
-        self.assertEqual(self.most_at_once(()), 1)
-        self.assertEqual([it.clashes for it in self.players], [[]] * 4)
+        self.assertEqual(self.most_at_once((), 1), 1)
 
     def test_a_player_may_sit_in_several(self):
-        # These players take one match at a time, and say so: that they are offered more shows that they may be.
-        self.assertGreaterEqual(self.most_at_once(("concurrent = 3",)), 1)
-        from competition.competition_file import read_competition
-        from competition.schedule import Match
-        from competition.seats import Seats
-
-        seats = Seats(read_competition((self.folder / "competition.toml").read_bytes()))
-        match = Match("m", "countdown", 1, 1, ("p0", "p1"))
-        for _ in range(3):
-            self.assertIsNotNone(seats.next_match([match], time.monotonic()))
-        self.assertIsNone(seats.next_match([match], time.monotonic()))
+        found = self.most_at_once(("concurrent = 3",), 3)
+        self.assertGreater(found, 1)
+        self.assertLessEqual(found, 3)
 
     def interrupted(self, count):
         """Plays among slow players, and interrupts it so often."""
@@ -138,7 +132,7 @@ class Play(InFolder):
         ended = [it.split()[1].rstrip(":") for it in lines(out, "abort")]
         self.assertGreaterEqual(len(ended), 2)
         self.assertEqual(sorted(match for it in self.players for match in it.aborted), sorted(2 * ended))
-        self.assertEqual({it.match for it in self.players}, {None})
+        self.assertEqual([it.matches for it in self.players], [{}] * 4)
         for match in ended:
             self.assertIn(f"missing {match}: it was ended before its end", out)
         self.assertEqual(list((self.folder / "open").iterdir()), [])
@@ -198,7 +192,7 @@ class Play(InFolder):
             kept = [it for it in (small / "records").glob("*.json") if not it.name.startswith(".")]
             self.assertEqual(status, 1, out)
             self.assertIn("No space left on device", out)
-            self.assertEqual({it.match for it in self.players}, {None})
+            self.assertEqual([it.matches for it in self.players], [{}] * 4)
             shutil.rmtree(self.folder)
             shutil.copytree(small, self.folder)
         finally:

@@ -1,0 +1,181 @@
+"""One archive: checked in another folder, and refused after each of many spoilings, most of them with sums that fit."""
+
+import gzip
+import hashlib
+import io
+import json
+import pathlib
+import re
+import shutil
+import tarfile
+import tempfile
+import unittest
+
+from competition.tests.players import TestPlayer
+from competition.tests.support import GAMES, ODD, run, toml
+
+HEAD = "start = 2\nplay = 1\nstrikes = 1\nforfeit = true\n"
+
+
+def packed(files, kinds=None):
+    """Returns an archive of these files, whose sums fit."""
+    files = dict(files)
+    lines = sorted((name.partition("/")[2], hashlib.sha256(data).hexdigest()) for name, data in files.items() if name != "cup/SHA256SUMS")
+    if "cup/SHA256SUMS" in files:
+        files["cup/SHA256SUMS"] = "".join(f"{it}  {name}\n" for name, it in lines).encode()
+    found = io.BytesIO()
+    with tarfile.open(fileobj=found, mode="w:gz") as archive:
+        for name, data in files.items():
+            it = tarfile.TarInfo(name)
+            it.size = len(data)
+            it.type = (kinds or {}).get(name, tarfile.REGTYPE)
+            archive.addfile(it, io.BytesIO(data))
+    return found.getvalue()
+
+
+def changed(name, change):
+    """Returns a spoiling that changes one file, with sums that fit."""
+
+    def spoil(files):
+        before = files[name]
+        files[name] = change(before)
+        assert files[name] != before, name
+        return packed(files)
+
+    return spoil
+
+
+def swapped(one, other):
+    def spoil(files):
+        files[one], files[other] = files[other], files[one]
+        return packed(files)
+
+    return spoil
+
+
+def without(*names):
+    return lambda files: packed({name: data for name, data in files.items() if name not in names})
+
+
+def beside(name, data=b"x", kind=tarfile.REGTYPE):
+    return lambda files: packed({**files, name: data}, {name: kind})
+
+
+def better(data):
+    """Returns a record with other goals."""
+    record = json.loads(data)
+    record["goalValues"] = record["goalValues"][::-1]
+    return (json.dumps(record, separators=(",", ":")) + "\n").encode()
+
+
+def renamed(data):
+    return data.replace(b'"ann"', b'"eve"')
+
+
+SPOILINGS = {
+    "a bit of a record is turned, sums as they were": (None, "is not the one of its sum"),
+    "the archive is cut off": (None, "can't be unpacked"),
+    "it is no archive": (None, "can't be unpacked"),
+    "goals are exchanged": (changed("cup/records/cup-002.json", better), "cup-002: not lawful: goals"),
+    "a record has another player's name": (changed("cup/records/cup-001.json", renamed), "cup-001: its account does not give its record again"),
+    "a move of the account is another one": (changed("cup/accounts/cup-001.txt", lambda it: it.replace(b"READY", b"BUSY").replace(b"(take 1)", b"(take 2)")), "cup-001: "),
+    "two accounts are exchanged": (swapped("cup/accounts/cup-001.txt", "cup/accounts/cup-002.txt"), "does not give its record again"),
+    "two whole matches are exchanged": (None, "cup-001: its matchId is 'cup-002'"),
+    "a match is missing": (without("cup/records/cup-003.json", "cup/accounts/cup-003.txt", "cup/logs/cup-003.txt"), "cup-003: it has no record"),
+    "an account is missing": (without("cup/accounts/cup-004.txt"), "cup-004: its account is missing"),
+    "a log is missing": (without("cup/logs/cup-004.txt"), "cup-004: its log is missing"),
+    "the rules are others": (changed("cup/rules/countdown.kif", lambda it: it.replace(b"100", b"90")), "rules/countdown.kif is not what"),
+    "the schedule is another": (changed("cup/schedule.tsv", lambda it: it.replace(b"ann bob", b"bob ann", 1)), "schedule.tsv is not what"),
+    "the competition has other strikes": (changed("cup/competition.toml", lambda it: it.replace(b"strikes = 1", b"strikes = 2")), "its strikes is 1"),
+    "the competition counts otherwise": (changed("cup/competition.toml", lambda it: it.replace(b"forfeit = true", b"forfeit = false")), "table.json does not follow"),
+    "the table is another": (changed("cup/table.txt", lambda it: it.replace(b"ann", b"eve")), "table.txt does not follow from the records"),
+    "the crosstable is another": (changed("cup/crosstable.csv", lambda it: it + b"x"), "crosstable.csv does not follow"),
+    "times are others": (changed("cup/matches.jsonl", lambda it: it.replace(b'"turns":', b'"turns":1', 1)), "matches.jsonl does not follow"),
+    "a page is another": (changed("cup/pages/index.html", lambda it: it.replace(b"ann", b"eve")), "pages/index.html does not follow"),
+    "a page is missing": (without("cup/pages/matches/cup-001.html"), "pages/matches/cup-001.html does not follow"),
+    "there is a page more": (beside("cup/pages/more.html"), "pages/more.html does not follow"),
+    "there is a record more": (beside("cup/records/cup-099.json"), "it is of no match of the schedule"),
+    "there is a file more": (beside("cup/more.txt"), "more.txt is nothing of this competition"),
+    "there are no sums": (without("cup/SHA256SUMS"), "SHA256SUMS is missing"),
+    "a name leads out of the folder": (beside("cup/../../out.txt"), "is no plain file below one folder"),
+    "a name is absolute": (beside("/tmp/out.txt"), "is no plain file below one folder"),
+    "a file is a link": (beside("cup/more", b"", tarfile.SYMTYPE), "is no plain file below one folder"),
+}
+
+
+class Archive(unittest.TestCase):
+    @classmethod
+    def setUpClass(cls):
+        """Plays a competition, and publishes it."""
+        room = tempfile.TemporaryDirectory()
+        cls.addClassCleanup(room.cleanup)
+        cls.folder = pathlib.Path(room.name)
+        players = [TestPlayer(name, kind, at) for at, (name, kind) in enumerate((("ann", "good"), ("bob", "good"), ("cid", "lying")))]
+        (cls.folder / "odd.kif").write_text(ODD)
+        games = [("countdown", GAMES / "countdown.kif"), ("odd", "odd.kif"), ("buttons", GAMES / "buttons.kif")]
+        (cls.folder / "competition.toml").write_text(toml([(it.name, it.place()) for it in players], games, head=HEAD))
+        cls.ran = [run(cls.folder, it) for it in ("plan", "publish", "play", "publish")]
+        cls.archive = cls.folder / "cup.tar.gz"
+
+    def setUp(self):
+        self.assertEqual([it[0] for it in self.ran], [0, 1, 0, 0], self.ran)
+        other = tempfile.TemporaryDirectory()
+        self.addCleanup(other.cleanup)
+        self.other = pathlib.Path(other.name)
+
+    def files(self):
+        with tarfile.open(self.archive) as archive:
+            return {it.name: archive.extractfile(it).read() for it in archive}
+
+    def plain_spoilings(self, files):
+        """Returns the spoilings that are not of one file with sums that fit."""
+        data = self.archive.read_bytes()
+        record = files["cup/records/cup-001.json"]
+        raw = gzip.decompress(data)
+        yield "a bit of a record is turned, sums as they were", gzip.compress(raw.replace(record, record.replace(b"finished", b"finishes")))
+        yield "the archive is cut off", data[: len(data) // 2]
+        yield "it is no archive", b"no archive"
+        both = dict(files)
+        for kind in ("records/cup-00{}.json", "accounts/cup-00{}.txt", "logs/cup-00{}.txt"):
+            one, other = (f"cup/{kind.format(it)}" for it in (1, 2))
+            both[one], both[other] = files[other], files[one]
+        yield "two whole matches are exchanged", packed(both)
+
+    def test_checked_elsewhere_and_refused_after_each_spoiling(self):
+        self.assertIn("nothing is published: 12 matches have no lawful record", self.ran[1][2])
+        self.assertEqual(self.ran[3][1].split()[0], hashlib.sha256(self.archive.read_bytes()).hexdigest())
+        shutil.copy(self.archive, self.other)
+        status, out, said = run(self.other, "check", "cup.tar.gz")
+        self.assertEqual((status, said), (0, ""))
+        self.assertRegex(out, "the sums, the schedule, 12 records and accounts, the table and the pages are right; played by ")
+        files = self.files()
+        spoilt = dict(self.plain_spoilings(files))
+        spoilt |= {name: spoil(dict(files)) for name, (spoil, _) in SPOILINGS.items() if spoil}
+        for name, (_, words) in SPOILINGS.items():
+            with self.subTest(name):
+                (self.other / "spoilt.tar.gz").write_bytes(spoilt[name])
+                status, out, said = run(self.other, "check", "spoilt.tar.gz")
+                self.assertEqual((status, out), (1, ""))
+                self.assertIn(words, said)
+        self.assertEqual(sorted(it.name for it in self.other.iterdir()), ["cup.tar.gz", "spoilt.tar.gz"])
+        print(f"an archive is checked, and refused after each of {len(SPOILINGS)} spoilings", flush=True)
+
+    def test_sums_that_were_made_anew_are_taken_of_what_is_right(self):
+        (self.other / "again.tar.gz").write_bytes(packed(self.files()))
+        self.assertEqual(run(self.other, "check", "again.tar.gz")[0], 0)
+
+    def test_the_same_again(self):
+        data = self.archive.read_bytes()
+        self.assertEqual(run(self.folder, "publish", "--to", "again.tar.gz")[0], 0)
+        self.assertEqual((self.folder / "again.tar.gz").read_bytes(), data)
+
+    def test_it_says_how_to_check_it_by_hand(self):
+        files = self.files()
+        sums = dict(reversed(it.split("  ")) for it in files["cup/SHA256SUMS"].decode().splitlines())
+        self.assertEqual({f"cup/{it}" for it in sums} | {"cup/SHA256SUMS"}, set(files))
+        self.assertTrue(re.fullmatch(rb"ggp_manager \d+\.\d+\.\d+\n", files["cup/VERSION"]))
+        self.assertIn(b"sha256sum --check SHA256SUMS", files["cup/CHECK.txt"])
+
+
+if __name__ == "__main__":
+    unittest.main()

@@ -1,0 +1,120 @@
+"""The table: against a plain recount of random results, and in the cases that its words name."""
+
+import json
+import random
+import unittest
+from collections import Counter
+
+from competition.competition_file import read_competition
+from competition.plan import Plan
+from competition.results import Result, result_of, times_of
+from competition.schedule import Match
+from competition.table import tables_of
+from competition.table_text import table_files
+from competition.tests.support import toml
+
+NAMES = ["ann", "bob", "cid", "dan"]
+
+
+def competition(head=""):
+    return read_competition(toml([(it, f"h:{at + 1}") for at, it in enumerate(NAMES)], [("two", "f"), ("three", "f"), ("one", "f")], head=head).encode())
+
+
+def result(players, goals, wrong=None, turns=5, retired=None, game="two"):
+    """Returns the result of a match in which so many moves of each player were replaced."""
+    wrong = wrong or [0] * len(players)
+    errors = tuple(Counter({"TO": it} if it else {}) for it in wrong)
+    retired = tuple(retired or [False] * len(players))
+    return Result(Match("m", game, 1, 1, tuple(players)), tuple(goals), turns, errors, retired, "finished", None)
+
+
+def line(results, player, head="", game=0):
+    return tables_of(competition(head), results)[game].lines[player]
+
+
+class Tables(unittest.TestCase):
+    def test_plain_recount(self):
+        chance = random.Random(5)
+        results = []
+        for _ in range(400):
+            players = chance.sample(NAMES, chance.choice((1, 2, 3)))
+            game = {1: "one", 2: "two", 3: "three"}[len(players)]
+            results.append(result(players, [chance.choice((0, 50, 100)) for _ in players], [chance.randrange(3) for _ in players], game=game))
+        for table in tables_of(competition(), results):
+            of_game = [it for it in results if table.game in ("all games", it.match.game)]
+            self.assertEqual(table.matches, len(of_game))
+            for name in NAMES:
+                mine = [(it, it.match.players.index(name)) for it in of_game if name in it.match.players]
+                found = table.lines[name]
+                versus = [(it.goals[at], [goal for other, goal in enumerate(it.goals) if other != at]) for it, at in mine if len(it.goals) > 1]
+                self.assertEqual(found.matches, len(mine))
+                self.assertEqual(found.goals, sum(it.goals[at] for it, at in mine))
+                self.assertEqual(found.won, sum(own > max(others) for own, others in versus))
+                self.assertEqual(found.lost, sum(own < max(others) for own, others in versus))
+                self.assertEqual(found.drawn, sum(own == max(others) for own, others in versus))
+                self.assertEqual(found.replaced, sum(it.replaced(at) for it, at in mine))
+                points = sum((own > it) + (own == it) / 2 for own, others in versus for it in others)
+                self.assertEqual(sum(got for (one, _), got in table.points.items() if one == name), points)
+
+    def test_who_made_no_move_is_told(self):
+        results = [result(["ann", "bob"], [100, 0], [0, 5]), result(["bob", "ann"], [0, 100], [5, 0]), result(["bob", "cid"], [100, 0], [5, 4])]
+        table = tables_of(competition(), results)[0]
+        self.assertEqual([(it.player, it.absent) for it in table.standings()], [("ann", 0), ("bob", 3), ("cid", 0)])
+        said = table_files(Plan(None, competition(), {}, results), [table])["table.txt"].decode()
+        self.assertIn("* bob made no move of its own: all of its moves were replaced", said)
+
+    def test_forfeit(self):
+        results = [result(["ann", "bob"], [0, 100], [0, 5], retired=[False, True])]
+        self.assertEqual([line(results, "bob").won, line(results, "bob").mean(), line(results, "ann").lost], [1, 100, 1])
+        head = "forfeit = true"
+        self.assertEqual([line(results, "bob", head).lost, line(results, "bob", head).mean(), line(results, "ann", head).won], [1, 0, 1])
+        self.assertEqual(line(results, "ann", head).mean(), 0)
+        both = [result(["ann", "bob"], [], [5, 5], retired=[True, True])]
+        self.assertEqual([line(both, it, head).lost for it in ("ann", "bob")], [1, 1])
+        self.assertEqual(tables_of(competition(head), both)[0].met, {})
+
+    def test_three_players(self):
+        results = [result(["ann", "bob", "cid"], [50, 50, 0], game="three")]
+        found = [line(results, it) for it in ("ann", "bob", "cid")]
+        self.assertEqual([(it.won, it.drawn, it.lost) for it in found], [(0, 1, 0), (0, 1, 0), (0, 0, 1)])
+        table = tables_of(competition(), results)[0]
+        self.assertEqual([table.points[it] for it in (("ann", "bob"), ("bob", "ann"), ("ann", "cid"), ("cid", "ann"))], [0.5, 0.5, 1, 0])
+
+    def test_no_goals_and_one_role(self):
+        results = [result(["ann", "bob"], []), result(["ann"], [40], game="one")]
+        found = line(results, "ann")
+        self.assertEqual((found.matches, found.mean(), found.won, found.drawn, found.lost), (2, 40, 0, 0, 0))
+        self.assertIsNone(line(results, "bob").mean())
+
+    def test_who_is_retired(self):
+        record = {"errors": [["", "TO"], ["CE", "TO"], ["", "RT"]], "moves": [[], [], []], "goalValues": [1, 2], "strikes": 2, "phase": "finished", "cause": None}
+        match = Match("m", "two", 1, 1, ("ann", "bob"))
+        self.assertEqual(result_of(record, match).retired, (False, True))
+        self.assertEqual(result_of({**record, "strikes": 0}, match).retired, (False, False))
+        # Where the match ended with its last strike there is no `RT`.
+        last = {**record, "errors": [["", ""], ["", "TO"], ["", "IL x"]]}
+        self.assertEqual(result_of(last, match).retired, (False, True))
+        self.assertEqual(result_of(last, match).errors[1], {"TO": 1, "IL": 1})
+
+    def test_files_say_the_same(self):
+        results = [result(["ann", "bob"], [100, 0]), result(["bob", "ann"], [50, 50]), result(["cid"], [30], game="one")]
+        files = table_files(Plan(None, competition(), {}, results), tables_of(competition(), results))
+        said = json.loads(files["table.json"])
+        lines = [it.split(",") for it in files["table.csv"].decode().splitlines()[1:]]
+        self.assertEqual(len(lines), sum(len(it["lines"]) for it in said["tables"]))
+        flat = [(table["game"], it["player"], it["goals"], it["rating"]) for table in said["tables"] for it in table["lines"]]
+        self.assertEqual([(it[0], it[1], float(it[3]), float(it[11]) if it[11] else None) for it in lines], flat)
+        self.assertIn("all games,ann,bob,2,1.5\n", files["crosstable.csv"].decode())
+
+    def test_times_of_a_log(self):
+        log = (
+            b"began 2026-01-02T03:04:05.678Z\nhost one\nm1 role 1 bob message 1 (START m1 b (..: ready, 7 ms\n"
+            b"m1 role 0 ann message 2 (PLAY m1 NIL): TO (no answer, 3 ms, in time), 1000 ms\nParallel: a word\nended 2026-01-02T03:04:06.000Z\n"
+        )
+        found = times_of(log, 2)
+        self.assertEqual(found["messages"], [[["play", 1000]], [["start", 7]]])
+        self.assertEqual((found["begin"], found["end"], found["host"]), ("2026-01-02T03:04:05.678Z", "2026-01-02T03:04:06.000Z", "one"))
+
+
+if __name__ == "__main__":
+    unittest.main()
