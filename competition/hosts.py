@@ -4,7 +4,8 @@ import shlex
 
 from competition.messages import reached
 
-SSH = "ssh -o BatchMode=yes -o ConnectTimeout=5 -o ServerAliveInterval=2 -o ServerAliveCountMax=3"
+# An ssh ends with the parallel that started it, and what it runs on the host then ends too.
+SSH = "setpriv --pdeathsig KILL ssh -o BatchMode=yes -o ConnectTimeout=5 -o ServerAliveInterval=2 -o ServerAliveCountMax=3"
 # A player of a match whose referee is lost waits for it, so each try begins with an ABORT, which may take so many seconds.
 ABORT_SECONDS = 5
 ABORT = (

@@ -89,7 +89,7 @@ class OpenMatch:
         """Plays the match. Returns what the referee wrote and said, and when it began and ended; none where it gives no record."""
         competition, folder = self.plan.competition, self.plan.folder
         write_whole(self.room / "players", "".join(f"{it}\n" for it in self.places).encode())
-        words = self.referee.run_words(folder.rules_of(self.match.game), self.match, competition.strikes, self.places)
+        words = self.referee.run_words(folder.rules_of(self.match.game).absolute(), self.match, competition.strikes, self.places)
         given, job_log, host = "/dev/null", self.room / "joblog", b""
         if competition.hosts:
             given = self.room / "line"

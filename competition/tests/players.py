@@ -21,7 +21,7 @@ class TestPlayer(threading.Thread):
 
     __test__ = False
 
-    def __init__(self, name, kind="good", seed=0, most=1):
+    def __init__(self, name, kind="good", seed=0, most=1, at="127.0.0.1"):
         super().__init__(daemon=True)
         self.name, self.kind, self.random = name, kind, random.Random(seed)
         # Of each match in which it sits its role, game and state.
@@ -29,12 +29,13 @@ class TestPlayer(threading.Thread):
         # The ids of matches that began, were aborted, and were offered while it sat in another.
         self.begun, self.aborted, self.clashes = [], [], []
         self.status, self.is_gone = None, False
-        self.socket = socket.create_server(("127.0.0.1", 0), backlog=64)
+        self.at = at
+        self.socket = socket.create_server((at, 0), backlog=64)
         self.port = self.socket.getsockname()[1]
         self.start()
 
     def place(self):
-        return f"127.0.0.1:{self.port}"
+        return f"{self.at}:{self.port}"
 
     def leave(self):
         """The player is there no more."""
@@ -82,7 +83,7 @@ class TestPlayer(threading.Thread):
         self.socket.close()
         time.sleep(AWAY)
         self.matches.clear()
-        self.socket = socket.create_server(("127.0.0.1", self.port), backlog=64)
+        self.socket = socket.create_server((self.at, self.port), backlog=64)
 
     def answer(self, message):
         match message:
