@@ -5,15 +5,16 @@ PROGRAM := bin/ggp_manager
 # The names of crates behind `edits`, `trials` and `check`.
 NAMED := $(if $(filter edits trials check,$(firstword $(MAKECMDGOALS))),$(wordlist 2,$(words $(MAKECMDGOALS)),$(MAKECMDGOALS)))
 
-.PHONY: help needs demo match season games build install dist looks trials check edits memory budget test $(NAMED)
+.PHONY: help needs demo match season games competition build install dist looks trials check edits memory budget test $(NAMED)
 
 help:
 	@echo 'make demo            a match of Countdown through the program, line by line'
 	@echo 'make match           a match over HTTP between two players on this computer, and its record'
 	@echo 'make season          the matches of a schedule over HTTP on this computer, and their account made again'
 	@echo 'make games           a match over HTTP of each game of examples/games/general, instantiated by gringo'
+	@echo 'make competition     the tests of competitions: one of 192 matches is killed twice, and goes on'
 	@echo 'make build           proves the program and leaves it at $(PROGRAM), beside it what proved it'
-	@echo 'make install         puts the proved program into $(PREFIX)/bin (PREFIX=DIR: into DIR/bin), and what proved it'
+	@echo 'make install         puts the proved program and ggp_competition into $(PREFIX)/bin (PREFIX=DIR: into DIR/bin), and what proved it'
 	@echo 'make dist            an archive of the proved program, with examples and documents, for computers without the kit'
 	@echo 'make looks           what takes seconds: documents, constants, layout, edits, the tests of the tools, the commands of README.md'
 	@echo 'make trials [NAME..] compiles the tests (all, or those of the named crates) and runs them'
@@ -26,7 +27,7 @@ help:
 needs:
 	@command -v python3 > /dev/null || { echo 'ggp_manager: there is no python3, and the tools need Python 3.10 or later: take it from https://www.python.org/downloads, or from the packages of your system' >&2; exit 1; }
 
-# The program that `demo`, `match`, `season` and `games` run is the proved one where it is up to date, else one that is not proved yet.
+# The program that `demo`, `match`, `season`, `games` and `competition` run is the proved one where it is up to date, else one that is not proved yet.
 demo: needs
 	@program=$$(tools/program) && examples/side-by-side examples/games/countdown.script "$$program" desk --countdown 3
 
@@ -39,6 +40,9 @@ season: needs
 games: needs
 	@program=$$(tools/program) && tools/games "$$program"
 
+competition: needs
+	@program=$$(tools/program) && competition/tests/run "$$program"
+
 build: needs
 	@tools/build
 
@@ -46,6 +50,7 @@ install: build
 	@install -D -m 755 $(PROGRAM) $(DESTDIR)$(PREFIX)/bin/ggp_manager
 	@install -D -m 644 $(PROGRAM).proved $(DESTDIR)$(PREFIX)/share/ggp_manager/ggp_manager.proved
 	@echo '$(DESTDIR)$(PREFIX)/bin/ggp_manager, and what proved it: $(DESTDIR)$(PREFIX)/share/ggp_manager/ggp_manager.proved'
+	@competition/install '$(DESTDIR)$(PREFIX)'
 
 dist: build
 	@tools/dist

@@ -20,14 +20,15 @@ class NoReferee(Exception):
 
 
 def find_program(given):
-    """Returns the path of the program: the one that was given, or beside this program, or in the repository's bin, or on the path."""
+    """Returns the path of the program: the one that was given; else where it stands beside this program, in the repository's bin, or on
+    the path of the shell."""
     if given:
         if not shutil.which(given):
             raise NoReferee(f"{given} is no program that can be run")
         return os.path.abspath(shutil.which(given))
     beside = pathlib.Path(sys.argv[0]).absolute().parent
     inside = pathlib.Path(__file__).resolve().parent.parent / "bin"
-    for it in (beside / PROGRAM, inside / PROGRAM, shutil.which(PROGRAM)):
+    for it in (beside / PROGRAM, beside.parent / "bin" / PROGRAM, inside / PROGRAM, shutil.which(PROGRAM)):
         if it and os.access(it, os.X_OK):
             return str(it)
     raise NoReferee(f"{PROGRAM} is not found beside this program; `--program FILE` names it")

@@ -57,7 +57,8 @@ def standings_rows(table, sign="+-"):
     yield ["", "player", "matches", "goals", "won", "drawn", "lost", "replaced", "absent", "retired", "rating"]
     for place, it in enumerate(table.standings(), 1):
         counts = [it.won, it.drawn, it.lost, f"{it.replaced} of {it.moves}", it.absent, it.retired]
-        yield [str(place), it.player, str(it.matches), goals_text(it), *map(str, counts), rating_text(table, it, sign)]
+        name = f"{it.player} (no move of its own)" if it.absent == it.matches else it.player
+        yield [str(place), name, str(it.matches), goals_text(it), *map(str, counts), rating_text(table, it, sign)]
 
 
 def crosstable_rows(table):

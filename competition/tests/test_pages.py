@@ -1,0 +1,89 @@
+"""The pages of 300 matches: each link leads to a page that is there, and what names and rules say is text."""
+
+import html.parser
+import json
+import pathlib
+import tempfile
+import time
+import unittest
+
+from competition.competition_file import read_competition
+from competition.descriptions import Rules
+from competition.files import Folder
+from competition.pages import Pages
+from competition.plan import Plan
+from competition.results import result_of
+from competition.schedule import planned
+from competition.tests.support import toml
+
+LOG = b"began 2026-01-02T03:04:05.000Z\nm role 0 ann message 1 (START m a (..: ready, 7 ms\nended 2026-01-02T03:04:07.500Z\n"
+
+
+class Links(html.parser.HTMLParser):
+    def __init__(self, text):
+        super().__init__()
+        self.links, self.tags = [], set()
+        self.feed(text)
+
+    def handle_starttag(self, tag, attributes):
+        self.tags.add(tag)
+        self.links += [value for key, value in attributes if key in ("href", "src")]
+
+
+def record_of(match, number):
+    """Returns a record of a match, with texts that no page may take for anything but text."""
+    return {
+        "cause": None, "endMarks": ["", ""], "errors": [["", "IL <script>"]], "goalValues": [number % 101, 50], "matchId": match.id,
+        "moves": [["<b>", "noop"]], "phase": "finished", "playClock": 10, "players": list(match.players), "roles": ["<i>", "b"],
+        "startClock": 10, "startMarks": ["", ""], "states": [["(a 1)"], ["(a 2)"]], "strikes": 0, "version": 2,
+    }
+
+
+class PagesOfMany(unittest.TestCase):
+    def setUp(self):
+        room = tempfile.TemporaryDirectory()
+        self.addCleanup(room.cleanup)
+        folder = Folder(pathlib.Path(room.name))
+        folder.make(folder.records, folder.logs)
+        players = [(f"p{it}", f"h:{it + 1}") for it in range(25)]
+        competition = read_competition(toml(players, [("one", "f")], 'kind = "gauntlet"\none = "p0"\nrounds = 7').encode())
+        self.plan = Plan(folder, competition, {"one": Rules(b"; </pre><script>\n(role a)", "0" * 64, ("<i>", "b"))}, [])
+        self.plan.matches = planned(competition, {"one": 2})[:300]
+        self.results = []
+        for number, match in enumerate(self.plan.matches):
+            record = record_of(match, number)
+            folder.record(match.id).write_text(json.dumps(record))
+            folder.log(match.id).write_bytes(LOG)
+            self.results.append(result_of(record, match))
+
+    def test_each_link_leads_to_a_page(self):
+        pages = Pages(self.plan)
+        pages.write(self.results)
+        files = [it for it in pages.folder.rglob("*") if it.is_file()]
+        self.assertEqual(len(files), 302)
+        linked = {pages.folder / "index.html"}
+        for file in files:
+            found = Links(file.read_text("ascii"))
+            self.assertFalse(found.tags & {"b", "img"} and file.parent.name != "matches")
+            for link in found.links:
+                if not link.startswith("#"):
+                    linked.add((file.parent / link).resolve())
+        self.assertEqual({it.resolve() for it in linked}, {it.resolve() for it in files})
+        first = (pages.folder / "index.html").read_text()
+        self.assertIn("300 of 300 matches are over. From 2026-01-02 03:04:05 to 2026-01-02 03:04:07 UTC.", first)
+        self.assertIn("<td>2.5", first)
+        self.assertIn("&lt;/pre&gt;&lt;script&gt;", (pages.folder / "games/one.html").read_text())
+        self.assertNotIn("<script", first + (pages.folder / "games/one.html").read_text())
+
+    def test_now_and_then(self):
+        pages, began = Pages(self.plan), time.monotonic()
+        for count in range(1, 301):
+            pages.write_now_and_then(self.results[:count])
+        self.assertIn("1 of 300 matches", (pages.folder / "index.html").read_text())
+        self.assertLess(time.monotonic() - began, 10)
+        pages.write(self.results[:20])
+        self.assertEqual(len(list((pages.folder / "matches").iterdir())), 20)
+
+
+if __name__ == "__main__":
+    unittest.main()
