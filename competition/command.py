@@ -2,6 +2,7 @@
 
 import argparse
 import collections
+import os
 import pathlib
 import sys
 
@@ -86,9 +87,9 @@ def said_of_game(plan, matches):
     met = collections.Counter((one, other) for match in matches for one in match.players for other in match.players if one < other)
     roles = plan.roles(matches[0].game)
     times = spread([seats[seat, it] for seat in range(len(roles)) for it in names])
-    said = f"{len(matches)} matches, roles {' '.join(roles)}; a player sits in each seat {times} times"
+    said = f"{len(matches)} matches, roles {' '.join(roles)}; each player in each seat: {times}"
     pairs = [met[one, other] for one in names for other in names if one < other]
-    return f"{said}, two players meet {spread(pairs)} times" if len(roles) > 1 else said
+    return f"{said}; each two players: {spread(pairs)}" if len(roles) > 1 else said
 
 
 def run_plan(asked, referee):
@@ -161,10 +162,16 @@ def main():
     asked = arguments(sys.argv[1:])
     try:
         referee = Referee(find_program(asked.program))
-        return int(globals()[f"run_{asked.command}"](asked, referee))
+        status = int(globals()[f"run_{asked.command}"](asked, referee))
+        sys.stdout.flush()
+        return status
     except (Refused, NoReferee) as why:
         print(f"ggp_competition: {why}" if "\n" not in str(why) else why, file=sys.stderr)
         return 2
+    except BrokenPipeError:
+        # Whoever read what is printed wants no more of it.
+        os.dup2(os.open(os.devnull, os.O_WRONLY), sys.stdout.fileno())
+        return 1
     except OSError as why:
         print(f"ggp_competition: {why.filename}: {why.strerror}", file=sys.stderr)
         return 1
