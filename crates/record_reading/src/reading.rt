@@ -1,5 +1,5 @@
 //! A record, read from its text.
-ghost use Rattle.std.specs.Prelude.{◌≡◌, ◌≢◌, ◌≤◌, ◌<◌, ◌^◌, ◌==◌, ◌||◌, ◌↔◌, ◌⊎◌, All, IfErr, IfOk, IsTrue, OnOk, Some, None, if◌then◌else◌, length, true};
+ghost use Rattle.std.specs.Prelude.{◌≡◌, ◌≢◌, ◌≤◌, ◌<◌, ◌^◌, ◌==◌, ◌||◌, ◌↔◌, ◌⊎◌, All, IfErr, IfOk, IsTrue, Ok, OnOk, Some, None, if◌then◌else◌, length, true};
 ghost use Rattle.serde_json.specs.Data.{Data, string};
 ghost use Rattle.serde_json.specs.View.{view};
 ghost use Rattle.game_core.specs.Play.{max_goal};
@@ -260,6 +260,13 @@ fn keep<T: Drop>(part: &mut T, read: Option<T>) -> bool
     }
 }
 
+/// The same of what was read where memory sufficed.
+fn keep_read<T: Drop>(part: &mut T, read: Result<Option<T>, AllocError>) -> Result<bool, AllocError>
+    ensures { IfOk result (λ kept. read ≡ Ok (if kept then Some part.new else None)) }
+{
+    Ok(keep(part, read?))
+}
+
 /// Reads what was taken from a key in a record of this version, if it is of the key's shape, and says whether it is.
 fn read_into<G: Game>(
     alloc: Global,
@@ -273,29 +280,28 @@ fn read_into<G: Game>(
     ensures kept { OnOk result (SayTheSame (keys_before key keys) parts.old parts.new) }
 {
     let roles = game.roles();
-    Ok(match key {
-        Key::Cause => keep(&mut parts.cause, cause_in(found.as_ref(), roles)),
-        Key::EndMarks => keep(
-            &mut parts.end_marks,
-            marks_in(alloc, found.as_ref(), roles)?,
-        ),
-        Key::Errors => keep(&mut parts.errors, errors_in(alloc, found, roles)?),
-        Key::GoalValues => keep(&mut parts.goals, goals_in(alloc, found.as_ref(), roles)?),
-        Key::MatchId => keep(&mut parts.id, id_in(alloc, found.as_ref())?),
-        Key::Moves => keep(&mut parts.moves, moves_in(alloc, found, roles)?),
-        Key::Phase => keep(&mut parts.phase, phase_in(found.as_ref())),
-        Key::PlayClock => keep(&mut parts.play, clock_in(found.as_ref())),
-        Key::Players => keep(&mut parts.players, players_in(alloc, found, roles)?),
-        Key::Roles => keep(&mut parts.roles, roles_in(alloc, game, found)?),
-        Key::StartClock => keep(&mut parts.start, clock_in(found.as_ref())),
-        Key::StartMarks => keep(
-            &mut parts.start_marks,
-            marks_in(alloc, found.as_ref(), roles)?,
-        ),
-        Key::States => keep(&mut parts.states, TextLists::value_in(alloc, found)?),
-        Key::Strikes => keep(&mut parts.strikes, strikes_in(version, found.as_ref())),
-        Key::Version => keep(&mut parts.version, version_in(found.as_ref())),
-    })
+    match key {
+        Key::Cause => Ok(keep(&mut parts.cause, cause_in(found.as_ref(), roles))),
+        Key::EndMarks => keep_read(&mut parts.end_marks, marks_in(alloc, found.as_ref(), roles)),
+        Key::Errors => keep_read(&mut parts.errors, errors_in(alloc, found, roles)),
+        Key::GoalValues => keep_read(&mut parts.goals, goals_in(alloc, found.as_ref(), roles)),
+        Key::MatchId => keep_read(&mut parts.id, id_in(alloc, found.as_ref())),
+        Key::Moves => keep_read(&mut parts.moves, moves_in(alloc, found, roles)),
+        Key::Phase => Ok(keep(&mut parts.phase, phase_in(found.as_ref()))),
+        Key::PlayClock => Ok(keep(&mut parts.play, clock_in(found.as_ref()))),
+        Key::Players => keep_read(&mut parts.players, players_in(alloc, found, roles)),
+        Key::Roles => keep_read(&mut parts.roles, roles_in(alloc, game, found)),
+        Key::StartClock => Ok(keep(&mut parts.start, clock_in(found.as_ref()))),
+        Key::StartMarks => {
+            keep_read(
+                &mut parts.start_marks,
+                marks_in(alloc, found.as_ref(), roles),
+            )
+        }
+        Key::States => keep_read(&mut parts.states, TextLists::value_in(alloc, found)),
+        Key::Strikes => Ok(keep(&mut parts.strikes, strikes_in(version, found.as_ref()))),
+        Key::Version => Ok(keep(&mut parts.version, version_in(found.as_ref()))),
+    }
 }
 
 /// What the keys of a tree hold, each of its shape.
