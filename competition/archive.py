@@ -164,7 +164,8 @@ def faults_of_files(folder, plan, results, wanted):
 
 def faults_of_matches(plan, referee):
     """Returns the results, and what is wrong with the records and the accounts."""
-    results, faults = look_at_records(plan, referee)
+    results, faults, misfits = look_at_records(plan, referee)
+    faults |= misfits
     found = [f"{match}: {why}" for match, why in faults.items()]
     found += [f"{it.id}: it has no record" for it in plan.matches if it.id not in results and it.id not in faults]
     found += [f"{it.id}: its log is missing" for it in plan.matches if not plan.folder.log(it.id).is_file()]

@@ -67,10 +67,10 @@ def write_matches(plan, results):
 
 def known_results(plan, referee):
     """Returns the results that count, in the schedule's order; says of each record that does not."""
-    results, faults = look_at_records(plan, referee)
-    for match, why in faults.items():
+    results, faults, misfits = look_at_records(plan, referee)
+    for match, why in {**faults, **misfits}.items():
         print(f"ggp_competition: {match} does not count: {why}", file=sys.stderr)
-    return in_order(plan, results), bool(faults)
+    return in_order(plan, results), bool(faults or misfits)
 
 
 def spread(counts):

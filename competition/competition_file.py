@@ -216,13 +216,14 @@ def form_of(root, games, players):
     kind = section.word("kind", KINDS, "round_robin")
     rounds = section.number("rounds", 1, MOST_ROUNDS, 1)
     one = section.text("one") if kind == "gauntlet" else ""
-    if one and one not in {it.name for it in players}:
+    if one and all(it.name != one for it in players):
         section.mistake("one", f"there is no player {one!r}")
     lines = section.texts("lines") if kind == "schedule" else []
     if kind == "schedule" and not lines:
         section.mistake("lines", "at least one line is wanted: a game, and its players in the order of the roles")
+    known = {it.name for it in games}, {it.name for it in players}
     for it in lines:
-        refuse_line(section, it, games, players)
+        refuse_line(section, it, *known)
     for key, of in (("rounds", KINDS[:2]), ("one", KINDS[1:2]), ("lines", KINDS[2:])):
         if key in section.table.items and kind not in of:
             section.mistake(key, f"the kind {kind} has no such key")
@@ -232,11 +233,10 @@ def form_of(root, games, players):
 def refuse_line(section, item, games, players):
     """Refuses a line of a schedule that names no game, or what is no player, or a player twice."""
     game, *names = item.value.split() or [""]
-    if game not in {it.name for it in games}:
+    if game not in games:
         section.mistake("lines", f"there is no game {game!r}", item.line)
-    known = {it.name for it in players}
     for at, name in enumerate(names):
-        if name not in known:
+        if name not in players:
             section.mistake("lines", f"there is no player {name!r}", item.line)
         if name in names[:at]:
             section.mistake("lines", f"the player {name!r} stands there twice", item.line)

@@ -26,7 +26,8 @@ def fault_of_files(record, account):
 
 
 def looked_at(plan, referee, game, matches):
-    """Gives for each of these matches of a game, which have records, its result, or why it does not count."""
+    """Gives for each of these matches of a game, which have records, its result, or why it does not count: because its files are wrong,
+    or though they are right, since they are of another match."""
     rules = plan.folder.rules_of(game)
     records = [plan.folder.record(it.id).read_bytes() for it in matches]
     accounts = [read_or_none(plan.folder.account(it.id)) for it in matches]
@@ -36,28 +37,34 @@ def looked_at(plan, referee, game, matches):
     lawful = [at for at in whole if verdicts.get(at) == "lawful"]
     replays = dict(zip(lawful, referee.replays(rules, [accounts[at] for at in lawful], [records[at] for at in lawful])))
     for at, match in enumerate(matches):
-        fault = faults[at] or (verdicts.get(at, "not looked at") if at not in replays else None)
+        fault = faults[at] or (None if at in replays else verdicts.get(at, "not looked at"))
         if not fault and not replays[at]:
             fault = "its account does not give its record again"
-        record = None if fault else read_record(records[at])
-        fault = fault or fault_of_record(record, match, plan.competition.strikes)
-        yield match, fault, None if fault else result_of(record, match)
+        if fault:
+            yield match, fault, None, None
+            continue
+        record = read_record(records[at])
+        misfit = fault_of_record(record, match, plan.competition.strikes)
+        yield match, None, misfit, None if misfit else result_of(record, match)
 
 
 def look_at_records(plan, referee):
-    """Returns the results of the matches that count, by their ids, and for each other one that has a record why it does not count."""
-    results, faults, by_game = {}, {}, {}
+    """Returns the results of the matches that count, by their ids; of the others that have records why their files are wrong; and of
+    those whose files are right in what they are not those of the match."""
+    results, faults, misfits, by_game = {}, {}, {}, {}
     for match in plan.matches:
         if plan.folder.record(match.id).exists():
             by_game.setdefault(match.game, []).append(match)
     for game, matches in by_game.items():
         for at in range(0, len(matches), TOGETHER):
-            for match, fault, result in looked_at(plan, referee, game, matches[at : at + TOGETHER]):
+            for match, fault, misfit, result in looked_at(plan, referee, game, matches[at : at + TOGETHER]):
                 if fault:
                     faults[match.id] = fault
+                elif misfit:
+                    misfits[match.id] = misfit
                 else:
                     results[match.id] = result
-    return results, faults
+    return results, faults, misfits
 
 
 def strangers(plan):

@@ -148,7 +148,9 @@ def prepared(playing):
         raise Refused(f"{folder.path} can't be written: {why.filename}: {os.strerror(why.errno)}") from None
     for it in strangers(plan):
         raise Refused(f"{folder.records / it} is of no match of the schedule")
-    playing.results, faults = look_at_records(plan, playing.referee)
+    playing.results, faults, misfits = look_at_records(plan, playing.referee)
+    for match, why in misfits.items():
+        raise Refused(f"{folder.record(match)} is lawful, and of another match: {why}")
     for match, why in faults.items():
         tell.line(f"refused {match}: {why}; its files are set aside, and it is played again")
         set_aside(plan, match)

@@ -49,7 +49,7 @@ def toml(players, games, form='kind = "round_robin"', head=""):
 def start(folder, *words, **more):
     """Starts a run of `ggp_competition`."""
     return subprocess.Popen(
-        [sys.executable, COMMAND, *words, "--program", program()],
+        [sys.executable, COMMAND, *words, *([] if "--program" in words else ["--program", program()])],
         cwd=folder, stdout=subprocess.PIPE, stderr=subprocess.PIPE, text=True, **more,
     )
 

@@ -26,7 +26,7 @@ class Install(unittest.TestCase):
             done = subprocess.run(["ggp_competition", "plan"], cwd=cup, env=environment, capture_output=True, text=True)
             self.assertEqual((done.returncode, done.stderr), (0, ""))
             self.assertIn(f"schedule.tsv: {2 * len(games)} matches of 2 players", done.stdout)
-            self.assertEqual(subprocess.run(["ggp_competition", "pages"], cwd=cup, env=environment).returncode, 0)
+            self.assertEqual(subprocess.run(["ggp_competition", "pages"], cwd=cup, env=environment, capture_output=True).returncode, 0)
             self.assertTrue((cup / "pages/index.html").exists())
 
 

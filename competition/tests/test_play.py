@@ -108,27 +108,32 @@ class Play(InFolder):
         self.assertGreater(found, 1)
         self.assertLessEqual(found, 3)
 
-    def interrupted(self, count):
-        """Plays among slow players, and interrupts it so often."""
+    def interrupted(self, *signals):
+        """Plays among slow players, and sends it these signals."""
         self.planned(["slow"] * 4, head="start = 2\nplay = 1\n")
         playing = start(self.folder, "play")
         while len(list((self.folder / "open").glob("*/players"))) < 2:
             time.sleep(0.02)
-        for _ in range(count):
-            playing.send_signal(signal.SIGINT)
+        for it in signals:
+            playing.send_signal(it)
             time.sleep(0.1)
         out, said = playing.communicate(timeout=60)
         self.assertEqual((playing.returncode, said), (1, ""))
         return out
 
     def test_one_interrupt_waits_for_open_matches(self):
-        out = self.interrupted(1)
+        out = self.interrupted(signal.SIGINT)
         self.assertEqual(len(lines(out, "begin")), len(lines(out, "end")))
         self.assertEqual(len(lines(out, "missing")), 12 - len(lines(out, "end")))
         self.assertEqual([it.aborted for it in self.players], [[]] * 4)
 
     def test_a_second_interrupt_ends_them_and_frees_the_players(self):
-        out = self.interrupted(2)
+        self.look_at_ended_ones(self.interrupted(signal.SIGINT, signal.SIGINT))
+
+    def test_a_termination_ends_them_at_once(self):
+        self.look_at_ended_ones(self.interrupted(signal.SIGTERM))
+
+    def look_at_ended_ones(self, out):
         ended = [it.split()[1].rstrip(":") for it in lines(out, "abort")]
         self.assertGreaterEqual(len(ended), 2)
         self.assertEqual(sorted(match for it in self.players for match in it.aborted), sorted(2 * ended))
@@ -168,6 +173,28 @@ class Play(InFolder):
             self.assertIn(words, line)
         self.assert_sound(self.schedule)
         self.assertTrue((self.folder / "records/cup-001.json.refused").exists())
+
+    def test_a_record_that_does_not_verify_does_not_count(self):
+        self.planned(["good", "good"])
+        for change in ('s/"goalValues":.100,0./"goalValues":[50,50]/; s/"goalValues":.0,100./"goalValues":[50,50]/', "s/taken$/over/"):
+            liar = self.folder / "liar"
+            liar.write_text(f"#!/bin/bash\nset -o pipefail\n[ \"$1\" = run ] || exec {program()} \"$@\"\n{program()} \"$@\" | sed '{change}'\n")
+            liar.chmod(0o755)
+            status, out, _ = run(self.folder, "play", "--program", liar)
+            self.assertEqual((status, len(lines(out, "no record")), lines(out, "end")), (1, 2, []), out)
+            self.assertEqual([*self.folder.glob("*/cup-*")], [])
+        status, out, _ = run(self.folder, "play")
+        self.assertEqual((status, len(lines(out, "end"))), (0, 2))
+
+    def test_lawful_records_of_other_matches_are_not_touched(self):
+        self.planned(["good", "good"])
+        run(self.folder, "play")
+        toml = self.folder / "competition.toml"
+        toml.write_text(toml.read_text().replace("strikes = 1", "strikes = 2"))
+        status, out, said = run(self.folder, "play")
+        self.assertEqual((status, out), (2, ""))
+        self.assertIn("records/cup-001.json is lawful, and of another match: its strikes is 1, and the schedule has 2", said)
+        self.assertEqual(len(list((self.folder / "records").iterdir())), 2)
 
     def test_plan_does_not_change_what_was_played(self):
         self.planned(["good", "good"])
