@@ -32,8 +32,7 @@ checks all that follows. By hand, in this folder:
     sha256sum --check SHA256SUMS                                          each file is the one that was published
     ggp_manager verify --rules-file rules/GAME.kif < records/ID.json      the match was played by the rules
     ggp_manager replay --rules-file rules/GAME.kif < accounts/ID.txt      each call got its reply, and the record comes of them
-    ggp_competition plan, in a folder with competition.toml and games     the schedule is the one that competition.toml says
-    ggp_competition table                                                 the table follows from the records
+    ggp_competition table                                                 the schedule follows from competition.toml, the table from the records
 
 The rules are ground descriptions; games has the descriptions that they were made from. The version of the referee is in VERSION.
 What this does not show: that the players of these names sent these answers, and when. Keep the sum of the archive as you got it.

@@ -168,6 +168,9 @@ def main():
     except (Refused, NoReferee) as why:
         print(f"ggp_competition: {why}" if "\n" not in str(why) else why, file=sys.stderr)
         return 2
+    except KeyboardInterrupt:
+        print("ggp_competition: interrupted", file=sys.stderr)
+        return 1
     except BrokenPipeError:
         # Whoever read what is printed wants no more of it.
         os.dup2(os.open(os.devnull, os.O_WRONLY), sys.stdout.fileno())

@@ -53,6 +53,8 @@ class Playing:
             self.tell.ends(it.result, it.seconds)
             self.ended(it.result)
         elif it.why:
+            # Where the disk is full the referee may be the first to see it.
+            self.is_full |= it.why.endswith("write fault")
             self.left[it.match.id] = it.why
             self.tell.line(f"no record {it.match.id}: {it.why}")
         else:

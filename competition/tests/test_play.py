@@ -176,12 +176,14 @@ class Play(InFolder):
 
     def test_a_record_that_does_not_verify_does_not_count(self):
         self.planned(["good", "good"])
-        for change in ('s/"goalValues":.100,0./"goalValues":[50,50]/; s/"goalValues":.0,100./"goalValues":[50,50]/', "s/taken$/over/"):
+        goals = 's/"goalValues":.100,0./"goalValues":[50,50]/; s/"goalValues":.0,100./"goalValues":[50,50]/'
+        for change, words in ((goals, "not lawful: goals"), ("s/taken$/over/", "its account does not give its record again")):
             liar = self.folder / "liar"
             liar.write_text(f"#!/bin/bash\nset -o pipefail\n[ \"$1\" = run ] || exec {program()} \"$@\"\n{program()} \"$@\" | sed '{change}'\n")
             liar.chmod(0o755)
             status, out, _ = run(self.folder, "play", "--program", liar)
             self.assertEqual((status, len(lines(out, "no record")), lines(out, "end")), (1, 2, []), out)
+            self.assertTrue(all(words in it for it in lines(out, "no record")), out)
             self.assertEqual([*self.folder.glob("*/cup-*")], [])
         status, out, _ = run(self.folder, "play")
         self.assertEqual((status, len(lines(out, "end"))), (0, 2))
@@ -219,6 +221,7 @@ class Play(InFolder):
             kept = [it for it in (small / "records").glob("*.json") if not it.name.startswith(".")]
             self.assertEqual(status, 1, out)
             self.assertIn("No space left on device", out)
+            self.assertNotIn("begin ", out.partition("no record")[2])
             self.assertEqual([it.matches for it in self.players], [{}] * 4)
             shutil.rmtree(self.folder)
             shutil.copytree(small, self.folder)
