@@ -8,8 +8,6 @@ import time
 
 END_WITH_PARENT = 1
 LIBRARY = ctypes.CDLL(None)
-# A parallel that is to end is told so twice, and then has so many seconds to end what it has started.
-SECONDS_TO_END = 3
 
 
 def end_with_parent():
@@ -42,16 +40,8 @@ class Child:
         lines = self.said.read_bytes().decode("ascii", "replace").strip().splitlines()
         return lines[-1] if lines else f"it ended with status {self.status()}"
 
-    def end(self, is_parallel=False):
+    def end(self):
         """Ends the process, and what it has started."""
-        if self.is_over():
-            return
-        try:
-            for _ in range(2 * is_parallel):
-                os.kill(self.process.pid, signal.SIGTERM)
-                self.process.wait(SECONDS_TO_END)
-        except (subprocess.TimeoutExpired, ProcessLookupError):
-            pass
         if not self.is_over():
             os.killpg(self.process.pid, signal.SIGKILL)
             self.process.wait()

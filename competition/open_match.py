@@ -57,7 +57,7 @@ class OpenMatch:
 
     def end_children(self):
         for it in self.children:
-            it.end(bool(self.plan.competition.hosts))
+            it.end()
 
     def ask(self):
         """Asks each player whether it is free. Returns whether the match can begin."""
