@@ -5,7 +5,8 @@ from dataclasses import dataclass
 
 from competition.toml_subset import Item, Table, TomlFault, read_toml
 
-NAME = re.compile(r"[A-Za-z0-9_.-]{1,40}")
+NAME = re.compile(r"[A-Za-z0-9][A-Za-z0-9_.-]{0,39}")
+FIRST = ", a letter or a digit first"
 PLAYER_NAME = re.compile(r"[A-Za-z0-9_.-]{1,64}")
 ADDRESS = re.compile(r"(\[[0-9A-Fa-f:.]+\]|[A-Za-z0-9_.-]+):([0-9]{1,5})")
 HOST = re.compile(r"[A-Za-z0-9_.@:-]+")
@@ -134,10 +135,10 @@ class Section:
             return default
         return found
 
-    def name(self, key, form, longest):
+    def name(self, key, form, longest, more=""):
         found = self.text(key)
         if found is not None and not form.fullmatch(found):
-            self.mistake(key, f"{found!r} is no name: 1 to {longest} letters, digits, `-`, `_` and `.` are wanted")
+            self.mistake(key, f"{found!r} is no name: 1 to {longest} letters, digits, `-`, `_` and `.` are wanted{more}")
         return found
 
     def texts(self, key):
@@ -180,7 +181,7 @@ def games_of(root, clocks):
     found, sections = [], root.sections("games")
     for it in sections:
         it.refuse_others(("name", "file", "start", "play"))
-        name = it.name("name", NAME, 40)
+        name = it.name("name", NAME, 40, FIRST)
         start, play = (it.number(key, 1, MOST_SECONDS, clock) for key, clock in zip(("start", "play"), clocks))
         found.append(Game(name, it.text("file"), start, play, it.table.line))
     refuse_twice(sections, "name")
@@ -262,7 +263,7 @@ def read_competition(data):
     except TomlFault as why:
         raise Mistaken([Mistake(why.line, why.key, why.words)]) from None
     root.refuse_others(ROOT_KEYS)
-    name = root.name("name", NAME, 40)
+    name = root.name("name", NAME, 40, FIRST)
     clocks = [root.number(key, 1, MOST_SECONDS, 10) for key in ("start", "play")]
     games, players = games_of(root, clocks), players_of(root)
     found = Competition(

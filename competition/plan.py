@@ -60,6 +60,9 @@ def loaded_games(folder, competition, referee):
     found, mistakes = {}, []
     for game in competition.games:
         path = folder.path / game.file
+        if path.resolve().parent == folder.rules.resolve():
+            mistakes.append(Mistake(game.line, "games.file", f"{path}: a description can't stand in {folder.rules}, where `plan` writes the rules"))
+            continue
         try:
             found[game.name] = load_description(path, referee)
         except NoDescription as why:
@@ -89,9 +92,6 @@ def make_plan(path, referee):
             raise Refused(f"{file} would change, and matches were played: keep the competition as it was, or take another folder")
     try:
         folder.make(folder.rules)
-        for file in [*folder.rules.glob("*.kif")]:
-            if file not in wanted:
-                file.unlink()
         # The schedule is last, so that there is none without its rules.
         for file in sorted(wanted, key=lambda it: it == folder.schedule):
             write_whole(file, wanted[file])

@@ -125,11 +125,13 @@ class Hosts(InFolder):
     def hosts(self):
         return [line.split()[1] for it in sorted((self.folder / "logs").iterdir()) for line in it.read_text().splitlines() if line.startswith("host ")]
 
-    def begun(self):
-        """Plans a competition, and begins it; returns when a match is played on the first machine."""
+    def planned(self):
         self.players = [TestPlayer(f"p{it}", "slow", it, at=PLAYERS_AT) for it in range(4)]
         places = [(it.name, it.place()) for it in self.players]
         self.schedule = self.plan(places, [("countdown", GAMES / "countdown.kif")], head=HEAD)
+
+    def begun(self):
+        """Begins the competition; returns when a match is played on the first machine."""
         playing = start(self.folder, "play", "--at-once", "2", env=self.environment)
         while not any(match in it.matches for match in self.machines[0].runs() for it in self.players):
             self.assertIsNone(playing.poll())
@@ -144,6 +146,7 @@ class Hosts(InFolder):
         self.assertEqual((len(hosts), set(hosts) - {f"root@{it.at}" for it in self.machines}), (len(self.schedule), set()))
 
     def test_a_lost_host(self):
+        self.planned()
         playing = self.begun()
         self.machines[0].take_away()
         out, said = playing.communicate(timeout=300)
@@ -152,14 +155,18 @@ class Hosts(InFolder):
         self.assertTrue(any(it.begun.count(match) == 2 for it in self.players for match in it.begun), "no match was taken over")
         print(f"{len(self.schedule)} matches on two hosts, one of which was lost: each has one lawful record", flush=True)
 
-    def test_killed_and_gone_on(self):
-        playing = self.begun()
-        playing.kill()
-        playing.communicate()
-        until = time.monotonic() + 10
-        while any(it.runs() for it in self.machines):
-            self.assertLess(time.monotonic(), until, "a match of a run that was killed is played on")
-            time.sleep(0.05)
+    def test_ended_and_killed_and_gone_on(self):
+        self.planned()
+        for number in (signal.SIGTERM, signal.SIGKILL):
+            playing = self.begun()
+            playing.send_signal(number)
+            playing.communicate()
+            if number == signal.SIGTERM:
+                self.assertEqual((playing.returncode, [it.matches for it in self.players]), (1, [{}] * 4))
+            until = time.monotonic() + 10
+            while any(it.runs() for it in self.machines):
+                self.assertLess(time.monotonic(), until, "a match of a run that has ended is played on")
+                time.sleep(0.05)
         status, out, said = run(self.folder, "play", "--at-once", "2", env=self.environment)
         self.assertEqual((status, said), (0, ""), out)
         self.assert_whole()

@@ -48,6 +48,12 @@ class BadInput(InFolder):
         self.write(PLAYERS, [("one", "one.kif"), ("two", "two.kif"), ("three", ".")])
         self.assert_refused(["one.kif: line 1, column 1: a list", "two.kif: it can't be read: No such file", ".: it can't be read: Is a directory"])
 
+    def test_a_description_where_the_rules_are_written(self):
+        (self.folder / "rules").mkdir()
+        (self.folder / "rules/nim.kif").write_text((GAMES / "general/nim.kif").read_text())
+        self.write(PLAYERS, [("nim", "rules/nim.kif")])
+        self.assert_refused("competition.toml:4: games.file: rules/nim.kif: a description can't stand in rules, where `plan` writes the rules")
+
     def test_a_number_of_players_that_does_not_fit(self):
         self.write(PLAYERS[:1], [("tictactoe", GAMES / "tictactoe.kif")])
         self.assert_refused("competition.toml:4: games.file: tictactoe has 2 roles, and there are 1 players")
