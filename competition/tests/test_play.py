@@ -145,6 +145,26 @@ class Play(InFolder):
         self.assertEqual([it.clashes for it in self.players], [[]] * 4)
         self.assert_sound(self.schedule)
 
+    def at_play(self):
+        """Returns how many processes play matches of this folder."""
+        commands = []
+        for it in pathlib.Path("/proc").glob("[0-9]*/cmdline"):
+            try:
+                commands.append(it.read_bytes())
+            except OSError:
+                continue
+        return sum(b"\0run\0" in it and os.fsencode(self.folder) in it for it in commands)
+
+    def test_a_killed_run_leaves_no_match_at_play(self):
+        self.planned(["slow"] * 4)
+        playing = start(self.folder, "play")
+        while not self.at_play():
+            time.sleep(0.01)
+        playing.kill()
+        playing.communicate()
+        time.sleep(0.1)
+        self.assertEqual(self.at_play(), 0)
+
     def test_two_runs_in_one_folder(self):
         self.planned(["slow", "slow"])
         playing = start(self.folder, "play")
