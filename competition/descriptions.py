@@ -67,11 +67,15 @@ def sentence_places(text):
     return places
 
 
-def look_at_sentences(text, places):
-    """Refuses a description with a sentence that is none, by the tests that `instantiate` has before it grounds."""
+def look_at_sentences(text, places, is_ground):
+    """Refuses a description with a sentence that is none, by the tests that `instantiate` has before it grounds, and one that is ground
+    also by those that it has after that."""
     tool = script_module(INSTANTIATE, "instantiate")
     try:
-        tool.Relations(tool.all_rules(tool.expressions(text.decode("latin-1")))).refuse_dependence()
+        rules = tool.all_rules(tool.expressions(text.decode("latin-1")))
+        tool.Relations(rules).refuse_dependence()
+        if is_ground:
+            tool.refuse_faults(rules)
     except tool.Refused as why:
         found = SENTENCE.match(str(why))
         raise NoDescription(f"{place_of(text, places[int(found[1])])}: {why}" if found else str(why)) from None
@@ -106,10 +110,10 @@ def load_description(path, referee):
         raise NoDescription(f"it has more than {MOST_BYTES:,} bytes")
     places = sentence_places(text)
     if has_variables(text):
-        look_at_sentences(text, places)
+        look_at_sentences(text, places, False)
         text = instantiated(path)
     rules = rules_of(text, referee)
     if not rules:
-        look_at_sentences(text, places)
+        look_at_sentences(text, places, True)
         raise NoDescription("the referee says: bad description")
     return rules

@@ -18,7 +18,7 @@ from competition.tests.players import TestPlayer
 from competition.tests.support import GAMES, InFolder, program, run, start
 
 PLAYERS_AT = "10.77.9.1"
-HEAD = 'start = 4\nplay = 2\nwait = 1\nhosts = ["root@10.77.1.2", "root@10.77.2.2"]\n'
+HEAD = 'start = 5\nplay = 5\nwait = 1\nhosts = ["root@10.77.1.2", "root@10.77.2.2"]\n'
 SSHD = """
 Port 22
 HostKey {room}/host

@@ -36,6 +36,11 @@ def program():
     return os.environ.get("GGP_MANAGER") or subprocess.run([TOP / "tools/program"], stdout=subprocess.PIPE, text=True, check=True).stdout.strip()
 
 
+def slowness():
+    """Returns by how much longer things take than where the processors are free: others may work on this computer too."""
+    return min(5, max(1, round(os.getloadavg()[0] / os.cpu_count())))
+
+
 def toml(players, games, form='kind = "round_robin"', head=""):
     """Returns the text of a competition.toml: players as (name, address) and what else, games as (name, file)."""
     lines = ['name = "cup"', *head.splitlines(), "[form]", *form.splitlines()]

@@ -14,7 +14,7 @@ import unittest
 from competition.tests.players import TestPlayer
 from competition.tests.support import GAMES, ODD, run, toml
 
-HEAD = "start = 2\nplay = 1\nstrikes = 1\nforfeit = true\n"
+HEAD = "start = 5\nplay = 5\nstrikes = 1\nforfeit = true\n"
 
 
 def packed(files, kinds=None):

@@ -15,7 +15,7 @@ from competition.tests.players import TestPlayer
 from competition.tests.support import GAMES, InFolder, program, run, start
 
 COUNTDOWN = [("countdown", GAMES / "countdown.kif")]
-HEAD = "start = 2\nplay = 1\nstrikes = 1\nwait = 1\ninfo = 1\ntries = 2\n"
+HEAD = "start = 5\nplay = 5\nstrikes = 1\nwait = 1\ninfo = 5\ntries = 2\n"
 
 
 def lines(out, word):
@@ -110,7 +110,7 @@ class Play(InFolder):
 
     def interrupted(self, *signals):
         """Plays among slow players, and sends it these signals."""
-        self.planned(["slow"] * 4, head="start = 2\nplay = 1\n")
+        self.planned(["slow"] * 4, head="start = 5\nplay = 5\n")
         playing = start(self.folder, "play")
         while len(list((self.folder / "open").glob("*/players"))) < 2:
             time.sleep(0.02)
@@ -223,7 +223,7 @@ class Play(InFolder):
         run(self.folder, "play")
         self.assertEqual(run(self.folder, "plan")[0], 0)
         file = self.folder / "competition.toml"
-        file.write_text(file.read_text().replace("play = 1", "play = 2"))
+        file.write_text(file.read_text().replace("play = 5", "play = 6"))
         status, _, said = run(self.folder, "plan")
         self.assertEqual(status, 2)
         self.assertIn("schedule.tsv would change, and matches were played", said)

@@ -8,17 +8,18 @@ import time
 import unittest
 
 from competition.tests.players import TestPlayer
-from competition.tests.support import GAMES, ODD, InFolder, run, start
+from competition.tests.support import GAMES, ODD, InFolder, run, slowness, start
 
 BAD = {2: "slow", 4: "closing", 6: "dripping", 8: "lying", 10: "dying"}
-HEAD = """start = 2
-play = 1
+HEAD = """start = {start}
+play = {play}
 strikes = 1
 tries = 8
 wait = 1
 info = 1
 forfeit = true
 """
+# So many seconds it may take where the processors are free; where they are not the clocks are longer too.
 SECONDS = 120
 
 
@@ -55,7 +56,9 @@ class Whole(InFolder):
         self.players = [TestPlayer(f"p{it}", BAD.get(it, "good"), it) for it in range(12)]
         (self.folder / "odd.kif").write_text(ODD)
         games = [("countdown", GAMES / "countdown.kif"), ("odd", "odd.kif"), ("buttons", GAMES / "buttons.kif")]
-        self.schedule = self.plan([(it.name, it.place()) for it in self.players], games, head=HEAD)
+        self.slowness = slowness()
+        head = HEAD.format(start=2 * self.slowness, play=self.slowness)
+        self.schedule = self.plan([(it.name, it.place()) for it in self.players], games, head=head)
 
     def until(self, count, playing):
         """Waits until so many matches have records, and some are open."""
@@ -71,7 +74,7 @@ class Whole(InFolder):
             if count:
                 self.until(count, playing)
                 playing.send_signal(number)
-            out, said = playing.communicate(timeout=SECONDS)
+            out, said = playing.communicate(timeout=SECONDS * self.slowness)
             self.assertEqual(said, "")
             clashed += [it for it in out.splitlines() if it.startswith(("no record", "refused"))]
             self.assertEqual(playing.returncode, {signal.SIGKILL: -9, signal.SIGINT: 1, None: 0}[number], out[-2000:])
@@ -81,7 +84,7 @@ class Whole(InFolder):
         seconds = time.monotonic() - began
         self.assertEqual(clashed, [])
         self.assertIn("192 of 192 matches have a lawful record", out)
-        self.assertLess(seconds, SECONDS)
+        self.assertLess(seconds, SECONDS * self.slowness)
         self.look(seconds)
 
     def look(self, seconds):
