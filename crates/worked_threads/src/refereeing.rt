@@ -1,0 +1,179 @@
+//! Whole matches of Countdown between players in memory.
+use crate::calls::{text, texts};
+use crate::holding::holds;
+use game_core::{Countdown, Take};
+use match_book::{Answer, Match, Phase, Setup};
+use match_desk::Manager;
+use match_workers::{Player, Refereed, referee};
+use std::alloc::{AllocError, Global};
+use std::process::Abort;
+use std::sync::Wait;
+use std::sync::atomic::{AtomicU64, Ordering};
+use std::thread;
+use std::thread::Threads;
+use std::time::{Clock, Duration};
+
+/// How often a player looks for another.
+const LOOKS: u32 = 2_000;
+
+/// How often an attended role may ask what is due to it.
+const TRIES: u64 = 100_000;
+
+/// What a player does when it is asked for an answer.
+#[derive(Clone, Copy)]
+enum Act {
+    Say(&'static str),
+    Break,
+    Wait,
+}
+
+/// A player that answers PLAY so, and START and STOP as it should. It counts its messages where others can see it, and is silent at
+/// START where it never sees that another player has been handed a message.
+#[derive(Drop)]
+struct ReadyPlayer<'a, C> {
+    clock: &'a C,
+    alloc: Global,
+    play: Act,
+    messages: &'a AtomicU64,
+    awaited: &'a AtomicU64,
+}
+
+impl<C: Clock> ReadyPlayer<'_, C> {
+    fn sees_the_other(&self) -> bool {
+        for _ in 0..LOOKS {
+            if self.awaited.load(Ordering::SeqCst) > 0 {
+                return true;
+            }
+            thread::sleep(self.clock, Duration::from_millis(1));
+        }
+        false
+    }
+}
+
+impl<C: Clock> Player for ReadyPlayer<'_, C> {
+    ghost use Rattle.std.specs.Prelude.{None};
+
+    ghost handed = { λ p. None };
+
+    fn ask(&mut self, _seconds: u32, _body: &[u8]) -> Answer {
+        let before = self.messages.fetch_add(1, Ordering::SeqCst);
+        if before == 0 && !self.sees_the_other() {
+            return Answer::Silent;
+        }
+        let act = match before {
+            0 => Act::Say("READY"),
+            1 => self.play,
+            _ => Act::Say("DONE"),
+        };
+        answer(self.alloc, act)
+    }
+
+    fn rest(&mut self) {
+        thread::sleep(self.clock, Duration::from_micros(10));
+    }
+}
+
+fn answer(alloc: Global, act: Act) -> Answer {
+    match act {
+        Act::Say(word) => match text(alloc, word) {
+            Ok(said) => Answer::Text(said),
+            Err(_) => Answer::Silent,
+        },
+        Act::Break => Answer::Broken,
+        Act::Wait => Answer::Silent,
+    }
+}
+
+/// The players of red, who waits for blue, and of blue, who waits for nobody: it has itself been handed a message.
+fn red_and_blue<'a, C>(
+    clock: &'a C,
+    alloc: Global,
+    plays: [Act; 2],
+    red: &'a AtomicU64,
+    blue: &'a AtomicU64,
+) -> Result<Vec<ReadyPlayer<'a, C>>, AllocError> {
+    let mut players = Vec::new(alloc);
+    for (play, messages) in [(plays[0], red), (plays[1], blue)] {
+        players.push(ReadyPlayer {
+            clock,
+            alloc,
+            play,
+            messages,
+            awaited: blue,
+        })?;
+    }
+    Ok(players)
+}
+
+fn setup(alloc: Global) -> Result<Setup, AllocError> {
+    Ok(Setup {
+        id: text(alloc, "m")?,
+        start: 1,
+        play: 1,
+        strikes: 0,
+        players: texts(alloc, &["ann", "bob"])?,
+    })
+}
+
+/// A match of Countdown with a heap of one, in which red and blue answer PLAY so.
+fn refereed<R: Threads + Wait + Clock + Abort + Sync>(
+    rt: &R,
+    alloc: Global,
+    red: Act,
+    blue: Act,
+) -> Refereed<Countdown> {
+    let (first, second) = (AtomicU64::new(0), AtomicU64::new(0));
+    let Some(game) = Countdown::new(1) else {
+        panic!(rt; "no such game");
+    };
+    let Ok(setup) = setup(alloc) else {
+        panic!(rt; "no memory");
+    };
+    let Ok(players) = red_and_blue(rt, alloc, [red, blue], &first, &second) else {
+        panic!(rt; "no memory");
+    };
+    assert!(rt; players.len() == setup.players.as_slice().len());
+    let Ok(refereed) = referee(rt, alloc, game, setup, Vec::new(alloc), players, TRIES) else {
+        panic!(rt; "not refereed");
+    };
+    refereed
+}
+
+/// Whether red has won a match of one turn, in which the moves have these errors.
+fn check_match<R: Abort>(rt: &R, held: &Match<Countdown>, errors: [&str; 2]) {
+    let status = held.status();
+    holds(rt, status.phase == Phase::Finished, "the phase");
+    assert!(rt; status.turns == 1);
+    let goals = (held.goal_of(0), held.goal_of(1));
+    holds(rt, goals == (Some(100), Some(0)), "the goals");
+    let moves = (*held.move_at(0, 0), *held.move_at(0, 1));
+    holds(rt, moves == (Take::One, Take::Noop), "the moves");
+    for role in 0..2 {
+        let mark = held.start_mark(role);
+        holds(rt, mark == Some(b"".as_slice()), "a mark of START");
+        let error = held.error_at(0, role);
+        holds(rt, error == errors[role].as_bytes(), "an error");
+    }
+}
+
+fn check_first<R: Abort>(rt: &R, manager: &Manager<Countdown>, errors: [&str; 2]) {
+    let Some(held) = manager.match_at(0) else {
+        panic!(rt; "no match");
+    };
+    check_match(rt, held, errors);
+}
+
+#[test]
+fn roles_are_attended_at_once(rt: HostRuntime) {
+    let (red, blue) = (Act::Say("(take 1)"), Act::Say("noop"));
+    let refereed = refereed(&rt, rt.alloc(), red, blue);
+    let ends = refereed.ends.as_slice();
+    holds(&rt, ends == [Ok(3), Ok(3)].as_slice(), "the messages");
+    check_first(&rt, &refereed.closed.object, ["", ""]);
+}
+
+#[test]
+fn missing_answers_are_replaced(rt: HostRuntime) {
+    let refereed = refereed(&rt, rt.alloc(), Act::Break, Act::Wait);
+    check_first(&rt, &refereed.closed.object, ["CE", "TO"]);
+}
