@@ -1,0 +1,189 @@
+"""Tests of what `instantiate` does beside gringo: python3 -m instantiating.tests, in `examples`. The games in them are small and made
+by dice, and each answer is compared with one that is found by trying all of it."""
+
+import itertools
+import random
+import unittest
+
+from . import folding, rounds
+from .endless import endless
+from .grounding import sentence_of
+from .kif import expressions
+from .sentences import GAME, Literal, Rule, all_rules
+from .told import told
+
+STATE = ["a", "b", "c", "d"]
+MOVES = {"r": ["m1", "m2", "m3", "m4"], "s": ["n1", "n2"]}
+
+
+def holds(sentences, state, joint):
+    """What is true by ground sentences, found by going on until there is no more. Denials have to be of sentences that come before."""
+    true = {("true", term) for term in state} | set(joint)
+    bodies = {}
+    for it in sentences:
+        head, body = (it[1], it[2:]) if it[0] == "<=" else (it, ())
+        bodies.setdefault(head, []).append(body)
+    known = {}
+
+    def is_true(literal):
+        match literal:
+            case ("not", inner):
+                return not is_true(inner)
+            case ("or", *inners):
+                return any(map(is_true, inners))
+            case ("true", _) | ("does", _, _):
+                return literal in true
+        if literal not in known:
+            known[literal] = any(all(map(is_true, body)) for body in bodies.get(literal, ()))
+        return known[literal]
+
+    return {head for head in bodies if is_true(head)}
+
+
+def dice_game(dice):
+    """A game without variables: facts of roles and moves, some relations, and the next state. Bodies ask for what comes before."""
+    rules = [Rule(0, ("role", role), ()) for role in MOVES]
+    rules += [Rule(1 + dice.randrange(3), ("legal", role, move), ()) for role, moves in MOVES.items() for move in moves]
+    states = [("true", term) for term in STATE]
+    moves = [("does", role, move) for role, those in MOVES.items() for move in those]
+    before = []
+    heads = [f"p{k}" for k in range(5)] + [("next", term) for term in STATE]
+    for number, head in enumerate(heads, 10):
+        for _ in range(dice.randrange(1, 12)):
+            asked = dice.sample(states + moves + before, dice.randrange(1, 5))
+            rules.append(Rule(number, head, tuple(Literal(dice.random() < 0.7, it) for it in asked)))
+        if isinstance(head, str):
+            before.append(head)
+    rules += [Rule(30, ("legal", "r", "m2"), (Literal(True, ("true", "a")),))]
+    return sorted(rules, key=lambda it: it.sentence)
+
+
+def own(heads):
+    return {head for head in heads if (head if isinstance(head, str) else head[0]) in GAME}
+
+
+class Folding(unittest.TestCase):
+    def test_folded_games_are_the_same(self):
+        for seed in range(30):
+            rules = dice_game(random.Random(seed))
+            plain = [sentence_of(rule) for rule in rules]
+            for most in 10_000, 0:
+                found = [it for _, it in folding.folded(rules, most, most).written()]
+                self.compare(plain, found, seed)
+
+    def compare(self, plain, found, seed):
+        for count in range(len(STATE) + 1):
+            for state in itertools.combinations(STATE, count):
+                for one, other in itertools.product(MOVES["r"], MOVES["s"]):
+                    joint = [("does", "r", one), ("does", "s", other)]
+                    self.assertEqual(own(holds(plain, state, joint)), own(holds(found, state, joint)), seed)
+
+    def test_legal_moves_keep_their_order(self):
+        for seed in range(20):
+            rules = dice_game(random.Random(seed))
+            found = [it for _, it in folding.folded(rules, 0, 0).written()]
+            self.assertEqual(legal_heads([sentence_of(rule) for rule in rules]), legal_heads(found))
+
+    def test_frames_become_short(self):
+        moves = [f"m{k}" for k in range(100)]
+        rules = [Rule(0, ("role", "r"), ())] + [Rule(1, ("legal", "r", move), ()) for move in moves]
+        for cell, away in enumerate(moves):
+            body = Literal(True, ("true", ("c", str(cell))))
+            rules += [Rule(2, ("next", ("c", str(cell))), (body, Literal(True, ("does", "r", it)))) for it in moves if it != away]
+        found = [it for _, it in folding.folded(rules, 10_000, 10_000_000).written()]
+        self.assertEqual(len(found), 201)
+        self.assertIn(("<=", ("next", ("c", "7")), ("true", ("c", "7")), ("not", ("does", "r", "m7"))), found)
+
+
+def legal_heads(sentences):
+    heads = (it[1] if it[0] == "<=" else it for it in sentences)
+    return list(dict.fromkeys(head for head in heads if head[0] == "legal"))
+
+
+class Rounds(unittest.TestCase):
+    def ways(self, dice, is_closure):
+        """Ways over edges that the state has, from a start or between any two places."""
+        places = [str(k) for k in range(5)]
+        rules = []
+        for one, other in itertools.product(places, repeat=2):
+            edge = Literal(True, ("true", (one, other)))
+            if is_closure:
+                rules.append(Rule(1, ("w", one, other), (edge,)))
+                halves = [[("w", one, middle), ("w", middle, other)] for middle in places]
+                rules += [Rule(2, ("w", one, other), tuple(Literal(True, it) for it in dict.fromkeys(both))) for both in halves]
+            elif one != other:
+                rules.append(Rule(1, ("w", one), (edge, Literal(True, ("w", other)))))
+        if not is_closure:
+            rules.append(Rule(0, ("w", "0"), ()))
+        dice.shuffle(rules)
+        return rules
+
+    def test_ways_are_found_in_rounds(self):
+        for is_closure in True, False:
+            dice = random.Random(3)
+            rules = self.ways(dice, is_closure)
+            found = self.unrolled(rules, 3 if is_closure else 4)
+            for _ in range(40):
+                edges = [pair for pair in itertools.product("01234", repeat=2) if dice.random() < 0.3]
+                self.compare(rules, found, edges)
+
+    def test_stones_need_fewer_rounds(self):
+        # Four by four cells of six neighbours, and the stones that are joined to the first row.
+        cells = list(itertools.product(range(4), repeat=2))
+        sides = (1, 0), (0, 1), (1, -1), (-1, 0), (0, -1), (-1, 1)
+        named = {cell: f"{cell[0]}{cell[1]}" for cell in cells}
+        rules = []
+        for x, y in cells:
+            stone, joined = Literal(True, ("true", named[x, y])), ("w", named[x, y])
+            rules += [Rule(1, joined, (stone,))] if y == 0 else []
+            beside = [named[x + a, y + b] for a, b in sides if (x + a, y + b) in named]
+            rules += [Rule(2, joined, (stone, Literal(True, ("w", other)))) for other in beside]
+        found, dice = self.unrolled(rules, 11), random.Random(5)
+        for _ in range(200):
+            self.compare(rules, found, [name for name in named.values() if dice.random() < 0.6])
+
+    def unrolled(self, rules, most):
+        found, circles = rounds.unrolled(rules)
+        self.assertEqual(rounds.circles(found), [])
+        self.assertLessEqual(max(last for _, _, last in circles), most)
+        return found
+
+    def compare(self, rules, found, state):
+        after = holds([sentence_of(it) for it in found], state, [])
+        self.assertEqual({it for it in after if it[0] == "w"}, least(rules, state))
+
+
+def least(rules, state):
+    """All that rules without denials derive."""
+    true, count = {("true", term) for term in state}, -1
+    while len(true) > count:
+        count = len(true)
+        true |= {rule.head for rule in rules if all(it.atom in true for it in rule.body)}
+    return {it for it in true if it[0] == "w"}
+
+
+class Texts(unittest.TestCase):
+    def number(self, text):
+        return endless(all_rules(expressions(text)))
+
+    def test_what_has_no_end(self):
+        self.assertEqual(self.number("(n 0) (<= (n (s ?x)) (n ?x))"), 1)
+        self.assertEqual(self.number("(<= (next (p ?y (s ?x))) (true (p ?y ?x)))"), 0)
+        self.assertEqual(self.number("(<= (n (t ?x ?y)) (n ?x) (n ?y))"), 0)
+
+    def test_what_may_have_one(self):
+        self.assertIsNone(self.number("(<= (n (s ?x)) (n ?x) (m ?x))"))
+        self.assertIsNone(self.number("(<= (n (s ?x)) (n ?x) (distinct ?x (s 0)))"))
+        self.assertIsNone(self.number("(<= (next (p ?x)) (true (p ?x)))"))
+        self.assertIsNone(self.number("(<= (n (s ?x) a) (n ?x b))"))
+
+    def test_told_has_base_and_input(self):
+        sentences = expressions("(p r) (<= (role ?x) (p ?x)) (<= (legal ?r m) (role ?r)) (init s)")
+        rules = [Rule(1, ("role", "r"), ()), Rule(2, ("legal", "r", "m"), ()), Rule(3, ("init", "s"), ())]
+        lines = "(role r)\n(p r)\n(<= (legal ?r m) (role ?r))\n(init s)\n(base s)\n(input r m)\n"
+        self.assertEqual(told(sentences, rules), lines)
+        self.assertNotIn("(base s)", told([*sentences, ("base", "t")], rules))
+
+
+if __name__ == "__main__":
+    unittest.main()
