@@ -1,8 +1,10 @@
-"""A plain interpreter of GDL with variables, for the test beside `compare`. It makes no instances: it looks a question up from
-the question down, rule by rule, as the standard says what is true. It shares nothing with `instantiate` and the program.
+"""A plain interpreter of GDL with variables, for the test beside `compare` and for a player. It makes no instances: it looks a
+question up from the question down, rule by rule, as the standard says what is true. It shares nothing with `instantiate` and the
+program.
 
 A question is an atomic sentence that may have variables, and its answers are the sentences without variables that it fits and
-that are true. Rules are safe, so each answer of a rule has a value for each of its variables.
+that are true. Rules are safe, so each answer of a rule has a value for each of its variables. Where a question comes up again while it is
+being answered, its relation goes round: from then on that is derived as a whole, from the facts up.
 """
 
 import re
@@ -33,8 +35,8 @@ def is_ground(term):
 
 def with_values(term, values):
     if isinstance(term, str):
-        return values.get(term, term)
-    return tuple(with_values(one, values) for one in term)
+        return values.get(term, term) if term[0] == "?" else term
+    return tuple([with_values(one, values) for one in term])
 
 
 def fitted(pattern, term, values):
@@ -73,7 +75,7 @@ def key_of(question, names):
     """The question with its variables numbered, so that two that ask the same are equal."""
     if isinstance(question, str):
         return names.setdefault(question, f"?{len(names)}") if question[0] == "?" else question
-    return tuple(key_of(one, names) for one in question)
+    return tuple([key_of(one, names) for one in question])
 
 
 def name_of(sentence):
@@ -85,7 +87,7 @@ def names_in(literal):
     match literal:
         case ("not", inner):
             yield from names_in(inner)
-        case ("or", *inners):
+        case ("or" | "and", *inners):
             for inner in inners:
                 yield from names_in(inner)
         case ("distinct", _, _):
@@ -94,36 +96,95 @@ def names_in(literal):
             yield name_of(literal)
 
 
+def leaves(term, path=()):
+    """The atoms of a term that are no variables, each with its place."""
+    if isinstance(term, str):
+        if term[0] != "?":
+            yield path, term
+    else:
+        for place, one in enumerate(term):
+            yield from leaves(one, (*path, place))
+
+
+def leaf_at(term, path):
+    for place in path:
+        if isinstance(term, str) or place >= len(term):
+            return None
+        term = term[place]
+    return term if isinstance(term, str) else None
+
+
+class Facts:
+    """Sentences without variables, found by the atoms at their places."""
+
+    def __init__(self, facts):
+        self.all, self.by_name, self.by_place = set(), {}, {}
+        for fact in facts:
+            if fact not in self.all:
+                self.all.add(fact)
+                self.by_name.setdefault(name_of(fact), []).append(fact)
+
+    def fitting(self, question):
+        """The facts that a question fits."""
+        if is_ground(question):
+            return [question] if question in self.all else []
+        some = self.by_name.get(name_of(question), ())
+        for path, leaf in leaves(question):
+            fewer = self.at(name_of(question), path).get(leaf, ()) if path != (0,) else some
+            some = fewer if len(fewer) < len(some) else some
+        return [fact for fact in some if fitted(question, fact, {}) is not None]
+
+    def at(self, name, path):
+        if (name, path) not in self.by_place:
+            found = self.by_place[name, path] = {}
+            for fact in self.by_name.get(name, ()):
+                found.setdefault(leaf_at(fact, path), []).append(fact)
+        return self.by_place[name, path]
+
+
+class GoesRound(Exception):
+    """A question of this relation came up again while it was being answered."""
+
+
 class Look:
     """What is true in one state, with the moves of one turn."""
 
     def __init__(self, game, facts):
-        self.game, self.known = game, {}
-        self.facts = {}
-        for fact in facts:
-            self.facts.setdefault(name_of(fact), set()).add(fact)
+        self.game, self.known, self.facts, self.open = game, {}, Facts(facts), set()
 
     def answers(self, question):
         """The answers to a question, each once."""
         name = name_of(question)
-        key = key_of(question, {})
+        if name in ("true", "does"):
+            return self.facts.fitting(question)
+        if name not in self.game.rules:
+            return self.game.facts.fitting(question)
         known = self.game.fixed if name in self.game.timeless else self.known
-        if key not in known:
-            known[key] = None
-            known[key] = list(dict.fromkeys(self.found(key, name)))
-        if known[key] is None:
-            raise RecursionError(f"{question} depends on itself")
+        if name in self.game.looping:
+            return self.whole(self.game.circles[name], known).fitting(question)
+        key = key_of(question, {})
+        if key in known:
+            return known[key]
+        if key in self.open:
+            raise GoesRound(name)
+        self.open.add(key)
+        known[key] = list(dict.fromkeys(self.derived(key, name)))
+        self.open.discard(key)
         return known[key]
 
-    def found(self, question, name):
-        if name in ("true", "does"):
-            facts = self.facts.get(name, set())
-            if is_ground(question):
-                return [question] if question in facts else []
-            return [fact for fact in facts if fitted(question, fact, {}) is not None]
-        return self.derived(question, name)
+    def whole(self, circle, known):
+        """All that is true of relations that go round, derived again and again until there is no more."""
+        if circle not in known:
+            known[circle], count = Facts(fact for name in sorted(circle) for fact in self.game.facts.by_name.get(name, ())), -1
+            while len(known[circle].all) > count:
+                count = len(known[circle].all)
+                asked = [(name, head) for name in sorted(circle) for head, _ in self.game.rules[name]]
+                more = [answer for name, head in asked for answer in self.derived(head, name)]
+                known[circle] = Facts([*known[circle].all, *more])
+        return known[circle]
 
     def derived(self, question, name):
+        yield from self.game.facts.fitting(question)
         for head, body in self.game.rules.get(name, ()):
             values = narrowed(head, question, {})
             if values is not None:
@@ -142,6 +203,8 @@ class Look:
             case ("or", *inners):
                 for inner in inners:
                     yield from self.all_values((inner, *rest), values)
+            case ("and", *inners):
+                yield from self.all_values((*inners, *rest), values)
             case ("not", _) | ("distinct", _, _) if not is_ground(literal):
                 yield from self.all_values((*rest, literal), values)
             case ("not", inner):
@@ -162,39 +225,87 @@ class Game:
     """The game of a description: a state is the set of its terms, a joint move has a move for each role."""
 
     def __init__(self, text):
-        self.rules, self.fixed = {}, {}
-        for sentence in read(text):
+        self.rules, self.fixed, self.legals, facts = {}, {}, [], []
+        for number, sentence in enumerate(read(text) if isinstance(text, str) else text):
             is_rule = name_of(sentence) == "<="
             head, body = (sentence[1], sentence[2:]) if is_rule else (sentence, ())
-            self.rules.setdefault(name_of(head), []).append((head, body))
-        self.timeless = self.rules.keys() - self.timely()
-        self.roles = [head[1] for head, _ in self.rules["role"]]
+            head, *body = map(as_atom, (head, *body))
+            if name_of(head) == "legal":
+                self.legals.append((number, head, tuple(body)))
+            if is_rule and body:
+                self.rules.setdefault(name_of(head), []).append((head, tuple(body)))
+            else:
+                facts.append(head)
+        self.facts = Facts(facts)
+        self.asks = {
+            name: {asked for _, body in rules for literal in body for asked in names_in(literal)} for name, rules in self.rules.items()
+        }
+        self.timeless = {name for name in self.rules if not self.below(name) & {"true", "does"}}
+        self.circles, self.looping, self.roles = self.found_circles(), set(), []
+        self.roles = [head[1] for head in self.asked((), (), lambda look: look.answers(("role", "?role")))]
 
-    def timely(self):
-        """The relations that depend on the state or the moves."""
-        found, is_new = {"true", "does"}, True
-        while is_new:
-            more = {
-                name
-                for name, rules in self.rules.items()
-                if any(asked in found for _, body in rules for literal in body for asked in names_in(literal))
-            }
-            is_new, found = not more <= found, found | more
+    def below(self, name):
+        """The relations that one depends on."""
+        found, open_ones = set(), [name]
+        while open_ones:
+            more = self.asks.get(open_ones.pop(), set()) - found
+            found |= more
+            open_ones += more
         return found
 
-    def look(self, state, joint=()):
-        does = [("does", role, move) for role, move in zip(self.roles, joint)]
-        return Look(self, [("true", term) for term in state] + does)
+    def found_circles(self):
+        """Of each relation that goes round the set of those that it goes round with. One that denies itself is looked up instead."""
+        below = {name: self.below(name) for name in self.rules}
+        found = {}
+        for name in self.rules:
+            circle = frozenset(other for other in below[name] if name in below.get(other, ()))
+            bodies = [body for one in circle for _, body in self.rules[one]]
+            if circle and not any(denied & circle for body in bodies for literal in body for denied in [set(denied_in(literal))]):
+                found[name] = circle
+        return found
+
+    def asked(self, state, joint, work):
+        """What a question comes to in a state, asked anew where a relation is seen to go round."""
+        does = [("does", role, move) for role, move in zip(self.roles, joint)] if joint else []
+        while True:
+            try:
+                return work(Look(self, [("true", term) for term in state] + does))
+            except GoesRound as round_one:
+                (name,) = round_one.args
+                if name not in self.circles:
+                    raise
+                self.looping |= self.circles[name]
 
     def initial(self):
-        return frozenset(term for _, term in self.look(()).answers(("init", "?term")))
+        return self.asked((), (), lambda look: frozenset(term for _, term in look.answers(("init", "?term"))))
 
     def next(self, state, joint):
-        return frozenset(term for _, term in self.look(state, joint).answers(("next", "?term")))
+        return self.asked(state, joint, lambda look: frozenset(term for _, term in look.answers(("next", "?term"))))
 
-    def view(self, state):
-        """The legal moves and the goals of each role, as sets, and whether the game has ended."""
-        look = self.look(state)
-        legal = [{move for _, _, move in look.answers(("legal", role, "?move"))} for role in self.roles]
-        goals = [{value for _, _, value in look.answers(("goal", role, "?value"))} for role in self.roles]
-        return legal, goals, look.holds("terminal")
+    def view(self, state, more=None):
+        """The legal moves and the goals of each role, as sets, and whether the game has ended; and what `more` says, where it is there."""
+
+        def seen(look):
+            legal = [{move for _, _, move in look.answers(("legal", role, "?move"))} for role in self.roles]
+            goals = [{value for _, _, value in look.answers(("goal", role, "?value"))} for role in self.roles]
+            found = legal, goals, look.holds("terminal")
+            return (*found, more(look)) if more else found
+
+        return self.asked(state, (), seen)
+
+
+def as_atom(literal):
+    """`(terminal)` is another way to write `terminal`."""
+    if literal == ("terminal",):
+        return "terminal"
+    return (literal[0], *map(as_atom, literal[1:])) if literal[0] in ("not", "or", "and") else literal
+
+
+def denied_in(literal):
+    """The relations that stand in a denial."""
+    match literal:
+        case ("not", inner):
+            yield from names_in(inner)
+        case ("or" | "and", *inners):
+            for inner in inners:
+                yield from denied_in(inner)
