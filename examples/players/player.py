@@ -84,8 +84,8 @@ class Game:
 class Player:
     """What the player knows of its match, and how it answers a message."""
 
-    def __init__(self, choose):
-        self.choose = choose
+    def __init__(self, choose, game=Game):
+        self.choose, self.make_game = choose, game
         self.match = None
 
     def answer(self, message):
@@ -93,7 +93,7 @@ class Player:
             case "info" | ("info",):
                 return "busy" if self.match else "available"
             case ("start", match_id, role, rules, _, _):
-                self.match, self.role, self.game = match_id, role, Game(rules)
+                self.match, self.role, self.game = match_id, role, self.make_game(rules)
                 self.state = self.game.initial()
                 return "ready"
             case ("play", match_id, moves) if match_id == self.match:
@@ -122,15 +122,19 @@ class Handler(BaseHTTPRequestHandler):
         pass
 
 
-def main():
-    if len(sys.argv) not in (2, 3):
-        sys.exit(__doc__)
-    server = HTTPServer(("127.0.0.1", int(sys.argv[1])), Handler)
-    server.player = Player(random.Random(*map(int, sys.argv[2:])).choice)
+def serve(port, player):
+    server = HTTPServer(("127.0.0.1", port), Handler)
+    server.player = player
     try:
         server.serve_forever()
     except KeyboardInterrupt:
         pass
+
+
+def main():
+    if len(sys.argv) not in (2, 3):
+        sys.exit(__doc__)
+    serve(int(sys.argv[1]), Player(random.Random(*map(int, sys.argv[2:])).choice))
 
 
 if __name__ == "__main__":
