@@ -1,0 +1,16 @@
+//! Worked examples of matches: scripts with the reply to each call and the records that they end in, and records that are checked.
+//! Tests alone.
+#![tactic(auto)]
+
+#[cfg(test)]
+mod checks;
+#[cfg(test)]
+mod described;
+#[cfg(test)]
+mod holding;
+#[cfg(test)]
+mod script;
+#[cfg(test)]
+mod scripts;
+#[cfg(test)]
+mod strikes;
