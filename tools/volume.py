@@ -8,8 +8,9 @@ from crates import TOP, text_sum, with_below
 MEASURED = f"{TOP}/bin/volumes.json"
 BUDGET = f"{TOP}/tools/budget.txt"
 HEAD = "# About how many megabytes of each crate a check lays out. `tools/budget --write` writes this file.\n"
-# Fitted to what whole checks of 15 libraries laid out, 64 to 393 MB: none is further off than a fifth.
-OF_A_FUNCTION, OF_A_STEP = 0.766, 0.00375
+# Fitted to what whole checks of 27 libraries laid out, 24 to 393 MB: it is mostly off by 6%, and by a fifth at most. A step counts for
+# more in a generic function, by each of its type parameters.
+OF_A_FUNCTION, OF_A_STEP, OF_A_PARAMETER = 0.80, 0.0031, 0.00068
 # What a trait only declares is not laid out.
 DECLARED = "+decl"
 # So much above its figure a crate may be.
@@ -31,14 +32,19 @@ def steps_in(body):
     return count
 
 
+def megabytes_of(function):
+    """Returns about how many megabytes a check lays out of one compiled function."""
+    parameters = len(function["generics"]["types"])
+    return OF_A_FUNCTION + (OF_A_STEP + OF_A_PARAMETER * parameters) * steps_in(function["body"])
+
+
 def volume_of(name, top=TOP):
     """Returns about how many megabytes a check lays out of the crate whose library stands there, none where there is no library."""
     try:
         with open(f"{top}/crates/{name}/out/rlib/{name}.rlib/toolchain/mir.json", encoding="utf-8") as it:
-            functions = [function["body"] for path, function in json.load(it) if not path.endswith(DECLARED)]
+            return round(sum(megabytes_of(function) for path, function in json.load(it) if not path.endswith(DECLARED)))
     except (OSError, ValueError, KeyError, TypeError):
         return None
-    return round(OF_A_FUNCTION * len(functions) + OF_A_STEP * sum(map(steps_in, functions)))
 
 
 def source_sum(name, known):

@@ -6,7 +6,11 @@ import tempfile
 import unittest
 
 sys.path.insert(0, os.path.dirname(os.path.dirname(os.path.realpath(__file__))))
-from volume import OF_A_FUNCTION, OF_A_STEP, above, read_budget, steps_in, table, volume_of, write_budget
+from volume import OF_A_FUNCTION, OF_A_PARAMETER, OF_A_STEP, above, read_budget, steps_in, table, volume_of, write_budget
+
+
+def function(steps, parameters):
+    return {"body": ["Return"] * steps, "generics": {"types": [{}] * parameters}}
 
 
 class Budget(unittest.TestCase):
@@ -37,11 +41,10 @@ class Budget(unittest.TestCase):
             self.assertIsNone(volume_of("low", top))
             folder = f"{top}/crates/low/out/rlib/low.rlib/toolchain"
             os.makedirs(folder)
-            steps = {"low::one": 1000, "low::two": 200, "low::Told::three+decl": 1}
-            functions = [[path, {"body": ["Return"] * count}] for path, count in steps.items()]
+            functions = [["low::one", function(1000, 0)], ["low::two", function(1000, 3)], ["low::Told::three+decl", function(1, 0)]]
             with open(f"{folder}/mir.json", "w", encoding="utf-8") as it:
                 json.dump(functions, it)
-            self.assertEqual(volume_of("low", top), round(2 * OF_A_FUNCTION + 1200 * OF_A_STEP))
+            self.assertEqual(volume_of("low", top), round(2 * OF_A_FUNCTION + 2000 * OF_A_STEP + 3000 * OF_A_PARAMETER))
 
 
 if __name__ == "__main__":
