@@ -6,7 +6,7 @@ import unittest
 
 sys.path.insert(0, os.path.dirname(os.path.dirname(os.path.realpath(__file__))))
 from progress import SECONDS_A_LINE, behind, expected, read_times, time_left, write_times
-from room import at_once
+from room import at_once, free_memory, processors
 
 DEPS = {"low": [], "wide": [], "middle": ["low"], "high": ["middle", "wide"]}
 SECONDS = {"low": 10.0, "wide": 30.0, "middle": 40.0, "high": 5.0}
@@ -58,9 +58,26 @@ class Times(unittest.TestCase):
 
 class Room(unittest.TestCase):
     def test_as_many_as_processors_and_memory_hold_and_one_at_least(self):
-        self.assertEqual(at_once(4, free=17, processors=8), 4)
-        self.assertEqual(at_once(4, free=17, processors=2), 2)
-        self.assertEqual(at_once(4, free=3, processors=8), 1)
+        self.assertEqual(at_once(4, free=17, lanes=8), 4)
+        self.assertEqual(at_once(4, free=17, lanes=2), 2)
+        self.assertEqual(at_once(4, free=3, lanes=8), 1)
+
+    def test_a_container_has_what_it_may_use(self):
+        with tempfile.TemporaryDirectory() as group:
+            texts = {"meminfo": "MemAvailable:    8000 kB\n", "memory.max": "5000000\n", "memory.stat": "anon 2000000\nfile 9000000\n", "cpu.max": "100000 100000\n"}
+            for name, text in texts.items():
+                with open(f"{group}/{name}", "w", encoding="ascii") as it:
+                    it.write(text)
+            self.assertEqual((free_memory(f"{group}/meminfo", group), processors(group)), (3000000, 1))
+
+    def test_without_limits_it_is_what_the_computer_has(self):
+        with tempfile.TemporaryDirectory() as group:
+            texts = {"meminfo": "MemAvailable:    8000 kB\n", "memory.max": "max\n", "memory.stat": "anon 2000000\nfile 9000000\n", "cpu.max": "max 100000\n"}
+            for name, text in texts.items():
+                with open(f"{group}/{name}", "w", encoding="ascii") as it:
+                    it.write(text)
+            self.assertEqual(free_memory(f"{group}/meminfo", group), 8192000)
+            self.assertEqual(processors(group), len(os.sched_getaffinity(0)))
 
 
 if __name__ == "__main__":
