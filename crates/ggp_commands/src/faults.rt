@@ -2,9 +2,9 @@
 
 use crate::arguments::ArgumentFault;
 use game_commands::Fault;
+use http_exchange::WireFault;
 use match_play::MatchFault;
 use match_season::SeasonFault;
-use http_exchange::WireFault;
 use network_players::ContactFault;
 use player_check::CheckFault;
 

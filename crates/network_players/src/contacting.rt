@@ -4,8 +4,8 @@ ghost use Rattle.network_players.specs.Contacts.{step_fault, exchange_fault};
 
 use crate::deadline::{Deadline, TimedStream};
 use game_core::{Counted, Text};
-use match_plans::PlayerAddress;
 use http_exchange::{WireFault, exchange};
+use match_plans::PlayerAddress;
 use std::alloc::Global;
 use std::io::ErrorKind;
 use std::net::{Net, TcpStream, ToSocketAddrs};
