@@ -176,12 +176,12 @@ where
     P: Player + Explains + Drop + Send,
     S: Reach<P>,
 {
-    let rules = rules_text(rt, alloc, run.rules)?;
+    let game = described_game(alloc, &rules_text(rt, alloc, run.rules)?)?;
     let logging = console.logging(rt, reach, run.is_logged);
     let entrants: Entrants<LoggedPlayer<'_, H, P, &mut E>> = entrants_of(
         alloc, &logging, 0, &run.plan,
     )?;
-    let PlayedMatch { record, history } = match played_match(rt, alloc, entrants, &rules) {
+    let PlayedMatch { record, history } = match played_match(rt, alloc, entrants, &game) {
         Ok(played) => played,
         Err(fault) => return Err(match_fault(fault)),
     };
@@ -211,8 +211,7 @@ where
     P: Player + Explains + Drop + Send,
     S: Reach<P>,
 {
-    let rules = told_rules(rt, alloc, plan.game)?;
-    drop(described_game(alloc, &rules)?);
+    let game = described_game(alloc, &told_rules(rt, alloc, plan.game)?)?;
     let input = read_to_end(alloc, reader, MAX_SCHEDULE)?;
     let plans = read_schedule(alloc, &input, plan.strikes)?;
     let logging = console.logging(rt, reach, plan.is_logged);
@@ -222,7 +221,7 @@ where
     let written = play_season(
         rt,
         alloc,
-        &rules,
+        &game,
         fixtures,
         plan.form,
         writer,
@@ -273,14 +272,14 @@ where
     P: Player + Explains + Drop + Send,
     S: Reach<P>,
 {
-    let rules = told_rules(rt, alloc, trial.game)?;
+    let game = described_game(alloc, &told_rules(rt, alloc, trial.game)?)?;
     let logging = console.logging(rt, reach, trial.is_logged);
     let bad = check_player::<H, LoggedPlayer<'_, H, P, &mut E>, _, W>(
         rt,
         alloc,
         &logging,
         &trial.plan,
-        &rules,
+        &game,
         writer,
     );
     match bad {

@@ -20,7 +20,6 @@ impl From<ArgumentFault> for Fault {
 /// The fault of the program where a match fails.
 pub fn match_fault(fault: MatchFault) -> Fault {
     match fault {
-        MatchFault::BadDescription => Fault::BadDescription,
         MatchFault::Refused(refusal) => Fault::Refused(refusal),
         MatchFault::NotEnded => Fault::MatchNotEnded,
         MatchFault::Memory => Fault::Memory,

@@ -6,13 +6,10 @@ use Rattle.match_book.specs.Phase.{is_over}
 use Rattle.match_desk.specs.ManagerValue.{ManagerValue, game_match}
 use Rattle.match_record.specs.RecordTree.{record_text}
 use Rattle.match_record.specs.LawfulRecord.{IsLawfulRecord}
-use Rattle.described_games.specs.Games.{DescribesNone}
 use Rattle.match_workers.specs.declared.refereeing.RefereeFault.{RefereeFault}
 use Rattle.match_workers.specs.declared.refereeing.RefereeFault.TheVariants.{Refused as MatchRefused, Unclosed, Full, Memory as RefereeMemory}
-use Rattle.described_games.specs.declared.games.DescriptionFault.{DescriptionFault}
-use Rattle.described_games.specs.declared.games.DescriptionFault.TheVariants.{Memory as DescriptionMemory, BadDescription as TextFault}
 use Rattle.match_play.specs.declared.playing.MatchFault.{MatchFault}
-use Rattle.match_play.specs.declared.playing.MatchFault.TheVariants.{Memory, BadDescription, Refused, NotEnded}
+use Rattle.match_play.specs.declared.playing.MatchFault.TheVariants.{Memory, Refused, NotEnded}
 
 -- the text is the record of this desk's first match, which is over; it is a lawful record of that match's game
 pub record IsEndedRecord {G S M : Type 0} (rules : G → Rules S M) (d : ManagerValue G M) (text : List ℕ) : Type 0 where
@@ -26,17 +23,7 @@ pub record IsEndedRecord {G S M : Type 0} (rules : G → Rules S M) (d : Manager
 abbrev pub HasNoEndedMatch : {G S M : Type 0} → (G → Rules S M) → ManagerValue G M → Type 0
 HasNoEndedMatch rules d = IfSome (option_and_then (game_match d) (slice_get d.matches 0)) (λ held. is_over (rules held.game) held.value ≡ false)
 
--- Why a match has no record, by its description: the text of its rules describes no game.
-abbrev pub RunFails : List ℕ → MatchFault → Type 0
-RunFails text BadDescription = DescribesNone text
-RunFails text (Refused reason) = Unit {0}
-RunFails text NotEnded = Unit {0}
-RunFails text Memory = Unit {0}
-
-abbrev pub description_fault : DescriptionFault → MatchFault
-description_fault DescriptionMemory = Memory
-description_fault TextFault = BadDescription
-
+-- why a match has no record, where its referee failed
 abbrev pub referee_fault : RefereeFault → MatchFault
 referee_fault (MatchRefused reason) = Refused reason
 referee_fault Unclosed = NotEnded

@@ -1,7 +1,7 @@
 //! One match between players that are reached at their addresses, from its plan to its record.
 //!
-//! `entrants_of` brings the players of a plan together; `played_match` referees a match between them by the rules that a text
-//! describes, and leaves its record and history; `ended_match` leaves the record and the account; `played_turns` the turns of a role.
+//! `entrants_of` brings the players of a plan together; `played_match` referees a match of a game between them, which is lent,
+//! and leaves its record and history; `ended_match` leaves the record and the account; `played_turns` the turns of a role.
 //!
 //! Free functions take the allocator first, behind a handle for threads and waiting.
 #![tactic(auto)]

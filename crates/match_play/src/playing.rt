@@ -1,17 +1,16 @@
 //! A match between players on the network, from its plan to its record.
-ghost use Rattle.std.specs.Prelude.{◌≡◌, ◌≢◌, IfOk, IfErr, IfSome, length, vec_len};
+ghost use Rattle.std.specs.Prelude.{◌≡◌, ◌≢◌, ◌∷◌, [], IfOk, IfErr, IfSome, length, vec_len};
 ghost use Rattle.kif_text.specs.View.{views};
 ghost use Rattle.call_history.specs.History.{IsReplay};
 ghost use Rattle.match_desk.specs.ManagerValue.{ManagerValue, opening};
 ghost use Rattle.match_desk.specs.Steps.{reply, after};
 ghost use Rattle.desk_text.specs.Account.{history_text};
-ghost use Rattle.match_play.specs.Matches.{IsEndedRecord, HasNoEndedMatch, RunFails};
+ghost use Rattle.match_play.specs.Matches.{IsEndedRecord, HasNoEndedMatch};
 ghost use Rattle.match_play.specs.EndedMatches.{IsEndedMatch};
 
 use call_history::Entry;
-use described_games::{DescriptionFault, described_game};
 use desk_text::{push_history, refusal_word};
-use game_core::{Game, Text, Texts};
+use game_core::{Game, Lent, Text, Texts};
 use kif_text::{Expr, copy};
 use match_book::{Phase, Setup};
 use match_desk::{Call, Manager, Refusal, Reply};
@@ -31,9 +30,6 @@ const MAX_TRIES: u64 = 100_000;
 /// Why a match has no record.
 #[derive(Clone, Copy, Debug, PartialEq, Eq, Error)]
 pub enum MatchFault {
-    /// The text of the rules is not KIF, or is no ground description.
-    #[error("bad description")]
-    BadDescription,
     /// The match was not opened.
     #[error("refused {}", refusal_word(*.0))]
     Refused(Refusal),
@@ -58,20 +54,6 @@ impl From<AllocError> for MatchFault {
 impl<T: Drop> From<AllocFailed<T>> for MatchFault {
     fn from(_: AllocFailed<T>) -> MatchFault {
         MatchFault::Memory
-    }
-}
-
-impl From<DescriptionFault> for MatchFault {
-    ghost use Rattle.std.specs.Prelude.{◌≡◌};
-    ghost use Rattle.match_play.specs.Matches.{description_fault};
-
-    ghost from_gives = { λ fault given. given ≡ description_fault fault };
-
-    fn from(fault: DescriptionFault) -> MatchFault {
-        match fault {
-            DescriptionFault::BadDescription => MatchFault::BadDescription,
-            DescriptionFault::Memory => MatchFault::Memory,
-        }
     }
 }
 
@@ -194,39 +176,45 @@ pub struct EndedMatch {
     ghost is_ended: { ∥ IsEndedMatch text account ∥₁ },
 }
 
-/// Referees a match between its entrants, by the rules that this text describes: what its desk leaves.
-pub(crate) fn refereed_match<R, P>(
+/// Referees a match of this game between its entrants: what its desk leaves.
+pub(crate) fn refereed_match<'g, R, P>(
     rt: &R,
     alloc: Global,
     entrants: Entrants<P>,
-    rules: &[u8],
-) -> Result<Refereed<PackedGame>, MatchFault>
+    game: &'g PackedGame,
+) -> Result<Refereed<Lent<'g, PackedGame>>, MatchFault>
 where
     R: Threads + Wait + Sync,
     P: Player + Drop + Send,
+    ensures game { IfOk result (λ r. r.closed.object.games ≡ game.now ∷ []) }
     ensures replayed { IfOk result (λ r. IsReplay (reply ⟦<PackedGame as Game>⟧.rules) (after ⟦<PackedGame as Game>⟧.rules) opening r.closed.object r.closed.history.items) }
-    ensures fails { IfErr result (RunFails rules.now) }
 {
-    let game = described_game(alloc, rules)?;
     let sentences = copies(alloc, game.description())?;
     let Entrants { setup, players } = entrants;
-    Ok(referee(rt, alloc, game, setup, sentences, players, MAX_TRIES)?)
+    Ok(referee(
+        rt,
+        alloc,
+        Lent::new(game),
+        setup,
+        sentences,
+        players,
+        MAX_TRIES,
+    )?)
 }
 
-/// Referees a match between its entrants, by the rules that this text describes.
+/// Referees a match of this game between its entrants.
 pub fn played_match<R, P>(
     rt: &R,
     alloc: Global,
     entrants: Entrants<P>,
-    rules: &[u8],
+    game: &PackedGame,
 ) -> Result<PlayedMatch, MatchFault>
 where
     R: Threads + Wait + Sync,
     P: Player + Drop + Send,
-    ensures ended { IfOk result (λ played. (d : ManagerValue _ _) × IsEndedRecord ⟦<PackedGame as Game>⟧.rules d played.record × IsReplay (reply ⟦<PackedGame as Game>⟧.rules) (after ⟦<PackedGame as Game>⟧.rules) opening d played.history.items) }
-    ensures fails { IfErr result (RunFails rules.now) }
+    ensures ended { IfOk result (λ played. (d : ManagerValue _ _) × (d.games ≡ game.now ∷ []) × IsEndedRecord ⟦<PackedGame as Game>⟧.rules d played.record × IsReplay (reply ⟦<PackedGame as Game>⟧.rules) (after ⟦<PackedGame as Game>⟧.rules) opening d played.history.items) }
 {
-    let refereed = refereed_match(rt, alloc, entrants, rules)?;
+    let refereed = refereed_match(rt, alloc, entrants, game)?;
     let record = ended_record(alloc, &refereed.closed.object)?;
     Ok(PlayedMatch {
         record,
@@ -255,15 +243,14 @@ pub fn ended_match<R, P>(
     rt: &R,
     alloc: Global,
     entrants: Entrants<P>,
-    rules: &[u8],
+    game: &PackedGame,
     has_account: bool,
 ) -> Result<EndedMatch, MatchFault>
 where
     R: Threads + Wait + Sync,
     P: Player + Drop + Send,
-    ensures fails { IfErr result (RunFails rules.now) }
 {
-    let PlayedMatch { record, history } = played_match(rt, alloc, entrants, rules)?;
+    let PlayedMatch { record, history } = played_match(rt, alloc, entrants, game)?;
     let account = account_of(alloc, &history, has_account)?;
     Ok(EndedMatch {
         text: record,

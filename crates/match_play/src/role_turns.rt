@@ -1,7 +1,6 @@
 //! A match, as one of its roles had it.
-ghost use Rattle.std.specs.Prelude.{◌≡◌, ◌≢◌, ◌<◌, IfOk, IfErr, length};
+ghost use Rattle.std.specs.Prelude.{◌≡◌, ◌≢◌, ◌<◌, ◌∷◌, [], IfOk, IfErr, length};
 ghost use Rattle.match_desk.specs.ManagerValue.{ManagerValue};
-ghost use Rattle.match_play.specs.Matches.{RunFails};
 ghost use Rattle.match_play.specs.RoleTurns.{AreTurnsOf, AreEndedTurns};
 
 use crate::playing::{Entrants, MatchFault, refereed_match};
@@ -69,20 +68,20 @@ fn ended_turns<G: Game>(
     }
 }
 
-/// Referees a match between its entrants, by the rules that this text describes: its turns, as this role had them.
+/// Referees a match of this game between its entrants: its turns, as this role had them.
 pub fn played_turns<R, P>(
     rt: &R,
     alloc: Global,
     entrants: Entrants<P>,
-    rules: &[u8],
+    game: &PackedGame,
     role: usize,
 ) -> Result<Vec<RoleTurn>, MatchFault>
 where
     R: Threads + Wait + Sync,
     P: Player + Drop + Send,
-    ensures ended { IfOk result (λ told. (d : ManagerValue _ _) × AreEndedTurns ⟦<PackedGame as Game>⟧.rules d role told.items) }
-    ensures fails { IfErr result (RunFails rules.now) }
+    ensures ended { IfOk result (λ told. (d : ManagerValue _ _) × (d.games ≡ game.now ∷ []) × AreEndedTurns ⟦<PackedGame as Game>⟧.rules d role told.items) }
 {
-    let refereed = refereed_match(rt, alloc, entrants, rules)?;
-    ended_turns(alloc, &refereed.closed.object, role)
+    let refereed = refereed_match(rt, alloc, entrants, game)?;
+    let turns = ended_turns(alloc, &refereed.closed.object, role)?;
+    Ok(turns)
 }

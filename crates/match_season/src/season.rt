@@ -7,6 +7,7 @@ use game_core::Counted;
 use match_plans::{MatchPlan, Reach};
 use match_play::{Entrants, MatchFault, ended_match, entrants_of};
 use match_workers::Player;
+use packed_rules::PackedGame;
 use std::alloc::{AllocError, Global};
 use std::io::Write;
 use std::sync::atomic::{AtomicU64, Ordering};
@@ -51,7 +52,7 @@ pub fn fixtures<'a, P: Drop, S: Reach<P>>(
 #[derive(Drop)]
 struct Season<'f, 'a, P> {
     alloc: Global,
-    rules: &'f [u8],
+    game: &'f PackedGame,
     fixtures: &'f [Fixture<'a, P>],
     has_history: bool,
     /// How many matches a thread has taken: the place of the next one.
@@ -68,7 +69,7 @@ impl<'a, P> Season<'_, 'a, P> {
         let fixture = self.fixtures.get(place)?;
         let entrants = fixture.entrants.lock(rt).take()?;
         let outcome = match entrants {
-            Ok(entrants) => ended_match(rt, self.alloc, entrants, self.rules, self.has_history),
+            Ok(entrants) => ended_match(rt, self.alloc, entrants, self.game, self.has_history),
             Err(_) => Err(MatchFault::Memory),
         };
         Some(Over {
@@ -104,7 +105,7 @@ impl<'a, P> Season<'_, 'a, P> {
 fn play_fixtures<R, P, W: Write, E: Write + Send>(
     rt: &R,
     alloc: Global,
-    rules: &[u8],
+    game: &PackedGame,
     fixtures: &[Fixture<'_, P>],
     form: SeasonForm,
     writer: &mut Counted<W>,
@@ -120,7 +121,7 @@ where
     let (sender, receiver) = bounded(alloc, fixtures.len())?;
     let season = Season {
         alloc,
-        rules,
+        game,
         fixtures,
         has_history: form.has_history,
         taken: AtomicU64::new(0),
@@ -160,14 +161,14 @@ where
     )
 }
 
-/// Plays the matches of a season by the rules that this text describes, each in threads of its own, and writes their records, each
+/// Plays the matches of a season, all of this game, each in threads of its own, and writes their records, each
 /// as soon as its turn has come, and then the accounts where they are wanted. How many matches have no record is answered.
 ///
 /// Where no thread can be made that is want of memory, and no match was begun. After a failed write no further match begins.
 pub fn play_season<R, P, W: Write, E: Write + Send>(
     rt: &R,
     alloc: Global,
-    rules: &[u8],
+    game: &PackedGame,
     fixtures: Vec<Fixture<'_, P>>,
     form: SeasonForm,
     writer: &mut Counted<W>,
@@ -177,5 +178,5 @@ where
     R: Threads + Wait + Sync,
     P: Player + Drop + Send,
 {
-    play_fixtures(rt, alloc, rules, &fixtures, form, writer, errors)
+    play_fixtures(rt, alloc, game, &fixtures, form, writer, errors)
 }

@@ -3,12 +3,12 @@ ghost use Rattle.std.specs.Prelude.{◌<◌};
 
 use crate::table::{HEADER, Row};
 use crate::watched::{Exchanges, Participant, Watching};
-use described_games::{DescriptionFault, described_game};
 use game_core::{Counted, Game};
 use match_plans::{MatchPlan, PlayerAddress, Reach};
 use match_play::{Entrants, MatchFault, RoleTurn, entrants_of, played_turns};
 use match_workers::Player;
 use network_players::{Explains, Signal};
+use packed_rules::PackedGame;
 use std::alloc::{AllocError, AllocFailed, Global};
 use std::io::Write;
 use std::sync::{Mutex, Wait};
@@ -54,12 +54,6 @@ impl<T: Drop> From<AllocFailed<T>> for CheckFault {
 impl From<MatchFault> for CheckFault {
     fn from(fault: MatchFault) -> CheckFault {
         CheckFault::Match(fault)
-    }
-}
-
-impl From<DescriptionFault> for CheckFault {
-    fn from(fault: DescriptionFault) -> CheckFault {
-        CheckFault::Match(MatchFault::from(fault))
     }
 }
 
@@ -128,13 +122,12 @@ fn push_rows(
 }
 
 /// Plays the match in which the player has this role, and puts its rows behind the table.
-fn check_role<H, P, S, G: Game>(
+fn check_role<H, P, S>(
     rt: &H,
     alloc: Global,
     reach: &S,
     plan: &CheckPlan<'_>,
-    rules: &[u8],
-    game: &G,
+    game: &PackedGame,
     role: usize,
     table: &mut Vec<u8>,
 ) -> Result<u64, CheckFault>
@@ -142,7 +135,7 @@ where
     H: Clock + Threads + Wait + Sync,
     P: Player + Explains + Drop + Send,
     S: Reach<P>,
-    requires { role < (G.rules game.now).roles }
+    requires { role < (⟦<PackedGame as Game>⟧.rules game.now).roles }
 {
     let id = format!(in alloc; "check-{role}")?;
     let signal = Signal::new();
@@ -156,19 +149,19 @@ where
     };
     let match_plan = match_plan(alloc, plan, id.as_str(), role, game.roles())?;
     let entrants: Entrants<Participant<'_, H, P>> = entrants_of(alloc, &watching, 0, &match_plan)?;
-    let turns = played_turns(rt, alloc, entrants, rules, role)?;
+    let turns = played_turns(rt, alloc, entrants, game, role)?;
     let exchanges = exchanges.lock(rt);
     Ok(push_rows(alloc, table, game.role_name(role), &exchanges, &turns)?)
 }
 
-/// Plays a match for each role of the game that this text describes, one after another, and writes a row for each message to the
+/// Plays a match for each role of the game, one after another, and writes a row for each message to the
 /// player, once its match is over. How many of its answers were not good is answered.
 pub fn check_player<H, P, S, W: Write>(
     rt: &H,
     alloc: Global,
     reach: &S,
     plan: &CheckPlan<'_>,
-    rules: &[u8],
+    game: &PackedGame,
     writer: &mut Counted<W>,
 ) -> Result<u64, CheckFault>
 where
@@ -176,14 +169,11 @@ where
     P: Player + Explains + Drop + Send,
     S: Reach<P>,
 {
-    let game = described_game(alloc, rules)?;
     let mut table = Vec::new(alloc);
     table.extend_from_slice(HEADER)?;
     let mut bad: u64 = 0;
     for role in 0..game.roles() {
-        let more = check_role::<H, P, S, _>(
-            rt, alloc, reach, plan, rules, &game, role, &mut table,
-        )?;
+        let more = check_role::<H, P, S>(rt, alloc, reach, plan, game, role, &mut table)?;
         bad = bad.saturating_add(more);
         write_all(writer, &table)?;
         table.clear();
