@@ -7,8 +7,8 @@ TURNED = {("next", 1): ("true", 1), ("init", 1): ("true", 1), ("legal", 2): ("do
 
 
 def endless(rules):
-    """The number of a sentence that derives from each of its instances a larger one: none where no sentence is seen to."""
-    return next((rule.sentence for rule in rules if is_endless(rule)), None)
+    """A rule that derives from each of its instances a larger one: none where no rule is seen to."""
+    return next(filter(is_endless, rules), None)
 
 
 def is_endless(rule):

@@ -111,7 +111,7 @@ class Grounder:
     """One run of gringo. It ends where it has found all, is past a limit, or an exception comes, as from the clock."""
 
     def __init__(self, program):
-        self.program, self.counts = program, Counter()
+        self.program, self.counts, self.lists = program, Counter(), {}
 
     def instances(self):
         """The instances that it finds, each with the number of its rule and its terms."""
@@ -138,17 +138,22 @@ class Grounder:
     def read(self, lines):
         kept = 0
         for line in lines:
-            if line.count("(") > MOST_LEVELS and level_count(line) > MOST_LEVELS + 1:
-                raise Refused(f"a term has more than {MOST_LEVELS} lists in one another")
             name, _, rest = line.partition("(")
-            name = name.strip().rstrip(".")
+            name, lists = name.strip().rstrip("."), line.count("(")
             self.counts[name] += 1
+            self.lists[name] = max(lists, self.lists.get(name, 0))
+            if lists > MOST_LEVELS and level_count(line) > MOST_LEVELS + 1:
+                raise Refused(f"a term has more than {MOST_LEVELS} lists in one another")
             # A line that gringo did not end is one in which it was stopped.
             if line.startswith("i") and line.endswith("\n"):
                 kept += 1
                 if kept > MOST_INSTANCES:
                     raise Refused(f"there are more than {MOST_INSTANCES:,} instances")
                 yield int(name[1:]), term_list(rest.rpartition(")")[0])
+
+    def lists_in(self, rule):
+        """How many lists the largest of the sentences has that were found of a rule's relation."""
+        return self.lists.get(self.program.name(relation(rule.head)), 0)
 
     def largest(self):
         """The sentence that has made the most instances so far, and how many: none where nothing has come yet."""

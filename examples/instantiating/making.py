@@ -29,14 +29,14 @@ class Making:
     def __init__(self, text, seconds, folding_wanted):
         self.text, self.seconds, self.wanted = text, seconds, folding_wanted
         self.sentences, self.rules, self.grounder, self.work = [], [], None, "reading it"
-        self.instances, self.notes = 0, []
+        self.notes = []
 
     def run(self):
         """The ground description, or why there is none, within the seconds."""
         self.began = time.monotonic()
         signal.signal(signal.SIGALRM, late)
-        signal.setitimer(signal.ITIMER_REAL, self.seconds)
         try:
+            signal.setitimer(signal.ITIMER_REAL, self.seconds)
             return self.made()
         except Late:
             raise Refused(self.explained(f"stopped after {self.seconds:g} s, {self.work}")) from None
@@ -57,7 +57,6 @@ class Making:
             found = grounding.in_order(grounding.needed(found))
             self.note_circles([it for it in circles if it[1] > 1])
         limits.refuse_faults(found, self.sentences)
-        self.roles = [rule.head for rule in found if relation(rule.head) == ("role", 1)]
         self.ground_rules = found
         return self.written(found)
 
@@ -75,7 +74,6 @@ class Making:
         except Refused as why:
             raise Refused(self.explained(str(why))) from None
         self.work = "putting them in order"
-        self.instances = len(instances)
         found = grounding.needed(grounding.ground(program.kept, instances))
         found, high = limits.without_high_goals(found)
         if high:
@@ -84,9 +82,10 @@ class Making:
 
     def explained(self, why):
         """The reason, with what is known of the instances so far."""
-        number = endless(self.rules) if self.work == "finding the instances" else None
-        if number is not None:
-            why = f"the instances do not end: {why}; {cited(number, self.sentences)}, puts what it makes into itself"
+        rule = endless(self.rules)
+        # What it makes has to be seen to grow: a sentence without instances makes nothing.
+        if rule and self.grounder and self.grounder.lists_in(rule) > spelled(self.sentences[rule.sentence]).count("("):
+            why = f"the instances do not end: {why}; {cited(rule.sentence, self.sentences)}, puts what it makes into itself"
         if self.grounder and (largest := self.grounder.largest()):
             why += f"; the most instances, {largest[1]:,}, are those of {cited(largest[0], self.sentences)}"
         return why

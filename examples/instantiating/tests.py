@@ -4,11 +4,12 @@ by dice, and each answer is compared with one that is found by trying all of it.
 import itertools
 import random
 import unittest
+import unittest.mock
 
-from . import folding, rounds
+from . import folding, gringo, making, rounds
 from .endless import endless
 from .grounding import sentence_of
-from .kif import expressions
+from .kif import Refused, expressions
 from .sentences import GAME, Literal, Rule, all_rules
 from .told import told
 
@@ -164,7 +165,8 @@ def least(rules, state):
 
 class Texts(unittest.TestCase):
     def number(self, text):
-        return endless(all_rules(expressions(text)))
+        rule = endless(all_rules(expressions(text)))
+        return rule and rule.sentence
 
     def test_what_has_no_end(self):
         self.assertEqual(self.number("(n 0) (<= (n (s ?x)) (n ?x))"), 1)
@@ -176,6 +178,18 @@ class Texts(unittest.TestCase):
         self.assertIsNone(self.number("(<= (n (s ?x)) (n ?x) (distinct ?x (s 0)))"))
         self.assertIsNone(self.number("(<= (next (p ?x)) (true (p ?x)))"))
         self.assertIsNone(self.number("(<= (n (s ?x) a) (n ?x b))"))
+
+    def refusal(self, text, seconds=60):
+        with self.assertRaises(Refused) as why:
+            making.Making(text, seconds, making.NEVER).run()
+        return str(why.exception)
+
+    def test_refusals_say_which_sentence_makes_the_most(self):
+        text = "(role r) (d 1) (d 2) (d 3) (<= (legal r (m ?a ?b)) (d ?a) (d ?b)) (init s)"
+        with unittest.mock.patch.object(gringo, "MOST_INSTANCES", 5):
+            said = "there are more than 5 instances; the most instances, "
+            self.assertEqual(self.refusal(text)[: len(said)], said)
+        self.assertEqual(self.refusal(text, 0.000001), "stopped after 1e-06 s, reading it")
 
     def test_told_has_base_and_input(self):
         sentences = expressions("(p r) (<= (role ?x) (p ?x)) (<= (legal ?r m) (role ?r)) (init s)")
