@@ -18,7 +18,7 @@ DESCRIPTIONS = [
     (FACTS + "(init caf\N{LATIN SMALL LETTER E WITH ACUTE})", "line 3, column 10: a byte that is no character"),
     (FACTS + "; a comment (\n(<= (next (x 1)) (init (x 1)))", "line 4, column 1: sentence 2, (<= (next (x 1)) (init (x 1))): (init (x 1)) is in a body"),
     (FACTS + "(<= (legal a ?m) (not (move ?m)))", "line 3, column 1: sentence 2, (<= (legal a ?m) (not (move ?m))): ?m is unsafe"),
-    (FACTS + "(<= p q)\n(<= q p)\n(<= terminal p)", "a cycle: q depends on itself, through p"),
+    (FACTS + "(<= p q)\n(<= q p)\n(<= terminal p)", "a cycle: p depends on itself, through q"),
     ("(init x)", "there is no role"),
     (FACTS + "(role a)", "the referee says: bad description"),
     (FACTS + "(" * 70 + "a" + ")" * 70, "more than 64 lists"),
