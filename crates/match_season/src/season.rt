@@ -1,5 +1,6 @@
 //! A season: the matches of a schedule, some of them at once, each on a desk of its own.
 ghost use denote.Param.Send.{IsSend, IsSync};
+ghost use Rattle.packed_rules.specs.contracts.packed_game.PackedGame.{the_row as game_row};
 
 use crate::season_output::{Over, RecordOrder, SeasonFault, write_season};
 use crossbeam_channel::{Sender, bounded};
@@ -101,6 +102,11 @@ impl<'a, P> Season<'_, 'a, P> {
     }
 }
 
+/// Says as a fact what the bound says: threads may share the value. A closure's contract takes it from there.
+fn is_shared<T: Sync>(_value: &T)
+    ensures { IsSync T.row }
+{}
+
 /// Plays the matches of these fixtures.
 fn play_fixtures<R, P, W: Write, E: Write + Send>(
     rt: &R,
@@ -127,11 +133,12 @@ where
         taken: AtomicU64::new(0),
     };
     let (season, sender) = (&season, &sender);
+    is_shared(game);
     thread::scope(
         thread::scope_env(),
         rt,
         move |scope| -> Result<u64, SeasonFault>
-            requires sent { IsSync R.row × IsSend P.row }
+            requires sent { IsSync R.row × IsSend P.row × IsSync game_row }
         {
             let mut has_thread = false;
             for _ in 0..form.at_once.min(fixtures.len()) {
