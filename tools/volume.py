@@ -95,7 +95,8 @@ def table(volumes, budget):
     for name, it in volumes.items():
         figure = f"{it:6} MB, and it has no figure"
         if name in budget:
-            figure = f"{it:6} of {budget[name]:6} MB, {100 * it / max(budget[name], 1) - 100:+.0f}%"
+            share = 100 * it / budget[name] - 100 if budget[name] else 0
+            figure = f"{it:6} of {budget[name]:6} MB, {share:+.0f}%"
         yield f"{name:{wide}} {figure}{': ABOVE ITS BUDGET' if name in wrong else ''}"
     known = [it for it in volumes if it in budget]
     yield f"{'in all':{wide}} {sum(volumes.values()):6} of {sum(budget[it] for it in known):6} MB"
