@@ -1,5 +1,6 @@
 """The descriptions of games: read, looked at, instantiated where they have variables, and tried on the referee."""
 
+import graphlib
 import hashlib
 import importlib.machinery
 import importlib.util
@@ -67,15 +68,30 @@ def sentence_places(text):
     return places
 
 
+def refuse_ground_faults(tool, rules):
+    """Refuses ground rules that the referee refuses: a sentence that depends on itself in one state, or none for a role."""
+    asked = {}
+    for rule in rules:
+        atoms = (it.atom for it in rule.body if tool.relation(it.atom)[0] not in ("true", "does"))
+        asked.setdefault(rule.head, {}).update(dict.fromkeys(atoms))
+    try:
+        graphlib.TopologicalSorter(asked).prepare()
+    except graphlib.CycleError as error:
+        way = list(map(tool.spelled, error.args[1]))
+        raise tool.Refused(f"a cycle: {way[0]} depends on itself" + (f", through {way[1]}" if len(way) > 2 else "")) from None
+    if not any(tool.relation(rule.head)[0] == "role" for rule in rules):
+        raise tool.Refused("there is no role")
+
+
 def look_at_sentences(text, places, is_ground):
     """Refuses a description with a sentence that is none, by the tests that `instantiate` has before it grounds, and one that is ground
-    also by those that it has after that."""
+    also for what the referee refuses in all sentences together."""
     tool = script_module(INSTANTIATE, "instantiate")
     try:
         rules = tool.all_rules(tool.expressions(text.decode("latin-1")))
         tool.Relations(rules).refuse_dependence()
         if is_ground:
-            tool.refuse_faults(rules)
+            refuse_ground_faults(tool, rules)
     except tool.Refused as why:
         found = SENTENCE.match(str(why))
         raise NoDescription(f"{place_of(text, places[int(found[1])])}: {why}" if found else str(why)) from None
