@@ -1,4 +1,4 @@
--- The rules on which no move bears come first: a ranking of both parts, and what the parts keep.
+-- The rules that do not depend on moves come first: a ranking of both parts, and what the parts keep.
 use Rattle.std.proofs.Common.{ℕ, ◌+◌, ◌<◌, ◌≤◌, ◌≡◌, Bool, true, false, not, ◌&&◌, ◌||◌, if◌then◌else◌, nat_eq, List, [], ◌∷◌, ◌++◌, length, refl, ap, sym, ◌∙◌, arith, filter, subst}
 use Rattle.std.proofs.lemmas.List.Sorted.{IsPermutation-filter_both, IsPermutation-trans}
 use Rattle.rule_sentences.specs.declared.sentence.Derived.{Derived}

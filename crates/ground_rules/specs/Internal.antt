@@ -1,4 +1,4 @@
--- What private functions and proofs alone cite.
+-- Cited only by private functions and proofs.
 pub mod Bools
 pub mod Names
 pub mod Ranked

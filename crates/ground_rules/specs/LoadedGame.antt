@@ -1,4 +1,4 @@
--- What the calls of a loaded game answer by its tables, whatever keeps them.
+-- What the calls of a loaded game return by its tables, whatever keeps them.
 use Rattle.std.specs.Prelude.{ℕ, ◌≡◌, ◌<◌, Bool, List, [], map, slice_index_or, length}
 use Rattle.game_core.specs.Play.{Rules}
 use Rattle.ground_rules.specs.declared.tables.Mention.{Mention}
@@ -15,7 +15,7 @@ pub record GameTables : Type 0 where
   -- the texts of the terms of states, and of those of moves, by their numbers
   pub states : List (List ℕ)
   pub moves : List (List ℕ)
-  -- the rules on whose heads no move bears, in the order of a ranking of their heads
+  -- the rules with heads that do not depend on moves, in the order of a ranking of their heads
   pub rest : List (Rule ℕ ℕ)
   -- the other rules, in the order of a ranking
   pub turn : List (Rule ℕ ℕ)
@@ -32,7 +32,7 @@ role_at g r = slice_index_or g.roles r no_role
 abbrev pub terms_of : List GroundMove → List ℕ
 terms_of joint = map (λ m. m.term) joint
 
--- the truth of the derived atoms on which no move bears
+-- the truth of the derived atoms that do not depend on moves
 abbrev pub kept_row : GameTables → List Bool → List Bool
 kept_row g row = row_after (numbered row []) (unset g.atoms) g.rest
 
@@ -44,7 +44,7 @@ settled g row = record { row = row; kept = kept_row g row }
 abbrev pub turn_row : GameTables → StateRows → List ℕ → List Bool
 turn_row g s joint = row_after (numbered s.row joint) s.kept g.turn
 
--- the row has a value for each term of a state, and beside it stands the truth of the derived atoms on which no move bears
+-- the row has a value for each term of a state, and beside it stands the truth of the derived atoms that do not depend on moves
 pub record IsSettled (g : GameTables) (s : StateRows) : Type 0 where
   pub size : length s.row ≡ length g.states
   pub kept : s.kept ≡ kept_row g s.row

@@ -1,4 +1,4 @@
--- What loading answers.
+-- What loading returns.
 use Rattle.std.specs.Prelude.{ℕ, ◌≡◌, ◌≢◌, true, false, List, [], length}
 use Rattle.game_core.specs.Expression.{Expression}
 use Rattle.rule_sentences.specs.declared.fault.LoadFault.{LoadFault}

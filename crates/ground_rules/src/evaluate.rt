@@ -57,7 +57,7 @@ fn all_hold(literals: &[Literal], row: &Row, state: &Row, joint: &[usize]) -> bo
     true
 }
 
-/// The row with the head of each rule set whose literals are true, one rule after the other.
+/// The row after a pass over the rules in their order. A rule with true literals sets its head.
 pub fn pass(rules: &[Rule], row: Row, state: &Row, joint: &[usize]) -> Row
     ensures { result ≡ row_after (numbered state.now joint.now) row (rules_of rules.now) }
 {
@@ -70,8 +70,8 @@ pub fn pass(rules: &[Rule], row: Row, state: &Row, joint: &[usize]) -> Row
     row
 }
 
-/// The truth of each of so many derived atoms, by one pass over the rules. Where the rules stand in
-/// the order of a ranking of their heads, this is the fit.
+/// The truth of each derived atom, by one pass over the rules. If the rules stand in the order of a
+/// ranking of their heads, this is the fit.
 pub fn evaluate(
     alloc: Global,
     rules: &[Rule],

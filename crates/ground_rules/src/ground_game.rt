@@ -121,7 +121,7 @@ impl GroundGame {
     ghost use Rattle.ground_rules.specs.LoadedGame.{settled};
     ghost use Rattle.ground_rules.specs.GroundGames.{sentences_of, tables_of};
 
-    /// The state of this row.
+    /// The state with this row of terms.
     fn settle(&self, alloc: Global, row: Row) -> Result<GroundState, AllocError>
         ensures { IfOk result (λ s. s ≡ settled (tables_of self.now) row) }
     {

@@ -3,11 +3,11 @@
 //! `load` makes the game of a description, which is a list of KIF expressions, or names its first
 //! fault. What it makes is a `Game` of `game_core`, for all that plays games.
 //!
-//! A state keeps the truth of the derived atoms on which no move bears, so `legal`, `terminal` and
-//! `goal` only look it up. `next` evaluates the other rules from there and then, in the state that it
-//! makes, those on which no move bears: each rule once, after those that it depends on. So a turn's
-//! cost is linear in the description. `load` goes down an expression by recursion: the limit that the doc of
-//! `kif_text::Expr` sets for the nesting of lists holds for what it is given.
+//! A state keeps the truth of the derived atoms that do not depend on moves, so `legal`, `terminal` and
+//! `goal` only look it up. `next` starts from there and evaluates the other rules. Then it evaluates
+//! those that do not depend on moves in the new state. Each rule is evaluated once, after those that it
+//! depends on, so the cost of a turn is linear in the description. `load` recurses into nested lists, so
+//! an expression should nest no more lists than the doc of `kif_text::Expr` says.
 #![tactic(auto)]
 
 mod evaluate;

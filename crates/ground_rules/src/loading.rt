@@ -61,7 +61,7 @@ fn have_few_moves(roles: &[Role]) -> bool
     true
 }
 
-/// Whether a head is barred that depends on `does` sentences, or on given sentences, as said.
+/// Whether the head may not stand if it depends on moves (`on_moves`), or on the state or moves (`on_given`).
 fn is_barred(head: &Derived, on_moves: bool, on_given: bool) -> bool
     ensures { result ≡ barred_by head.now on_moves on_given }
 {
@@ -83,8 +83,8 @@ fn has_barred(heads: &[Derived], on_moves: &Row, on_given: &Row) -> bool
     false
 }
 
-/// The tables of names of a description of so many sentences, or its first fault in roles and size,
-/// but for the numbers of moves.
+/// The tables of names of a description with this number of sentences, or its first fault in roles or
+/// size. The numbers of moves are tested later.
 fn names_of(alloc: Global, sentences: usize, rules: &[Rule]) -> Result<Names, LoadFault>
     ensures table { IfOk result (λ t. IsTableOf (rules_of rules.now) (table_of t)) }
     ensures roles { IfOk result (λ _. HasRoles (rules_of rules.now)) }
@@ -129,7 +129,7 @@ fn ranked_rules(
     }
 }
 
-/// Whether some head depends on what it may not depend on, by the row of what depends on moves.
+/// Whether some head depends on what it may not depend on. The row says which heads depend on moves.
 fn has_barred_head(
     alloc: Global,
     names: &Names,
@@ -143,7 +143,7 @@ fn has_barred_head(
     Ok(has_barred(names.heads.as_slice(), on_moves, &on_given))
 }
 
-/// The rules on whose heads no move bears, and the others, each in the order of a ranking.
+/// The rules with heads that do not depend on moves, and the others. Both stand in the order of a ranking.
 fn split_rules(
     alloc: Global,
     names: &Names,
@@ -159,7 +159,7 @@ fn split_rules(
     Ok(split(alloc, rules, &on_moves)?)
 }
 
-/// What a game is made from: the tables of names, and roles and rules with numbers for their names.
+/// The parts of a game: the tables of names, and roles and rules with numbers for their names.
 #[derive(Drop)]
 pub struct GameParts {
     pub names: Names,
@@ -167,7 +167,7 @@ pub struct GameParts {
     pub rules: SplitRules,
 }
 
-/// The parts of the game of a description of so many sentences, or the first of its faults.
+/// The parts of the game of a description with this number of sentences, or its first fault.
 pub fn game_parts(alloc: Global, sentences: usize, rules: &[Rule]) -> Result<GameParts, LoadFault>
     ensures parts { IfOk result (λ p. AreGameParts sentences (rules_of rules.now) (table_of p.names) p.roles.items (numbered_rules p.rules.rest.items) (numbered_rules p.rules.turn.items)) }
     ensures fault { IfErr result (IsDescriptionFault sentences (rules_of rules.now)) }

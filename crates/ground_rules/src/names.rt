@@ -15,7 +15,7 @@ use rule_sentences::LoadFault;
 use rule_sentences::sentence::{Derived, Rule};
 use std::alloc::{AllocError, Global};
 
-/// Adds a text to a set, and whether it is new there.
+/// Adds a text to a set. Returns whether it is new there.
 fn add_text(set: &mut IndexSet<Text>, text: &Text) -> Result<bool, AllocError>
     ensures set { OnOk result (set.new.keys ≡ with_new bytes_eq set.old.keys text.now) }
     ensures new { IfOk result (λ new. new ≡ not (list_any (bytes_eq text.now) set.old.keys)) }
@@ -109,21 +109,21 @@ pub fn head_terms(
     Ok(terms)
 }
 
-/// The texts of a set, which are moved out of it.
+/// Moves the texts out of a set.
 pub fn into_texts(alloc: Global, set: IndexSet<Text>) -> Result<Vec<Text>, AllocError>
     ensures { IfOk result (λ v. v.items ≡ set.keys) }
 {
     set.into_iter().collect(alloc)
 }
 
-/// The place of the text in the set, or the number of texts.
+/// The place of the text in the set, or the number of texts if it is not there.
 pub fn place_of_text(set: &IndexSet<Text>, text: &Text) -> usize
     ensures { result ≡ place bytes_eq set.now.keys text.now }
 {
     set.get_index_of(text).unwrap_or(set.len())
 }
 
-/// The place of the atom among the heads, or the number of heads.
+/// The place of the atom among the heads, or the number of heads if it is not there.
 pub fn place_of_head(heads: &IndexSet<Derived>, atom: &Derived) -> usize
     ensures { result ≡ place same_derived heads.now.keys atom.now }
 {

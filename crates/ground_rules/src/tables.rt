@@ -63,8 +63,8 @@ impl Role {
     }
 }
 
-/// A state of a ground game, as a row with a truth value for each term, and beside it the truth of
-/// the derived atoms on which no move bears. Contracts see the rows.
+/// A state of a ground game: a row with a truth value for each term, and a row with the truth of the
+/// derived atoms that do not depend on moves. Contracts see the rows.
 #[derive(Drop)]
 pub struct GroundState {
     pub(crate) row: Row,
@@ -85,7 +85,7 @@ pub struct GroundMove {
     pub term: usize,
 }
 
-/// The row of so many terms in which those of the true mentions are set.
+/// A row of `terms` values, with the terms of the true mentions set.
 pub fn mark(alloc: Global, mentions: &[Mention], row: &Row, terms: usize) -> Result<Row, AllocError>
     ensures { IfOk result (λ marks. marks ≡ marked (unset terms) row.now mentions.now) }
 {
@@ -98,7 +98,7 @@ pub fn mark(alloc: Global, mentions: &[Mention], row: &Row, terms: usize) -> Res
     Ok(marks)
 }
 
-/// The moves whose heads are true.
+/// The moves with true heads.
 pub fn choose(alloc: Global, heads: &[Mention], row: &Row) -> Result<Vec<GroundMove>, AllocError>
     ensures { IfOk result (λ v. v.items ≡ chosen row.now heads.now) }
 {
@@ -111,7 +111,7 @@ pub fn choose(alloc: Global, heads: &[Mention], row: &Row) -> Result<Vec<GroundM
     Ok(moves)
 }
 
-/// The value of the one true head, if only one is true.
+/// The value of the true head, if exactly one head is true.
 pub fn find_goal(heads: &[GoalHead], row: &Row) -> Option<u8>
     ensures { result ≡ only_goal row.now heads.now }
 {
@@ -127,7 +127,7 @@ pub fn find_goal(heads: &[GoalHead], row: &Row) -> Option<u8>
     found
 }
 
-/// The texts of the terms that are set, in their order, lent.
+/// The texts of the terms that are set, in their order. They are borrowed.
 pub fn pick<'a>(
     alloc: Global,
     row: &Row,

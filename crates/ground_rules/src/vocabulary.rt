@@ -1,4 +1,4 @@
-//! What the game of a description looks up: all but its rules.
+//! All that the game of a description looks up, apart from its rules.
 ghost use Rattle.std.specs.Prelude.{◌≡◌, ◌≤◌, ◌<◌, ◌^◌, length, IsTrue, IfOk, map};
 ghost use Rattle.game_core.specs.Play.{max_roles};
 ghost use Rattle.kif_text.specs.View.{view as expression, views};

@@ -8,8 +8,8 @@ use crate::numbered::{Literal, Rule};
 use crate::row::Row;
 use std::alloc::{AllocError, Global};
 
-/// Whether the literal speaks of a `does` sentence, or, if these count, of a `true` sentence, or of
-/// an atom that is set.
+/// Whether the literal contains a `does` sentence, an atom that is set, or, with `of_state`, a `true`
+/// sentence.
 #[cycle(speaks)]
 fn speaks(literal: &Literal, row: &Row, of_state: bool) -> bool
     ensures { result ≡ truth (numbered [] []) (bit row.now) (exposed of_state (view literal.now)) }
@@ -36,8 +36,8 @@ fn any_speaks(literals: &Vec<Literal>, row: &Row, of_state: bool) -> bool
     false
 }
 
-/// For each of so many atoms, whether it depends on a `does` sentence, or, if these count, on a
-/// `true` sentence, by rules in the order of a ranking.
+/// For each derived atom, whether it depends on a `does` sentence or, with `of_state`, on a `true`
+/// sentence. The rules stand in the order of a ranking.
 pub fn dependence(
     alloc: Global,
     rules: &[Rule],

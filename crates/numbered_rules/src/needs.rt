@@ -8,7 +8,7 @@ use crate::numbered::{Literal, Rule};
 use crate::rank::Needs;
 use std::alloc::{AllocError, Global};
 
-/// Adds the atoms below this number that stand in the literal.
+/// Adds the atoms of the literal that are below this number.
 #[cycle(add_atoms)]
 fn add_atoms(literal: &Literal, size: usize, out: &mut Vec<usize>) -> Result<(), AllocError>
     ensures { OnOk result (out.new.items ≡ out.old.items ++ atoms_in size (view literal.now)) }
@@ -52,7 +52,7 @@ fn no_needs(alloc: Global, size: usize) -> Result<Vec<Needs>, AllocError>
     Ok(needs)
 }
 
-/// For each of so many atoms, the atoms in the bodies of its rules.
+/// For each atom below `size`, the atoms in the bodies of its rules.
 pub fn needs_of(alloc: Global, rules: &[Rule], size: usize) -> Result<Vec<Needs>, AllocError>
     ensures size { IfOk result (λ v. length v.items ≡ size) }
     ensures needs { IfOk result (λ v. (n : ℕ) → n < size → needs_at v.items n ≡ needs_of size n (rules_of rules.now)) }

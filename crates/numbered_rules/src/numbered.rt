@@ -9,7 +9,7 @@ pub enum Literal {
     Does(usize, usize),
     Not(Box<Literal>),
     Or(Vec<Literal>),
-    /// A literal whose truth is known once and for all, as that of a `distinct` literal.
+    /// A literal with a truth that never changes, as a `distinct` literal.
     Known(bool),
 }
 

@@ -7,7 +7,7 @@ ghost use Rattle.numbered_rules.specs.declared.rank.Mark.TheVariants.{New, Open,
 use std::alloc::{AllocError, Global};
 use std::marker::Model;
 
-/// The atoms that an atom's rules speak of. Contracts see them as a list.
+/// The atoms in the bodies of an atom's rules. Contracts see them as a list.
 #[derive(Drop)]
 pub struct Needs {
     pub atoms: Vec<usize>,
@@ -38,8 +38,8 @@ pub enum Mark {
     Done(usize),
 }
 
-/// A depth-first search for a ranking: the marks of the atoms, how many needs of each are passed, the
-/// path to the atom at hand, and the order so far.
+/// A depth-first search for a ranking: the marks of the atoms, how many needs of each are done, the
+/// path to the current atom, and the order so far.
 #[derive(Drop)]
 pub struct Search {
     marks: Vec<Mark>,
@@ -49,7 +49,7 @@ pub struct Search {
 }
 
 impl Search {
-    /// Goes on to an atom that was not met.
+    /// Goes on to an atom that was not met before.
     fn open(&mut self, needs: &[Needs], atom: usize) -> Result<(), AllocError>
         requires search { IsSearching needs.now self.old.marks.items self.old.next.items self.old.path.items self.old.order.items }
         requires within { atom < length needs.now }
@@ -66,7 +66,7 @@ impl Search {
         Ok(())
     }
 
-    /// Places the atom at the end of the path, all of whose needs are placed.
+    /// Places the atom at the end of the path. All its needs are placed.
     fn finish(&mut self, needs: &[Needs]) -> Result<(), AllocError>
         requires search { IsSearching needs.now self.old.marks.items self.old.next.items self.old.path.items self.old.order.items }
         requires some { 0 < length self.old.path.items }
@@ -83,7 +83,7 @@ impl Search {
         Ok(())
     }
 
-    /// The first place from this one on whose atom has no place in the order.
+    /// The place, from this one on, of the first atom that has no place in the order.
     fn skip(&self, wants: &[usize], from: usize) -> usize
         requires graph { (i : ℕ) → i < length wants.now → slice_index wants.now i < length self.now.marks.items }
         requires from { from ≤ length wants.now }
@@ -100,7 +100,7 @@ impl Search {
         wants.len()
     }
 
-    /// Passes the needs of this atom that are placed, and answers how many are passed.
+    /// Skips the needs of this atom that are placed. Returns how many of its needs are done.
     fn advance(&mut self, needs: &[Needs], atom: usize) -> usize
         requires search { IsSearching needs.now self.old.marks.items self.old.next.items self.old.path.items self.old.order.items }
         requires within { atom < length needs.now }
@@ -116,7 +116,7 @@ impl Search {
         place
     }
 
-    /// One step at the end of the path, and whether it closes a cycle.
+    /// Makes one step at the end of the path. Returns whether it closes a cycle.
     fn step(&mut self, needs: &[Needs]) -> Result<bool, AllocError>
         requires search { IsSearching needs.now self.old.marks.items self.old.next.items self.old.path.items self.old.order.items }
         requires some { 0 < length self.old.path.items }
@@ -143,7 +143,7 @@ impl Search {
         }
     }
 
-    /// Goes on until the path is empty, and whether a cycle was met.
+    /// Goes on until the path is empty or a cycle is met. Returns whether a cycle was met.
     fn explore(&mut self, needs: &[Needs]) -> Result<bool, AllocError>
         requires { IsSearching needs.now self.old.marks.items self.old.next.items self.old.path.items self.old.order.items }
         ensures cycle { IfOk result (λ found. found ≡ true → ¬ (IsGraphAcyclic needs.now)) }
@@ -159,7 +159,7 @@ impl Search {
         Ok(false)
     }
 
-    /// Places this atom and all that it needs, and whether a cycle was met.
+    /// Places this atom and all that it needs, unless a cycle is met. Returns whether one was met.
     fn visit(&mut self, needs: &[Needs], start: usize) -> Result<bool, AllocError>
         requires search { IsSearching needs.now self.old.marks.items self.old.next.items self.old.path.items self.old.order.items }
         requires empty { length self.old.path.items ≡ 0 }
@@ -202,7 +202,7 @@ fn places_of(alloc: Global, marks: &[Mark]) -> Result<Vec<usize>, AllocError>
     Ok(places)
 }
 
-/// A ranking of the atoms, or None where none exists.
+/// A ranking of the atoms. `None` if there is none.
 pub fn rank(alloc: Global, needs: &[Needs]) -> Result<Option<Ranking>, AllocError>
     requires { IsGraph needs.now }
     ensures found { IfOk result (λ o. IfSome o (λ r. IsRanking needs.now r.order.items r.places.items)) }

@@ -20,7 +20,7 @@ impl Model for Row {
 }
 
 impl Row {
-    /// So many values, all false.
+    /// A row of `size` values, all false.
     pub fn unset(alloc: Global, size: usize) -> Result<Row, AllocError>
         ensures { IfOk result (λ r. r ≡ unset size) }
     {

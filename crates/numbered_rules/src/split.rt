@@ -1,4 +1,4 @@
-//! The rules in two parts: those on whose heads no move bears, and the others.
+//! The rules in two parts: those with heads that do not depend on moves, and the others.
 ghost use Rattle.std.specs.Prelude.{◌≡◌, not, filter, IfOk};
 ghost use Rattle.numbered_rules.specs.Numbered.{bit};
 
@@ -13,7 +13,7 @@ pub struct SplitRules {
     pub turn: Vec<Rule>,
 }
 
-/// The rules whose heads are not set, and those whose heads are, each in their order.
+/// The rules with heads that are not set in the row, and those with heads that are. Both keep their order.
 pub fn split(alloc: Global, rules: Vec<Rule>, row: &Row) -> Result<SplitRules, AllocError>
     ensures rest { IfOk result (λ s. s.rest.items ≡ filter (λ r. not (bit row.now r.head)) rules.items) }
     ensures turn { IfOk result (λ s. s.turn.items ≡ filter (λ r. bit row.now r.head) rules.items) }

@@ -1,3 +1,3 @@
--- What private functions and proofs alone cite.
+-- Cited only by private functions and proofs.
 pub mod PlacedRules
 pub mod PackedPass

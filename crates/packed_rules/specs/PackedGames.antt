@@ -1,4 +1,4 @@
--- What a packed game keeps, and what packing answers.
+-- What a packed game keeps, and what packing returns.
 use Rattle.std.specs.Prelude.{◌≡◌, List, map}
 use Rattle.game_core.specs.Expression.{Expression}
 use Rattle.kif_text.specs.View.{view}

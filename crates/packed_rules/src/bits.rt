@@ -40,7 +40,7 @@ fn raise(words: &mut [u64], place: usize)
     words[place / WORD] |= 1 << (place % WORD);
 }
 
-/// The value at this place of a row of so many values, false past the end.
+/// The value at this place of a row of `size` values, false past the end.
 pub fn is_on(words: &[u64], size: usize, place: usize) -> bool
     requires { size ≤ length words.now * 64 }
     ensures { result ≡ bit (bits_of words.now size) place }
@@ -87,7 +87,7 @@ pub fn turn_on_after(words: &mut [u64], size: usize, start: usize, place: usize)
 }
 
 impl BitRow {
-    /// So many values, all false.
+    /// A row of `size` values, all false.
     pub fn unset(alloc: Global, size: usize) -> Result<BitRow, AllocError>
         ensures { IfOk result (λ r. r ≡ unset size) }
     {

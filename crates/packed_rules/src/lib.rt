@@ -2,8 +2,8 @@
 //!
 //! `pack` makes the packed form of a `GroundGame`: the same game, and so a `Game` with the same
 //! answers. A state is one row of bits: one for each term of an `init` or `next` head, and one for
-//! each derived atom on which no move bears. A literal asks for the bit at one place. A turn passes
-//! each rule once, and takes no memory but for the rows.
+//! each derived atom that does not depend on moves. A literal asks for the bit at one place. A turn
+//! evaluates each rule once, and takes memory for the rows alone.
 #![tactic(auto)]
 
 mod bits;

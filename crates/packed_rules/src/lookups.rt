@@ -12,7 +12,7 @@ use ground_rules::tables::{GoalHead, Mention};
 use std::alloc::{AllocError, Global};
 use std::borrow::CowSlice;
 
-/// A row of so many terms and atoms in which the terms of the true mentions are set.
+/// A row of `terms` terms and `atoms` atoms, with the terms of the true mentions set.
 pub fn mark(
     alloc: Global,
     mentions: &[Mention],
@@ -33,7 +33,7 @@ pub fn mark(
     Ok(bits)
 }
 
-/// The moves whose heads are true.
+/// The moves with true heads.
 pub fn choose(
     alloc: Global,
     heads: &[Mention],
@@ -50,7 +50,7 @@ pub fn choose(
     Ok(moves)
 }
 
-/// The value of the one true head, if only one is true.
+/// The value of the true head, if exactly one head is true.
 pub fn find_goal(heads: &[GoalHead], state: &PackedState) -> Option<u8>
     ensures { result ≡ only_goal state.now.kept heads.now }
 {
@@ -66,7 +66,7 @@ pub fn find_goal(heads: &[GoalHead], state: &PackedState) -> Option<u8>
     found
 }
 
-/// The texts of the terms that are set, in their order, lent.
+/// The texts of the terms that are set, in their order. They are borrowed.
 pub fn pick<'a>(
     alloc: Global,
     state: &PackedState,

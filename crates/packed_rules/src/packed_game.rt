@@ -118,7 +118,7 @@ impl PackedGame {
     ghost use Rattle.packed_rules.specs.PackedTables.{rest_of, turn_of};
     ghost use Rattle.packed_rules.specs.PackedGames.{sentences_of, tables_of};
 
-    /// The state of the terms that the true mentions are of, by a row of terms and derived atoms.
+    /// The state with the terms of the true mentions, by a row of terms and derived atoms.
     fn state_of(
         &self,
         alloc: Global,

@@ -12,11 +12,11 @@ use std::alloc::{AllocError, Global};
 use std::marker::Model;
 use std::snapshot::Snapshot;
 
-/// The rules on whose heads no move bears, and the others. Contracts see the rules that they were
-/// packed from.
+/// The rules with heads that do not depend on moves, and the others. Contracts see the rules that they
+/// were packed from.
 #[derive(Drop)]
 pub struct PackedRules {
-    /// How many terms a state's row has.
+    /// The number of terms in a state's row.
     terms: usize,
     rest: RuleTable,
     turn: RuleTable,
@@ -40,7 +40,7 @@ impl Model for PackedRules {
 }
 
 impl PackedRules {
-    /// The rules by the places of a row with so many terms.
+    /// The rules, by places in a row with `terms` terms.
     pub fn new(alloc: Global, rules: &SplitRules, terms: usize) -> Result<PackedRules, AllocError>
         ensures { IfOk result (λ p. p ≡ record { terms = terms; plain = rules.now }) }
     {
@@ -54,7 +54,7 @@ impl PackedRules {
         })
     }
 
-    /// The row after a pass over the rules on which no move bears.
+    /// The row after a pass over the rules with heads that do not depend on moves.
     pub fn pass_rest(&self, bits: BitRow) -> BitRow
         ensures terms { take self.now.terms result ≡ take self.now.terms bits }
         ensures atoms { drop self.now.terms result ≡ row_after (numbered (take self.now.terms bits) []) (drop self.now.terms bits) (rest_of self.now) }

@@ -37,7 +37,7 @@ fn copy_all(alloc: Global, literals: &Vec<Literal>) -> Result<Vec<Literal>, Allo
     Ok(copies)
 }
 
-/// The test whether the value at this place is true, if the place has a number of 32 bits.
+/// The test whether the value at this place is true, if the place fits into 32 bits.
 fn test_at(place: usize) -> Option<Test>
     ensures { IfSome result (λ t. (t.place ≡ place) × (t.value ≡ true)) }
 {
@@ -45,8 +45,8 @@ fn test_at(place: usize) -> Option<Test>
     Some(Test { place, value: true })
 }
 
-/// The test that says what the literal says, if the literal asks for one value of a row with so many
-/// terms and behind them the derived atoms.
+/// The literal as a test, if it asks for one value of a row. The row has `terms` terms and, behind them,
+/// the derived atoms.
 fn test_of(literal: &Literal, terms: usize) -> Option<Test>
     ensures { IfSome result (IsTestOf terms (view literal.now)) }
 {
@@ -64,7 +64,7 @@ fn test_of(literal: &Literal, terms: usize) -> Option<Test>
     }
 }
 
-/// The test whether the role makes this move, if both have numbers of 32 bits.
+/// The test whether the role makes this move, if both fit into 32 bits.
 fn move_test_at(role: usize, term: usize) -> Option<MoveTest>
     ensures { IfSome result (λ t. (t.role ≡ role) × (t.term ≡ term) × (t.value ≡ true)) }
 {
@@ -77,7 +77,7 @@ fn move_test_at(role: usize, term: usize) -> Option<MoveTest>
     })
 }
 
-/// The test that says what the literal says, if the literal asks for the move of one role.
+/// The literal as a test, if it asks for the move of one role.
 fn move_test_of(literal: &Literal) -> Option<MoveTest>
     ensures { IfSome result (λ t. (terms : ℕ) → IsMoveTestOf terms (view literal.now) t) }
 {
@@ -128,7 +128,7 @@ fn append<T: Drop>(items: Vec<T>, into: &mut Vec<T>) -> Result<(), AllocError>
     Ok(())
 }
 
-/// The rules by the places of a row with so many terms, in their order.
+/// The rules in their order, by places in a row with `terms` terms.
 pub fn pack_rules(alloc: Global, rules: &[Rule], terms: usize) -> Result<RuleTable, AllocError>
     ensures { IfOk result (λ t. IsPackedTable terms t (rules_of rules.now)) }
 {

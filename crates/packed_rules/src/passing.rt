@@ -11,8 +11,8 @@ use crate::rule_table::RuleTable;
 use crate::rules::{MoveTest, RuleSize, Test};
 use numbered_rules::numbered::Literal;
 
-/// Whether the literal is true, by a row of so many values, of which so many are terms and the others
-/// derived atoms, and by the terms of the moves by role.
+/// Whether the literal is true. The row has `size` values: `terms` terms, and behind them the derived
+/// atoms. `joint` has the term of each role's move.
 #[cycle(holds)]
 fn holds(literal: &Literal, words: &[u64], size: usize, terms: usize, joint: &[usize]) -> bool
     requires { size ≤ length words.now * 64 }
@@ -110,8 +110,8 @@ fn fires(
         && all_hold(others, words, size, terms, joint)
 }
 
-/// Sets the head of each rule whose literals are true, one rule after the other. The literals of a
-/// rule are the first of those that are left.
+/// Goes over the rules in their order, and sets the head of each rule with true literals. The literals
+/// of a rule are the first of those that are left.
 fn sweep(table: &RuleTable, words: &mut [u64], size: usize, terms: usize, joint: &[usize])
     requires size { size ≤ length words.old * 64 }
     requires cut { IsCut table.now }
@@ -139,8 +139,8 @@ fn sweep(table: &RuleTable, words: &mut [u64], size: usize, terms: usize, joint:
     }
 }
 
-/// Sets the head of each rule whose tests pass, one rule after the other. A loop that knows of no
-/// other literals is twice as fast.
+/// Goes over the rules in their order, and sets the head of each rule with tests that pass. A loop
+/// without other literals is twice as fast.
 fn sweep_tests(rules: &[RuleSize], tests: &[Test], words: &mut [u64], size: usize, terms: usize)
     requires size { size ≤ length words.old * 64 }
     requires cut { AreTestsCut rules.now tests.now }
@@ -156,7 +156,7 @@ fn sweep_tests(rules: &[RuleSize], tests: &[Test], words: &mut [u64], size: usiz
     }
 }
 
-/// Sets the heads of the table's rules, by tests alone where the rules ask for nothing else.
+/// Goes over the table's rules, by tests alone if the rules have no other literals.
 fn sweep_table(table: &RuleTable, words: &mut [u64], size: usize, terms: usize, joint: &[usize])
     requires size { size ≤ length words.old * 64 }
     requires cut { IsCut table.now }

@@ -2,8 +2,8 @@
 use crate::rules::{MoveTest, RuleSize, Test};
 use numbered_rules::numbered::Literal;
 
-/// Rules by places, one after the other. The literals of all rules stand side by side, each kind in
-/// one list, since a pass goes over one list much faster than over a list of each rule.
+/// Rules by places, in their order. The literals of all rules stand in one list for each kind, since a
+/// pass over one list is much faster than over a list for each rule.
 #[derive(Drop)]
 pub struct RuleTable {
     pub(crate) rules: Vec<RuleSize>,

@@ -29,7 +29,7 @@ pub struct PackedRule {
     pub others: Vec<Literal>,
 }
 
-/// The head of a rule by places, and how many literals of each kind it has.
+/// The head of a rule by places, and the number of its literals of each kind.
 #[derive(Clone, Copy)]
 pub struct RuleSize {
     /// The number of its derived atom.

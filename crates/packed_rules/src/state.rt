@@ -5,8 +5,8 @@ ghost use Rattle.ground_rules.specs.Numbered.{bit};
 use crate::bits::BitRow;
 use std::marker::Model;
 
-/// A state of a packed game, as one row of bits: one for each term of the state, and behind them one
-/// for each derived atom on which no move bears. Contracts see both rows.
+/// A state of a packed game, as one row of bits: one for each term, and behind them one for each derived
+/// atom that does not depend on moves. Contracts see both rows.
 #[derive(Drop)]
 pub struct PackedState {
     pub(crate) bits: BitRow,
@@ -30,7 +30,7 @@ impl PackedState {
         self.bits.is_set_before(self.terms, term)
     }
 
-    /// Whether the derived atom with this number is true, where no move is made.
+    /// Whether the derived atom with this number is true, in the row of those that do not depend on moves.
     pub(crate) fn has_atom(&self, atom: usize) -> bool
         ensures { result ≡ bit self.now.kept atom }
     {

@@ -1,2 +1,2 @@
--- What private functions and proofs alone cite.
+-- Cited only by private functions and proofs.
 pub mod Members

@@ -47,6 +47,6 @@ place_head (IsDerived a) body = if is_head_of a body && are_placed body then Som
 place_head (IsInState t) body = None
 place_head (IsDoes r m) body = None
 
--- the rule that a sentence is, none where an atomic sentence in it stands in another place than it may
+-- the rule that a sentence is, none if an atomic sentence in it stands where it may not
 abbrev pub place : Sentence → Option TextRule
 place s = place_head s.head s.body

@@ -1,4 +1,4 @@
--- The reading of an expression as a sentence, none where it has not the form of one.
+-- The reading of an expression as a sentence, none if it does not have the form of one.
 use Rattle.std.specs.Prelude.{ℕ, nat_le, List, Option, Some, None, option_map, if◌then◌else◌}
 use Rattle.game_core.specs.Expression.{Expression, atom, list, Expressions, none, more, depth, max_depth}
 use Rattle.game_core.specs.Numerals.{plain_number}

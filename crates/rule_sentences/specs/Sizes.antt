@@ -7,15 +7,15 @@ use Rattle.numbered_rules.specs.Literals.{Holds, InState, Does, Distinct, Not, O
 use Rattle.rule_sentences.specs.Sentences.{TextLiteral, TextLiterals}
 use Rattle.rule_sentences.specs.Descriptions.{Description, same_derived, each_once, heads, moves_in, role_names}
 
--- how many sentences a description has at most
+-- the limit of sentences in a description
 abbrev pub max_sentences : ℕ
 max_sentences = 8192
 
--- how many distinct atomic sentences
+-- the limit of distinct atomic sentences
 abbrev pub max_atomic_sentences : ℕ
 max_atomic_sentences = 16384
 
--- how many distinct moves in `legal` heads of one role
+-- the limit of distinct moves in `legal` heads of one role
 abbrev pub max_moves : ℕ
 max_moves = 4096
 

@@ -5,14 +5,14 @@ ghost use Rattle.rule_sentences.specs.declared.fault.LoadFault.TheVariants.{Memo
 use std::alloc::{AllocError, AllocFailed};
 use thiserror::Error;
 
-/// Why a list of expressions is no ground description. Each fault is tested over all sentences
-/// before the next of this list; the first three name the lowest faulty sentence, from 0 on.
+/// Why a list of expressions is no ground description. Each fault is tested over all sentences before
+/// the next in this list. The first three name the lowest faulty sentence, counted from 0.
 #[derive(Clone, Copy, Debug, PartialEq, Eq, Error)]
 pub enum LoadFault {
     /// An atom in the sentence begins with `?`.
     #[error("sentence {0} has a variable")]
     Variable(usize),
-    /// The sentence is not proper, or has not the form of a fact or a rule.
+    /// The sentence is not proper, or does not have the form of a fact or a rule.
     #[error("sentence {0} has not the form of a fact or a rule")]
     BadForm(usize),
     /// An atomic sentence of this sentence stands where it may not: `init` and `next` only as heads,
@@ -36,7 +36,7 @@ pub enum LoadFault {
     /// `true` or `does` sentence.
     #[error("a head depends on what it may not depend on")]
     Depends,
-    /// Want of memory.
+    /// Out of memory.
     #[error("want of memory")]
     Memory,
 }

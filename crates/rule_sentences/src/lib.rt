@@ -1,8 +1,8 @@
 //! The sentences of ground GDL descriptions.
 //!
 //! `read_rules` reads expressions as facts and rules: a head and its literals, with the canonical
-//! texts of their terms, or names the first that is none. It goes down an expression by recursion: the
-//! limit that the doc of `kif_text::Expr` sets for the nesting of lists holds for what it is given.
+//! texts of their terms. Otherwise it names the first expression that is neither. It recurses into
+//! nested lists, so an expression should nest no more lists than the doc of `kif_text::Expr` says.
 #![tactic(auto)]
 
 mod fault;

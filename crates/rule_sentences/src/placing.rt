@@ -51,8 +51,7 @@ fn is_head_of(head: &Derived, body: &Vec<Literal>) -> bool
     }
 }
 
-/// The rule that a sentence is, or None where an atomic sentence in it stands in another place than
-/// it may.
+/// The sentence as a rule. `None` if an atomic sentence in it stands where it may not.
 pub fn place(sentence: Sentence) -> Option<Rule>
     ensures { option_map rule_of result ≡ place (sentence_of sentence) }
 {

@@ -16,7 +16,7 @@ use game_core::{MAX_DEPTH, MAX_GOAL, Text};
 use kif_text::Expr;
 use std::alloc::{AllocError, Global};
 
-/// The goal that an expression is: a number from 0 to 100, in decimal digits without leading zeros.
+/// The goal value of an expression: a number from 0 to 100, in decimal digits without leading zeros.
 #[tactic(auto, unfolding(crate::specs::Reading::goal_value))]
 fn goal_value(expr: &Expr) -> Option<u8>
     ensures { result ≡ goal_value (expression expr.now) }
@@ -252,7 +252,7 @@ fn read_form(alloc: Global, expr: &Expr) -> Result<Option<Sentence>, AllocError>
     }
 }
 
-/// The sentence that the expression is, or None where it has not the form of one.
+/// The expression as a sentence. `None` if it does not have the form of one.
 pub fn read_sentence(alloc: Global, expr: &Expr) -> Result<Option<Sentence>, AllocError>
     ensures { IfOk result (λ o. option_map sentence_of o ≡ read_sentence (expression expr.now)) }
 {

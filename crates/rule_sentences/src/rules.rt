@@ -1,4 +1,4 @@
-//! The rules that a list of expressions is.
+//! Lists of expressions as rules.
 ghost use Rattle.std.specs.Prelude.{◌≡◌, ◌≢◌, None, Some, IfOk, IfErr, map};
 ghost use Rattle.game_core.specs.Expression.{folded};
 ghost use Rattle.kif_text.specs.View.{view as expression};
@@ -38,8 +38,8 @@ fn first_variable(sentences: &[Expr]) -> Option<usize>
     None
 }
 
-/// The rules that the sentences are, with the place of the first that is misplaced; or the first
-/// that has not the form of one.
+/// The sentences as rules, with the number of the first that has a misplaced atomic sentence. The fault
+/// names the first that does not have the form of a sentence.
 fn read_each(alloc: Global, sentences: &[Expr]) -> Result<(Vec<Rule>, Option<usize>), LoadFault>
     ensures formed { IfOk result (λ _. first_place is_malformed (map expression sentences.now) ≡ None) }
     ensures misplaced { IfOk result (λ p. p.1 ≡ first_place is_misplaced (map expression sentences.now)) }
@@ -60,7 +60,7 @@ fn read_each(alloc: Global, sentences: &[Expr]) -> Result<(Vec<Rule>, Option<usi
     Ok((rules, misplaced))
 }
 
-/// The rules that the sentences are, or the first of the first three faults.
+/// The sentences as rules, or the first of the first three faults.
 pub fn read_rules(alloc: Global, sentences: &[Expr]) -> Result<Vec<Rule>, LoadFault>
     ensures sentences { IfOk result (λ _. AreSentences (map expression sentences.now)) }
     ensures rules { IfOk result (λ v. rules_of v.items ≡ description_of (map expression sentences.now)) }

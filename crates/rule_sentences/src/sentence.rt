@@ -1,7 +1,7 @@
 //! Sentences of a ground description, with the canonical texts of their terms.
 use game_core::Text;
 
-/// A derived atom: an atomic sentence whose truth the rules say. Names and terms are canonical texts.
+/// A derived atom: an atomic sentence that the rules make true or not. Names and terms are canonical texts.
 #[derive(Clone, PartialEq, Eq, Hash, Drop)]
 pub enum Derived {
     Role(Text),
@@ -38,7 +38,7 @@ pub struct Sentence {
     pub body: Vec<Literal>,
 }
 
-/// A sentence whose atomic sentences stand in lawful places.
+/// A sentence with each atomic sentence in a place where it may stand.
 #[derive(Drop)]
 pub struct Rule {
     pub head: Derived,

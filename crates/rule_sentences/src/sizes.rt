@@ -8,13 +8,13 @@ use crate::sentence::{Atomic, Derived, Literal, Rule};
 use indexmap::IndexSet;
 use std::alloc::{AllocError, Global};
 
-/// How many sentences a description has at most.
+/// The limit of sentences in a description.
 pub const MAX_SENTENCES: usize = 8192;
 
-/// How many distinct atomic sentences a description has at most.
+/// The limit of distinct atomic sentences in a description.
 pub const MAX_ATOMIC_SENTENCES: usize = 16384;
 
-/// How many distinct moves the `legal` heads of one role have at most.
+/// The limit of distinct moves in the `legal` heads of one role.
 pub const MAX_MOVES: usize = 4096;
 
 fn add_atomic(set: &mut IndexSet<Atomic>, atomic: &Atomic) -> Result<(), AllocError>

@@ -60,7 +60,7 @@ fn are_small_atom_bytes(bytes: &[u8]) -> bool
     true
 }
 
-/// Whether the bytes are an atom without capitals that is no variable.
+/// Whether the bytes are an atom without capitals, and no variable.
 fn is_word(bytes: &[u8]) -> bool
     ensures { result ≡ is_word bytes.now }
 {
@@ -98,7 +98,7 @@ fn are_terms(members: &Vec<Expr>) -> bool
     true
 }
 
-/// Whether the expression nests at most so many lists.
+/// Whether at most `lists` lists nest in the expression.
 #[cycle(nests_at_most)]
 pub fn nests_at_most(expr: &Expr, lists: usize) -> bool
     ensures { result ≡ nat_le (depth (view expr.now)) lists }
@@ -121,7 +121,7 @@ fn all_nest_at_most(members: &Vec<Expr>, lists: usize) -> bool
     true
 }
 
-/// The canonical text of a ground term, or None where the expression is none.
+/// The canonical text of a ground term. `None` if the expression is no ground term.
 pub fn term_text(alloc: Global, expr: &Expr) -> Result<Option<Text>, AllocError>
     ensures { IfOk result (λ o. o ≡ term_text (view expr.now)) }
 {

@@ -17,7 +17,7 @@ pub enum Word {
     Or,
     Distinct,
     And,
-    /// Any word that GDL does not keep for itself.
+    /// Any word that GDL does not reserve.
     Plain,
 }
 

@@ -1,4 +1,4 @@
--- Numbered rules in two parts: those on whose heads no move bears, and the others.
+-- Numbered rules in two parts: those with heads that do not depend on moves, and the others.
 use Rattle.std.specs.Prelude.{ℕ, ◌≡◌, ◌≢◌, false, List, [], ◌∷◌, ◌++◌, length}
 use Rattle.std.specs.List.Sorted.{IsPermutation}
 use Rattle.rule_sentences.specs.declared.sentence.Derived.{Derived}
@@ -19,7 +19,7 @@ abbrev pub IsNoHead : ℕ → List (Rule ℕ ℕ) → Type 0
 IsNoHead n [] = Unit {0}
 IsNoHead n (r ∷ rs) = (n ≢ r.head) × IsNoHead n rs
 
--- a derived atom on which no move may bear
+-- a derived atom that may not depend on moves
 abbrev pub IsAnswer : Derived → Type 0
 IsAnswer (Legal r m) = Unit {0}
 IsAnswer (Goal r n) = Unit {0}

@@ -11,7 +11,7 @@ use Rattle.packed_rules.specs.declared.rules.RuleSize.{RuleSize}
 use Rattle.packed_rules.specs.declared.rule_table.RuleTable.{RuleTable}
 use Rattle.packed_rules.specs.Internal.PlacedRules.{PlacedRule, placed_rules, AreCut}
 
--- the row has the value that is asked for
+-- the row has the wanted value
 abbrev pub passes : List Bool → Test → Bool
 passes bits t = beq (bit bits t.place) t.value
 
@@ -19,7 +19,7 @@ abbrev pub all_pass : List Bool → List Test → Bool
 all_pass bits [] = true
 all_pass bits (t ∷ ts) = passes bits t && all_pass bits ts
 
--- the role makes the move, or does not, as is asked
+-- the role makes the move or does not, as wanted
 abbrev pub agrees : List ℕ → MoveTest → Bool
 agrees joint t = beq ((numbered [] joint).does t.role t.term) t.value
 
