@@ -1,5 +1,5 @@
 //! A wire over a desk behind a lock.
-ghost use Rattle.std.specs.Prelude.{◌≡◌, ◌≢◌, ◌+◌, ◌∷◌, [], IfOk, IfErr, OnOk, OnErr};
+ghost use Rattle.std.specs.Prelude.{◌≡◌, ◌≢◌, ◌+◌, IfOk, IfErr, OnOk, OnErr};
 ghost use Rattle.call_history.specs.History.{EndsLegalHistory};
 
 use crate::line::LockLine;
@@ -12,13 +12,13 @@ use std::sync::ledger::Ledger;
 
 /// A line of a desk, with the desk. Contracts see the line.
 #[derive(Drop)]
-pub struct LockWire<'a, O: Object, L: Ledger, R: Wait> {
+pub struct LockWire<'a, O: Object, L: Ledger, R> {
     rt: &'a R,
     desk: &'a LockDesk<O, L>,
     line: LockLine<L>,
 }
 
-impl<'a, O: Object, L: Ledger, R: Wait> Model for LockWire<'a, O, L, R> {
+impl<'a, O: Object, L: Ledger, R> Model for LockWire<'a, O, L, R> {
     ghost use Rattle.call_history.specs.Lines.{Line};
 
     ghost Value = { Line };
@@ -26,8 +26,8 @@ impl<'a, O: Object, L: Ledger, R: Wait> Model for LockWire<'a, O, L, R> {
     ghost view = { λ w. w.line };
 }
 
-impl<'a, O: Object, L: Ledger, R: Wait> LockWire<'a, O, L, R> {
-    /// A wire that makes the line's calls on this desk. It waits for the lock with this runtime.
+impl<'a, O: Object, L: Ledger, R> LockWire<'a, O, L, R> {
+    /// A wire that makes the line's calls on this desk. Each call waits for the lock with this runtime; nothing else waits.
     pub fn new(rt: &'a R, desk: &'a LockDesk<O, L>, line: LockLine<L>) -> LockWire<'a, O, L, R>
         ensures { result ≡ line }
     {
