@@ -8,8 +8,7 @@ use Rattle.call_history.specs.declared.object.Object.{Ghosts}
 use Rattle.call_history.specs.declared.ring_line.LineEnd.{LineEnd}
 use Rattle.call_history.specs.RingLines.{SamePorts, SameLine, IsPortOf, IsLineOf, AreEndsOf, IsNewLine, AreNewLines}
 use Rattle.call_history.specs.RingClosing.{SameEnds}
-use Rattle.std.proofs.lemmas.Grind.{common_steps}
-use Rattle.call_history.proofs.NewLines.{all_snoc}
+use Rattle.std.proofs.lemmas.List.Elements.{All-push}
 use Rattle.call_history.proofs.LineAccounts.{same_port_trans}
 use Rattle.call_history.proofs.ReturnedEnds.{port_of_same}
 
@@ -32,6 +31,15 @@ module _ {O C R : Type 0} {G : Ghosts O C R} where
     rings = λ p. let P : ℕ → Type 0 = λ n. IsPortOf (get_or ps n p) l in subst P (sym f.number_is) (f.rings p);
   }
 
+  -- a new line stays new through the desk's rounds
+  pub new_of_same : (ps qs : List (Port C R)) (i : ℕ) (l : RingLine O C R G) → SamePorts ps qs → i < length ps → IsNewLine ps i l → IsNewLine qs i l
+  new_of_same ps qs i l s below new = record {
+    number_is = new.number_is;
+    rings = λ p. port_of_same (get_or ps i p) (get_or qs i p) l l (new.rings p) (s.each i p below) (search rules);
+    posted = new.posted;
+    taken = new.taken;
+  }
+
   pub line_of_same : (ps qs : List (Port C R)) (l m : RingLine O C R G) → SamePorts ps qs → SameLine l m → IsLineOf ps l → IsLineOf qs m
   line_of_same ps qs l m s t was =
       let within : m.number < length qs = omega (arith, was.within, s.count, t.0) in
@@ -41,39 +49,16 @@ module _ {O C R : Type 0} {G : Ghosts O C R} where
             subst P (sym t.0) (port_of_same (get_or ps l.number p) (get_or qs l.number p) l m (was.rings p) (s.each l.number p was.within) t);
       }
 
-  -- a line that stands among the new ones is a line of the desk
-  pub line_at : (ps : List (Port C R)) (xs ys : List (RingLine O C R G)) (l : RingLine O C R G) (k : ℕ)
-      → AreNewLines ps (xs ++ l ∷ ys) → length xs ≡ k → k < length ps → IsLineOf ps l
-  line_at ps xs ys l k new e below =
-      let lt : k < length (xs ++ l ∷ ys) = grind (arith, common_steps, e) in
-      let at : get_or (xs ++ l ∷ ys) k l ≡ l = grind (arith, common_steps, e) in
-      let P : RingLine O C R G → Type 0 = λ x. IsNewLine ps k x in
-      line_of_new ps k l below (subst P at (new k l lt))
-
-  -- the last of the new lines is a line of the desk
-  pub line_last : (ps : List (Port C R)) (ls xs : List (RingLine O C R G)) (l : RingLine O C R G)
-      → AreNewLines ps ls → length ls ≡ length ps → ls ≡ xs ++ l ∷ [] → IsLineOf ps l
-  line_last ps ls xs l new len e =
-      let P : List (RingLine O C R G) → Type 0 = λ x. AreNewLines ps x in
-      let len' : length xs + 1 ≡ length ps = grind (arith, common_steps, ap length e, len) in
-      line_at ps xs [] l (length xs) (subst P e new) refl (omega (arith, len'))
-
-  pub ends_none : (ps : List (Port C R)) (es : List (LineEnd O C R G)) → es ≡ [] → AreEndsOf ps es
-  ends_none ps es e = let P : List (LineEnd O C R G) → Type 0 = λ x. AreEndsOf ps x in subst P (sym e) (λ k d below. absurd (omega arith))
-
   pub ends_snoc : (ps : List (Port C R)) (es fs : List (LineEnd O C R G)) (e : LineEnd O C R G) → AreEndsOf ps es → IsLineOf ps e.line → fs ≡ es ++ e ∷ [] → AreEndsOf ps fs
   ends_snoc ps es fs e all one is =
       let P : List (LineEnd O C R G) → Type 0 = λ x. AreEndsOf ps x in
       let E : LineEnd O C R G → Type 0 = λ x. IsLineOf ps x.line in
-      subst P (sym is) (all_snoc E es e all one)
+      subst P (sym is) (All-push E es e all one)
 
   -- the new lines of a desk are its lines
   pub lines_of_new : (ps : List (Port C R)) (ls : List (RingLine O C R G)) → AreNewLines ps ls → length ls ≡ length ps → All (IsLineOf ps) ls
   lines_of_new ps ls new count = λ k l below. line_of_new ps k (get_or ls k l) (omega (arith, below, count)) (new k l below)
 
-  -- lines and ends stay the desk's through its rounds
-  pub lines_of_ports : (ps qs : List (Port C R)) (ls : List (RingLine O C R G)) → SamePorts ps qs → All (IsLineOf ps) ls → All (IsLineOf qs) ls
-  lines_of_ports ps qs ls s all = λ k l below. line_of_same ps qs (get_or ls k l) (get_or ls k l) s (search rules) (all k l below)
-
+  -- ends stay the desk's through its rounds
   pub ends_of_ports : (ps qs : List (Port C R)) (es : List (LineEnd O C R G)) → SamePorts ps qs → AreEndsOf ps es → AreEndsOf qs es
   ends_of_ports ps qs es s all = λ k e below. line_of_same ps qs (get_or es k e).line (get_or es k e).line s (search rules) (all k e below)

@@ -1,7 +1,7 @@
 -- One line more is opened.
 use Rattle.std.proofs.Common.{◌≡◌, ℕ, ◌<◌, ◌≢◌, List, [], ◌∷◌, ◌++◌, length, get_or, sym, ◌∙◌, subst, arith, ⊎_elim, true, false}
-use Rattle.std.specs.List.{All}
 use Rattle.std.proofs.lemmas.Grind.{common_steps}
+use Rattle.std.proofs.lemmas.List.{get_or_append_left, get_or_push}
 use Rattle.std.proofs.lemmas.Bool.Decides.{eqb_tells}
 use Rattle.std.proofs.Math.Dec.{eqb}
 use Rattle.call_history.specs.declared.port.Port.{Port}
@@ -16,14 +16,6 @@ before_last xs x i d lt = grind (arith, common_steps)
 pub at_last : {X : Type 0} (xs : List X) (x : X) (i : ℕ) (d : X) → i ≡ length xs → get_or (xs ++ x ∷ []) i d ≡ x
 at_last xs x i d e = grind (arith, common_steps)
 
-pub all_snoc : {X : Type 0} (P : X → Type 0) (xs : List X) (x : X) → All P xs → P x → All P (xs ++ x ∷ [])
-all_snoc {X} P xs x all one = λ i d below.
-    ⊎_elim
-    (λ (e : (eqb i (length xs) ≡ true) × (i ≡ length xs)). subst P (sym (at_last xs x i d e.1)) one)
-    (λ (n : (eqb i (length xs) ≡ false) × (i ≢ length xs)).
-    let lt : i < length xs = grind (arith, common_steps, below) in subst P (sym (before_last xs x i d lt)) (all i d lt))
-    (eqb_tells i (length xs))
-
 module _ {O C R : Type 0} {G : Ghosts O C R} where
   pub new_lines_snoc : (ps : List (Port C R)) (ls : List (RingLine O C R G)) (p : Port C R) (l : RingLine O C R G)
       → length ps ≡ length ls → AreNewLines ps ls → l.number ≡ length ls → IsPortOf p l → posted_calls l ≡ [] → taken_replies l ≡ []
@@ -33,9 +25,9 @@ module _ {O C R : Type 0} {G : Ghosts O C R} where
       let Q : RingLine O C R G → Port C R → Type 0 = λ x y. IsPortOf y x in
       ⊎_elim
       (λ (e : (eqb i (length ls) ≡ true) × (i ≡ length ls)).
-      subst P (sym (at_last ls l i d e.1)) (record {
+      subst P (sym (get_or_push ls l d i (sym e.1))) (record {
         number_is = number ∙ sym e.1;
-        rings = λ q. subst (Q l) (sym (at_last ps p i q (e.1 ∙ sym same))) rings;
+        rings = λ q. subst (Q l) (sym (get_or_push ps p q i (same ∙ sym e.1))) rings;
         posted = posted;
         taken = taken;
       }))
@@ -43,9 +35,9 @@ module _ {O C R : Type 0} {G : Ghosts O C R} where
       let lt : i < length ls = grind (arith, common_steps, below) in
       let f = all i d lt in
       let lt' : i < length ps = omega arith in
-      subst P (sym (before_last ls l i d lt)) (record {
+      subst P (sym (get_or_append_left ls (l ∷ []) d i lt)) (record {
         number_is = f.number_is;
-        rings = λ q. subst (Q (get_or ls i d)) (sym (before_last ps p i q lt')) (f.rings q);
+        rings = λ q. subst (Q (get_or ls i d)) (sym (get_or_append_left ps (p ∷ []) q i lt')) (f.rings q);
         posted = f.posted;
         taken = f.taken;
       }))

@@ -1,6 +1,8 @@
 -- Ends that come back to their desk, compared one after another.
 use Rattle.std.proofs.Common.{◌≡◌, ℕ, ◌+◌, ◌<◌, ◌≤◌, List, [], ◌∷◌, ◌++◌, length, get_or, set, refl, sym, ◌∙◌, ap, subst, arith, rules, ⊎_elim, true, min, Option, Some, None, MatchOption, zero, suc, inl, inr}
+use Rattle.std.specs.Prelude.{Contains}
 use Rattle.std.proofs.lemmas.Grind.{common_steps}
+use Rattle.std.proofs.lemmas.List.Elements.{Contains-get_or}
 use Rattle.std.proofs.lemmas.Bool.{cases_lt}
 use Rattle.std.proofs.lemmas.Bool.Decides.{eqb_tells}
 use Rattle.call_history.specs.declared.journal.Entry.{Entry}
@@ -124,3 +126,11 @@ module _ {O C R : Type 0} {G : Ghosts O C R} where
 pub some_of : {X : Type 0} (xs : List X) (k : ℕ) → k < length xs → X
 some_of [] k lt = absurd (omega arith)
 some_of (x ∷ xs) k lt = x
+
+-- the end that has a number which is among those of the ends
+pub end_with : {O C R : Type 0} {G : Ghosts O C R} (es : List (LineEnd O C R G)) (n : ℕ) → has_number n (end_numbers es) ≡ true
+    → (end : LineEnd O C R G) × Contains es end × (end.line.number ≡ n)
+end_with es n has =
+    let at = has_end es n has in
+    let d = some_of es at.0 at.1 in
+    (get_or es at.0 d, Contains-get_or es at.0 d at.1, at.2 d)

@@ -4,6 +4,7 @@ pub mod Parts
 pub mod RingLines
 pub mod Rounds
 pub mod RingClosing
+pub mod RingLaws
 pub mod Told
 pub mod Faults
 pub mod Limits

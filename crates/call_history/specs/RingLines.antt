@@ -1,7 +1,7 @@
 -- A line over rings, as contracts see it: what it posted and took, and its rings.
 use Rattle.std.specs.Prelude.{◌≡◌, ℕ, ◌<◌, List, [], length, slice_index_or}
 use Rattle.std.specs.List.{All}
-use Rattle.rtrb.specs.Ring.{sent, received, IsPair, SameProducer, SameConsumer}
+use Rattle.rtrb.specs.Ring.{sent, received, known_free, producer_capacity, consumer_capacity, IsPair, SameProducer, SameConsumer}
 use Rattle.call_history.specs.declared.object.Object.{Ghosts}
 use Rattle.call_history.specs.declared.port.Port.{Port}
 use Rattle.call_history.specs.declared.ring_line.RingLine.{RingLine}
@@ -53,3 +53,9 @@ module _ {O C R : Type 0} {G : Ghosts O C R} where
   -- new lines, numbered from 0
   abbrev pub AreNewLines : List (Port C R) → List (RingLine O C R G) → Type 0
   AreNewLines ports lines = (i : ℕ) (line : RingLine O C R G) → i < length lines → IsNewLine ports i (slice_index_or lines i line)
+
+  -- the rings of a new line have this many slots, and all slots for calls are free
+  pub record HasRoom (room : ℕ) (line : RingLine O C R G) : Type 0 where
+    pub calls : producer_capacity line.calls ≡ room
+    pub free : known_free line.calls ≡ room
+    pub replies : consumer_capacity line.replies ≡ room

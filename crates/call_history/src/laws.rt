@@ -2,9 +2,14 @@
 //!
 //! The definitions read a history from its front. Two laws say what they give at its end, and so, by the number of entries, for
 //! each entry. One law says that the constants are the limits of the definitions.
+//!
+//! The laws on rings tie the lines of a desk to it over the calls of its rounds and of the lines, so that a caller who has kept the
+//! lines of a desk can close it with their ends. They have no arguments, as they speak of what was before those calls: call them
+//! with the type of the desk's object.
 ghost use Rattle.std.specs.Prelude.{◌≡◌, ◌↔◌, [], ◌∷◌, ◌++◌};
 ghost use Rattle.call_history.specs.History.{run, IsLegalHistory};
 ghost use Rattle.call_history.specs.Limits.{max_entries, max_lines, max_room};
+ghost use Rattle.call_history.specs.RingLaws.{LinesStay, EndsStay, NewLinesStay, NewLinesAreLines, NumbersAreOfEnds, PortsAreSame, PortsStaySame};
 
 use crate::journal::{Entry, MAX_ENTRIES};
 use crate::lock::MAX_LINES;
@@ -38,4 +43,27 @@ pub fn constants_are_the_limits()
     ensures entries { MAX_ENTRIES ≡ max_entries }
     ensures lines { MAX_LINES ≡ max_lines }
     ensures room { MAX_ROOM ≡ max_room }
+{}
+
+/// The lines of a desk over rings stay its lines while the desk serves, and while the lines post and take. So do their ends.
+pub fn lines_stay<O: Object>()
+    ensures lines { LinesStay O.Object }
+    ensures ends { EndsStay O.Object }
+{}
+
+/// A new line of a desk over rings is a line of it, and stays a new one while the desk serves.
+pub fn new_lines_are_lines<O: Object>()
+    ensures lines { NewLinesAreLines O.Object }
+    ensures stay { NewLinesStay O.Object }
+{}
+
+/// A desk over rings stands for the same lines before and after any number of rounds.
+pub fn desks_stay<O: Object>()
+    ensures same { PortsAreSame O.Call O.Reply }
+    ensures through { PortsStaySame O.Call O.Reply }
+{}
+
+/// A number that is among those of some ends is the number of one of these ends.
+pub fn numbers_are_of_ends<O: Object>()
+    ensures { NumbersAreOfEnds O.Object }
 {}

@@ -2,7 +2,7 @@
 ghost use Rattle.std.specs.Prelude.{◌≡◌, ◌≤◌, [], length, IfOk, IfErr};
 ghost use Rattle.std.specs.List.{All};
 ghost use Rattle.call_history.specs.Limits.{max_entries, max_lines, max_room};
-ghost use Rattle.call_history.specs.RingLines.{posted_calls, taken_replies, IsPortOf, AreNewLines};
+ghost use Rattle.call_history.specs.RingLines.{posted_calls, taken_replies, IsPortOf, IsLineOf, AreNewLines, HasRoom};
 ghost use Rattle.call_history.specs.Rounds.{IsUnused};
 
 use crate::journal::Journal;
@@ -33,6 +33,8 @@ pub fn open_rings<O: Object>(
     ensures desk { IfOk result (λ opened. length opened.0.ports ≡ lines) }
     ensures count { IfOk result (λ opened. length opened.1.items ≡ lines) }
     ensures lines { IfOk result (λ opened. AreNewLines opened.0.ports opened.1.items) }
+    ensures of_desk { IfOk result (λ opened. All (IsLineOf opened.0.ports) opened.1.items) }
+    ensures room { IfOk result (λ opened. All (HasRoom room) opened.1.items) }
     ensures back { IfErr result (λ refused. refused.0 ≡ object) }
 {
     let Ok(found) = vec![in alloc; false; lines as usize] else {
@@ -61,6 +63,7 @@ fn make_line<O: Object>(
     ensures number { IfOk result (λ made. made.1.number ≡ number) }
     ensures posted { IfOk result (λ made. posted_calls made.1 ≡ []) }
     ensures taken { IfOk result (λ made. taken_replies made.1 ≡ []) }
+    ensures room { IfOk result (λ made. HasRoom room made.1) }
 {
     let (post, calls) = RingBuffer::new(alloc, room)?;
     let (replies, take) = RingBuffer::new(alloc, room)?;
@@ -82,6 +85,8 @@ fn make_lines<O: Object>(
     ensures count { IfOk result (λ made. length made.1.items ≡ count) }
     ensures unused { IfOk result (λ made. All IsUnused made.0.items) }
     ensures lines { IfOk result (λ made. AreNewLines made.0.items made.1.items) }
+    ensures of_ports { IfOk result (λ made. All (IsLineOf made.0.items) made.1.items) }
+    ensures room { IfOk result (λ made. All (HasRoom room) made.1.items) }
 {
     let mut ports = Vec::with_capacity(alloc, count as usize)?;
     let mut lines = Vec::with_capacity(alloc, count as usize)?;

@@ -1,14 +1,18 @@
-//! How a desk of matches is closed, when many threads shared its manager behind a lock.
-ghost use Rattle.std.specs.Prelude.{◌≡◌, ◌<◌, ◌↔◌, ℕ, slice_index, IsOk, IfOk, IfErr, Contains};
+//! How a desk of matches is closed, when many threads shared its manager, behind a lock or over rings.
+ghost use Rattle.std.specs.Prelude.{◌≡◌, ◌<◌, ◌↔◌, ℕ, length, slice_index, IsOk, IfOk, IfErr, Contains};
 ghost use Rattle.call_history.specs.Lines.{numbers, HasAll, IsLowestMissing};
+ghost use Rattle.call_history.specs.RingLines.{AreEndsOf};
+ghost use Rattle.call_history.specs.RingClosing.{IsClosed, IsCauseOf, HandsBack};
 ghost use Rattle.match_desk.specs.Headline.{HasHeadline};
 
 use crate::manager::Manager;
-use call_history::{CloseFault, Closed, LockDesk, LockLine, Unclosed};
+use call_history::{
+    CloseFault, Closed, LineEnd, LockDesk, LockLine, RingDesk, RingUnclosed, Unclosed,
+};
 use game_core::Game;
 use std::sync::ledger::Ledger;
 
-/// Closes a desk of matches if all its lines are handed in.
+/// Closes a desk of matches behind a lock if all its lines are handed in.
 ///
 /// A closed desk's history replays: made again call by call on one thread, by a manager of the same games without a match, it
 /// gives every kept reply and the manager as it stands. It holds as many calls as the lines made. Each match is lawful, and its
@@ -29,4 +33,24 @@ pub fn close_desk<G: Game, L: Ledger>(
     ensures back { IfErr result (λ u. (u.desk ≡ desk) × (u.lines ≡ lines)) }
 {
     desk.close(lines)
+}
+
+/// Closes a desk of matches over rings if the ends of all its lines are handed in and all their calls were served.
+///
+/// What is known of it then is what `close_desk` says of a desk behind a lock, and each line's own calls: its part of the history
+/// has exactly the calls that it posted, and the replies that it took are the first of those to its calls. That the ends stay
+/// those of the desk's lines say `call_history`'s laws.
+pub fn close_rings<G: Game>(
+    desk: RingDesk<Manager<G>>,
+    ends: Vec<LineEnd<Manager<G>>>,
+) -> Result<Closed<Manager<G>>, RingUnclosed<Manager<G>>>
+    requires lines { AreEndsOf desk.ports ends.items }
+
+    ensures headline { IfOk result (λ c. HasHeadline G.rules (length desk.ports) c.object c.history.items c.made_by_line.items) }
+    ensures closed { IfOk result (λ c. IsClosed desk ends.items c.history.items c.object c.made_by_line.items) }
+
+    ensures cause { IfErr result (λ u. IsCauseOf u.desk u.ends.items u.cause) }
+    ensures back { IfErr result (λ u. HandsBack desk u.desk ends.items u.ends.items) }
+{
+    desk.close(ends)
 }

@@ -83,7 +83,9 @@ pub fn ten_replies<W: Wire<Call = Call, Reply = Reply>>(
     alloc: Global,
     wire: &mut W,
     line: u32,
-) -> Option<Vec<Reply>> {
+) -> Option<Vec<Reply>>
+    ensures { W.same_line wire.old wire.new }
+{
     let mut replies = Vec::new(alloc);
     for turn in 0..CALLS {
         let call = call_of(alloc, line, turn).ok()?;

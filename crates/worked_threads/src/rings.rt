@@ -6,6 +6,7 @@ ghost use Rattle.call_history.specs.RingLines.{IsLineOf, AreEndsOf};
 
 use crate::holding::holds;
 use crate::register::Register;
+use call_history::laws::lines_stay;
 use call_history::{
     AskFault, CallFault, DeskFault, LineEnd, RingCloseFault, RingDesk, RingLine, RingUnclosed,
     RingWire, Wire, open_rings,
@@ -87,8 +88,8 @@ fn a_line_waits_for_room(rt: HostRuntime) {
 }
 
 #[test]
-#[tactic(auto, using(call_history::proofs::DeskLines::line_of_same))]
 fn a_full_history_leaves_a_call_unserved(rt: HostRuntime) -> Result<(), Fail> {
+    lines_stay::<Register>();
     let (mut desk, mut first, second) = open_two(&rt, rt.alloc(), 1)?;
     holds(&rt, first.post(7) == Ok(()), "a call");
     holds(&rt, first.post(8) == Ok(()), "another call");
@@ -112,8 +113,8 @@ fn a_full_history_leaves_a_call_unserved(rt: HostRuntime) -> Result<(), Fail> {
 }
 
 #[test]
-#[tactic(auto, using(call_history::proofs::DeskLines::line_of_same))]
 fn a_line_that_is_not_there_is_missed(rt: HostRuntime) -> Result<(), Fail> {
+    lines_stay::<Register>();
     let (desk, first, second) = open_two(&rt, rt.alloc(), 10)?;
     let ends = beside(&rt, &desk, Vec::new(rt.alloc()), first.finish());
     let Err(unclosed) = desk.close(ends) else {
@@ -128,8 +129,8 @@ fn a_line_that_is_not_there_is_missed(rt: HostRuntime) -> Result<(), Fail> {
 }
 
 #[test]
-#[tactic(auto, using(call_history::proofs::DeskLines::line_of_same))]
 fn a_wire_without_rounds_stalls(rt: HostRuntime) -> Result<(), Fail> {
+    lines_stay::<Register>();
     let (mut desk, first, second) = open_two(&rt, rt.alloc(), 10)?;
     let mut wire = RingWire::new(first, 10);
     holds(&rt, wire.ask(7) == Err(AskFault::Stalled), "a call");
