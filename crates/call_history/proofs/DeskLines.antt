@@ -9,7 +9,7 @@ use Rattle.call_history.specs.declared.ring_line.LineEnd.{LineEnd}
 use Rattle.call_history.specs.RingLines.{SamePorts, SameLine, IsPortOf, IsLineOf, AreEndsOf, IsNewLine, AreNewLines}
 use Rattle.call_history.specs.RingClosing.{SameEnds}
 use Rattle.std.proofs.lemmas.List.Elements.{All-push}
-use Rattle.call_history.proofs.LineAccounts.{same_port_trans}
+use Rattle.call_history.proofs.ServedLines.{same_port_trans}
 use Rattle.call_history.proofs.ReturnedEnds.{port_of_same}
 
 pub same_ports_refl : {C R : Type 0} (ps : List (Port C R)) → SamePorts ps ps

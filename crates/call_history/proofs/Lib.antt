@@ -1,7 +1,7 @@
 pub mod Histories
 pub mod ReturnedLines
 pub mod Tellings
-pub mod LineAccounts
+pub mod ServedLines
 pub mod NewLines
 pub mod ReturnedEnds
 pub mod DeskLines

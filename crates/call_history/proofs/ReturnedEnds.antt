@@ -14,7 +14,7 @@ use Rattle.call_history.specs.Lines.{has_number}
 use Rattle.call_history.specs.RingLines.{SamePort, SamePorts, SameLine, IsPortOf, AreEndsOf}
 use Rattle.call_history.specs.RingClosing.{end_numbers, IsServed, IsUnserved, TakesPrefix, SameEnd, SameEnds, IsLowestUnserved}
 use Rattle.call_history.specs.Parts.{part, calls_of, replies_of}
-use Rattle.call_history.proofs.LineAccounts.{get_set}
+use Rattle.call_history.proofs.ServedLines.{get_set}
 
 module _ {O C R : Type 0} {G : Ghosts O C R} where
   pub same_end_trans : (a b c : LineEnd O C R G) → SameEnd a b → SameEnd b c → SameEnd a c

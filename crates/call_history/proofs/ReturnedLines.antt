@@ -5,17 +5,17 @@ use Rattle.std.proofs.lemmas.List.{get_or-set_other, get_or-set_same, length-set
 use Rattle.std.proofs.lemmas.Bool.Decides.{eqb_tells}
 use Rattle.std.proofs.lemmas.List.Sums.{sum_by-set, sum_by-cons}
 use Rattle.std.proofs.lemmas.List.Folds.{sum_by-replicate}
-use Rattle.call_history.specs.Lines.{Line, numbers, has_number, HasAll}
+use Rattle.call_history.specs.Lines.{LockLineValue, numbers, has_number, HasAll}
 
 -- Of these lines, rest are still to come. No line has come yet for an awaited number. For the other numbers, made has
 -- the lines' calls. The parts and the amount are those of the shares that were put together.
-pub record IsGathering (lines rest : List Line) (awaited : List Bool) (made : List ℕ) (parts amount : ℕ) : Type 0 where
+pub record IsGathering (lines rest : List LockLineValue) (awaited : List Bool) (made : List ℕ) (parts amount : ℕ) : Type 0 where
   pub width : length made ≡ length awaited
   pub parts_so_far : parts + count_by (λ b. b) awaited ≡ length awaited
   pub amount_so_far : amount ≡ sum made
   pub zeros : (k : ℕ) → get_or awaited k false ≡ true → get_or made k 0 ≡ 0
   pub left : (k : ℕ) → get_or awaited k false ≡ true → has_number k (numbers rest) ≡ true
-  pub given : (line : Line) → Contains rest line → Contains lines line
+  pub given : (line : LockLineValue) → Contains rest line → Contains lines line
   pub noted : (k : ℕ) → k < length awaited → get_or awaited k false ≡ false → Contains lines (record { number = k; made = get_or made k 0 })
 
 count_by-all : (bs : List Bool) → ((k : ℕ) → k < length bs → get_or bs k false ≡ true) → count_by (λ b. b) bs ≡ length bs
@@ -44,7 +44,7 @@ false_of true never = absurd (never refl)
 false_of false never = refl
 
 -- no line has come yet
-pub IsGathering-start : (lines left : List Line) (awaited : List Bool) (made : List ℕ) (parts amount : ℕ) → HasAll (numbers lines) (length awaited) → ((k : ℕ) → k < length awaited → get_or awaited k false ≡ true)
+pub IsGathering-start : (lines left : List LockLineValue) (awaited : List Bool) (made : List ℕ) (parts amount : ℕ) → HasAll (numbers lines) (length awaited) → ((k : ℕ) → k < length awaited → get_or awaited k false ≡ true)
     → made ≡ replicate (length awaited) 0 → parts ≡ 0 → amount ≡ 0 → left ≡ lines → IsGathering lines left awaited made parts amount
 IsGathering-start lines left awaited made parts amount has all zeros no_parts no_amount same =
     let n = length awaited in
@@ -59,16 +59,16 @@ IsGathering-start lines left awaited made parts amount has all zeros no_parts no
     }
 
 -- a line of another number may be left out
-has_number-other : (k : ℕ) (line : Line) (rest : List Line) → k ≢ line.number → has_number k (numbers (line ∷ rest)) ≡ true → has_number k (numbers rest) ≡ true
+has_number-other : (k : ℕ) (line : LockLineValue) (rest : List LockLineValue) → k ≢ line.number → has_number k (numbers (line ∷ rest)) ≡ true → has_number k (numbers rest) ≡ true
 has_number-other k line rest other has =
     let fails : eqb line.number k ≡ false = elim (eqb_tells line.number k) [ inl same ↦ absurd (other (sym same.1)) | inr differ ↦ differ.0 ] in
     rw fails at has
 
-Contains-more : (line : Line) (rest : List Line) (other : Line) → Contains rest other → Contains (line ∷ rest) other
+Contains-more : (line : LockLineValue) (rest : List LockLineValue) (other : LockLineValue) → Contains rest other → Contains (line ∷ rest) other
 Contains-more line rest other here = (suc here.0, omega (arith, here.1), here.2)
 
 -- the line of a number that is awaited
-pub IsGathering-take : (lines left rest : List Line) (line : Line) (awaited : List Bool) (made : List ℕ) (parts amount parts' amount' : ℕ) → IsGathering lines left awaited made parts amount
+pub IsGathering-take : (lines left rest : List LockLineValue) (line : LockLineValue) (awaited : List Bool) (made : List ℕ) (parts amount parts' amount' : ℕ) → IsGathering lines left awaited made parts amount
     → left ≡ line ∷ rest → get_or awaited line.number false ≡ true → parts' ≡ parts + 1 → amount' ≡ amount + line.made
     → IsGathering lines rest (set awaited line.number false) (set made line.number line.made) parts' amount'
 IsGathering-take lines left rest line awaited made parts amount parts' amount' before comes is_awaited more_parts more_amount =
@@ -102,7 +102,7 @@ IsGathering-take lines left rest line awaited made parts amount parts' amount' b
     }
 
 -- any other line
-pub IsGathering-pass : (lines left rest : List Line) (line : Line) (awaited : List Bool) (made : List ℕ) (parts amount : ℕ) → IsGathering lines left awaited made parts amount
+pub IsGathering-pass : (lines left rest : List LockLineValue) (line : LockLineValue) (awaited : List Bool) (made : List ℕ) (parts amount : ℕ) → IsGathering lines left awaited made parts amount
     → left ≡ line ∷ rest → get_or awaited line.number false ≡ false → IsGathering lines rest awaited made parts amount
 IsGathering-pass lines left rest line awaited made parts amount before comes passed =
     let so_far : IsGathering lines (line ∷ rest) awaited made parts amount = rw comes at before in
@@ -118,7 +118,7 @@ IsGathering-pass lines left rest line awaited made parts amount before comes pas
     }
 
 -- all lines have come
-pub IsGathering-end : (lines left : List Line) (awaited : List Bool) (made : List ℕ) (parts amount : ℕ) → IsGathering lines left awaited made parts amount → length left ≡ 0
+pub IsGathering-end : (lines left : List LockLineValue) (awaited : List Bool) (made : List ℕ) (parts amount : ℕ) → IsGathering lines left awaited made parts amount → length left ≡ 0
     → (parts ≡ length awaited) × ((k : ℕ) → k < length awaited → Contains lines (record { number = k; made = get_or made k 0 }))
 IsGathering-end lines left awaited made parts amount before none_left =
     let so_far : IsGathering lines [] awaited made parts amount = rw (nil_from_length left none_left) at before in

@@ -4,7 +4,7 @@ use Rattle.std.specs.Prelude.{◌≡◌, ℕ, List, [], ◌∷◌, ◌++◌}
 use Rattle.call_history.specs.declared.journal.Entry.{Entry}
 
 -- a journal, as contracts see it
-pub record Recorded (S C R : Type 0) : Type 0 where
+pub record JournalValue (S C R : Type 0) : Type 0 where
   pub object : S
   pub history : List (Entry C R)
   pub most : ℕ

@@ -3,21 +3,21 @@ use Rattle.std.specs.Prelude.{◌≡◌, ◌==◌, ℕ, ◌<◌, zero, suc, Bool
 use Rattle.std.specs.List.{list_any}
 
 -- a line, as contracts see it: its number, and the number of its calls that got a reply
-pub record Line : Type 0 where
+pub record LockLineValue : Type 0 where
   pub number : ℕ
   pub made : ℕ
 
 -- a desk, as contracts see it: the number of its lines
-pub record Desk : Type 0 where
+pub record LockDeskValue : Type 0 where
   pub lines : ℕ
 
 -- the lines of a new desk: their numbers go up from 0
-abbrev pub new_lines : ℕ → List Line
+abbrev pub new_lines : ℕ → List LockLineValue
 new_lines zero = []
 new_lines (suc n) = new_lines n ++ record { number = n; made = 0 } ∷ []
 
 -- the numbers of these lines, in their order
-abbrev pub numbers : List Line → List ℕ
+abbrev pub numbers : List LockLineValue → List ℕ
 numbers lines = map (λ line. line.number) lines
 
 -- this number is among these

@@ -38,7 +38,7 @@ module _ {O C R : Type 0} {G : Ghosts O C R} where
     pub unserved : (e : LineEnd O C R G) → IsUnserved history (slice_index_or ends at e)
     pub lowest : (i : ℕ) (e : LineEnd O C R G) → i < count → (slice_index_or ends i e).line.number < number → IsServed history (slice_index_or ends i e)
 
-  -- What a closed desk leaves: its history and its object, and the account of each line.
+  -- What a closed desk leaves: its history and its object, and what each line did.
   pub record IsClosed (desk : RingDeskValue O C R) (ends : List (LineEnd O C R G)) (history : List (Entry C R)) (object : O) (made_by_line : List ℕ) : Type 0 where
     pub history_is : history ≡ desk.journal.history
     pub object_is : object ≡ desk.journal.object

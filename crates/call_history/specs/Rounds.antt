@@ -4,12 +4,12 @@ use Rattle.std.specs.List.{All}
 use Rattle.rtrb.specs.Ring.{sent, received, known_items, known_free}
 use Rattle.call_history.specs.declared.journal.Entry.{Entry}
 use Rattle.call_history.specs.declared.port.Port.{Port}
-use Rattle.call_history.specs.History.{Recorded}
+use Rattle.call_history.specs.History.{JournalValue}
 use Rattle.call_history.specs.Parts.{part, calls_of, replies_of}
 
 -- a desk over rings, as contracts see it: its journal, and its ends of the rings, by the numbers of the lines
 pub record RingDeskValue (S C R : Type 0) : Type 0 where
-  pub journal : Recorded S C R
+  pub journal : JournalValue S C R
   pub ports : List (Port C R)
 
 -- The desk received from a line the calls of the line's part of the history, and then the call that it keeps, if there is one. It
@@ -18,8 +18,8 @@ pub record Serves {C R : Type 0} (served : List (Entry C R)) (port : Port C R) :
   pub calls : received port.calls ≡ calls_of served ++ option_to_list port.kept
   pub replies : sent port.replies ≡ replies_of served
 
--- The desk's account of its lines, whenever no round runs: each entry is of one of its lines, and each line was served by its part.
-pub record IsAccount {C R : Type 0} (history : List (Entry C R)) (ports : List (Port C R)) : Type 0 where
+-- What a desk has done for its lines, whenever no round runs: each entry is of one of its lines, and each line was served by its part.
+pub record ServesLines {C R : Type 0} (history : List (Entry C R)) (ports : List (Port C R)) : Type 0 where
   pub lines : All (λ e. e.line < length ports) history
   pub parts : (i : ℕ) (p : Port C R) → i < length ports → Serves (part i history) (slice_index_or ports i p)
 

@@ -58,19 +58,20 @@ impl Bell {
         self.stopped.load(Ordering::SeqCst) > 0
     }
 
-    /// Announces that the caller is about to sleep. The caller looks for calls once more after this; any later call wakes it.
-    pub(crate) fn lie_down(&self) {
+    /// Announces that the desk's thread is about to sleep. It looks for calls once more after this; any later call wakes it.
+    pub(crate) fn prepare_sleep(&self) {
         self.sleep.store(ASLEEP, Ordering::SeqCst);
     }
 
-    /// Sleeps until the bell is rung, or for the time `most`. It returns at once if the bell was rung since the caller lay down,
+    /// Sleeps until the bell is rung, or for the time `longest`. It returns at once if the bell was rung since `prepare_sleep`,
     /// and it may return for no reason.
-    pub(crate) fn sleep<R: Wait>(&self, rt: &R, most: Duration) {
-        self.sleep.park_timeout(rt, ASLEEP as u32, most);
-        self.get_up();
+    pub(crate) fn sleep<R: Wait>(&self, rt: &R, longest: Duration) {
+        self.sleep.park_timeout(rt, ASLEEP as u32, longest);
+        self.stay_awake();
     }
 
-    pub(crate) fn get_up(&self) {
+    /// Takes back that the desk's thread is about to sleep.
+    pub(crate) fn stay_awake(&self) {
         self.sleep.store(AWAKE, Ordering::SeqCst);
     }
 }

@@ -3,7 +3,7 @@ ghost use Rattle.std.specs.Prelude.{◌≡◌, ◌<◌, ◌≤◌, ℕ, slice_in
 ghost use Rattle.std.specs.List.{All};
 ghost use Rattle.call_history.specs.Parts.{part};
 ghost use Rattle.call_history.specs.RingLines.{IsPortOf, SamePort, SamePorts, AreEndsOf};
-ghost use Rattle.call_history.specs.Rounds.{Serves, IsAccount};
+ghost use Rattle.call_history.specs.Rounds.{Serves, ServesLines};
 ghost use Rattle.call_history.specs.RingClosing.{IsServed, IsUnserved, TakesPrefix, SameEnd, SameEnds, IsLowestUnserved};
 
 use crate::journal::Journal;
@@ -47,9 +47,9 @@ pub(crate) fn lowest_unserved<O: Object>(
     ports: &mut Vec<Port<O::Call, O::Reply>>,
     ends: &mut Vec<LineEnd<O>>,
 ) -> Option<u32>
-    requires account { IsAccount journal.now.history ports.old.items }
+    requires serves { ServesLines journal.now.history ports.old.items }
     requires lines { AreEndsOf ports.old.items ends.old.items }
-    ensures account { IsAccount journal.now.history ports.new.items }
+    ensures serves { ServesLines journal.now.history ports.new.items }
     ensures ports { SamePorts ports.old.items ports.new.items }
     ensures ends { SameEnds ends.old.items ends.new.items }
     ensures lines { AreEndsOf ports.new.items ends.new.items }

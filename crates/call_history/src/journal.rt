@@ -50,10 +50,10 @@ pub struct Journal<O: Object> {
 
 impl<O: Object> Model for Journal<O> {
     ghost use Rattle.std.specs.Prelude.{◌≡◌, ◌≤◌, length};
-    ghost use Rattle.call_history.specs.History.{Recorded, IsReplay};
+    ghost use Rattle.call_history.specs.History.{JournalValue, IsReplay};
     ghost use Rattle.call_history.specs.Limits.{max_entries};
 
-    ghost Value = { Recorded O O.Call O.Reply };
+    ghost Value = { JournalValue O O.Call O.Reply };
 
     ghost view = { λ j. record { object = j.object; history = j.entries.items; most = j.most } };
 

@@ -16,9 +16,9 @@ pub struct LockLine<L: Ledger> {
 
 impl<L: Ledger> Model for LockLine<L> {
     ghost use Rattle.std.specs.Prelude.{◌≡◌};
-    ghost use Rattle.call_history.specs.Lines.{Line};
+    ghost use Rattle.call_history.specs.Lines.{LockLineValue};
 
-    ghost Value = { Line };
+    ghost Value = { LockLineValue };
 
     ghost view = { λ l. record { number = l.number; made = l.made } };
 

@@ -78,9 +78,9 @@ pub struct LockDesk<O: Object, L: Ledger> {
 impl<O: Object, L: Ledger> Model for LockDesk<O, L> {
     ghost use Rattle.std.specs.Prelude.{◌≡◌, ◌≤◌, length, replicate};
     ghost use Rattle.call_history.specs.Limits.{max_lines};
-    ghost use Rattle.call_history.specs.Lines.{Desk};
+    ghost use Rattle.call_history.specs.Lines.{LockDeskValue};
 
-    ghost Value = { Desk };
+    ghost Value = { LockDeskValue };
 
     ghost view = { λ d. record { lines = length d.found.items } };
 

@@ -19,9 +19,9 @@ pub struct LockWire<'a, O: Object, L: Ledger, R> {
 }
 
 impl<'a, O: Object, L: Ledger, R> Model for LockWire<'a, O, L, R> {
-    ghost use Rattle.call_history.specs.Lines.{Line};
+    ghost use Rattle.call_history.specs.Lines.{LockLineValue};
 
-    ghost Value = { Line };
+    ghost Value = { LockLineValue };
 
     ghost view = { λ w. w.line };
 }

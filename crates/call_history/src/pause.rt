@@ -18,7 +18,7 @@ pub struct Pause<'a> {
     longest: Duration,
     spins: u32,
     yields: u32,
-    is_down: bool,
+    is_prepared: bool,
 }
 
 impl<'a> Pause<'a> {
@@ -29,11 +29,11 @@ impl<'a> Pause<'a> {
             longest,
             spins: SPINS,
             yields: YIELDS,
-            is_down: false,
+            is_prepared: false,
         }
     }
 
-    /// Rests once, after a look for calls that found none. The last look before a sleep comes after `lie_down`, so no ring is
+    /// Rests once, after a look for calls that found none. The last look before a sleep comes after `prepare_sleep`, so no ring is
     /// missed.
     pub fn rest<R: Wait>(&mut self, rt: &R) {
         if self.spins > 0 {
@@ -42,12 +42,12 @@ impl<'a> Pause<'a> {
         } else if self.yields > 0 {
             self.yields -= 1;
             thread::yield_now();
-        } else if self.is_down {
-            self.is_down = false;
+        } else if self.is_prepared {
+            self.is_prepared = false;
             self.bell.sleep(rt, self.longest);
         } else {
-            self.is_down = true;
-            self.bell.lie_down();
+            self.is_prepared = true;
+            self.bell.prepare_sleep();
         }
     }
 
@@ -55,9 +55,9 @@ impl<'a> Pause<'a> {
     pub fn end(&mut self) {
         self.spins = SPINS;
         self.yields = YIELDS;
-        if self.is_down {
-            self.is_down = false;
-            self.bell.get_up();
+        if self.is_prepared {
+            self.is_prepared = false;
+            self.bell.stay_awake();
         }
     }
 }

@@ -25,13 +25,13 @@ pub struct RingDesk<O: Object> {
 impl<O: Object> Model for RingDesk<O> {
     ghost use Rattle.std.specs.Prelude.{◌≡◌, ◌≤◌, length};
     ghost use Rattle.call_history.specs.Limits.{max_lines};
-    ghost use Rattle.call_history.specs.Rounds.{RingDeskValue, IsAccount};
+    ghost use Rattle.call_history.specs.Rounds.{RingDeskValue, ServesLines};
 
     ghost Value = { RingDeskValue O O.Call O.Reply };
 
     ghost view = { λ d. record { journal = d.journal; ports = d.ports.items } };
 
-    ghost invariant = { λ d. IsAccount d.journal.history d.ports.items
+    ghost invariant = { λ d. ServesLines d.journal.history d.ports.items
         × (length d.found.items ≡ length d.ports.items)
         × (length d.made_by_line.items ≡ length d.ports.items)
         × (length d.ports.items ≤ max_lines)
@@ -73,7 +73,7 @@ impl<O: Object> RingDesk<O> {
     ghost use Rattle.call_history.specs.Limits.{max_lines};
     ghost use Rattle.call_history.specs.History.{IsReplay};
     ghost use Rattle.call_history.specs.RingLines.{SamePorts, AreEndsOf};
-    ghost use Rattle.call_history.specs.Rounds.{IsAccount, IsUnused, IsIdle, Gains, Visits, StopsAt};
+    ghost use Rattle.call_history.specs.Rounds.{ServesLines, IsUnused, IsIdle, Gains, Visits, StopsAt};
     ghost use Rattle.call_history.specs.RingClosing.{IsClosed, IsCauseOf, HandsBack};
     ghost use Rattle.call_history.specs.declared.journal.CallFault.TheVariants.{Full};
 
@@ -104,7 +104,7 @@ impl<O: Object> RingDesk<O> {
         ensures journal { result.now ≡ self.now.journal }
 
         // The invariant of the type, whenever no round runs.
-        ensures account { IsAccount self.now.journal.history self.now.ports }
+        ensures serves { ServesLines self.now.journal.history self.now.ports }
     {
         &self.journal
     }

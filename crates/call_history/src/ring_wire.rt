@@ -16,22 +16,22 @@ const YIELD_EACH: u64 = 64;
 #[derive(Drop)]
 pub struct RingWire<O: Object> {
     line: RingLine<O>,
-    turns: u64,
+    tries: u64,
     bell: Option<Arc<Bell>>,
     has_stalled: bool,
 }
 
 impl<O: Object> RingWire<O> {
-    /// A wire that makes the line's calls on a desk with a thread that does not sleep. Each try to post or to take is a turn. A
-    /// call that gets no reply within `turns` turns stalls the wire.
-    pub fn new(line: RingLine<O>, turns: u64) -> RingWire<O>
+    /// A wire that makes the line's calls on a desk with a thread that does not sleep. It looks `tries` times for room for a call
+    /// and then for the reply, and a call that has no reply by then stalls the wire.
+    pub fn new(line: RingLine<O>, tries: u64) -> RingWire<O>
         ensures line { result.line ≡ line }
-        ensures turns { result.turns ≡ turns }
+        ensures tries { result.tries ≡ tries }
         ensures going { IsFalse result.has_stalled }
     {
         RingWire {
             line,
-            turns,
+            tries,
             bell: None,
             has_stalled: false,
         }
@@ -39,17 +39,14 @@ impl<O: Object> RingWire<O> {
 
     /// The same for a desk with a thread that may sleep: each posted call rings this bell. A desk that makes no further call stalls
     /// the wire too.
-    pub fn with_bell(line: RingLine<O>, turns: u64, bell: Arc<Bell>) -> RingWire<O>
+    pub fn with_bell(line: RingLine<O>, tries: u64, bell: Arc<Bell>) -> RingWire<O>
         ensures line { result.line ≡ line }
-        ensures turns { result.turns ≡ turns }
+        ensures tries { result.tries ≡ tries }
         ensures going { IsFalse result.has_stalled }
     {
-        RingWire {
-            line,
-            turns,
-            bell: Some(bell),
-            has_stalled: false,
-        }
+        let mut wire = RingWire::new(line, tries);
+        wire.bell = Some(bell);
+        wire
     }
 
     /// Returns the line.
@@ -75,11 +72,11 @@ impl<O: Object> Wire for RingWire<O> {
     ghost same_line = { λ v w. SameLine v.line w.line };
 
     /// Posts the call and takes one reply. This is the reply to the call if the line had taken as many replies as it posted calls.
-    /// The wire stalls if no reply comes within its turns, or if the desk has stopped. A stalled wire does nothing more, but a call
+    /// The wire stalls if no reply comes within its tries, or if the desk has stopped. A stalled wire does nothing more, but a call
     /// that was posted stays posted.
     fn ask(&mut self, call: O::Call) -> Result<O::Reply, AskFault>
         ensures line { SameLine self.old.line self.new.line }
-        ensures turns { self.new.turns ≡ self.old.turns }
+        ensures tries { self.new.tries ≡ self.old.tries }
         ensures call { OnOk result (posted_calls self.new.line ≡ posted_calls self.old.line ++ call ∷ []) }
         ensures reply { IfOk result (λ r. taken_replies self.new.line ≡ taken_replies self.old.line ++ r ∷ []) }
         ensures maybe_call { OnErr result ((posted_calls self.new.line ≡ posted_calls self.old.line)
@@ -95,7 +92,7 @@ impl<O: Object> Wire for RingWire<O> {
         }
         // The wire counts as stalled until the reply is there.
         self.has_stalled = true;
-        let Some(left) = post_within(&mut self.line, call, self.turns, &self.bell) else {
+        let Some(left) = post_within(&mut self.line, call, self.tries, &self.bell) else {
             return Err(AskFault::Stalled);
         };
         ring(&self.bell);
@@ -134,22 +131,22 @@ fn pause(tried: u64) {
     }
 }
 
-/// Tries to post a call within `turns` turns, while the desk goes on. Returns how many turns are left.
+/// Tries to post a call within `tries` tries, while the desk goes on. Returns how many tries are left.
 fn post_within<O: Object>(
     line: &mut RingLine<O>,
     call: O::Call,
-    turns: u64,
+    tries: u64,
     bell: &Option<Arc<Bell>>,
 ) -> Option<u64>
     ensures line { SameLine line.old line.new }
     ensures taken { taken_replies line.new ≡ taken_replies line.old }
-    ensures some { IfSome result (λ left. (left ≤ turns) × (posted_calls line.new ≡ posted_calls line.old ++ call ∷ [])) }
+    ensures some { IfSome result (λ left. (left ≤ tries) × (posted_calls line.new ≡ posted_calls line.old ++ call ∷ [])) }
     ensures none { IfNone result (posted_calls line.new ≡ posted_calls line.old) }
 {
     let mut call = call;
-    for tried in 0..turns {
+    for tried in 0..tries {
         match line.post(call) {
-            Ok(()) => return Some(turns - tried - 1),
+            Ok(()) => return Some(tries - tried - 1),
             Err(back) => call = back,
         }
         if has_stopped(bell) {
@@ -160,10 +157,10 @@ fn post_within<O: Object>(
     None
 }
 
-/// Tries to take a reply within `turns` turns, while the desk goes on.
+/// Tries to take a reply within `tries` tries, while the desk goes on.
 fn take_within<O: Object>(
     line: &mut RingLine<O>,
-    turns: u64,
+    tries: u64,
     bell: &Option<Arc<Bell>>,
 ) -> Option<O::Reply>
     ensures line { SameLine line.old line.new }
@@ -171,7 +168,7 @@ fn take_within<O: Object>(
     ensures some { IfSome result (λ r. taken_replies line.new ≡ taken_replies line.old ++ r ∷ []) }
     ensures none { IfNone result (taken_replies line.new ≡ taken_replies line.old) }
 {
-    for tried in 0..turns {
+    for tried in 0..tries {
         if let Some(reply) = line.take() {
             return Some(reply);
         }

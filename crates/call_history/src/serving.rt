@@ -3,7 +3,7 @@ ghost use Rattle.std.specs.Prelude.{◌≡◌, ◌≤◌, ◌↔◌, length, IfO
 ghost use Rattle.call_history.specs.Limits.{max_lines};
 ghost use Rattle.call_history.specs.Parts.{part};
 ghost use Rattle.call_history.specs.RingLines.{SamePort, SamePorts};
-ghost use Rattle.call_history.specs.Rounds.{Serves, IsAccount, IsIdle, Gains, GainsOne, Visits, StopsAt};
+ghost use Rattle.call_history.specs.Rounds.{Serves, ServesLines, IsIdle, Gains, GainsOne, Visits, StopsAt};
 
 use crate::journal::{CallFault, Journal};
 use crate::object::Object;
@@ -58,10 +58,10 @@ pub(crate) fn serve_round<O: Object>(
     journal: &mut Journal<O>,
     ports: &mut Vec<Port<O::Call, O::Reply>>,
 ) -> Result<u64, DeskFault>
-    requires account { IsAccount journal.old.history ports.old.items }
+    requires serves { ServesLines journal.old.history ports.old.items }
     requires lines { length ports.old.items ≤ max_lines }
     requires within { length journal.old.history ≤ journal.old.most }
-    ensures account { IsAccount journal.new.history ports.new.items }
+    ensures serves { ServesLines journal.new.history ports.new.items }
     ensures same { SamePorts ports.old.items ports.new.items }
     ensures most { journal.new.most ≡ journal.old.most }
     ensures within { length journal.new.history ≤ journal.new.most }

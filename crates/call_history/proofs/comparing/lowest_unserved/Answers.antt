@@ -6,7 +6,7 @@ use Rattle.call_history.specs.RingLines.{SamePort}
 use Rattle.call_history.specs.Rounds.{Serves}
 use Rattle.call_history.specs.Parts.{part}
 use Rattle.call_history.specs.RingClosing.{SameEnd, IsServed, IsUnserved, TakesPrefix}
-use Rattle.call_history.proofs.LineAccounts.{same_ports_set, accounts_same}
+use Rattle.call_history.proofs.ServedLines.{same_ports_set, serves_same}
 use Rattle.call_history.proofs.ReturnedEnds.{ends_of_same, same_ends_set, upto_set, Compared, compared_served, compared_unserved}
 use Rattle.call_history.proofs.comparing.lowest_unserved.Goals as goal
 use Rattle.call_history.proofs.comparing.lowest_unserved.Goals.{then-not-is_served, else-not-is_served}
@@ -47,7 +47,7 @@ loop-k-preserved g c =
           rw w.lowest-is (compared_served history ends k end c.loop-k.lowest k_within inv.calls served))
     ] in
     record {
-      account = accounts_same history ports n port inv.account serves;
+      serves = serves_same history ports n port inv.serves serves;
       ports = same_ports_set _ _ _ _ inv.ports n_within same_port;
       ends = same_ends_set _ _ _ _ inv.ends k_within same_end;
       replies = upto_set (TakesPrefix history) ends k end k_within inv.replies said.replies;

@@ -3,7 +3,7 @@ use Rattle.std.proofs.lemmas.List.{get_or_read}
 use Rattle.call_history.specs.declared.port.Port.{Port}
 use Rattle.call_history.specs.RingLines.{SamePort}
 use Rattle.call_history.specs.Rounds.{GainsOne}
-use Rattle.call_history.proofs.LineAccounts.{accounts_by, accounts_with, same_ports_set, gains_with, gains_one, visits_one, visits_idle}
+use Rattle.call_history.proofs.ServedLines.{serves_by, serves_with, same_ports_set, gains_with, gains_one, visits_one, visits_idle}
 use Rattle.call_history.proofs.serving.serve_round.Goals as goal
 use Rattle.call_history.proofs.serving.serve_round.Goals.{then-did, else-did}
 
@@ -22,7 +22,7 @@ loop-i-preserved g c =
       | then-did w ↦
           (let adds : GainsOne c.loop-i.i c.loop-i.journal.history c.serve.new.journal.history = (rw w.if-did.true at c.in-Ok.ensures.gains) in
           rw w.served-is (record {
-            account = accounts_by _ _ _ _ _ lt adds c.loop-i.invariant.account c.in-Ok.ensures.serves;
+            serves = serves_by _ _ _ _ _ lt adds c.loop-i.invariant.serves c.in-Ok.ensures.serves;
             same = same;
             most = c.in-Ok.ensures.most ∙ c.loop-i.invariant.most;
             within = c.in-Ok.ensures.within;
@@ -34,7 +34,7 @@ loop-i-preserved g c =
       | else-did w ↦
           (let none : c.serve.new.journal.history ≡ c.loop-i.journal.history = (rw w.if-did.false at c.in-Ok.ensures.gains) in
           rw w.served-is (record {
-            account = accounts_with _ _ _ _ _ none c.loop-i.invariant.account c.in-Ok.ensures.serves;
+            serves = serves_with _ _ _ _ _ none c.loop-i.invariant.serves c.in-Ok.ensures.serves;
             same = same;
             most = c.in-Ok.ensures.most ∙ c.loop-i.invariant.most;
             within = c.in-Ok.ensures.within;

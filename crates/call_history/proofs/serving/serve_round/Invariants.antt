@@ -1,11 +1,11 @@
 use Rattle.std.proofs.Common.{◌≡◌, ◌≤◌, length}
 use Rattle.call_history.specs.RingLines.{SamePorts}
-use Rattle.call_history.specs.Rounds.{IsAccount, Gains, Visits}
+use Rattle.call_history.specs.Rounds.{ServesLines, Gains, Visits}
 use Rattle.call_history.proofs.serving.serve_round.Given as goal
 
 abbrev pub invariant-loop-i : goal.invariant-loop-i
 invariant-loop-i g l = record {
-  account : IsAccount l.journal.history l.ports.items;
+  serves : ServesLines l.journal.history l.ports.items;
   same : SamePorts l.initial.ports.items l.ports.items;
   most : l.journal.most ≡ l.initial.journal.most;
   within : length l.journal.history ≤ l.journal.most;

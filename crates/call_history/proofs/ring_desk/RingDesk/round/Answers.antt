@@ -1,4 +1,4 @@
-use Rattle.call_history.proofs.LineAccounts.{idle_after}
+use Rattle.call_history.proofs.ServedLines.{idle_after}
 use Rattle.call_history.proofs.ring_desk.RingDesk.round.Goals as goal
 
 pub returns-clause-idle : goal.returns-clause-idle

@@ -1,4 +1,4 @@
--- What serving one line does to the account of all lines.
+-- What serving one line does to what was served of all lines.
 use Rattle.std.proofs.Common.{◌≡◌, ℕ, ◌+◌, ◌<◌, ◌≤◌, ◌⊎◌, ◌≢◌, List, [], ◌∷◌, ◌++◌, length, get_or, set, refl, sym, subst, arith, rules, ⊎_elim, inl, inr, true, false, Result, Ok, Err, MatchResult, IfOk}
 use Rattle.std.proofs.lemmas.Grind.{common_steps}
 use Rattle.std.proofs.lemmas.Bool.Decides.{eqb_tells}
@@ -9,21 +9,21 @@ use Rattle.call_history.specs.declared.port.Port.{Port}
 use Rattle.call_history.specs.Parts.{part}
 use Rattle.call_history.specs.RingLines.{SamePort, SamePorts}
 use Rattle.std.specs.List.{All}
-use Rattle.call_history.specs.Rounds.{Serves, IsAccount, IsIdle, Gains, GainsOne, Visits}
+use Rattle.call_history.specs.Rounds.{Serves, ServesLines, IsIdle, Gains, GainsOne, Visits}
 
 pub part_other : {C R : Type 0} (i : ℕ) (h : List (Entry C R)) (e : Entry C R) → e.line ≢ i → part i (h ++ e ∷ []) ≡ part i h
 part_other i h e ne = grind (arith, common_steps)
 
-pub accounts_same : {C R : Type 0} (h : List (Entry C R)) (ps : List (Port C R)) (i : ℕ) (q : Port C R)
-    → IsAccount h ps → Serves (part i h) q → IsAccount h (set ps i q)
-accounts_same h ps i q a s = record {
+pub serves_same : {C R : Type 0} (h : List (Entry C R)) (ps : List (Port C R)) (i : ℕ) (q : Port C R)
+    → ServesLines h ps → Serves (part i h) q → ServesLines h (set ps i q)
+serves_same h ps i q a s = record {
   lines = λ k d lt. grind (arith, common_steps, a.lines k d lt);
   parts = λ j p lt. grind (arith, common_steps);
 }
 
-pub accounts_more : {C R : Type 0} (h : List (Entry C R)) (e : Entry C R) (ps : List (Port C R)) (i : ℕ) (q : Port C R)
-    → i < length ps → e.line ≡ i → IsAccount h ps → Serves (part i (h ++ e ∷ [])) q → IsAccount (h ++ e ∷ []) (set ps i q)
-accounts_more h e ps i q lt at a s = record {
+pub serves_more : {C R : Type 0} (h : List (Entry C R)) (e : Entry C R) (ps : List (Port C R)) (i : ℕ) (q : Port C R)
+    → i < length ps → e.line ≡ i → ServesLines h ps → Serves (part i (h ++ e ∷ [])) q → ServesLines (h ++ e ∷ []) (set ps i q)
+serves_more h e ps i q lt at a s = record {
   lines = λ k d below. grind (arith, common_steps, a.lines);
   parts = λ j p below. grind (arith, common_steps, part_other, a.parts);
 }
@@ -64,19 +64,19 @@ gains_one h h' h'' i n g a = record {
   rising = λ p q d b lt. grind (arith, common_steps, g.rising, g.below, a.line_is);
 }
 
-pub accounts_by : {C R : Type 0} (h h' : List (Entry C R)) (ps : List (Port C R)) (i : ℕ) (q : Port C R)
-    → i < length ps → GainsOne i h h' → IsAccount h ps → Serves (part i h') q → IsAccount h' (set ps i q)
-accounts_by {C} {R} h h' ps i q lt a before s =
-    let P : List (Entry C R) → Type 0 = λ x. IsAccount x (set ps i q) in
+pub serves_by : {C R : Type 0} (h h' : List (Entry C R)) (ps : List (Port C R)) (i : ℕ) (q : Port C R)
+    → i < length ps → GainsOne i h h' → ServesLines h ps → Serves (part i h') q → ServesLines h' (set ps i q)
+serves_by {C} {R} h h' ps i q lt a before s =
+    let P : List (Entry C R) → Type 0 = λ x. ServesLines x (set ps i q) in
     let s' : Serves (part i (h ++ a.entry ∷ [])) q = (let Q : List (Entry C R) → Type 0 = λ x. Serves (part i x) q in subst Q a.behind s) in
-    subst P (sym a.behind) (accounts_more h a.entry ps i q lt a.line_is before s')
+    subst P (sym a.behind) (serves_more h a.entry ps i q lt a.line_is before s')
 
-pub accounts_with : {C R : Type 0} (h h' : List (Entry C R)) (ps : List (Port C R)) (i : ℕ) (q : Port C R)
-    → h' ≡ h → IsAccount h ps → Serves (part i h') q → IsAccount h' (set ps i q)
-accounts_with {C} {R} h h' ps i q e before s =
-    let P : List (Entry C R) → Type 0 = λ x. IsAccount x (set ps i q) in
+pub serves_with : {C R : Type 0} (h h' : List (Entry C R)) (ps : List (Port C R)) (i : ℕ) (q : Port C R)
+    → h' ≡ h → ServesLines h ps → Serves (part i h') q → ServesLines h' (set ps i q)
+serves_with {C} {R} h h' ps i q e before s =
+    let P : List (Entry C R) → Type 0 = λ x. ServesLines x (set ps i q) in
     let s' : Serves (part i h) q = (let Q : List (Entry C R) → Type 0 = λ x. Serves (part i x) q in subst Q e s) in
-    subst P (sym e) (accounts_same h ps i q before s')
+    subst P (sym e) (serves_same h ps i q before s')
 
 pub gains_with : {C R : Type 0} (h h' h'' : List (Entry C R)) (i n : ℕ) → Gains h h' i n → h'' ≡ h' → Gains h h'' (i + 1) n
 gains_with {C} {R} h h' h'' i n g e = let P : List (Entry C R) → Type 0 = λ x. Gains h x (i + 1) n in subst P (sym e) (gains_skip h h' i n g)
