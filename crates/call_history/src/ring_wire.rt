@@ -169,12 +169,13 @@ fn take_within<O: Object>(
     ensures none { IfNone result (taken_replies line.new ≡ taken_replies line.old) }
 {
     for tried in 0..tries {
+        // The desk sends a reply before it stops, so the last look comes after it has stopped.
+        let is_last = has_stopped(bell);
         if let Some(reply) = line.take() {
             return Some(reply);
         }
-        if has_stopped(bell) {
-            // A reply may have come after the last look and before the desk stopped.
-            return line.take();
+        if is_last {
+            return None;
         }
         pause(tried);
     }

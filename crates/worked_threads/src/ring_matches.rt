@@ -148,7 +148,8 @@ fn ask_in_threads<R: Threads + Sync>(
 {
     lines_stay::<Manager<Countdown>>();
     desks_stay::<Manager<Countdown>>();
-    thread::map_vec(rt, lines, &|line| make_calls(alloc, line))
+    let made = thread::map_vec(rt, lines, &|line| make_calls(alloc, line))?;
+    Ok(made)
 }
 
 /// The ends of the lines, and the replies of each.
