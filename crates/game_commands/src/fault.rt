@@ -24,6 +24,12 @@ pub enum Fault {
     /// The file of the rules was not read.
     #[error("bad description: {0}")]
     RulesFile(RulesFileFault),
+    /// The file of the rules that players are told was not read.
+    #[error("bad told description: {0}")]
+    ToldFile(RulesFileFault),
+    /// The file of the rules that players are told is not KIF.
+    #[error("bad told description")]
+    BadTold,
     /// Standard input failed.
     #[error("read fault")]
     ReadFault,

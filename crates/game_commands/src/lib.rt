@@ -17,5 +17,5 @@ mod verdicts;
 
 pub use commands::{Desk, GameCommand, Replay, Verify, VerifyLines, for_game};
 pub use fault::Fault;
-pub use rules::{GameSource, Rules, RulesFileFault, rules_text, told_rules};
+pub use rules::{GameSource, Rules, RulesFileFault, file_text, rules_text, told_rules};
 pub use script_fault::ScriptFault;

@@ -59,7 +59,8 @@ fn reading_fault(fault: InputFault) -> Fault {
     }
 }
 
-fn file_text<F: Files>(files: &F, alloc: Global, path: &str) -> Result<Vec<u8>, Fault> {
+/// The text of a file of rules.
+pub fn file_text<F: Files>(files: &F, alloc: Global, path: &str) -> Result<Vec<u8>, Fault> {
     let file = match fs::open(files, path) {
         Ok(file) => file,
         Err(error) => return Err(opening_fault(error)),

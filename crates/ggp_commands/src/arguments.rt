@@ -31,29 +31,32 @@ pub enum Task<'a> {
     Show(String),
 }
 
-/// One match: the rules of its game, whether each message is told on standard error, and whether the account of the match is wanted.
+/// One match: the rules of its game, the file of what its players are told in their place, whether each message is told on standard error, and whether the account of the match is wanted.
 #[derive(Drop)]
 pub struct RunPlan<'a> {
     pub rules: Rules<'a>,
+    pub told: Option<&'a str>,
     pub plan: MatchPlan<'a>,
     pub is_logged: bool,
     pub has_history: bool,
 }
 
-/// The matches of a schedule: their game, the strikes of each, how they are played and told, and whether each message is told on
+/// The matches of a schedule: their game, the file of what its players are told in its place, the strikes of each, how they are played and told, and whether each message is told on
 /// standard error.
 #[derive(Clone, Copy)]
 pub struct SeasonPlan<'a> {
     pub game: GameSource<'a>,
+    pub told: Option<&'a str>,
     pub strikes: u8,
     pub form: SeasonForm,
     pub is_logged: bool,
 }
 
-/// The check of a player: its game, its matches, and whether each message is told on standard error.
+/// The check of a player: its game, the file of what it is told in its place, its matches, and whether each message is told on standard error.
 #[derive(Clone, Copy)]
 pub struct PlayerTrial<'a> {
     pub game: GameSource<'a>,
+    pub told: Option<&'a str>,
     pub plan: CheckPlan<'a>,
     pub is_logged: bool,
 }
@@ -189,11 +192,21 @@ fn log_flag<'a>(alloc: Global) -> Arg<'a> {
     )
 }
 
+fn told_option<'a>(alloc: Global) -> Arg<'a> {
+    option(
+        alloc,
+        "told",
+        "FILE",
+        "START carries the description in this file, with variables for instance; the referee plays the game's own rules",
+    )
+}
+
 fn season_command<'a>(alloc: Global) -> Result<Command<'a>, AllocError> {
     let command = Command::new(alloc, "season").about(
         "Referees the matches of the schedule on standard input, and prints their records",
     );
     with_game(alloc, command)?
+        .arg(told_option(alloc))?
         .arg(strikes_option(alloc))?
         .arg(option(
             alloc,
@@ -220,6 +233,7 @@ fn run_command<'a>(alloc: Global) -> Result<Command<'a>, AllocError> {
         "Referees a match between players over HTTP, and prints its record",
     );
     with_rules(alloc, command)?
+        .arg(told_option(alloc))?
         .arg(option(alloc, "id", "ID", "The match's id").required(true))?
         .arg(start_option(alloc))?
         .arg(play_option(alloc))?
@@ -260,6 +274,7 @@ fn check_command<'a>(alloc: Global) -> Result<Command<'a>, AllocError> {
         "Plays a match with a player for each role, and prints what it answered and what that counted as",
     );
     with_game(alloc, command)?
+        .arg(told_option(alloc))?
         .arg(start_option(alloc))?
         .arg(play_option(alloc))?
         .arg(strikes_option(alloc))?
@@ -330,6 +345,7 @@ fn season_plan<'a>(found: &ArgMatches<'a>) -> Option<SeasonPlan<'a>> {
     }
     Some(SeasonPlan {
         game: game_source(found)?,
+        told: found.get_str("told"),
         strikes: strikes(found)?,
         form: SeasonForm {
             at_once: at_once as usize,
@@ -357,6 +373,7 @@ fn match_plan<'a>(alloc: Global, found: &ArgMatches<'a>) -> Result<MatchPlan<'a>
 fn run_plan<'a>(alloc: Global, found: &ArgMatches<'a>) -> Result<RunPlan<'a>, ArgumentFault> {
     Ok(RunPlan {
         rules: rules(found).ok_or(ArgumentFault::WrongUse)?,
+        told: found.get_str("told"),
         plan: match_plan(alloc, found)?,
         is_logged: found.get_flag("log"),
         has_history: found.get_flag("history"),
@@ -366,6 +383,7 @@ fn run_plan<'a>(alloc: Global, found: &ArgMatches<'a>) -> Result<RunPlan<'a>, Ar
 fn player_trial<'a>(found: &ArgMatches<'a>) -> Option<PlayerTrial<'a>> {
     Some(PlayerTrial {
         game: game_source(found)?,
+        told: found.get_str("told"),
         plan: CheckPlan {
             player: player_address(found.get_str("player")?)?,
             start: seconds(found, "start")?,

@@ -2,6 +2,7 @@
 
 use crate::arguments::{PlayerTrial, RunPlan, SeasonPlan, Task, read_arguments};
 use crate::faults::{check_fault, contact_fault, match_fault, season_fault};
+use crate::told::start_rules;
 use described_games::described_game;
 use desk_text::push_history;
 use game_commands::{Desk, Fault, Replay, Verify, VerifyLines, for_game, rules_text, told_rules};
@@ -9,7 +10,7 @@ use game_core::Counted;
 use match_log::{LoggedPlayer, Logging, Progress, StatusStream, Telling};
 use match_messages::{Info, info_message, read_info};
 use match_plans::{PlayerAddress, Reach, read_schedule};
-use match_play::{Entrants, PlayedMatch, entrants_of, played_match};
+use match_play::{Entrants, HostedGame, PlayedMatch, entrants_of, played_match};
 use match_season::{Fixture, fixtures, play_season};
 use match_workers::Player;
 use network_players::{Explains, contact};
@@ -177,11 +178,16 @@ where
     S: Reach<P>,
 {
     let game = described_game(alloc, &rules_text(rt, alloc, run.rules)?)?;
+    let rules = start_rules(rt, alloc, &game, run.told)?;
     let logging = console.logging(rt, reach, run.is_logged);
     let entrants: Entrants<LoggedPlayer<'_, H, P, &mut E>> = entrants_of(
         alloc, &logging, 0, &run.plan,
     )?;
-    let PlayedMatch { record, history } = match played_match(rt, alloc, entrants, &game) {
+    let hosted = HostedGame {
+        game: &game,
+        rules: &rules,
+    };
+    let PlayedMatch { record, history } = match played_match(rt, alloc, entrants, hosted) {
         Ok(played) => played,
         Err(fault) => return Err(match_fault(fault)),
     };
@@ -212,16 +218,21 @@ where
     S: Reach<P>,
 {
     let game = described_game(alloc, &told_rules(rt, alloc, plan.game)?)?;
+    let rules = start_rules(rt, alloc, &game, plan.told)?;
     let input = read_to_end(alloc, reader, MAX_SCHEDULE)?;
     let plans = read_schedule(alloc, &input, plan.strikes)?;
     let logging = console.logging(rt, reach, plan.is_logged);
     let fixtures: Vec<Fixture<'_, LoggedPlayer<'_, H, P, &mut E>>> = fixtures(
         alloc, &logging, &plans,
     )?;
+    let hosted = HostedGame {
+        game: &game,
+        rules: &rules,
+    };
     let written = play_season(
         rt,
         alloc,
-        &game,
+        hosted,
         fixtures,
         plan.form,
         writer,
@@ -273,13 +284,18 @@ where
     S: Reach<P>,
 {
     let game = described_game(alloc, &told_rules(rt, alloc, trial.game)?)?;
+    let rules = start_rules(rt, alloc, &game, trial.told)?;
+    let hosted = HostedGame {
+        game: &game,
+        rules: &rules,
+    };
     let logging = console.logging(rt, reach, trial.is_logged);
     let bad = check_player::<H, LoggedPlayer<'_, H, P, &mut E>, _, W>(
         rt,
         alloc,
         &logging,
         &trial.plan,
-        &game,
+        hosted,
         writer,
     );
     match bad {

@@ -11,6 +11,7 @@
 mod arguments;
 mod commands;
 mod faults;
+mod told;
 
 pub use arguments::ArgumentFault;
 pub use commands::{command, report};

@@ -1,4 +1,8 @@
 //! The data that the messages of a match are made from.
+ghost use Rattle.std.specs.Prelude.{◌≡◌};
+
+use crate::shared_brief::SharedBrief;
+use crate::start_rules::StartRules;
 use game_core::{Text, Texts};
 use kif_text::Expr;
 
@@ -11,4 +15,19 @@ pub struct Brief {
     pub rules: Vec<Expr>,
     pub start: u32,
     pub play: u32,
+}
+
+impl Brief {
+    /// Lends the same data.
+    pub fn shared(&self) -> SharedBrief<'_>
+        ensures { result ≡ self.now }
+    {
+        SharedBrief {
+            id: &self.id,
+            roles: &self.roles,
+            rules: StartRules::Sentences(&self.rules),
+            start: self.start,
+            play: self.play,
+        }
+    }
 }

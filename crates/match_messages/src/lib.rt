@@ -1,7 +1,7 @@
 //! The messages of a match, by the Stanford GGP communication specification.
 //!
 //! `message` writes what is due to a role as the referee sends it, and `read_message` reads it as a player
-//! does. `read_info` reads a player's answer to `info_message`.
+//! does. `shared_message` writes the same from data that is lent, with rules that were printed once. `read_info` reads a player's answer to `info_message`.
 //!
 //! Free functions take the allocator first.
 #![tactic(auto)]
@@ -12,10 +12,14 @@ mod info;
 pub mod laws;
 mod messages;
 mod reading;
+mod shared_brief;
+mod start_rules;
 mod writing;
 
 pub use brief::Brief;
 pub use info::{Info, read_info};
 pub use messages::{Message, MessageFault};
 pub use reading::read_message;
-pub use writing::{info_message, message};
+pub use shared_brief::SharedBrief;
+pub use start_rules::{PrintedRules, StartRules};
+pub use writing::{info_message, message, shared_message};

@@ -58,7 +58,7 @@ fn folded(alloc: Global, expr: &Expr) -> Result<Expr, AllocError>
     Ok(folded)
 }
 
-fn all_folded(alloc: Global, exprs: &[Expr]) -> Result<Vec<Expr>, AllocError>
+pub(crate) fn all_folded(alloc: Global, exprs: &[Expr]) -> Result<Vec<Expr>, AllocError>
     ensures { IfOk result (λ v. views v.items ≡ all_folded (views exprs.now)) }
 {
     let mut all = Vec::with_capacity(alloc, exprs.len())?;

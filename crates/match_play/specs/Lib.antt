@@ -1,3 +1,5 @@
 pub mod EndedMatches
+pub mod Limits
 pub mod Matches
+pub mod PlayedMatches
 pub mod RoleTurns

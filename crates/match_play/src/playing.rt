@@ -1,22 +1,29 @@
 //! A match between players on the network, from its plan to its record.
-ghost use Rattle.std.specs.Prelude.{◌≡◌, ◌≢◌, ◌∷◌, [], IfOk, IfErr, IfSome, length, vec_len};
-ghost use Rattle.kif_text.specs.View.{views};
-ghost use Rattle.call_history.specs.History.{IsReplay};
-ghost use Rattle.match_desk.specs.ManagerValue.{ManagerValue, opening};
-ghost use Rattle.match_desk.specs.Steps.{reply, after};
+ghost use Rattle.std.specs.Prelude.{◌≡◌, ◌≢◌, ◌+◌, ◌∷◌, List, [], IfOk, IfErr, IfSome, length, vec_len};
+ghost use Rattle.call_history.specs.declared.journal.Entry.{Entry};
+ghost use Rattle.match_desk.specs.Headline.{HasHeadline};
+ghost use Rattle.match_desk.specs.declared.call.Call.{Call as DeskCall};
+ghost use Rattle.match_desk.specs.declared.call.Reply.{Reply as DeskReply};
+ghost use Rattle.match_messages.specs.declared.brief.Brief.{Brief as Told};
+ghost use Rattle.match_workers.specs.Briefs.{IsBriefOf};
+ghost use Rattle.match_workers.specs.Ends.{AreEndsOf};
+ghost use Rattle.match_workers.specs.LineParts.{OpensMatch, AreRoleLines};
 ghost use Rattle.desk_text.specs.Account.{history_text};
 ghost use Rattle.match_play.specs.Matches.{IsEndedRecord, HasNoEndedMatch};
 ghost use Rattle.match_play.specs.EndedMatches.{IsEndedMatch};
+ghost use Rattle.match_play.specs.Limits.{max_tries};
+ghost use Rattle.match_play.specs.PlayedMatches.{IsSetupOf, IsPlayedMatch};
 
+use crate::hosting::HostedGame;
 use call_history::Entry;
 use desk_text::{push_history, refusal_word};
 use game_core::{Game, Lent, Text, Texts};
-use kif_text::{Expr, copy};
 use match_book::{Phase, Setup};
 use match_desk::{Call, Manager, Refusal, Reply};
+use match_messages::StartRules;
 use match_plans::{MatchPlan, Reach, Seat};
 use match_record::record_json;
-use match_workers::{Player, RefereeFault, Refereed, referee};
+use match_workers::{Player, RefereeFault, Refereed, referee_shared};
 use packed_rules::PackedGame;
 use std::alloc::{AllocError, AllocFailed, Global};
 use std::sync::Wait;
@@ -73,10 +80,8 @@ impl From<RefereeFault> for MatchFault {
 }
 
 fn setup_of(alloc: Global, plan: &MatchPlan<'_>) -> Result<Setup, AllocError>
-    ensures players { IfOk result (λ s. length s.players ≡ vec_len plan.now.players) }
-    ensures start { IfOk result (λ s. s.start ≡ plan.now.start) }
-    ensures play { IfOk result (λ s. s.play ≡ plan.now.play) }
-    ensures strikes { IfOk result (λ s. s.strikes ≡ plan.now.strikes) }
+    ensures plan { IfOk result (IsSetupOf plan.now) }
+    ensures one_each { IfOk result (λ s. length s.players ≡ vec_len plan.now.players) }
 {
     let mut items = Vec::with_capacity(alloc, plan.players.len())?;
     for player in &plan.players {
@@ -114,8 +119,8 @@ fn players_of<P: Drop, S: Reach<P>>(
 /// A match before it is played: its setup, and a player for each name in it.
 #[derive(Drop)]
 pub struct Entrants<P> {
-    setup: Setup,
-    players: Vec<P>,
+    pub setup: Setup,
+    pub players: Vec<P>,
     ghost one_each: { vec_len players ≡ length setup.players },
 }
 
@@ -125,20 +130,12 @@ pub fn entrants_of<P: Drop, S: Reach<P>>(
     reach: &S,
     place: usize,
     plan: &MatchPlan<'_>,
-) -> Result<Entrants<P>, AllocError> {
+) -> Result<Entrants<P>, AllocError>
+    ensures { IfOk result (λ e. IsSetupOf plan.now e.setup) }
+{
     let setup = setup_of(alloc, plan)?;
     let players = players_of(alloc, reach, place, plan)?;
     Ok(Entrants { setup, players })
-}
-
-fn copies(alloc: Global, sentences: &[Expr]) -> Result<Vec<Expr>, AllocError>
-    ensures { IfOk result (λ copies. views copies.items ≡ views sentences.now) }
-{
-    let mut rules = Vec::with_capacity(alloc, sentences.len())?;
-    for sentence in sentences {
-        rules.push(copy(alloc, sentence)?)?;
-    }
-    Ok(rules)
 }
 
 /// The record of the desk's match, where that has come to its end.
@@ -181,22 +178,24 @@ pub(crate) fn refereed_match<'g, R, P>(
     rt: &R,
     alloc: Global,
     entrants: Entrants<P>,
-    game: &'g PackedGame,
+    game: HostedGame<'g>,
 ) -> Result<Refereed<Lent<'g, PackedGame>>, MatchFault>
 where
     R: Threads + Wait + Sync,
     P: Player + Drop + Send,
-    ensures game { IfOk result (λ r. r.closed.object.games ≡ game.now ∷ []) }
-    ensures replayed { IfOk result (λ r. IsReplay (reply ⟦<PackedGame as Game>⟧.rules) (after ⟦<PackedGame as Game>⟧.rules) opening r.closed.object r.closed.history.items) }
+    ensures headline { IfOk result (λ r. HasHeadline ⟦<PackedGame as Game>⟧.rules ((⟦<PackedGame as Game>⟧.rules game.entry.game.now).roles + 1) r.closed.object r.closed.history.items r.closed.made_by_line.items) }
+    ensures game { IfOk result (λ r. r.closed.object.games ≡ game.entry.game.now ∷ []) }
+    ensures opened { IfOk result (λ r. OpensMatch entrants.setup r.closed.history.items) }
+    ensures lines { IfOk result (λ r. AreRoleLines entrants.setup.id (⟦<PackedGame as Game>⟧.rules game.entry.game.now).roles r.closed.history.items) }
+    ensures ends { IfOk result (λ r. (told : Told) × IsBriefOf (⟦<PackedGame as Game>⟧.rules game.entry.game.now) entrants.setup game.entry.rules.now.items told × AreEndsOf P.handed told max_tries entrants.players.items r.closed.history.items r.ends.items) }
 {
-    let sentences = copies(alloc, game.description())?;
     let Entrants { setup, players } = entrants;
-    Ok(referee(
+    Ok(referee_shared(
         rt,
         alloc,
-        Lent::new(game),
+        Lent::new(game.game),
         setup,
-        sentences,
+        StartRules::Printed(game.rules),
         players,
         MAX_TRIES,
     )?)
@@ -207,12 +206,12 @@ pub fn played_match<R, P>(
     rt: &R,
     alloc: Global,
     entrants: Entrants<P>,
-    game: &PackedGame,
+    game: HostedGame<'_>,
 ) -> Result<PlayedMatch, MatchFault>
 where
     R: Threads + Wait + Sync,
     P: Player + Drop + Send,
-    ensures ended { IfOk result (λ played. (d : ManagerValue _ _) × (d.games ≡ game.now ∷ []) × IsEndedRecord ⟦<PackedGame as Game>⟧.rules d played.record × IsReplay (reply ⟦<PackedGame as Game>⟧.rules) (after ⟦<PackedGame as Game>⟧.rules) opening d played.history.items) }
+    ensures { IfOk result (λ played. IsPlayedMatch P.handed game.entry.game.now game.entry.rules.now.items max_tries entrants.setup entrants.players.items played.record played.history.items) }
 {
     let refereed = refereed_match(rt, alloc, entrants, game)?;
     let record = ended_record(alloc, &refereed.closed.object)?;
@@ -243,12 +242,13 @@ pub fn ended_match<R, P>(
     rt: &R,
     alloc: Global,
     entrants: Entrants<P>,
-    game: &PackedGame,
+    game: HostedGame<'_>,
     has_account: bool,
 ) -> Result<EndedMatch, MatchFault>
 where
     R: Threads + Wait + Sync,
     P: Player + Drop + Send,
+    ensures { IfOk result (λ e. (history : List (Entry DeskCall DeskReply)) × IsPlayedMatch P.handed game.entry.game.now game.entry.rules.now.items max_tries entrants.setup entrants.players.items e.text history × IfSome e.account (λ text. text ≡ history_text history)) }
 {
     let PlayedMatch { record, history } = played_match(rt, alloc, entrants, game)?;
     let account = account_of(alloc, &history, has_account)?;

@@ -3,6 +3,7 @@ ghost use Rattle.std.specs.Prelude.{◌≡◌, ◌≢◌, ◌<◌, ◌∷◌, []
 ghost use Rattle.match_desk.specs.ManagerValue.{ManagerValue};
 ghost use Rattle.match_play.specs.RoleTurns.{AreTurnsOf, AreEndedTurns};
 
+use crate::hosting::HostedGame;
 use crate::playing::{Entrants, MatchFault, refereed_match};
 use game_core::{Game, Text};
 use match_book::{Match, Phase};
@@ -73,13 +74,13 @@ pub fn played_turns<R, P>(
     rt: &R,
     alloc: Global,
     entrants: Entrants<P>,
-    game: &PackedGame,
+    game: HostedGame<'_>,
     role: usize,
 ) -> Result<Vec<RoleTurn>, MatchFault>
 where
     R: Threads + Wait + Sync,
     P: Player + Drop + Send,
-    ensures ended { IfOk result (λ told. (d : ManagerValue _ _) × (d.games ≡ game.now ∷ []) × AreEndedTurns ⟦<PackedGame as Game>⟧.rules d role told.items) }
+    ensures ended { IfOk result (λ told. (d : ManagerValue _ _) × (d.games ≡ game.entry.game.now ∷ []) × AreEndedTurns ⟦<PackedGame as Game>⟧.rules d role told.items) }
 {
     let refereed = refereed_match(rt, alloc, entrants, game)?;
     let turns = ended_turns(alloc, &refereed.closed.object, role)?;

@@ -1,14 +1,14 @@
 //! A season: the matches of a schedule, some of them at once, each on a desk of its own.
 ghost use denote.Param.Send.{IsSend, IsSync};
+ghost use Rattle.match_messages.specs.contracts.start_rules.PrintedRules.{the_row as rules_row};
 ghost use Rattle.packed_rules.specs.contracts.packed_game.PackedGame.{the_row as game_row};
 
 use crate::season_output::{Over, RecordOrder, SeasonFault, write_season};
 use crossbeam_channel::{Sender, bounded};
 use game_core::Counted;
 use match_plans::{MatchPlan, Reach};
-use match_play::{Entrants, MatchFault, ended_match, entrants_of};
+use match_play::{Entrants, HostedGame, MatchFault, ended_match, entrants_of};
 use match_workers::Player;
-use packed_rules::PackedGame;
 use std::alloc::{AllocError, Global};
 use std::io::Write;
 use std::sync::atomic::{AtomicU64, Ordering};
@@ -53,7 +53,7 @@ pub fn fixtures<'a, P: Drop, S: Reach<P>>(
 #[derive(Drop)]
 struct Season<'f, 'a, P> {
     alloc: Global,
-    game: &'f PackedGame,
+    game: HostedGame<'f>,
     fixtures: &'f [Fixture<'a, P>],
     has_history: bool,
     /// How many matches a thread has taken: the place of the next one.
@@ -111,7 +111,7 @@ fn is_shared<T: Sync>(_value: &T)
 fn play_fixtures<R, P, W: Write, E: Write + Send>(
     rt: &R,
     alloc: Global,
-    game: &PackedGame,
+    game: HostedGame<'_>,
     fixtures: &[Fixture<'_, P>],
     form: SeasonForm,
     writer: &mut Counted<W>,
@@ -133,12 +133,13 @@ where
         taken: AtomicU64::new(0),
     };
     let (season, sender) = (&season, &sender);
-    is_shared(game);
+    is_shared(game.game);
+    is_shared(game.rules);
     thread::scope(
         thread::scope_env(),
         rt,
         move |scope| -> Result<u64, SeasonFault>
-            requires sent { IsSync R.row × IsSend P.row × IsSync game_row }
+            requires sent { IsSync R.row × IsSend P.row × IsSync game_row × IsSync rules_row }
         {
             let mut has_thread = false;
             for _ in 0..form.at_once.min(fixtures.len()) {
@@ -175,7 +176,7 @@ where
 pub fn play_season<R, P, W: Write, E: Write + Send>(
     rt: &R,
     alloc: Global,
-    game: &PackedGame,
+    game: HostedGame<'_>,
     fixtures: Vec<Fixture<'_, P>>,
     form: SeasonForm,
     writer: &mut Counted<W>,

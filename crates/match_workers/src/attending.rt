@@ -16,14 +16,14 @@ use crate::player::Player;
 use call_history::Wire;
 use match_book::{Answer, Due, Owed};
 use match_desk::{Call, Refusal, Reply};
-use match_messages::{Brief, message};
+use match_messages::{Brief, SharedBrief, shared_message};
 use std::alloc::{AllocError, Global};
 
 /// Asks what is due to the role.
 fn next_due<W: Wire<Call = Call, Reply = Reply>>(
     alloc: Global,
     wire: &mut W,
-    brief: &Brief,
+    brief: &SharedBrief<'_>,
     role: usize,
 ) -> Result<Due, AttendFault>
     ensures line { W.same_line wire.old wire.new }
@@ -32,7 +32,7 @@ fn next_due<W: Wire<Call = Call, Reply = Reply>>(
     ensures fault { IfErr result (λ fault. CallStops (Next brief.now.id role) next_fault fault
         (W.calls wire.old) (W.calls wire.new) (W.replies wire.old) (W.replies wire.new)) }
 {
-    let id = brief.id.copy(alloc)?;
+    let id = brief.copy_id(alloc)?;
     match wire.ask(Call::Next { id, role })? {
         Reply::Due(due) => Ok(due),
         Reply::Refused(refusal) => Err(AttendFault::Refused(refusal)),
@@ -43,14 +43,14 @@ fn next_due<W: Wire<Call = Call, Reply = Reply>>(
 /// The call that brings a player's answer to the desk for a round.
 fn answer_call(
     alloc: Global,
-    brief: &Brief,
+    brief: &SharedBrief<'_>,
     role: usize,
     round: u64,
     answer: Answer,
 ) -> Result<Call, AllocError>
     ensures { IfOk result (λ call. call ≡ answer_call brief.now.id role round answer) }
 {
-    let id = brief.id.copy(alloc)?;
+    let id = brief.copy_id(alloc)?;
     Ok(match answer {
         Answer::Text(text) => Call::Submit {
             id,
@@ -89,7 +89,7 @@ fn answer_fault(reply: &Reply) -> Option<AttendFault>
 fn give_back<W: Wire<Call = Call, Reply = Reply>>(
     alloc: Global,
     wire: &mut W,
-    brief: &Brief,
+    brief: &SharedBrief<'_>,
     role: usize,
     round: u64,
     answer: Answer,
@@ -110,7 +110,7 @@ fn give_back<W: Wire<Call = Call, Reply = Reply>>(
 }
 
 /// The seconds that the player has for a message.
-fn seconds_for(brief: &Brief, owed: &Owed) -> u32
+fn seconds_for(brief: &SharedBrief<'_>, owed: &Owed) -> u32
     ensures { result ≡ seconds_for brief.now owed.now }
 {
     match owed {
@@ -124,7 +124,7 @@ fn hand_over<W: Wire<Call = Call, Reply = Reply>, P: Player>(
     alloc: Global,
     wire: &mut W,
     player: &mut P,
-    brief: &Brief,
+    brief: &SharedBrief<'_>,
     role: usize,
     round: u64,
     owed: Owed,
@@ -140,9 +140,41 @@ fn hand_over<W: Wire<Call = Call, Reply = Reply>, P: Player>(
         × (telling (W.calls wire.new) (W.replies wire.new) (P.handed player.new)
         ≡ telling_with (telling (W.calls wire.old) (W.replies wire.old) (P.handed player.old)) events)) }
 {
-    let body = message(alloc, brief, role, &owed)?;
+    let body = shared_message(alloc, brief, role, &owed)?;
     let answer = player.ask(seconds_for(brief, &owed), body.as_slice());
     give_back(alloc, wire, brief, role, round, answer)
+}
+
+/// Attends one role of a match to its end, as `attend` does, with data that is lent.
+pub fn attend_shared<W: Wire<Call = Call, Reply = Reply>, P: Player>(
+    alloc: Global,
+    wire: &mut W,
+    player: &mut P,
+    brief: &SharedBrief<'_>,
+    role: usize,
+    tries: u64,
+) -> Result<u64, AttendFault>
+    requires { role < length brief.now.roles }
+    ensures line { W.same_line wire.old wire.new }
+    ensures attends { IfOk result (λ messages. Attends brief.now role tries
+        (telling (W.calls wire.old) (W.replies wire.old) (P.handed player.old))
+        (telling (W.calls wire.new) (W.replies wire.new) (P.handed player.new)) messages) }
+    ensures early { IfErr result (λ fault. StopsEarly brief.now role tries
+        (telling (W.calls wire.old) (W.replies wire.old) (P.handed player.old))
+        (telling (W.calls wire.new) (W.replies wire.new) (P.handed player.new)) fault) }
+{
+    let mut messages = 0;
+    for _ in 0..tries {
+        match next_due(alloc, wire, brief, role)? {
+            Due::Owe { round, owed } => {
+                hand_over(alloc, wire, player, brief, role, round, owed)?;
+                messages += 1;
+            }
+            Due::Hold { .. } => player.rest(),
+            Due::Over => return Ok(messages),
+        }
+    }
+    Err(AttendFault::Stalled)
 }
 
 /// Attends one role of a match to its end. It asks what is due to the role, hands each owed message to
@@ -169,16 +201,5 @@ pub fn attend<W: Wire<Call = Call, Reply = Reply>, P: Player>(
         (telling (W.calls wire.old) (W.replies wire.old) (P.handed player.old))
         (telling (W.calls wire.new) (W.replies wire.new) (P.handed player.new)) fault) }
 {
-    let mut messages = 0;
-    for _ in 0..tries {
-        match next_due(alloc, wire, brief, role)? {
-            Due::Owe { round, owed } => {
-                hand_over(alloc, wire, player, brief, role, round, owed)?;
-                messages += 1;
-            }
-            Due::Hold { .. } => player.rest(),
-            Due::Over => return Ok(messages),
-        }
-    }
-    Err(AttendFault::Stalled)
+    attend_shared(alloc, wire, player, &brief.shared(), role, tries)
 }

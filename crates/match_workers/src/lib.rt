@@ -14,6 +14,6 @@ mod seat;
 mod seats;
 
 pub use attend_fault::AttendFault;
-pub use attending::attend;
+pub use attending::{attend, attend_shared};
 pub use player::Player;
-pub use refereeing::{RefereeFault, Refereed, referee};
+pub use refereeing::{RefereeFault, Refereed, referee, referee_shared};

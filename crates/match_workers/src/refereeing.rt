@@ -6,6 +6,7 @@ ghost use Rattle.call_history.specs.RingLines.{posted_calls, taken_replies, Same
 ghost use Rattle.match_desk.specs.Headline.{HasHeadline};
 ghost use Rattle.match_desk.specs.ManagerValue.{opening};
 ghost use Rattle.match_desk.specs.declared.call.Reply.TheVariants.{Opened as IsOpened};
+ghost use Rattle.match_messages.specs.StartRules.{sentences_of};
 ghost use Rattle.match_messages.specs.declared.brief.Brief.{Brief as Told};
 ghost use Rattle.match_workers.specs.Briefs.{AreRoleNames, IsBriefOf};
 ghost use Rattle.match_workers.specs.Ends.{AreEndsOf};
@@ -27,7 +28,7 @@ use game_core::{Game, Text, Texts};
 use kif_text::Expr;
 use match_book::Setup;
 use match_desk::{Call, Manager, Refusal, Reply};
-use match_messages::Brief;
+use match_messages::{SharedBrief, StartRules};
 use std::alloc::{AllocError, AllocFailed, Global};
 use std::sync::{Arc, Wait};
 use std::thread::Threads;
@@ -102,8 +103,8 @@ pub struct Refereed<G: Game> {
 
 /// The data for playing a match, beside its game and its setup.
 #[derive(Drop)]
-struct Plan<P> {
-    brief: Brief,
+struct Plan<'r, P> {
+    brief: SharedBrief<'r>,
     players: Vec<P>,
     tries: u64,
 }
@@ -127,23 +128,23 @@ fn role_names<G: Game>(alloc: Global, game: &G) -> Result<Texts, AllocError>
     Ok(Texts { items })
 }
 
-/// The data of the match that its players get.
-fn brief_of<G: Game>(
-    alloc: Global,
-    game: &G,
-    setup: &Setup,
-    rules: Vec<Expr>,
-) -> Result<Brief, AllocError>
-    ensures { IfOk result (λ brief. IsBriefOf (G.rules game.now) setup.now rules.items brief) }
+/// The data of the match that its players get, lent.
+fn brief_of<'r>(
+    id: &'r Text,
+    roles: &'r Texts,
+    rules: StartRules<'r>,
+    start: u32,
+    play: u32,
+) -> SharedBrief<'r>
+    ensures { result ≡ record { id = id.now; roles = roles.now; rules = sentences_of rules.entry; start = start; play = play } }
 {
-    let roles = role_names(alloc, game)?;
-    Ok(Brief {
-        id: setup.id.copy(alloc)?,
+    SharedBrief {
+        id,
         roles,
         rules,
-        start: setup.start,
-        play: setup.play,
-    })
+        start,
+        play,
+    }
 }
 
 /// A desk of this one game. It has a line for the calling thread, which holds the desk, and one for each role.
@@ -224,7 +225,7 @@ fn attend_match<G, P, R>(
     alloc: Global,
     holder: DeskHolder<Manager<G>>,
     others: Vec<RingLine<Manager<G>>>,
-    plan: Plan<P>,
+    plan: Plan<'_, P>,
 ) -> Result<Played<Manager<G>>, AllocError>
 where
     G: Game + Drop + Send,
@@ -241,7 +242,7 @@ where
     ensures games { IfOk result (λ played. played.desk.journal.object.games ≡ holder.desk.journal.object.games) }
     ensures lines { IfOk result (λ played. AreDeskEnds played.desk.ports played.lines.items) }
     ensures first { IfOk result (λ played. HasFinished holder.line played.lines.items) }
-    ensures ends { IfOk result (λ played. AreLeftLines P.handed plan.brief plan.tries plan.players.items played.lines.items played.ends.items) }
+    ensures ends { IfOk result (λ played. AreLeftLines P.handed plan.entry.brief plan.entry.tries plan.entry.players.items played.lines.items played.ends.items) }
 {
     let Plan {
         brief,
@@ -262,6 +263,54 @@ where
     let Finished { mut lines, ends } = finish_all(attended, room)?;
     lines.push(finish_line(line))?;
     Ok(Played { desk, lines, ends })
+}
+
+/// Referees a match of the game between these players to its end, as `referee` does, with rules that are lent.
+pub fn referee_shared<G, P, R>(
+    rt: &R,
+    alloc: Global,
+    game: G,
+    setup: Setup,
+    rules: StartRules<'_>,
+    players: Vec<P>,
+    tries: u64,
+) -> Result<Refereed<G>, RefereeFault>
+where
+    G: Game + Drop + Send,
+    G::State: Send,
+    G::Move: Send,
+    P: Player + Drop + Send,
+    R: Threads + Wait + Sync,
+    requires { vec_len players ≡ length setup.players }
+
+    ensures headline { IfOk result (λ r. HasHeadline G.rules ((G.rules game).roles + 1) r.closed.object r.closed.history.items r.closed.made_by_line.items) }
+
+    // The history begins at the given game without a match, and its first line opened the match with the given setup.
+    ensures game { IfOk result (λ r. opening r.closed.object ≡ record { games = game ∷ []; matches = [] }) }
+    ensures first_line { IfOk result (λ r. OpensMatch setup r.closed.history.items) }
+
+    // Each other line is a role's, and made only that role's calls.
+    ensures role_lines { IfOk result (λ r. AreRoleLines setup.id (G.rules game).roles r.closed.history.items) }
+    ensures counts { IfOk result (λ r. AreCounts r.closed.history.items r.closed.made_by_line.items) }
+
+    ensures one_end_each { IfOk result (λ r. length r.ends.items ≡ (G.rules game).roles) }
+
+    // Each player got this match's data, and was attended as the role at its place, over the role's line.
+    ensures ends { IfOk result (λ r. (told : Told) × IsBriefOf (G.rules game) setup (sentences_of rules.entry).items told × AreEndsOf P.handed told tries players.items r.closed.history.items r.ends.items) }
+{
+    let id = setup.id.copy(alloc)?;
+    let roles = role_names(alloc, &game)?;
+    let brief = brief_of(&id, &roles, rules, setup.start, setup.play);
+    let plan = Plan {
+        brief,
+        players,
+        tries,
+    };
+    let (mut holder, others) = open_desk(alloc, game)?;
+    open_match(&mut holder, setup)?;
+    let Played { desk, lines, ends } = attend_match(rt, alloc, holder, others, plan)?;
+    let closed = close_match(desk, lines)?;
+    Ok(Refereed { closed, ends })
 }
 
 /// Referees a match of the game between these players to its end. There is one player for each name in the setup.
@@ -307,15 +356,6 @@ where
     // Each player got this match's data, and was attended as the role at its place, over the role's line.
     ensures ends { IfOk result (λ r. (told : Told) × IsBriefOf (G.rules game) setup rules.items told × AreEndsOf P.handed told tries players.items r.closed.history.items r.ends.items) }
 {
-    let brief = brief_of(alloc, &game, &setup, rules)?;
-    let plan = Plan {
-        brief,
-        players,
-        tries,
-    };
-    let (mut holder, others) = open_desk(alloc, game)?;
-    open_match(&mut holder, setup)?;
-    let Played { desk, lines, ends } = attend_match(rt, alloc, holder, others, plan)?;
-    let closed = close_match(desk, lines)?;
-    Ok(Refereed { closed, ends })
+    let rules = StartRules::Sentences(&rules);
+    referee_shared(rt, alloc, game, setup, rules, players, tries)
 }

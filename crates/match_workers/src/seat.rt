@@ -2,12 +2,12 @@
 ghost use Rattle.std.specs.Prelude.{◌<◌, length};
 
 use crate::attend_fault::AttendFault;
-use match_messages::Brief;
+use match_messages::SharedBrief;
 
 /// A role of a match, with its player and its wire to the desk.
 #[derive(Drop)]
 pub struct Seat<'a, P, W> {
-    pub brief: &'a Brief,
+    pub brief: &'a SharedBrief<'a>,
     pub role: usize,
     pub player: P,
     pub wire: W,

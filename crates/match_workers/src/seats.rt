@@ -6,14 +6,14 @@ ghost use Rattle.match_workers.specs.Internal.Promises.{IsKept};
 ghost use denote.Param.Send.{IsSend, IsSync};
 
 use crate::attend_fault::AttendFault;
-use crate::attending::attend;
+use crate::attending::attend_shared;
 use crate::holder::{DeskHolder, ask_own, serve_until};
 use crate::player::Player;
 use crate::seat::{Attended, Seat};
 use call_history::{Bell, Object, Wire};
 use match_book::Due;
 use match_desk::{Call, Reply};
-use match_messages::Brief;
+use match_messages::SharedBrief;
 use std::alloc::{AllocError, Global};
 use std::snapshot::Snapshot;
 use std::sync::Wait;
@@ -30,7 +30,7 @@ pub struct Attendance<O: Object, W> {
 /// The promise that a seat's thread gives of its result.
 #[derive(Drop)]
 struct LeftBy<'a, P, W> {
-    brief: &'a Brief,
+    brief: &'a SharedBrief<'a>,
     role: usize,
     tries: u64,
     player: Snapshot<P>,
@@ -46,14 +46,14 @@ impl<'a, P: Player, W: Wire<Call = Call, Reply = Reply>> Promise<Attended<W>> fo
 /// A role of a match without a thread that attends it.
 #[derive(Clone, Copy)]
 struct Unattended<'a> {
-    brief: &'a Brief,
+    brief: &'a SharedBrief<'a>,
     role: usize,
 }
 
 /// A seat for each role of the match. The roles, the wires and the players are taken in their order.
 pub fn seat_players<'a, P: Drop, W: Drop>(
     alloc: Global,
-    brief: &'a Brief,
+    brief: &'a SharedBrief<'a>,
     wires: Vec<W>,
     players: Vec<P>,
 ) -> Result<Vec<Seat<'a, P, W>>, AllocError>
@@ -62,7 +62,7 @@ pub fn seat_players<'a, P: Drop, W: Drop>(
     let mut seats = Vec::with_capacity(alloc, players.len())?;
     let mut wires = wires.into_iter();
     let mut players = players.into_iter();
-    for role in 0..brief.roles.as_slice().len() {
+    for role in 0..brief.role_count() {
         let Some(wire) = wires.next() else {
             return Ok(seats);
         };
@@ -82,7 +82,7 @@ pub fn seat_players<'a, P: Drop, W: Drop>(
 /// Attends a role over its wire, and then signals its end.
 fn attend_seat<P: Player + Drop, W: Wire<Call = Call, Reply = Reply>>(
     alloc: Global,
-    brief: &Brief,
+    brief: &SharedBrief<'_>,
     role: usize,
     player: P,
     wire: W,
@@ -94,7 +94,7 @@ fn attend_seat<P: Player + Drop, W: Wire<Call = Call, Reply = Reply>>(
 {
     let mut player = player;
     let mut wire = wire;
-    let end = attend(alloc, &mut wire, &mut player, brief, role, tries);
+    let end = attend_shared(alloc, &mut wire, &mut player, brief, role, tries);
     bell.leave();
     Attended { wire, end }
 }
@@ -126,12 +126,12 @@ fn abort_without<O: Object<Call = Call, Reply = Reply>>(
 ) -> Result<(), AttendFault> {
     for unattended in roles {
         let Unattended { brief, role } = *unattended;
-        let id = brief.id.copy(alloc)?;
+        let id = brief.copy_id(alloc)?;
         ask_own(holder, Call::Abort { id })?;
-        let id = brief.id.copy(alloc)?;
+        let id = brief.copy_id(alloc)?;
         let reply = ask_own(holder, Call::Next { id, role })?;
         if let Reply::Due(Due::Owe { round, .. }) = reply {
-            let id = brief.id.copy(alloc)?;
+            let id = brief.copy_id(alloc)?;
             let broken = true;
             ask_own(
                 holder,

@@ -5,7 +5,7 @@ use crate::table::{HEADER, Row};
 use crate::watched::{Exchanges, Participant, Watching};
 use game_core::{Counted, Game};
 use match_plans::{MatchPlan, PlayerAddress, Reach};
-use match_play::{Entrants, MatchFault, RoleTurn, entrants_of, played_turns};
+use match_play::{Entrants, HostedGame, MatchFault, RoleTurn, entrants_of, played_turns};
 use match_workers::Player;
 use network_players::{Explains, Signal};
 use packed_rules::PackedGame;
@@ -127,7 +127,7 @@ fn check_role<H, P, S>(
     alloc: Global,
     reach: &S,
     plan: &CheckPlan<'_>,
-    game: &PackedGame,
+    game: HostedGame<'_>,
     role: usize,
     table: &mut Vec<u8>,
 ) -> Result<u64, CheckFault>
@@ -135,7 +135,7 @@ where
     H: Clock + Threads + Wait + Sync,
     P: Player + Explains + Drop + Send,
     S: Reach<P>,
-    requires { role < (⟦<PackedGame as Game>⟧.rules game.now).roles }
+    requires { role < (⟦<PackedGame as Game>⟧.rules game.game.now).roles }
 {
     let id = format!(in alloc; "check-{role}")?;
     let signal = Signal::new();
@@ -147,11 +147,11 @@ where
         signal: &signal,
         exchanges: &exchanges,
     };
-    let match_plan = match_plan(alloc, plan, id.as_str(), role, game.roles())?;
+    let match_plan = match_plan(alloc, plan, id.as_str(), role, game.game.roles())?;
     let entrants: Entrants<Participant<'_, H, P>> = entrants_of(alloc, &watching, 0, &match_plan)?;
     let turns = played_turns(rt, alloc, entrants, game, role)?;
     let exchanges = exchanges.lock(rt);
-    Ok(push_rows(alloc, table, game.role_name(role), &exchanges, &turns)?)
+    Ok(push_rows(alloc, table, game.game.role_name(role), &exchanges, &turns)?)
 }
 
 /// Plays a match for each role of the game, one after another, and writes a row for each message to the
@@ -161,7 +161,7 @@ pub fn check_player<H, P, S, W: Write>(
     alloc: Global,
     reach: &S,
     plan: &CheckPlan<'_>,
-    game: &PackedGame,
+    game: HostedGame<'_>,
     writer: &mut Counted<W>,
 ) -> Result<u64, CheckFault>
 where
@@ -172,7 +172,7 @@ where
     let mut table = Vec::new(alloc);
     table.extend_from_slice(HEADER)?;
     let mut bad: u64 = 0;
-    for role in 0..game.roles() {
+    for role in 0..game.game.roles() {
         let more = check_role::<H, P, S>(rt, alloc, reach, plan, game, role, &mut table)?;
         bad = bad.saturating_add(more);
         write_all(writer, &table)?;

@@ -5,12 +5,13 @@ use Rattle.game_core.specs.Bytes.{right_parenthesis}
 use Rattle.game_core.specs.Canonical.{canonical}
 use Rattle.game_core.specs.Expression.{list}
 use Rattle.kif_text.specs.View.{views}
+use Rattle.match_messages.specs.StartRules.{sentences_of}
 use Rattle.match_messages.proofs.Printed.{start_joined}
 use Rattle.match_messages.proofs.writing.start_text.Goals as goal
 
 pub returns : goal.returns
 returns c =
-    let brief = c.args.brief.now in
-    let name : slice_index_or brief.roles c.args.role [] ≡ c.at.result.now = get_or_from_slice_get brief.roles c.args.role c.at.result.now [] c.at.ensures in
-    let joined = start_joined (codes "(START") brief.id (slice_index_or brief.roles c.args.role []) (canonical (list (views brief.rules.items))) (decimal brief.start) (decimal brief.play) right_parenthesis in
-    rw (c.in_ok-push.ensures.items, c.in_ok-push_number-2.ensures, c.in_ok-push_number.ensures, c.in_ok-push_rules.ensures, c.in_ok-push_word-2.ensures, c.in_ok-push_word.ensures, c.in_ok-bytes.ensures.items, c.as_slice.ensures, c.as_slice-2.ensures, c.as_slice-3.ensures.value, sym name) joined
+    let brief = c.brief.inside in
+    let name : slice_index_or brief.roles.now c.args.role [] ≡ c.at-name.result.now = get_or_from_slice_get brief.roles.now c.args.role c.at-name.result.now [] c.at-name.ensures in
+    let joined = start_joined (codes "(START") brief.id.now (slice_index_or brief.roles.now c.args.role []) (canonical (list (views (sentences_of brief.rules).items))) (decimal brief.start) (decimal brief.play) right_parenthesis in
+    rw (sym c.brief.view_is, c.in_ok-push.ensures.items, c.in_ok-push_number-2.ensures, c.in_ok-push_number.ensures, c.in_ok-push_rules.ensures, c.in_ok-push_word-2.ensures, c.in_ok-push_word.ensures, c.in_ok-bytes.ensures, c.as_slice.ensures, c.as_slice-2.ensures, sym name) joined

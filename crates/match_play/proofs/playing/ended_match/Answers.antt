@@ -5,6 +5,6 @@ use Rattle.match_play.proofs.playing.ended_match.Goals as goal
 
 pub invariant_of-result : goal.invariant_of-result
 invariant_of-result g c =
-    let played = c.in_ok-record.ensures.ended in
+    let played = c.in_ok-record.ensures in
     let told = subst (λ h. IfSome c.in_ok-account.account (λ text. text ≡ history_text h)) c.deref.ensures.value c.in_ok-account.ensures in
-    record { is_ended = ∣ with-account played.0 _ _ c.in_ok-account.account played.2 played.3 told ∣₁ }
+    record { is_ended = ∣ with-account played.desk _ _ c.in_ok-account.account played.ended played.headline.replay told ∣₁ }

@@ -3,7 +3,7 @@ use Rattle.match_workers.proofs.seats.attend_seat.Goals as goal
 
 pub returns : goal.returns
 returns g c = record {
-  line = c.attend-end.ensures.line;
-  player_left = c.attend-end.new.player;
-  ended = has_ended _ _ _ _ _ c.attend-end.result c.attend-end.ensures.attends c.attend-end.ensures.early;
+  line = c.attend_shared-end.ensures.line;
+  player_left = c.attend_shared-end.new.player;
+  ended = has_ended _ _ _ _ _ c.attend_shared-end.result c.attend_shared-end.ensures.attends c.attend_shared-end.ensures.early;
 }

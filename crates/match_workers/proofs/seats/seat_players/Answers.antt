@@ -26,7 +26,7 @@ pub returns : goal.returns
 returns g c =
     let was = c.loop-role.invariant in
     record {
-      one_each = λ players wires. omega (arith, players, wires, was.count, ap length c.as_slice-role-end.ensures);
+      one_each = λ players wires. omega (arith, players, wires, was.count, c.role_count-role-end.ensures);
       each = was.each;
     }
 
@@ -34,7 +34,7 @@ pub returns-in_default : goal.returns-in_default
 returns-in_default g c =
     let was = c.loop-role.invariant in
     record {
-      one_each = λ players wires. absurd (omega (arith, wires, c.in_default.ensures, c.next.ensures.len, was.wires_left, c.loop-role-test.true, ap length c.as_slice-role-end.ensures));
+      one_each = λ players wires. absurd (omega (arith, wires, c.in_default.ensures, c.next.ensures.len, was.wires_left, c.loop-role-test.true, c.role_count-role-end.ensures));
       each = was.each;
     }
 
@@ -42,6 +42,6 @@ pub returns-in_default-next : goal.returns-in_default-next
 returns-in_default-next g c =
     let was = c.loop-role.invariant in
     record {
-      one_each = λ players wires. absurd (omega (arith, players, c.in_default-next.ensures, c.next-in-loop-role.ensures.len, was.players_left, c.loop-role-test.true, ap length c.as_slice-role-end.ensures));
+      one_each = λ players wires. absurd (omega (arith, players, c.in_default-next.ensures, c.next-in-loop-role.ensures.len, was.players_left, c.loop-role-test.true, c.role_count-role-end.ensures));
       each = was.each;
     }

@@ -1,7 +1,7 @@
 use Rattle.std.proofs.Common.{◌≤◌}
 use Rattle.match_workers.specs.Events.{telling}
 use Rattle.match_workers.proofs.Workers.{Goes}
-use Rattle.match_workers.proofs.attending.attend.Given as goal
+use Rattle.match_workers.proofs.attending.attend_shared.Given as goal
 
 abbrev pub invariant-loop : goal.invariant-loop
 invariant-loop g l =

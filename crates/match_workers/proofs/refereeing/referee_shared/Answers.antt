@@ -1,11 +1,13 @@
-use Rattle.std.proofs.Common.{◌≡◌, ◌∙◌, ◌+◌, ◌++◌, ◌∷◌, [], length, sym, ap, subst, arith}
+use Rattle.std.proofs.Common.{◌≡◌, ◌∙◌, ◌+◌, ◌++◌, ◌∷◌, [], length, refl, sym, ap, subst, arith}
 use Rattle.call_history.proofs.DeskLines.{line_of_new, line_of_same}
 use Rattle.match_desk.specs.Headline.{HasHeadline}
 use Rattle.match_desk.specs.declared.call.Reply.TheVariants.{Opened}
+use Rattle.match_messages.specs.declared.brief.Brief.{Brief}
+use Rattle.match_workers.specs.Briefs.{IsBriefOf}
 use Rattle.match_workers.specs.LineParts.{open_call}
 use Rattle.match_workers.proofs.LeftLines.{seats_of_ports}
 use Rattle.match_workers.proofs.LineParts.{opens_match, ends_of, as_many, role_lines}
-use Rattle.match_workers.proofs.refereeing.referee.Goals as goal
+use Rattle.match_workers.proofs.refereeing.referee_shared.Goals as goal
 
 pub attend_match-requires-clause-first : goal.attend_match-requires-clause-first
 attend_match-requires-clause-first g c κs within =
@@ -19,7 +21,7 @@ attend_match-requires-clause-seats g c κs within =
     seats_of_ports c.in_ok-holder.holder.desk.ports c.open_match.new.holder.desk.ports c.in_ok-holder.others.items c.open_match.ensures.ports (omega (arith, opened.desk, opened.one_each)) opened.seats
 
 pub attend_match-requires-clause-roles : goal.attend_match-requires-clause-roles
-attend_match-requires-clause-roles g c κs within = c.in_ok-holder.ensures.one_each ∙ sym c.in_ok-brief.ensures.roles.one_each
+attend_match-requires-clause-roles g c κs within = c.in_ok-holder.ensures.one_each ∙ sym (ap (λ (b : Brief). length b.roles) c.brief_of-brief.ensures ∙ c.in_ok-roles.ensures.one_each)
 
 pub attend_match-requires-clause-ports : goal.attend_match-requires-clause-ports
 attend_match-requires-clause-ports g c κs within = omega (arith, c.in_ok-holder.ensures.desk, c.in_ok-holder.ensures.one_each, c.open_match.ensures.ports.count)
@@ -49,22 +51,22 @@ returns-clause-first_line g c =
 
 pub returns-clause-one_end_each : goal.returns-clause-one_end_each
 returns-clause-one_end_each g c =
-    as_many g.P.Player.handed c.in_ok-brief.brief c.args.tries c.args.players.items c.in_ok-closed.closed.history.items c.in_ok-desk.field-0.lines.items c.in_ok-desk.field-0.ends.items
+    as_many g.P.Player.handed c.brief_of-brief.result c.args.tries c.args.players.items c.in_ok-closed.closed.history.items c.in_ok-desk.field-0.lines.items c.in_ok-desk.field-0.ends.items
     c.in_ok-desk.ensures.ends c.in_ok-closed.ensures.served c.in_ok-closed.ensures.replies c.in_ok-desk.field-0.desk.ports (g.G.Game.rules c.args.game).roles c.in_ok-desk.ensures.lines
     (c.in_ok-desk.ensures.ports.count ∙ c.open_match.ensures.ports.count ∙ c.in_ok-holder.ensures.desk) c.in_ok-closed.ensures.all
 
 pub returns-clause-role_lines : goal.returns-clause-role_lines
 returns-clause-role_lines g c =
-    role_lines g.P.Player.handed c.in_ok-brief.brief c.args.tries c.args.players.items c.in_ok-closed.closed.history.items c.in_ok-desk.field-0.lines.items c.in_ok-desk.field-0.ends.items
-    c.in_ok-desk.ensures.ends c.in_ok-closed.ensures.served c.in_ok-closed.ensures.replies c.args.setup.id (g.G.Game.rules c.args.game).roles c.in_ok-brief.ensures.id
-    (as_many g.P.Player.handed c.in_ok-brief.brief c.args.tries c.args.players.items c.in_ok-closed.closed.history.items c.in_ok-desk.field-0.lines.items c.in_ok-desk.field-0.ends.items
+    role_lines g.P.Player.handed c.brief_of-brief.result c.args.tries c.args.players.items c.in_ok-closed.closed.history.items c.in_ok-desk.field-0.lines.items c.in_ok-desk.field-0.ends.items
+    c.in_ok-desk.ensures.ends c.in_ok-closed.ensures.served c.in_ok-closed.ensures.replies c.args.setup.id (g.G.Game.rules c.args.game).roles (ap (λ (b : Brief). b.id) c.brief_of-brief.ensures ∙ c.in_ok-id.ensures)
+    (as_many g.P.Player.handed c.brief_of-brief.result c.args.tries c.args.players.items c.in_ok-closed.closed.history.items c.in_ok-desk.field-0.lines.items c.in_ok-desk.field-0.ends.items
     c.in_ok-desk.ensures.ends c.in_ok-closed.ensures.served c.in_ok-closed.ensures.replies c.in_ok-desk.field-0.desk.ports (g.G.Game.rules c.args.game).roles c.in_ok-desk.ensures.lines
     (c.in_ok-desk.ensures.ports.count ∙ c.open_match.ensures.ports.count ∙ c.in_ok-holder.ensures.desk) c.in_ok-closed.ensures.all)
 
 pub returns-clause-ends : goal.returns-clause-ends
 returns-clause-ends g c = (
-  c.in_ok-brief.brief,
-  c.in_ok-brief.ensures,
-  ends_of g.P.Player.handed c.in_ok-brief.brief c.args.tries c.args.players.items c.in_ok-closed.closed.history.items c.in_ok-desk.field-0.lines.items c.in_ok-desk.field-0.ends.items
+  c.brief_of-brief.result,
+  subst (IsBriefOf (g.G.Game.rules c.args.game) c.args.setup _) (sym c.brief_of-brief.ensures) (record { id = c.in_ok-id.ensures; roles = c.in_ok-roles.ensures; rules_are = refl; start = refl; play = refl }),
+  ends_of g.P.Player.handed c.brief_of-brief.result c.args.tries c.args.players.items c.in_ok-closed.closed.history.items c.in_ok-desk.field-0.lines.items c.in_ok-desk.field-0.ends.items
       c.in_ok-desk.ensures.ends c.in_ok-closed.ensures.served c.in_ok-closed.ensures.replies,
 )

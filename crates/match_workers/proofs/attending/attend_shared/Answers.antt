@@ -1,8 +1,8 @@
 use Rattle.std.proofs.Common.{arith}
 use Rattle.std.proofs.lemmas.Result.{err_from_is_err_and}
 use Rattle.match_workers.proofs.Workers.{goes-rests, goes-hands_over, attends-over, stops-asking, stops-handing}
-use Rattle.match_workers.proofs.attending.attend.Goals as goal
-use Rattle.match_workers.proofs.attending.attend.Goals.{in-Owe+in_ok-hand_over-in-Owe, in-Hold}
+use Rattle.match_workers.proofs.attending.attend_shared.Goals as goal
+use Rattle.match_workers.proofs.attending.attend_shared.Goals.{in-Owe+in_ok-hand_over-in-Owe, in-Hold}
 
 pub returns-in_err-round-clause-early : goal.returns-in_err-round-clause-early
 returns-in_err-round-clause-early g c =

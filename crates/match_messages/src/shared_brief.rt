@@ -1,0 +1,44 @@
+//! The data of a match, lent.
+ghost use Rattle.std.specs.Prelude.{◌≡◌, IfOk, length};
+
+use crate::start_rules::StartRules;
+use game_core::{Text, Texts};
+use std::alloc::{AllocError, Global};
+use std::marker::Model;
+
+/// The data of a match that its players get, lent. Contracts see the `Brief` with that data.
+#[derive(Drop)]
+pub struct SharedBrief<'r> {
+    pub id: &'r Text,
+    pub roles: &'r Texts,
+    pub rules: StartRules<'r>,
+    pub start: u32,
+    pub play: u32,
+}
+
+impl<'r> Model for SharedBrief<'r> {
+    ghost use Rattle.std.specs.Coded.{codes};
+    ghost use Rattle.kif_text.specs.contracts.expr.Expr as expr;
+    ghost use Rattle.match_messages.specs.declared.brief.Brief.{Brief};
+    ghost use Rattle.match_messages.specs.StartRules.{sentences_of};
+
+    ghost Value = { Brief };
+
+    ghost coded = { Prim.hlevel (codes, expr.the_row.coded) };
+
+    ghost view = { λ b. record { id = b.id.now; roles = b.roles.now; rules = sentences_of b.rules; start = b.start; play = b.play } };
+}
+
+impl SharedBrief<'_> {
+    pub fn copy_id(&self, alloc: Global) -> Result<Text, AllocError>
+        ensures { IfOk result (λ id. id ≡ self.now.id) }
+    {
+        self.id.copy(alloc)
+    }
+
+    pub fn role_count(&self) -> usize
+        ensures { result ≡ length self.now.roles }
+    {
+        self.roles.as_slice().len()
+    }
+}

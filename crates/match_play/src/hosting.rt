@@ -1,0 +1,47 @@
+//! A game as matches are held of it.
+ghost use Rattle.std.specs.Prelude.{◌≡◌, map, IfOk};
+ghost use Rattle.game_core.specs.Expression.{Expressions, all_folded};
+ghost use Rattle.kif_text.specs.Spelling.{SpellsAll};
+ghost use Rattle.kif_text.specs.View.{view, views};
+ghost use Rattle.packed_rules.specs.PackedGames.{sentences_of};
+
+use kif_text::{Expr, KifFault, copy, read_all};
+use match_messages::PrintedRules;
+use packed_rules::PackedGame;
+use std::alloc::{AllocError, Global};
+
+/// A game as matches are held of it: the game that the referee plays, and the rules that START carries to its players.
+#[derive(Clone, Copy)]
+pub struct HostedGame<'g> {
+    pub game: &'g PackedGame,
+    pub rules: &'g PrintedRules,
+}
+
+fn copies(alloc: Global, sentences: &[Expr]) -> Result<Vec<Expr>, AllocError>
+    ensures { IfOk result (λ copies. views copies.items ≡ views sentences.now) }
+{
+    let mut rules = Vec::with_capacity(alloc, sentences.len())?;
+    for sentence in sentences {
+        rules.push(copy(alloc, sentence)?)?;
+    }
+    Ok(rules)
+}
+
+/// The sentences of the game's own description, printed.
+pub fn own_rules(alloc: Global, game: &PackedGame) -> Result<PrintedRules, AllocError>
+    ensures { IfOk result (λ printed. map view printed.items ≡ sentences_of game.now) }
+{
+    let sentences = copies(alloc, game.description())?;
+    PrintedRules::of(alloc, &sentences)
+}
+
+/// The sentences of a description in another form, without capitals, printed: the players are given it in place of the game's own.
+pub fn other_rules(alloc: Global, text: &[u8]) -> Result<PrintedRules, KifFault>
+    ensures { IfOk result (λ printed. (sentences : Expressions) × SpellsAll text.now sentences × (views printed.items ≡ all_folded sentences)) }
+{
+    let sentences = read_all(alloc, text)?;
+    match PrintedRules::without_capitals(alloc, sentences.as_slice()) {
+        Ok(printed) => Ok(printed),
+        Err(AllocError) => Err(KifFault::Memory),
+    }
+}
