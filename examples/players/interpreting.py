@@ -3,8 +3,9 @@
 
     interpreting.py PORT [SEED | first]
 
-It interprets the rules that START carries, by the interpreter of examples/games/general, and is else as player.py. With `first` in the
-place of a seed it plays the first of its legal moves in the order of their texts.
+It interprets the rules that START carries, by the interpreter of examples/games/general, and is else as player.py. On standard error it
+says how many sentences they are, and how many have variables. With `first` in the place of a seed it plays the first of its legal moves
+in the order of their texts.
 """
 
 import pathlib
@@ -21,8 +22,19 @@ class Game(interpreter.Game):
     """The game of a description with variables, as a player asks for it."""
 
     def legal(self, state, role):
-        legal, _, _ = self.view(state)
-        return sorted(legal[self.roles.index(role)], key=show)
+        found = self.asked(state, (), lambda look: look.answers(("legal", role, "?move")))
+        return sorted((move for _, _, move in found), key=show)
+
+
+def count_text(sentences):
+    """Returns how many sentences there are, and how many of them have variables, as text."""
+    return f"rules of {len(sentences):,} sentences, {sum(not interpreter.is_ground(it) for it in sentences):,} with variables"
+
+
+def make_game(sentences):
+    """Returns the game that START tells, and says how many sentences that are."""
+    print(count_text(sentences), file=sys.stderr)
+    return Game(sentences)
 
 
 def main():
@@ -30,7 +42,7 @@ def main():
         sys.exit(__doc__)
     port, *seed = sys.argv[1:]
     choose = (lambda moves: moves[0]) if seed == ["first"] else random.Random(*map(int, seed)).choice
-    serve(int(port), Player(choose, Game))
+    serve(int(port), Player(choose, make_game))
 
 
 if __name__ == "__main__":
