@@ -34,7 +34,8 @@ checks all that follows. By hand, in this folder:
     ggp_manager replay --rules-file rules/GAME.kif < accounts/ID.txt      each call got its reply, and the record comes of them
     ggp_competition table                                                 the schedule follows from competition.toml, the table from the records
 
-The rules are ground descriptions; games has the descriptions that they were made from. The version of the referee is in VERSION.
+The rules are ground descriptions; games has the descriptions that they were made from. Where rules/GAME.told is there, the players of
+that game were told this in place of rules/GAME.kif. The version of the referee is in VERSION.
 What this does not show: that the players of these names sent these answers, and when. Keep the sum of the archive as you got it.
 """
 
@@ -55,7 +56,8 @@ def contents(plan, referee, results):
     yield "schedule.tsv", folder.schedule
     yield "rules/SHA256SUMS", folder.rule_sums()
     for game in plan.competition.games:
-        yield f"rules/{game.name}.kif", folder.rules_of(game.name)
+        for file in folder.rule_files(game):
+            yield f"rules/{file.name}", file
         yield f"games/{game.name}.kif", folder.path / game.file
     for it in results:
         for file in (folder.record(it.match.id), folder.account(it.match.id), folder.log(it.match.id)):
@@ -153,7 +155,7 @@ def faults_of_files(folder, plan, results, wanted):
             yield f"pages/{name} does not follow from the records"
     known = {SUMS, VERSION, HOW, "competition.toml", "schedule.tsv", "rules/SHA256SUMS", *wanted}
     for it in plan.competition.games:
-        known |= {f"rules/{it.name}.kif", f"games/{it.name}.kif"}
+        known |= {f"games/{it.name}.kif", *(f"rules/{file.name}" for file in plan.folder.rule_files(it))}
     for it in results:
         known |= {f"records/{it.match.id}.json", f"accounts/{it.match.id}.txt", f"logs/{it.match.id}.txt"}
     for name in files_below(folder):

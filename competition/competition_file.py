@@ -13,6 +13,8 @@ HOST = re.compile(r"[A-Za-z0-9_.@:-]+")
 MOST_SECONDS, MOST_STRIKES, MOST_PLAYERS, MOST_ROUNDS = 86_400, 255, 1_000, 1_000
 KINDS = ("round_robin", "gauntlet", "schedule")
 ABSENT = ("leave", "play")
+# What START carries: the rules that the referee plays, or the description that they were made from.
+TOLD = ("ground", "variables")
 ROOT_KEYS = ("name", "start", "play", "strikes", "tries", "wait", "info", "absent", "forfeit", "hosts", "form", "games", "players")
 
 
@@ -35,13 +37,20 @@ class Mistaken(Exception):
 
 @dataclass(frozen=True)
 class Game:
-    """A game that is played: its name, the file of its description, and its clocks in seconds."""
+    """A game that is played: its name, the file of its description, its clocks in seconds, and what its players are told of its rules,
+    with the line that says so."""
 
     name: str
     file: str
     start: int
     play: int
+    told: str
+    told_line: int
     line: int
+
+    def tells_variables(self):
+        """Returns whether players are told the description with variables."""
+        return self.told == TOLD[1]
 
 
 @dataclass(frozen=True)
@@ -94,9 +103,13 @@ class Section:
     def __init__(self, table, prefix, mistakes):
         self.table, self.prefix, self.mistakes = table, prefix, mistakes
 
-    def mistake(self, key, words, line=None):
+    def line(self, key):
+        """Returns the line of the key, or that of the table where it is missing."""
         item = self.table.items.get(key)
-        self.mistakes.append(Mistake(line or (item.line if item else self.table.line), f"{self.prefix}{key}", words))
+        return item.line if item else self.table.line
+
+    def mistake(self, key, words, line=None):
+        self.mistakes.append(Mistake(line or self.line(key), f"{self.prefix}{key}", words))
 
     def refuse_others(self, keys):
         for key in self.table.items:
@@ -180,10 +193,10 @@ def refuse_twice(sections, key):
 def games_of(root, clocks):
     found, sections = [], root.sections("games")
     for it in sections:
-        it.refuse_others(("name", "file", "start", "play"))
+        it.refuse_others(("name", "file", "start", "play", "told"))
         name = it.name("name", NAME, 40, FIRST)
         start, play = (it.number(key, 1, MOST_SECONDS, clock) for key, clock in zip(("start", "play"), clocks))
-        found.append(Game(name, it.text("file"), start, play, it.table.line))
+        found.append(Game(name, it.text("file"), start, play, it.word("told", TOLD, TOLD[0]), it.line("told"), it.table.line))
     refuse_twice(sections, "name")
     return found
 

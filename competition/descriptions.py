@@ -8,6 +8,7 @@ import pathlib
 import re
 import subprocess
 import sys
+import tempfile
 from dataclasses import dataclass
 
 TOP = pathlib.Path(__file__).resolve().parent.parent
@@ -25,11 +26,17 @@ class NoDescription(Exception):
 
 @dataclass(frozen=True)
 class Rules:
-    """The ground description of a game: its bytes, their sum, and the names of its roles."""
+    """The ground description of a game: its bytes, their sum, and the names of its roles; and the bytes of the description with
+    variables that players are told, or none where they are told the rules themselves."""
 
     text: bytes
     sum: str
     roles: tuple
+    told: bytes | None = None
+
+
+def sum_of(data):
+    return hashlib.sha256(data).hexdigest()
 
 
 def script_module(path, name):
@@ -101,22 +108,26 @@ def has_variables(text):
     return any(token.startswith(b"?") for token in TOKEN.findall(COMMENT.sub(b" ", text)))
 
 
-def instantiated(path):
-    """Returns the ground description that `instantiate` makes of a file."""
-    made = subprocess.run([sys.executable, str(INSTANTIATE), str(path)], capture_output=True)
-    if made.returncode:
-        raise NoDescription(made.stderr.decode(errors="replace").strip().splitlines()[-1])
-    return made.stdout
+def instantiated(path, tells_variables):
+    """Returns the ground description that `instantiate` makes of a file, and the description for players where it is asked for."""
+    with tempfile.TemporaryDirectory() as room:
+        told = pathlib.Path(room) / "told"
+        words = ["--told", str(told)] if tells_variables else []
+        made = subprocess.run([sys.executable, str(INSTANTIATE), *words, str(path)], capture_output=True)
+        if made.returncode:
+            raise NoDescription(made.stderr.decode(errors="replace").strip().splitlines()[-1])
+        return made.stdout, told.read_bytes() if tells_variables else None
 
 
-def rules_of(text, referee):
-    """Returns the rules that a ground description says, as the referee reads it, or none."""
+def rules_of(text, referee, told=None):
+    """Returns the rules that a ground description says, as the referee reads it, or none; with what players are told."""
     roles = referee.roles(text)
-    return Rules(text, hashlib.sha256(text).hexdigest(), roles) if roles else None
+    return Rules(text, sum_of(text), roles, told) if roles else None
 
 
-def load_description(path, referee):
-    """Returns the rules of the game that a file describes."""
+def load_description(path, referee, tells_variables):
+    """Returns the rules of the game that a file describes, with what its players are told. That is nothing beside the rules where the
+    file has no variables, whatever is asked for."""
     try:
         with open(path, "rb") as it:
             text = it.read(MOST_BYTES + 1)
@@ -124,11 +135,11 @@ def load_description(path, referee):
         raise NoDescription(f"it can't be read: {why.strerror}") from None
     if len(text) > MOST_BYTES:
         raise NoDescription(f"it has more than {MOST_BYTES:,} bytes")
-    places = sentence_places(text)
+    places, told = sentence_places(text), None
     if has_variables(text):
         look_at_sentences(text, places, False)
-        text = instantiated(path)
-    rules = rules_of(text, referee)
+        text, told = instantiated(path, tells_variables)
+    rules = rules_of(text, referee, told)
     if not rules:
         look_at_sentences(text, places, True)
         raise NoDescription("the referee says: bad description")

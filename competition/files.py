@@ -40,6 +40,14 @@ class Folder:
     def rules_of(self, game):
         return self.rules / f"{game}.kif"
 
+    def told_of(self, game):
+        """The file of what players are told of the rules. All rules end in .kif, so those of no game have this name."""
+        return self.rules / f"{game}.told"
+
+    def rule_files(self, game):
+        """The files that `plan` writes of a game of competition.toml: its rules, and what players are told in their place."""
+        return [self.rules_of(game.name), *([self.told_of(game.name)] if game.tells_variables() else [])]
+
     def rule_sums(self):
         return self.rules / "SHA256SUMS"
 

@@ -87,17 +87,18 @@ class OpenMatch:
 
     def play(self):
         """Plays the match. Returns what the referee wrote and said, and when it began and ended; none where it gives no record."""
-        competition, folder = self.plan.competition, self.plan.folder
+        competition, match = self.plan.competition, self.match
         write_whole(self.room / "players", "".join(f"{it}\n" for it in self.places).encode())
-        words = self.referee.run_words(folder.rules_of(self.match.game).absolute(), self.match, competition.strikes, self.places)
+        rules, told = self.plan.folder.rules_of(match.game).absolute(), self.plan.told_path(match.game)
+        words = self.referee.run_words(rules, told and told.absolute(), match, competition.strikes, self.places)
         given, job_log, host = "/dev/null", self.room / "joblog", b""
         if competition.hosts:
             given = self.room / "line"
-            given.write_text(remote_line(words, self.match.id, self.places))
+            given.write_text(remote_line(words, match.id, self.places))
             words = parallel_words(competition.hosts, competition.tries, job_log)
         self.stage, began = "playing", moment()
         child = self.child(words, "played", given)
-        self.tell.begins(self.match)
+        self.tell.begins(match)
         while not child.is_over():
             yield
         self.seconds = time.monotonic() - child.began

@@ -5,7 +5,7 @@ import html
 import shutil
 import time
 
-from competition.descriptions import TOP, script_module
+from competition.descriptions import TOP, script_module, sum_of
 from competition.files import write_whole
 from competition.results import times_of
 from competition.table import tables_of
@@ -89,6 +89,21 @@ MATCH_HEADS = ["match", "game", "players and goals", "turns", "replaced moves", 
 LEFT = {0, 1, 2, 4, 5}
 
 
+def rules_parts(rules):
+    """Returns the rules of a game, and before them what its players are told in their place, where they are."""
+    if rules.told is not None:
+        yield "<h2>Rules for players</h2><p>Players are told these rules, with variables; the referee plays the ground rules below.</p>"
+        yield rules_text(rules.told)
+        yield "<h2>Ground rules</h2>"
+    else:
+        yield "<h2>Rules</h2>"
+    yield rules_text(rules.text)
+
+
+def rules_text(text):
+    return f'<p class="dim">SHA-256: {sum_of(text)}</p><pre>{html.escape(text.decode("ascii", "backslashreplace"))}</pre>'
+
+
 class Pages:
     """The pages of a competition. A match's page and its row are made once."""
 
@@ -167,7 +182,6 @@ class Pages:
     def game_page(self, found, results):
         plan, game = self.plan, next(it for it in self.plan.competition.games if it.name == found.game)
         rules = plan.rules[found.game]
-        text = html.escape(rules.text.decode("ascii", "backslashreplace"))
         return page(
             f"{plan.competition.name}: {found.game}",
             f"<p>{link('../index.html', plan.competition.name)}</p><h1>{html.escape(found.game)}</h1>",
@@ -175,7 +189,7 @@ class Pages:
             *standings(found),
             "<h2>Matches</h2>",
             self.matches(results, True),
-            f'<h2>Rules</h2><p class="dim">SHA-256: {rules.sum}</p><pre>{text}</pre>',
+            *rules_parts(rules),
         )
 
 

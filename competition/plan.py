@@ -5,7 +5,7 @@ import re
 from dataclasses import dataclass
 
 from competition.competition_file import Competition, Mistake, Mistaken, read_competition
-from competition.descriptions import NoDescription, load_description, rules_of
+from competition.descriptions import NoDescription, load_description, rules_of, sum_of
 from competition.files import Folder, write_whole
 from competition.schedule import planned, schedule_text
 
@@ -27,6 +27,10 @@ class Plan:
 
     def roles(self, game):
         return self.rules[game].roles
+
+    def told_path(self, game):
+        """Returns the file of what the game's players are told of its rules, or none where they are told the rules themselves."""
+        return None if self.rules[game].told is None else self.folder.told_of(game)
 
 
 def read_file(path):
@@ -64,9 +68,12 @@ def loaded_games(folder, competition, referee):
             mistakes.append(Mistake(game.line, "games.file", f"{path}: a description can't stand in {folder.rules}, where `plan` writes the rules"))
             continue
         try:
-            found[game.name] = load_description(path, referee)
+            rules = found[game.name] = load_description(path, referee, game.tells_variables())
         except NoDescription as why:
             mistakes.append(Mistake(game.line, "games.file", f"{path}: {why}"))
+            continue
+        if game.tells_variables() and rules.told is None:
+            mistakes.append(Mistake(game.told_line, "games.told", f'{path} has no variables: "ground" is wanted'))
     if mistakes:
         raise Refused(told(folder.competition, mistakes))
     return found
@@ -84,8 +91,10 @@ def make_plan(path, referee):
     competition = competition_of(folder)
     rules = loaded_games(folder, competition, referee)
     matches = matches_of(folder, competition, rules)
-    wanted = {folder.schedule: schedule_text(matches), **{folder.rules_of(name): it.text for name, it in rules.items()}}
-    wanted[folder.rule_sums()] = sums_text({f"{name}.kif": it.sum for name, it in rules.items()})
+    wanted = {folder.rules_of(name): it.text for name, it in rules.items()}
+    wanted |= {folder.told_of(name): it.told for name, it in rules.items() if it.told is not None}
+    wanted[folder.rule_sums()] = sums_text({file.name: sum_of(data) for file, data in wanted.items()})
+    wanted[folder.schedule] = schedule_text(matches)
     played = folder.records.is_dir() and any(folder.records.glob("*.json"))
     for file, data in wanted.items():
         if played and (not file.exists() or file.read_bytes() != data):
@@ -100,19 +109,28 @@ def make_plan(path, referee):
     return Plan(folder, competition, rules, matches)
 
 
+def read_rules(folder, competition, referee):
+    """Returns the rules of each game by its name, as `plan` wrote them."""
+    sums, found = {name.decode(errors="replace"): it.decode() for it, name in SUM_LINE.findall(read_file(folder.rule_sums()))}, {}
+    if sums.keys() != {file.name for game in competition.games for file in folder.rule_files(game)}:
+        raise Refused(f"{folder.rule_sums()} is not what {folder.competition} says: `ggp_competition plan` writes it anew")
+    for game in competition.games:
+        files = folder.rule_files(game)
+        written = list(map(read_file, files))
+        others = [file for file, data in zip(files, written) if sum_of(data) != sums[file.name]]
+        found[game.name] = None if others else rules_of(written[0], referee, *written[1:])
+        if not found[game.name]:
+            raise Refused(f"{(others or files)[0]} is not what `ggp_competition plan` wrote")
+    return found
+
+
 def read_plan(path, referee):
     """Returns the competition that was planned in a folder. Refuses one whose rules or schedule are not those of the plan."""
     folder = Folder(path)
     competition = competition_of(folder)
     if not folder.schedule.exists():
         raise Refused(f"{folder.schedule} is not there: `ggp_competition plan` writes it")
-    sums = {name.decode(): it.decode() for it, name in SUM_LINE.findall(read_file(folder.rule_sums()))}
-    rules = {}
-    for game in competition.games:
-        file = folder.rules_of(game.name)
-        rules[game.name] = rules_of(read_file(file), referee)
-        if not rules[game.name] or rules[game.name].sum != sums.get(f"{game.name}.kif"):
-            raise Refused(f"{file} is not what `ggp_competition plan` wrote")
+    rules = read_rules(folder, competition, referee)
     matches = matches_of(folder, competition, rules)
     if read_file(folder.schedule) != schedule_text(matches):
         raise Refused(f"{folder.schedule} is not what {folder.competition} says: `ggp_competition plan` writes it anew")

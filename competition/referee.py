@@ -56,10 +56,11 @@ class Referee:
         records = [it for it in said.stdout.splitlines() if it.startswith(b"{")]
         return tuple(json.loads(records[0])["roles"]) if records else ()
 
-    def run_words(self, rules_path, match, strikes, places):
-        """Returns the command that plays a match."""
+    def run_words(self, rules_path, told_path, match, strikes, places):
+        """Returns the command that plays a match; START carries the rules of the second path where there is one."""
+        told = [] if told_path is None else ["--told", str(told_path)]
         options = f"--id={match.id}", f"--start={match.start}", f"--play={match.play}", f"--strikes={strikes}", "--history", "--log"
-        return [self.path, "run", "--rules-file", str(rules_path), *options, "--", *places]
+        return [self.path, "run", "--rules-file", str(rules_path), *told, *options, "--", *places]
 
     def info_words(self, place):
         return [self.path, "info", "--", place]

@@ -14,7 +14,7 @@ import tempfile
 import time
 import unittest
 
-from competition.tests.players import TestPlayer
+from competition.tests.players import TestPlayer, example
 from competition.tests.support import GAMES, InFolder, program, run, start
 
 PLAYERS_AT = "10.77.9.1"
@@ -125,10 +125,9 @@ class Hosts(InFolder):
     def hosts(self):
         return [line.split()[1] for it in sorted((self.folder / "logs").iterdir()) for line in it.read_text().splitlines() if line.startswith("host ")]
 
-    def planned(self):
-        self.players = [TestPlayer(f"p{it}", "slow", it, at=PLAYERS_AT) for it in range(4)]
-        places = [(it.name, it.place()) for it in self.players]
-        self.schedule = self.plan(places, [("countdown", GAMES / "countdown.kif")], head=HEAD)
+    def planned(self, count=4, game=("countdown", GAMES / "countdown.kif")):
+        self.players = [TestPlayer(f"p{it}", "slow", it, at=PLAYERS_AT) for it in range(count)]
+        self.schedule = self.plan([(it.name, it.place()) for it in self.players], [game], head=HEAD)
 
     def begun(self):
         """Begins the competition; returns when a match is played on the first machine."""
@@ -141,7 +140,7 @@ class Hosts(InFolder):
     def assert_whole(self):
         self.assert_sound(self.schedule)
         errors = {error for record in self.records().values() for turn in record["errors"] for error in turn}
-        self.assertEqual((errors, [it.clashes for it in self.players]), ({""}, [[]] * 4))
+        self.assertEqual((errors, [it.clashes for it in self.players]), ({""}, [[]] * len(self.players)))
         hosts = self.hosts()
         self.assertEqual((len(hosts), set(hosts) - {f"root@{it.at}" for it in self.machines}), (len(self.schedule), set()))
 
@@ -154,6 +153,15 @@ class Hosts(InFolder):
         self.assert_whole()
         self.assertTrue(any(it.begun.count(match) == 2 for it in self.players for match in it.begun), "no match was taken over")
         print(f"{len(self.schedule)} matches on two hosts, one of which was lost: each has one lawful record", flush=True)
+
+    @unittest.skipUnless(shutil.which("gringo"), "gringo is not installed")
+    def test_players_are_told_rules_with_variables(self):
+        self.planned(2, ("nim", GAMES / "general/nim.kif", 'told = "variables"'))
+        status, out, said = run(self.folder, "play", env=self.environment)
+        self.assertEqual((status, said), (0, ""), out)
+        self.assert_whole()
+        told = tuple(example.read((self.folder / "rules/nim.told").read_text()))
+        self.assertEqual([it.told for it in self.players], [dict.fromkeys((it[0] for it in self.schedule), told)] * 2)
 
     def test_ended_and_killed_and_gone_on(self):
         self.planned()

@@ -8,6 +8,7 @@ import time
 from competition.descriptions import TOP, script_module
 
 example = script_module(TOP / "examples/players/player.py", "player")
+interpreting = script_module(TOP / "examples/players/interpreting.py", "interpreting")
 
 KINDS = ("good", "slow", "closing", "dripping", "lying", "dying")
 SLOW, DRIP, AWAY = 0.12, 0.3, 1.0
@@ -17,7 +18,7 @@ LIFE = 7
 
 class TestPlayer(threading.Thread):
     """A player that is strict: while it sits in as many matches as it takes it says so to INFO, and takes no START. What it took is
-    kept."""
+    kept, and so is what it was told of the rules of each match. It plays ground rules, and such with variables."""
 
     __test__ = False
 
@@ -28,6 +29,7 @@ class TestPlayer(threading.Thread):
         self.matches, self.most, self.plays = {}, most, 0
         # The ids of matches that began, were aborted, and were offered while it sat in another.
         self.begun, self.aborted, self.clashes = [], [], []
+        self.told = {}
         self.status, self.is_gone = None, False
         self.at = at
         self.socket = socket.create_server((at, 0), backlog=64)
@@ -93,9 +95,10 @@ class TestPlayer(threading.Thread):
                 if match in self.matches or len(self.matches) >= self.most:
                     self.clashes.append(match)
                     return "busy"
-                game = example.Game(rules)
+                game = interpreting.Game(rules) if has_variables(rules) else example.Game(rules)
                 self.matches[match] = role, game, game.initial()
                 self.begun.append(match)
+                self.told[match] = rules
                 return "ready"
             case ("play", match, moves) if match in self.matches:
                 return self.move(match, moves)
@@ -113,6 +116,10 @@ class TestPlayer(threading.Thread):
             self.matches[match] = role, game, state
         move = example.show(self.random.choice(game.legal(state, role)))
         return "(no such move)" if self.kind == "lying" else move
+
+
+def has_variables(expression):
+    return expression.startswith("?") if isinstance(expression, str) else any(map(has_variables, expression))
 
 
 def message_of(connection):

@@ -42,10 +42,10 @@ def slowness():
 
 
 def toml(players, games, form='kind = "round_robin"', head=""):
-    """Returns the text of a competition.toml: players as (name, address) and what else, games as (name, file)."""
+    """Returns the text of a competition.toml: players as (name, address) and what else, games as (name, file) and what else."""
     lines = ['name = "cup"', *head.splitlines(), "[form]", *form.splitlines()]
-    for name, file in games:
-        lines += ["[[games]]", f'name = "{name}"', f'file = "{file}"']
+    for name, file, *more in games:
+        lines += ["[[games]]", f'name = "{name}"', f'file = "{file}"', *more]
     for name, address, *more in players:
         lines += ["[[players]]", f'name = "{name}"', f'address = "{address}"', *more]
     return "\n".join(lines) + "\n"

@@ -72,6 +72,12 @@ def renamed(data):
     return data.replace(b'"ann"', b'"eve"')
 
 
+def files_of(path):
+    """Returns what is in an archive."""
+    with tarfile.open(path) as archive:
+        return {it.name: archive.extractfile(it).read() for it in archive}
+
+
 SPOILINGS = {
     "a bit of a record is turned, sums as they were": (None, "is not the one of its sum"),
     "the archive is cut off": (None, "can't be unpacked"),
@@ -124,8 +130,7 @@ class Archive(unittest.TestCase):
         self.other = pathlib.Path(other.name)
 
     def files(self):
-        with tarfile.open(self.archive) as archive:
-            return {it.name: archive.extractfile(it).read() for it in archive}
+        return files_of(self.archive)
 
     def plain_spoilings(self, files):
         """Returns the spoilings that are not of one file with sums that fit."""

@@ -55,6 +55,16 @@ class BadInput(InFolder):
         self.write(PLAYERS, [("nim", "rules/nim.kif")])
         self.assert_refused("competition.toml:4: games.file: rules/nim.kif: a description can't stand in rules, where `plan` writes the rules")
 
+    def test_rules_with_variables_of_a_game_that_has_none(self):
+        (self.folder / "one.kif").write_text("(role ?a")
+        games = [("one", "one.kif", 'told = "variables"'), ("two", "two.kif"), ("three", GAMES / "countdown.kif", "", 'told = "variables"')]
+        self.write(PLAYERS, games)
+        self.assert_refused([
+            "competition.toml:4: games.file: one.kif: line 1, column 1: a list",
+            "competition.toml:8: games.file: two.kif: it can't be read",
+            f'competition.toml:15: games.told: {GAMES}/countdown.kif has no variables: "ground" is wanted',
+        ])
+
     def test_a_number_of_players_that_does_not_fit(self):
         self.write(PLAYERS[:1], [("tictactoe", GAMES / "tictactoe.kif")])
         self.assert_refused("competition.toml:4: games.file: tictactoe has 2 roles, and there are 1 players")

@@ -37,6 +37,9 @@ MISTAKES = [
     ('name = "go"', 'name = "-go"', [(12, "games.name", "is no name")]),
     ('name = "go"', 'name = "g/o"', [(12, "games.name", "is no name")]),
     ('file = "go.kif"', "", [(11, "games.file", "missing")]),
+    ('file = "go.kif"', 'file = "go.kif"\ntold = "both"', [(14, "games.told", "none of ground, variables")]),
+    ('file = "go.kif"', 'file = "go.kif"\ntold = true', [(14, "games.told", "a text in quotes")]),
+    ('file = "go.kif"', 'file = "go.kif"\n\ntell = "ground"', [(15, "games.tell", "no such key; there are name, file, start, play, told")]),
     ('name = "bob"', 'name = "ann"', [(18, "players.name", "'ann' stands in line 15 already")]),
     ('name = "bob"', 'name = "b b"', [(18, "players.name", "is no name")]),
     ('"[::1]:9148"', '"10.0.0.1:9147"', [(19, "players.address", "line 16 already")]),
@@ -78,6 +81,10 @@ class CompetitionFile(unittest.TestCase):
         self.assertEqual((found.name, found.strikes, found.hosts), ("cup", 3, ("one", "me@two")))
         self.assertEqual([(it.name, it.place(), it.concurrent) for it in found.players][1:], [("bob", "bob@[::1]:9148", 1), ("cid", "cid@host.example:9149", 3)])
         self.assertEqual([(it.name, it.start, it.play) for it in found.games], [("chess", 30, 10), ("go", 30, 10)])
+
+    def test_what_players_are_told(self):
+        found = read_competition(GOOD.replace('file = "go.kif"', 'file = "go.kif"\ntold = "variables"').encode())
+        self.assertEqual([(it.told_line, it.tells_variables()) for it in found.games], [(8, False), (14, True)])
 
     def test_each_mistake_is_told(self):
         for old, new, wanted in MISTAKES:

@@ -19,7 +19,8 @@ class Install(unittest.TestCase):
             self.assertEqual(said, f"{prefix}/bin/ggp_competition\n")
             shutil.copy(program(), prefix / "bin/ggp_manager")
             cup.mkdir()
-            games = [("countdown", GAMES / "countdown.kif"), *([("nim", GAMES / "general/nim.kif")] if shutil.which("gringo") else [])]
+            nim = [("nim", GAMES / "general/nim.kif", 'told = "variables"')] if shutil.which("gringo") else []
+            games = [("countdown", GAMES / "countdown.kif"), *nim]
             (cup / "competition.toml").write_text(toml([("ann", "h:1"), ("bob", "h:2")], games))
             # Found by the path of the shell, as whoever has installed it calls it.
             environment = {**os.environ, "PATH": f"{prefix}/bin:{os.environ['PATH']}"}

@@ -47,7 +47,8 @@ class PagesOfMany(unittest.TestCase):
         folder.make(folder.records, folder.logs)
         players = [(f"p{it}", f"h:{it + 1}") for it in range(25)]
         competition = read_competition(toml(players, [("one", "f")], 'kind = "gauntlet"\none = "p0"\nrounds = 7').encode())
-        self.plan = Plan(folder, competition, {"one": Rules(b"; </pre><script>\n(role a)", "0" * 64, ("<i>", "b"))}, [])
+        rules = Rules(b"; </pre><script>\n(role a)", "0" * 64, ("<i>", "b"), b"(role ?<script>)")
+        self.plan = Plan(folder, competition, {"one": rules}, [])
         self.plan.matches = planned(competition, {"one": 2})[:300]
         self.results = []
         for number, match in enumerate(self.plan.matches):
@@ -72,7 +73,8 @@ class PagesOfMany(unittest.TestCase):
         first = (pages.folder / "index.html").read_text()
         self.assertIn("300 of 300 matches are over. From 2026-01-02 03:04:05 to 2026-01-02 03:04:07 UTC.", first)
         self.assertIn("<td>2.5", first)
-        self.assertIn("&lt;/pre&gt;&lt;script&gt;", (pages.folder / "games/one.html").read_text())
+        for it in ("&lt;/pre&gt;&lt;script&gt;", "(role ?&lt;script&gt;)"):
+            self.assertIn(it, (pages.folder / "games/one.html").read_text())
         self.assertNotIn("<script", first + (pages.folder / "games/one.html").read_text())
 
     def test_now_and_then(self):
