@@ -15,7 +15,7 @@ use std::time::{Clock, Duration, Instant};
 use whole_streams::Pieces;
 
 /// How many bytes of a message or an answer a line shows.
-const SHOWN: usize = 60;
+const SHOWN: usize = 200;
 
 /// The beginning of a text that any bytes may be in: `?` stands for each that is not seen, and dots for what follows.
 #[derive(Drop)]
