@@ -2,10 +2,9 @@
 
 use crate::arguments::ArgumentFault;
 use game_commands::Fault;
-use http_exchange::WireFault;
 use match_play::MatchFault;
 use match_season::SeasonFault;
-use network_players::ContactFault;
+use network_players::{ContactFault, Shortage};
 use player_check::CheckFault;
 
 impl From<ArgumentFault> for Fault {
@@ -46,7 +45,7 @@ pub fn check_fault(fault: CheckFault) -> Fault {
 /// The fault of the program where a message to a player fails.
 pub fn contact_fault(fault: ContactFault) -> Fault {
     match fault {
-        ContactFault::Memory | ContactFault::Exchange(WireFault::Memory) => Fault::Memory,
+        ContactFault::Shortage(Shortage::Memory) => Fault::Memory,
         _ => Fault::NoAnswer,
     }
 }

@@ -5,7 +5,7 @@ use crate::status::{Progress, StatusStream};
 use match_book::Answer;
 use match_plans::{PlayerAddress, Reach, Seat};
 use match_workers::Player;
-use network_players::{ContactFault, Explains, time_since};
+use network_players::{ContactFault, Explains, Shortage, TellsShortages, time_since};
 use std::alloc::{AllocError, Global};
 use std::fmt;
 use std::fmt::Write as _;
@@ -36,7 +36,8 @@ impl fmt::Display for Shown<'_> {
     }
 }
 
-/// What a message brought, as a line shows it: the answer, or `TO` or `CE` with the reason where one is known.
+/// What a message brought, as a line shows it: the answer, or `TO` or `CE` with the reason where one is known. What the referee was
+/// short of is none of these.
 #[derive(Drop)]
 struct Brought<'a> {
     answer: &'a Answer,
@@ -45,6 +46,9 @@ struct Brought<'a> {
 
 impl fmt::Display for Brought<'_> {
     fn fmt<F: fmt::Write>(&self, f: &mut fmt::Formatter<F>) -> fmt::Result {
+        if let Some(ContactFault::Shortage(shortage)) = self.why {
+            return write!(f, "lost ({shortage})");
+        }
         match self.answer {
             Answer::Text(text) => {
                 return Shown {
@@ -157,6 +161,12 @@ impl<H: Clock + Wait, P: Explains, E: Write> LoggedPlayer<'_, H, P, E> {
             stream: &mut *stream,
         }
         .write_str(line.as_str());
+    }
+}
+
+impl<H, S: TellsShortages, E> TellsShortages for Logging<'_, H, S, E> {
+    fn shortage(&self, place: usize) -> Option<Shortage> {
+        self.reach.shortage(place)
     }
 }
 

@@ -1,38 +1,68 @@
 -- What an exchange with a player counts as.
-use Rattle.std.specs.Prelude.{ℕ, Bool, true, false, List, Result, Ok, Err}
+use Rattle.std.specs.Prelude.{ℕ, List, Option, Some, None, Result, Ok, Err}
 use Rattle.std.specs.declared.io.ErrorKind.{ErrorKind}
-use Rattle.std.specs.declared.io.ErrorKind.TheVariants.{WouldBlock, TimedOut, OutOfMemory}
+use Rattle.std.specs.declared.io.ErrorKind.TheVariants.{WouldBlock, TimedOut}
 use Rattle.match_book.specs.declared.answer.Answer.{Answer}
 use Rattle.match_book.specs.declared.answer.Answer.TheVariants.{Text, Silent, Broken}
 use Rattle.http_exchange.specs.declared.wire_fault.WireFault.{WireFault}
-use Rattle.http_exchange.specs.declared.wire_fault.WireFault.TheVariants.{ReadFault}
+use Rattle.http_exchange.specs.declared.wire_fault.WireFault.TheVariants as wire
+use Rattle.network_players.specs.declared.shortage.Shortage.{Shortage}
+use Rattle.network_players.specs.declared.shortage.Shortage.TheVariants.{Ports, Memory}
+use Rattle.network_players.specs.declared.deadline.Halt.{Halt}
+use Rattle.network_players.specs.declared.deadline.Halt.TheVariants as halts
 use Rattle.network_players.specs.declared.contacting.ContactFault.{ContactFault}
-use Rattle.network_players.specs.declared.contacting.ContactFault.TheVariants.{NoAddress, NoConnection, Late, NoClock, Memory, Exchange}
+use Rattle.network_players.specs.declared.contacting.ContactFault.TheVariants as faults
 
 -- no answer in time is a silence, every other fault a broken answer
 abbrev pub answer_of : Result (List ℕ) WireFault → Answer
 answer_of (Ok text) = Text text
-answer_of (Err (ReadFault WouldBlock)) = Silent
-answer_of (Err (ReadFault TimedOut)) = Silent
+answer_of (Err (wire.ReadFault WouldBlock)) = Silent
+answer_of (Err (wire.ReadFault TimedOut)) = Silent
 answer_of (Err fault) = Broken
 
--- where the time was over there is a silence, and without a connection a broken answer
+-- Where the time was over there is a silence, and without a connection a broken answer. A shortage of the referee's counts as broken
+-- too; a match that has one has no record.
 abbrev pub contact_answer : Result (List ℕ) ContactFault → Answer
 contact_answer (Ok text) = answer_of (Ok text)
-contact_answer (Err (Exchange fault)) = answer_of (Err fault)
-contact_answer (Err Late) = Silent
-contact_answer (Err NoAddress) = Broken
-contact_answer (Err NoConnection) = Broken
-contact_answer (Err NoClock) = Broken
-contact_answer (Err Memory) = Broken
+contact_answer (Err (faults.Exchange fault)) = answer_of (Err fault)
+contact_answer (Err faults.Late) = Silent
+contact_answer (Err fault) = Broken
 
--- a step that failed for want of memory or of time is that fault, and else the step's own
-abbrev pub step_fault : ErrorKind → ContactFault → ContactFault
-step_fault OutOfMemory otherwise = Memory
-step_fault TimedOut otherwise = Late
-step_fault kind otherwise = otherwise
+-- a step without time is late, and one for which the referee is short of something has that shortage
+abbrev pub halt_fault : Halt → ContactFault
+halt_fault halts.Late = faults.Late
+halt_fault (halts.Short shortage) = faults.Shortage shortage
 
--- an exchange that had no time left failed by that, and else by its own fault
-abbrev pub exchange_fault : Bool → WireFault → ContactFault
-exchange_fault true fault = Late
-exchange_fault false fault = Exchange fault
+abbrev pub short_fault : Option Shortage → ContactFault
+short_fault (Some shortage) = faults.Shortage shortage
+short_fault None = faults.NoConnection
+
+-- the fault of an address to which no connection was made, by the kind of the system's error and the shortage that it tells
+abbrev pub address_fault : ErrorKind → Option Shortage → ContactFault
+address_fault TimedOut shortage = faults.Late
+address_fault kind shortage = short_fault shortage
+
+-- the fault of an address behind others, of which each but those that no port reaches had the fault before
+abbrev pub fault_so_far : ContactFault → ContactFault → ContactFault
+fault_so_far (faults.Shortage Ports) last = last
+fault_so_far (faults.Shortage shortage) last = faults.Shortage shortage
+fault_so_far faults.NoAddress last = last
+fault_so_far before (faults.Shortage Ports) = before
+fault_so_far before last = last
+
+-- a message that had to wait for a shortage and then had no time has the shortage for its fault
+abbrev pub fault_after : Option Shortage → ContactFault → ContactFault
+fault_after (Some shortage) faults.Late = faults.Shortage shortage
+fault_after waited fault = fault
+
+abbrev pub exchange_fault : Option ℕ → WireFault → ContactFault
+exchange_fault status wire.Memory = faults.Shortage Memory
+exchange_fault (Some status) wire.BadStatus = faults.Status status
+exchange_fault status fault = faults.Exchange fault
+
+-- What an exchange came to: nothing where the last read or write does not count; else the body, or the exchange's own fault, with the
+-- status that the reply told.
+abbrev pub outcome_of : Option Halt → Option ℕ → Result (List ℕ) WireFault → Result (List ℕ) ContactFault
+outcome_of (Some halt) status exchanged = Err (halt_fault halt)
+outcome_of None status (Ok text) = Ok text
+outcome_of None status (Err fault) = Err (exchange_fault status fault)

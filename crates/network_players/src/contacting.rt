@@ -1,15 +1,18 @@
 //! A message to a player, on a connection of its own.
 ghost use Rattle.std.specs.Prelude.{◌≡◌};
-ghost use Rattle.network_players.specs.Contacts.{step_fault, exchange_fault};
+ghost use Rattle.network_players.specs.Contacts.{address_fault, fault_so_far, fault_after, halt_fault, outcome_of};
 
-use crate::deadline::{Deadline, TimedStream};
+use crate::deadline::{Deadline, Halt, TimedStream};
+use crate::lookup::Lookup;
+use crate::shortage::{Shortage, shortage_of};
 use game_core::{Counted, Text};
 use http_exchange::{WireFault, exchange};
 use match_plans::PlayerAddress;
 use std::alloc::Global;
 use std::io::ErrorKind;
-use std::net::{Net, TcpStream, ToSocketAddrs};
-use std::time::Clock;
+use std::net::{Net, SocketAddr, TcpStream};
+use std::thread;
+use std::time::{Clock, Duration};
 use thiserror::Error;
 
 /// Why a message brought no answer.
@@ -24,15 +27,24 @@ pub enum ContactFault {
     /// The seconds were over before the connection was made, the request written or the reply read.
     #[error("no answer in time")]
     Late,
-    /// The clock can't be read.
-    #[error("no clock")]
-    NoClock,
-    /// Want of memory before there was a connection.
-    #[error("want of memory")]
-    Memory,
+    /// The referee was short of this. The message was not sent for it, or too late to be answered in time, or its answer was lost.
+    #[error("{0}")]
+    Shortage(Shortage),
+    /// The reply has this status.
+    #[error("the status is {0}{note}", note = status_note(*.0))]
+    Status(u16),
     /// The exchange on the connection failed.
     #[error("{0}")]
     Exchange(WireFault),
+}
+
+/// What is wrong with a status other than 200.
+fn status_note(status: u16) -> &'static str {
+    if status < 200 {
+        ", which announces an answer and is none"
+    } else {
+        ", not 200"
+    }
 }
 
 /// Who can say why the last message brought no answer.
@@ -43,54 +55,176 @@ pub trait Explains {
     }
 }
 
-/// The fault of a step before the exchange that failed with an error of this kind: this one, but for want of memory and of time.
-fn step_fault(kind: ErrorKind, otherwise: ContactFault) -> ContactFault
-    ensures { result ≡ step_fault kind otherwise }
+/// For how many milliseconds a player waits, at most, before it tries again what the referee was short of something for.
+const PAUSE_MILLIS: u64 = 50;
+
+/// How often a player tries to connect for one message: with those pauses, for longer than a clock has.
+const MAX_TRIES: u32 = 2_000_000;
+
+/// The fault of a step that has no time, or for which the referee is short of something.
+fn halt_fault(halt: Halt) -> ContactFault
+    ensures { result ≡ halt_fault halt }
+{
+    match halt {
+        Halt::Late => ContactFault::Late,
+        Halt::Short(shortage) => ContactFault::Shortage(shortage),
+    }
+}
+
+/// The fault of an address to which no connection was made, by the kind of the error and the shortage that it tells, if it does.
+fn address_fault(kind: ErrorKind, shortage: Option<Shortage>) -> ContactFault
+    ensures { result ≡ address_fault kind shortage }
 {
     match kind {
-        ErrorKind::OutOfMemory => ContactFault::Memory,
         ErrorKind::TimedOut => ContactFault::Late,
-        _ => otherwise,
+        _ => match shortage {
+            Some(shortage) => ContactFault::Shortage(shortage),
+            None => ContactFault::NoConnection,
+        },
     }
 }
 
-/// The fault of a failed exchange, over a stream that had no time left or had.
-fn exchange_fault(is_late: bool, fault: WireFault) -> ContactFault
-    ensures { result ≡ exchange_fault is_late fault }
+/// The fault of all addresses so far, by that of those before the last one and that of the last. An address that no port reaches says
+/// nothing where another one was tried.
+fn fault_so_far(before: ContactFault, last: ContactFault) -> ContactFault
+    ensures { result ≡ fault_so_far before last }
 {
-    if is_late {
-        ContactFault::Late
-    } else {
-        ContactFault::Exchange(fault)
+    match (before, last) {
+        (ContactFault::Shortage(Shortage::Ports), last) => last,
+        (ContactFault::Shortage(shortage), _) => ContactFault::Shortage(shortage),
+        (ContactFault::NoAddress, last) => last,
+        (before, ContactFault::Shortage(Shortage::Ports)) => before,
+        (_, last) => last,
     }
 }
 
-/// A connection to the first of the player's addresses that takes one, made within what is left.
-fn connect<N: Net + Clock>(
+/// The fault of a message that had to wait for what the referee was short of, if it had to: where it then had no time the shortage is
+/// to blame.
+fn fault_after(waited: Option<Shortage>, fault: ContactFault) -> ContactFault
+    ensures { result ≡ fault_after waited fault }
+{
+    match (waited, fault) {
+        (Some(shortage), ContactFault::Late) => ContactFault::Shortage(shortage),
+        (_, fault) => fault,
+    }
+}
+
+/// What an exchange came to, by the halt of the last read or write, if there was one, and by the reply's status, if it told one.
+fn outcome_of(
+    halt: Option<Halt>,
+    status: Option<u16>,
+    exchanged: Result<Text, WireFault>,
+) -> Result<Text, ContactFault>
+    ensures { result ≡ outcome_of halt status exchanged }
+{
+    if let Some(halt) = halt {
+        return Err(halt_fault(halt));
+    }
+    match (exchanged, status) {
+        (Ok(text), _) => Ok(text),
+        (Err(WireFault::Memory), _) => Err(ContactFault::Shortage(Shortage::Memory)),
+        (Err(WireFault::BadStatus), Some(status)) => Err(ContactFault::Status(status)),
+        (Err(fault), _) => Err(ContactFault::Exchange(fault)),
+    }
+}
+
+/// A connection to the first of the addresses that takes one, made within what is left.
+fn connect_once<N: Net + Clock>(
     net: &N,
-    player: &PlayerAddress<'_>,
+    addresses: &[SocketAddr],
     deadline: Deadline,
 ) -> Result<N::Stream, ContactFault> {
-    let addresses = match (player.host, player.port).to_socket_addrs(net) {
-        Ok(addresses) => addresses,
-        Err(error) => return Err(step_fault(error.kind(), ContactFault::NoAddress)),
-    };
     let mut fault = ContactFault::NoAddress;
     for address in addresses {
         let left = match deadline.left(net) {
             Ok(left) => left,
-            Err(error) => return Err(step_fault(error.kind(), ContactFault::NoClock)),
+            Err(halt) => return Err(halt_fault(halt)),
         };
-        match TcpStream::connect_timeout(net, &address, left) {
+        match TcpStream::connect_timeout(net, address, left) {
             Ok(stream) => return Ok(stream),
-            Err(error) => fault = step_fault(error.kind(), ContactFault::NoConnection),
+            Err(error) => {
+                let last = address_fault(error.kind(), shortage_of(&error));
+                fault = fault_so_far(fault, last);
+            }
         }
     }
     Err(fault)
 }
 
-/// The body of the player's answer to a message. Connecting, writing and reading take so many seconds at most together. What looking
-/// up the host's name takes counts too, and is not cut off.
+/// Whom a message is for, and by when it has to be answered.
+#[derive(Clone, Copy)]
+struct Errand<'a> {
+    player: &'a PlayerAddress<'a>,
+    deadline: Deadline,
+}
+
+/// A connection to the player, made within what is left. While the referee is short of something it is tried again, which is noted.
+fn connect<N: Net + Clock>(
+    net: &N,
+    alloc: Global,
+    errand: Errand<'_>,
+    lookup: &mut Lookup,
+    waited: &mut Option<Shortage>,
+) -> Result<N::Stream, ContactFault> {
+    let Errand { player, deadline } = errand;
+    for _ in 0..MAX_TRIES {
+        let connected = match lookup.addresses(net, alloc, player) {
+            Ok(addresses) => connect_once(net, addresses, deadline),
+            Err(shortage) => Err(ContactFault::Shortage(shortage)),
+        };
+        let Err(ContactFault::Shortage(shortage)) = connected else {
+            return connected;
+        };
+        *waited = Some(shortage);
+        match deadline.left(net) {
+            Ok(left) => thread::sleep(net, left.min(Duration::from_millis(PAUSE_MILLIS))),
+            Err(halt) => return Err(halt_fault(halt)),
+        }
+    }
+    Err(ContactFault::Late)
+}
+
+/// Sends the player the message and reads its answer, over that connection.
+fn exchange_over<N: Net + Clock>(
+    net: &N,
+    alloc: Global,
+    errand: Errand<'_>,
+    stream: N::Stream,
+    body: &[u8],
+) -> Result<Text, ContactFault> {
+    let mut stream = Counted::new(TimedStream::new(net, errand.deadline, stream));
+    let exchanged = exchange(alloc, &mut stream, errand.player.name.as_bytes(), body);
+    let stream = stream.end();
+    outcome_of(stream.halt(), stream.status(), exchanged)
+}
+
+/// The body of the player's answer to a message. Looking up the host, connecting, writing and reading take so many seconds at most
+/// together; only the lookup is not cut off.
+pub fn contact_found<N: Net + Clock>(
+    net: &N,
+    alloc: Global,
+    player: &PlayerAddress<'_>,
+    lookup: &mut Lookup,
+    seconds: u32,
+    body: &[u8],
+) -> Result<Text, ContactFault> {
+    let deadline = match Deadline::within(net, seconds) {
+        Ok(deadline) => deadline,
+        Err(shortage) => return Err(ContactFault::Shortage(shortage)),
+    };
+    let errand = Errand { player, deadline };
+    let mut waited = None;
+    let reached = match connect(net, alloc, errand, lookup, &mut waited) {
+        Ok(stream) => exchange_over(net, alloc, errand, stream, body),
+        Err(fault) => Err(fault),
+    };
+    match reached {
+        Ok(text) => Ok(text),
+        Err(fault) => Err(fault_after(waited, fault)),
+    }
+}
+
+/// The body of the player's answer to one message, whose host is looked up for it.
 pub fn contact<N: Net + Clock>(
     net: &N,
     alloc: Global,
@@ -98,14 +232,5 @@ pub fn contact<N: Net + Clock>(
     seconds: u32,
     body: &[u8],
 ) -> Result<Text, ContactFault> {
-    let deadline = match Deadline::within(net, seconds) {
-        Ok(deadline) => deadline,
-        Err(error) => return Err(step_fault(error.kind(), ContactFault::NoClock)),
-    };
-    let stream = connect(net, player, deadline)?;
-    let mut stream = Counted::new(TimedStream::new(net, deadline, stream));
-    match exchange(alloc, &mut stream, player.name.as_bytes(), body) {
-        Ok(text) => Ok(text),
-        Err(fault) => Err(exchange_fault(stream.end().is_late(), fault)),
-    }
+    contact_found(net, alloc, player, &mut Lookup::new(), seconds, body)
 }

@@ -1,7 +1,10 @@
 //! One deadline for all that a message takes.
-ghost use Rattle.std.specs.Prelude.{◌≡◌, ◌+◌, ◌*◌, ◌<◌, ◌≤◌, ◌↔◌, ◌⊎◌, IsTrue, IsSome, IfSome, IfOk};
+ghost use Rattle.std.specs.Prelude.{◌≡◌, ◌+◌, ◌*◌, ◌<◌, ◌≤◌, ◌↔◌, IsSome, IfSome, IfOk};
 ghost use Rattle.std.specs.Duration.{as_nanos};
+ghost use Rattle.network_players.specs.Shortages.{failed_halt};
 
+use crate::reply_front::ReplyFront;
+use crate::shortage::{Shortage, shortage_of};
 use std::io;
 use std::io::{ErrorKind, Read, Write};
 use std::net::OpenStream;
@@ -18,6 +21,14 @@ fn left_of(limit: Duration, passed: Duration) -> Option<Duration>
     }
 }
 
+/// Why a step of a message counts for nothing, whatever it brought.
+#[derive(Clone, Copy, PartialEq, Eq)]
+pub enum Halt {
+    /// The message's seconds are over.
+    Late,
+    Short(Shortage),
+}
+
 /// When a message was begun, and how long it may take.
 #[derive(Clone, Copy)]
 pub struct Deadline {
@@ -27,41 +38,57 @@ pub struct Deadline {
 
 impl Deadline {
     /// So many seconds from now on.
-    pub fn within(clock: &impl Clock, seconds: u32) -> io::Result<Deadline>
+    pub fn within(clock: &impl Clock, seconds: u32) -> Result<Deadline, Shortage>
         ensures { IfOk result (λ deadline. as_nanos deadline.limit ≡ seconds * 1_000_000_000) }
     {
-        Ok(Deadline {
-            start: Instant::now(clock)?,
-            limit: Duration::from_secs(u64::from(seconds)),
-        })
+        match Instant::now(clock) {
+            Ok(start) => Ok(Deadline {
+                start,
+                limit: Duration::from_secs(u64::from(seconds)),
+            }),
+            Err(_) => Err(Shortage::Clock),
+        }
     }
 
-    /// What is left. With nothing left it is an error of kind `TimedOut`.
-    pub fn left(&self, clock: &impl Clock) -> io::Result<Duration>
+    /// What is left.
+    pub fn left(&self, clock: &impl Clock) -> Result<Duration, Halt>
         ensures some { IfOk result (λ left. 0 < as_nanos left) }
         ensures within { IfOk result (λ left. as_nanos left ≤ as_nanos self.now.limit) }
     {
-        match left_of(self.limit, self.start.elapsed(clock)?) {
+        let passed = match self.start.elapsed(clock) {
+            Ok(passed) => passed,
+            Err(_) => return Err(Halt::Short(Shortage::Clock)),
+        };
+        match left_of(self.limit, passed) {
             Some(left) => Ok(left),
-            None => Err(io::Error::from(ErrorKind::TimedOut)),
+            None => Err(Halt::Late),
         }
     }
 }
 
-/// Whether a read or a write that failed so had no time left.
-fn is_late(kind: ErrorKind) -> bool
-    ensures { IsTrue result ↔ ((kind ≡ ErrorKind.TimedOut) ⊎ (kind ≡ ErrorKind.WouldBlock)) }
+/// Why a read or a write that failed with an error of this kind, and by this shortage, if there is one, came to nothing, where that was
+/// not the player's doing.
+fn failed_halt(kind: ErrorKind, shortage: Option<Shortage>) -> Option<Halt>
+    ensures { result ≡ failed_halt kind shortage }
 {
-    matches!(kind, ErrorKind::TimedOut | ErrorKind::WouldBlock)
+    match kind {
+        ErrorKind::TimedOut | ErrorKind::WouldBlock => Some(Halt::Late),
+        _ => match shortage {
+            Some(shortage) => Some(Halt::Short(shortage)),
+            None => None,
+        },
+    }
 }
 
-/// A stream whose reads and writes all end by one deadline: before each, what is left becomes its limit.
+/// A stream whose reads and writes all end by one deadline: before each, what is left becomes its limit. What a read gave counts only
+/// where the deadline was still to come when the read ended.
 #[derive(Drop)]
 pub struct TimedStream<'a, C, S> {
     clock: &'a C,
     deadline: Deadline,
     stream: S,
-    is_late: bool,
+    halt: Option<Halt>,
+    front: ReplyFront,
 }
 
 impl<'a, C: Clock, S: OpenStream> TimedStream<'a, C, S> {
@@ -70,13 +97,19 @@ impl<'a, C: Clock, S: OpenStream> TimedStream<'a, C, S> {
             clock,
             deadline,
             stream,
-            is_late: false,
+            halt: None,
+            front: ReplyFront::new(),
         }
     }
 
-    /// Whether the last read or write that failed had no time left.
-    pub fn is_late(&self) -> bool {
-        self.is_late
+    /// Why the last read or write does not count: none where it does, or failed by the player's doing.
+    pub fn halt(&self) -> Option<Halt> {
+        self.halt
+    }
+
+    /// The status of the reply, as far as what was read begins with one.
+    pub fn status(&self) -> Option<u16> {
+        self.front.status()
     }
 }
 
@@ -84,15 +117,23 @@ impl<C: Clock, S: Read + OpenStream> Read for TimedStream<'_, C, S> {
     ghost remaining = { λ t. S.remaining t.stream };
 
     fn read(&mut self, buf: &mut [u8]) -> io::Result<usize> {
-        let given = match self.deadline.left(self.clock) {
-            Ok(left) => match self.stream.set_read_timeout(Some(left)) {
-                Ok(()) => self.stream.read(buf),
-                Err(error) => Err(error),
-            },
+        let left = match self.deadline.left(self.clock) {
+            Ok(left) => left,
+            Err(halt) => {
+                self.halt = Some(halt);
+                return Err(io::Error::from(ErrorKind::TimedOut));
+            }
+        };
+        let given = match self.stream.set_read_timeout(Some(left)) {
+            Ok(()) => self.stream.read(buf),
             Err(error) => Err(error),
         };
-        if let Err(error) = &given {
-            self.is_late = is_late(error.kind());
+        match &given {
+            Ok(count) => {
+                self.halt = self.deadline.left(self.clock).err();
+                self.front.note(&buf[..*count]);
+            }
+            Err(error) => self.halt = failed_halt(error.kind(), shortage_of(error)),
         }
         given
     }
@@ -102,16 +143,21 @@ impl<C: Clock, S: Write + OpenStream> Write for TimedStream<'_, C, S> {
     ghost contents = { λ t. S.contents t.stream };
 
     fn write(&mut self, buf: &[u8]) -> io::Result<usize> {
-        let taken = match self.deadline.left(self.clock) {
-            Ok(left) => match self.stream.set_write_timeout(Some(left)) {
-                Ok(()) => self.stream.write(buf),
-                Err(error) => Err(error),
-            },
+        let left = match self.deadline.left(self.clock) {
+            Ok(left) => left,
+            Err(halt) => {
+                self.halt = Some(halt);
+                return Err(io::Error::from(ErrorKind::TimedOut));
+            }
+        };
+        let taken = match self.stream.set_write_timeout(Some(left)) {
+            Ok(()) => self.stream.write(buf),
             Err(error) => Err(error),
         };
-        if let Err(error) = &taken {
-            self.is_late = is_late(error.kind());
-        }
+        self.halt = match &taken {
+            Ok(_) => None,
+            Err(error) => failed_halt(error.kind(), shortage_of(error)),
+        };
         taken
     }
 

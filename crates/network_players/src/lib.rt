@@ -8,9 +8,13 @@
 
 mod contacting;
 mod deadline;
+mod lookup;
+mod reply_front;
+mod shortage;
 mod signal;
 mod socket_player;
 
 pub use contacting::{ContactFault, Explains, contact};
+pub use shortage::{Shortage, shortage_of};
 pub use signal::{Pace, Signal, time_since};
-pub use socket_player::{SocketPlayer, Sockets, answer_of};
+pub use socket_player::{SocketPlayer, Sockets, TellsShortages, answer_of};

@@ -2,7 +2,9 @@
 ghost use Rattle.std.specs.Prelude.{◌≡◌, ◌<◌, length};
 ghost use Rattle.network_players.specs.Contacts.{answer_of, contact_answer};
 
-use crate::contacting::{ContactFault, Explains, contact};
+use crate::contacting::{ContactFault, Explains, contact_found};
+use crate::lookup::Lookup;
+use crate::shortage::Shortage;
 use crate::signal::{Pace, Signal};
 use game_core::Text;
 use http_exchange::WireFault;
@@ -20,22 +22,39 @@ use std::time::Clock;
 #[derive(Drop)]
 pub struct Sockets<'a, H> {
     pub rt: &'a H,
-    /// One for each place that a match may have. Where there are fewer the matches share them, and their players may rest for longer.
+    /// One for each place that a match may have. Where there are fewer the matches share them: their players may rest for longer, and
+    /// what the referee was short of in one counts for all of these.
     pub signals: &'a [Signal],
     ghost has_one: { 0 < length signals.now },
 }
 
-/// A player on the network. Each message goes over a connection of its own.
+/// Who can say what the referee was short of in a match. Such a match has no record: some answer in it is no answer of the player's.
+pub trait TellsShortages {
+    /// What it was short of in the match at this place, if anything. This is known once the match is over.
+    fn shortage(&self, _place: usize) -> Option<Shortage> {
+        None
+    }
+}
+
+/// A player on the network. Each message goes over a connection of its own, to the addresses that its host had for the first one.
 #[derive(Drop)]
 pub struct SocketPlayer<'a, H> {
     rt: &'a H,
+    signal: &'a Signal,
     pace: Pace<'a>,
     alloc: Global,
     name: String,
     host: String,
     port: u16,
+    lookup: Lookup,
     /// Why the last message brought no answer: none where it brought one.
     fault: Option<ContactFault>,
+}
+
+impl<H> TellsShortages for Sockets<'_, H> {
+    fn shortage(&self, place: usize) -> Option<Shortage> {
+        self.signals[place % self.signals.len()].shortage()
+    }
 }
 
 impl<'a, H: Net + Clock> Reach<SocketPlayer<'a, H>> for Sockets<'a, H> {
@@ -50,11 +69,13 @@ impl<'a, H: Net + Clock> Reach<SocketPlayer<'a, H>> for Sockets<'a, H> {
         let host = String::from_str(alloc, address.host)?;
         Ok(SocketPlayer {
             rt: self.rt,
+            signal,
             pace: Pace::new(signal),
             alloc,
             name,
             host,
             port: address.port,
+            lookup: Lookup::new(),
             fault: None,
         })
     }
@@ -71,7 +92,8 @@ pub fn answer_of(exchanged: Result<Text, WireFault>) -> Answer
     }
 }
 
-/// What handing a message over came to: where the time was over a silence, without a connection a broken answer.
+/// What handing a message over came to: where the time was over a silence, without a connection a broken answer. A shortage of the
+/// referee's counts as a broken answer too, in a match that has no record for it.
 fn contact_answer(reached: Result<Text, ContactFault>) -> Answer
     ensures { result ≡ contact_answer reached }
 {
@@ -82,8 +104,8 @@ fn contact_answer(reached: Result<Text, ContactFault>) -> Answer
         Err(
             ContactFault::NoAddress
             | ContactFault::NoConnection
-            | ContactFault::NoClock
-            | ContactFault::Memory,
+            | ContactFault::Shortage(_)
+            | ContactFault::Status(_),
         ) => Answer::Broken,
     }
 }
@@ -107,9 +129,19 @@ impl<H: Net + Clock + Wait> Player for SocketPlayer<'_, H> {
             host: self.host.as_str(),
             port: self.port,
         };
-        let reached = contact(self.rt, self.alloc, &address, seconds, body);
-        self.pace.end(self.rt);
+        let reached = contact_found(
+            self.rt,
+            self.alloc,
+            &address,
+            &mut self.lookup,
+            seconds,
+            body,
+        );
+        self.pace.end();
         self.fault = reached.as_ref().err().copied();
+        if let Some(ContactFault::Shortage(shortage)) = self.fault {
+            self.signal.note(shortage);
+        }
         contact_answer(reached)
     }
 

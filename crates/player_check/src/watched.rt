@@ -142,13 +142,13 @@ impl<H: Clock + Wait, P: Player + Explains> Player for Participant<'_, H, P> {
     fn ask(&mut self, seconds: u32, body: &[u8]) -> Answer {
         self.pace.begin();
         let Some(player) = &mut self.watched else {
-            self.pace.end(self.rt);
+            self.pace.end();
             return Answer::Silent;
         };
         let began = Instant::now(self.rt).ok();
         let answer = player.ask(seconds, body);
         let millis = time_since(self.rt, began).as_millis();
-        self.pace.end(self.rt);
+        self.pace.end();
         let exchange = exchange_of(self.alloc, body, &answer, player.why(), millis);
         self.exchanges.lock(self.rt).keep(exchange);
         answer

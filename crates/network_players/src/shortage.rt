@@ -1,0 +1,83 @@
+//! What the referee itself is short of, for which no player is to blame.
+ghost use Rattle.std.specs.Prelude.{◌≡◌, Some};
+ghost use Rattle.std.specs.IoError.{error_kind, raw_os_error};
+ghost use Rattle.network_players.specs.Shortages.{coded_shortage, error_shortages, shortage_in, system_shortage};
+
+use std::io;
+use std::io::ErrorKind;
+use thiserror::Error;
+
+/// What the referee is short of where a message can't be handed over, whoever it is for.
+#[derive(Clone, Copy, Debug, PartialEq, Eq, Error)]
+pub enum Shortage {
+    /// The process, or the system, has as many descriptors open as it may.
+    #[error("out of descriptors")]
+    Descriptors,
+    /// No port is free for the near end of a connection.
+    #[error("out of ports")]
+    Ports,
+    #[error("out of memory")]
+    Memory,
+    /// The clock can't be read.
+    #[error("no clock")]
+    Clock,
+}
+
+/// What the error of this number says that the system is short of, for the errors of Linux that have no kind of their own.
+fn error_shortage(number: u32) -> Option<Shortage>
+    ensures { result ≡ shortage_in error_shortages number }
+{
+    match number {
+        // ENFILE and EMFILE.
+        23 | 24 => Some(Shortage::Descriptors),
+        // ENOBUFS.
+        105 => Some(Shortage::Memory),
+        _ => None,
+    }
+}
+
+/// What an error of this kind and this number, if it has one, says that the system is short of.
+fn system_shortage(kind: ErrorKind, number: Option<i32>) -> Option<Shortage>
+    ensures { result ≡ system_shortage kind number }
+{
+    match kind {
+        ErrorKind::OutOfMemory => Some(Shortage::Memory),
+        ErrorKind::AddrNotAvailable | ErrorKind::WouldBlock => Some(Shortage::Ports),
+        _ => match number {
+            Some(number) => error_shortage(number.unsigned_abs()),
+            None => None,
+        },
+    }
+}
+
+/// What an error of the system on the way to a player says that the referee is short of. Every other error is the player's.
+pub fn shortage_of(error: &io::Error) -> Option<Shortage>
+    ensures { result ≡ system_shortage (error_kind error.now) (raw_os_error error.now) }
+{
+    system_shortage(error.kind(), error.raw_os_error())
+}
+
+/// The number that stands for a shortage where threads share it.
+pub(crate) fn code_of(shortage: Shortage) -> u64
+    ensures { coded_shortage result ≡ Some shortage }
+{
+    match shortage {
+        Shortage::Descriptors => 1,
+        Shortage::Ports => 2,
+        Shortage::Memory => 3,
+        Shortage::Clock => 4,
+    }
+}
+
+/// The shortage that a number stands for. 0 stands for none.
+pub(crate) fn coded(code: u64) -> Option<Shortage>
+    ensures { result ≡ coded_shortage code }
+{
+    match code {
+        1 => Some(Shortage::Descriptors),
+        2 => Some(Shortage::Ports),
+        3 => Some(Shortage::Memory),
+        4 => Some(Shortage::Clock),
+        _ => None,
+    }
+}
