@@ -13,7 +13,7 @@ use match_plans::{PlayerAddress, Reach, read_schedule};
 use match_play::{Entrants, HostedGame, PlayedMatch, entrants_of, played_match};
 use match_season::{Fixture, fixtures, play_season};
 use match_workers::Player;
-use network_players::{Explains, contact};
+use network_players::{ContactFault, Explains, contact};
 use player_check::check_player;
 use std::alloc::Global;
 use std::fmt::Write as _;
@@ -159,7 +159,7 @@ where
         Task::Season(plan) => {
             season::<H, P, S, R, W, E>(rt, alloc, reach, plan, reader, writer, console)
         }
-        Task::Info(player) => info(rt, alloc, &player, writer),
+        Task::Info(player) => info(rt, alloc, &player, writer, console),
         Task::Check(trial) => check::<H, P, S, W, E>(rt, alloc, reach, trial, writer, console),
     }
 }
@@ -255,15 +255,37 @@ fn info_line(info: Info) -> &'static [u8] {
     }
 }
 
-fn info<N: Net + Clock, W: Write>(
+/// Says in a line why a player gave no answer, where the stream is a terminal: elsewhere all of it is the fault's own line. A failed
+/// write of it is passed by.
+fn tell_contact<R: Wait, E: Write>(
+    rt: &R,
+    console: &Console<'_, E>,
+    player: &PlayerAddress<'_>,
+    fault: ContactFault,
+) {
+    if !console.is_terminal {
+        return;
+    }
+    let mut stream = console.stream.lock(rt);
+    let mut pieces = Pieces {
+        stream: &mut *stream,
+    };
+    let _ = writeln!(pieces, "ggp_manager: {}: {fault}", player.name);
+}
+
+fn info<N: Net + Clock + Wait, W: Write, E: Write>(
     rt: &N,
     alloc: Global,
     player: &PlayerAddress<'_>,
     writer: &mut Counted<W>,
+    console: &Console<'_, E>,
 ) -> Result<(), Fault> {
     let answer = match contact(rt, alloc, player, INFO_SECONDS, &info_message()) {
         Ok(answer) => answer,
-        Err(fault) => return Err(contact_fault(fault)),
+        Err(fault) => {
+            tell_contact(rt, console, player, fault);
+            return Err(contact_fault(fault));
+        }
     };
     let info = read_info(alloc, answer.as_slice())?;
     Ok(write_all(writer, info_line(info))?)
