@@ -1,6 +1,7 @@
 -- Games that are described in text.
 use Rattle.std.specs.Prelude.{◌≢◌, ℕ, List, map}
 use Rattle.game_core.specs.Expression.{Expression, Expressions, folded}
+use Rattle.kif_text.specs.Faults.{IsFault, any_number}
 use Rattle.kif_text.specs.Spelling.{SpellsAll}
 use Rattle.kif_text.specs.View.{expressions}
 use Rattle.rule_sentences.specs.declared.fault.LoadFault.{LoadFault}
@@ -13,7 +14,7 @@ use Rattle.kif_text.specs.declared.fault.KifFault.TheVariants.{Memory as KifMemo
 use Rattle.packed_rules.specs.PackedGames.{IsPackedFormOf}
 use Rattle.packed_rules.specs.declared.packed_game.PackedGame.{PackedGame}
 use Rattle.described_games.specs.declared.games.DescriptionFault.{DescriptionFault}
-use Rattle.described_games.specs.declared.games.DescriptionFault.TheVariants.{Memory, BadDescription}
+use Rattle.described_games.specs.declared.games.DescriptionFault.TheVariants.{Memory, Unread, Unfit}
 
 -- the text spells sentences, and the game is what they describe without their capitals
 pub record IsLoadedFrom (text : List ℕ) (game : GroundGame) : Type 0 where
@@ -32,11 +33,17 @@ pub data DescribesNone (text : List ℕ) : Type 0 where
   unread : ((xs : Expressions) → ¬ SpellsAll text xs) → DescribesNone text
   faulty : (sentences : List Expression) (fault : LoadFault) → SpellsAll text (expressions sentences) → fault ≢ LoadMemory → IsLoadFault (map folded sentences) fault → DescribesNone text
 
--- a text that can't be read, or that has a fault, is a bad description
+-- the text has this first fault of spelling, or the sentences that it spells, without capitals, have this first fault of loading
+abbrev pub IsRefusedAs : List ℕ → DescriptionFault → Type 0
+IsRefusedAs text (Unread fault) = (fault ≢ KifMemory) × IsFault any_number text fault
+IsRefusedAs text (Unfit fault) = (fault ≢ LoadMemory) × (sentences : List Expression) × SpellsAll text (expressions sentences) × IsLoadFault (map folded sentences) fault
+IsRefusedAs text Memory = Unit {0}
+
+-- the fault of a text that can't be read, and of sentences that have a fault
 abbrev pub reading_fault : KifFault → DescriptionFault
 reading_fault KifMemory = Memory
-reading_fault fault = BadDescription
+reading_fault fault = Unread fault
 
 abbrev pub loading_fault : LoadFault → DescriptionFault
 loading_fault LoadMemory = Memory
-loading_fault fault = BadDescription
+loading_fault fault = Unfit fault

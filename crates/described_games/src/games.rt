@@ -1,6 +1,6 @@
 //! Games that are given as text.
 ghost use Rattle.std.specs.Prelude.{◌≡◌, ◌≢◌, IfOk, IfErr};
-ghost use Rattle.described_games.specs.Games.{IsLoadedFrom, IsDescribed, DescribesNone};
+ghost use Rattle.described_games.specs.Games.{IsLoadedFrom, IsDescribed, DescribesNone, IsRefusedAs};
 
 use ground_rules::{GroundGame, LoadFault, load};
 use kif_text::{KifFault, read_all};
@@ -9,13 +9,28 @@ use std::alloc::{AllocError, Global};
 use thiserror::Error;
 
 /// Why a text gives no game.
-#[derive(Clone, Copy, Debug, PartialEq, Eq, Error)]
+#[derive(Clone, Copy, Debug, Error)]
 pub enum DescriptionFault {
-    /// It is not KIF, or is no ground description.
-    #[error("bad description")]
-    BadDescription,
+    /// It is not KIF.
+    #[error("{0}")]
+    Unread(KifFault),
+    /// Its sentences are no ground description.
+    #[error("{0}")]
+    Unfit(LoadFault),
     #[error("want of memory")]
     Memory,
+}
+
+impl DescriptionFault {
+    /// What helps against the fault, in words, where something does.
+    pub fn remedy(self) -> Option<&'static str> {
+        match self {
+            DescriptionFault::Unfit(LoadFault::Variable(_)) => {
+                Some("examples/instantiate makes ground rules of rules with variables")
+            }
+            _ => None,
+        }
+    }
 }
 
 impl From<AllocError> for DescriptionFault {
@@ -38,7 +53,7 @@ impl From<KifFault> for DescriptionFault {
     fn from(fault: KifFault) -> DescriptionFault {
         match fault {
             KifFault::Memory => DescriptionFault::Memory,
-            _ => DescriptionFault::BadDescription,
+            _ => DescriptionFault::Unread(fault),
         }
     }
 }
@@ -52,7 +67,7 @@ impl From<LoadFault> for DescriptionFault {
     fn from(fault: LoadFault) -> DescriptionFault {
         match fault {
             LoadFault::Memory => DescriptionFault::Memory,
-            _ => DescriptionFault::BadDescription,
+            _ => DescriptionFault::Unfit(fault),
         }
     }
 }
@@ -61,6 +76,7 @@ impl From<LoadFault> for DescriptionFault {
 fn loaded(alloc: Global, rules: &[u8]) -> Result<GroundGame, DescriptionFault>
     ensures loaded { IfOk result (IsLoadedFrom rules.now) }
     ensures refused { IfErr result (λ fault. fault ≢ DescriptionFault.Memory → DescribesNone rules.now) }
+    ensures fault { IfErr result (IsRefusedAs rules.now) }
 {
     let sentences = read_all(alloc, rules)?;
     Ok(load(alloc, sentences.as_slice())?)
@@ -70,6 +86,7 @@ fn loaded(alloc: Global, rules: &[u8]) -> Result<GroundGame, DescriptionFault>
 pub fn described_game(alloc: Global, rules: &[u8]) -> Result<PackedGame, DescriptionFault>
     ensures described { IfOk result (IsDescribed rules.now) }
     ensures refused { IfErr result (λ fault. fault ≢ DescriptionFault.Memory → DescribesNone rules.now) }
+    ensures fault { IfErr result (IsRefusedAs rules.now) }
 {
     match pack(alloc, loaded(alloc, rules)?) {
         Ok(game) => Ok(game),

@@ -3,9 +3,8 @@
 use crate::checking::{check_record, check_records};
 use crate::fault::Fault;
 use crate::replaying::replay_account;
-use crate::rules::{GameSource, rules_text};
+use crate::rules::{GameSource, game_of, rules_text};
 use crate::script::run_script;
-use described_games::described_game;
 use game_core::{Countdown, Counted, Game};
 use std::alloc::Global;
 use std::io::{Read, Write};
@@ -32,12 +31,12 @@ pub fn for_game<C: GameCommand, F: Files, R: Read, W: Write>(
 ) -> Result<(), Fault> {
     match source {
         GameSource::Countdown(size) => {
-            let game = Countdown::new(size).ok_or(Fault::WrongUse)?;
+            let game = Countdown::new(size).ok_or(Fault::WrongUse(None))?;
             C::perform(alloc, game, reader, writer)
         }
         GameSource::Described(rules) => {
             let text = rules_text(files, alloc, rules)?;
-            let game = described_game(alloc, &text)?;
+            let game = game_of(alloc, &text)?;
             C::perform(alloc, game, reader, writer)
         }
     }
@@ -55,9 +54,10 @@ impl GameCommand for Desk {
     ) -> Result<(), Fault> {
         let mut games = Vec::new(alloc);
         games.push(game)?;
-        match run_script(alloc, reader, writer, games)? {
+        let mut lines = None;
+        match run_script(alloc, reader, writer, games, &mut lines)? {
             0 => Ok(()),
-            count => Err(Fault::BadLines(count)),
+            count => Err(Fault::BadLines(count, lines)),
         }
     }
 }

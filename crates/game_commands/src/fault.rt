@@ -2,7 +2,6 @@
 
 use crate::rules::RulesFileFault;
 use crate::script_fault::ScriptFault;
-use described_games::DescriptionFault;
 use desk_text::refusal_word;
 use match_desk::Refusal;
 use match_plans::{LineFault, ScheduleFault};
@@ -11,16 +10,18 @@ use std::alloc::{AllocError, AllocFailed};
 use thiserror::Error;
 use whole_streams::WriteFault;
 
-/// A fault of the program. Its text is what standard error shows behind the program's name.
-#[derive(Clone, Copy, Debug, PartialEq, Eq, Error)]
+/// A fault of the program. Its text is what standard error shows behind the program's name. Some have lines that say more, which may be
+/// shown before it: there are none where memory for them was refused.
+#[derive(Debug, PartialEq, Eq, Error, Drop)]
 pub enum Fault {
+    /// The command line is refused.
     #[error("wrong use")]
-    WrongUse,
+    WrongUse(Option<String>),
     #[error("want of memory")]
     Memory,
     /// The text of the rules is not KIF, or is no ground description.
     #[error("bad description")]
-    BadDescription,
+    BadDescription(Option<String>),
     /// The file of the rules was not read.
     #[error("bad description: {0}")]
     RulesFile(RulesFileFault),
@@ -68,7 +69,7 @@ pub enum Fault {
     Differs(u64),
     /// So many lines of a script were bad. All output is there.
     #[error("bad lines {0}")]
-    BadLines(u64),
+    BadLines(u64, Option<String>),
     /// So many answers of a player that was checked were not good. The whole table is output.
     #[error("bad answers {0}")]
     BadAnswers(u64),
@@ -76,11 +77,21 @@ pub enum Fault {
 
 impl Fault {
     /// The program's status.
-    pub fn status(self) -> u8 {
+    pub fn status(&self) -> u8 {
         match self {
-            Fault::WrongUse => 2,
+            Fault::WrongUse(_) => 2,
             Fault::Memory => 3,
             _ => 1,
+        }
+    }
+
+    /// The lines that say more, each with a line feed.
+    pub fn lines(&self) -> &str {
+        match self {
+            Fault::WrongUse(Some(lines))
+            | Fault::BadDescription(Some(lines))
+            | Fault::BadLines(_, Some(lines)) => lines.as_str(),
+            _ => "",
         }
     }
 }
@@ -99,15 +110,6 @@ impl From<AllocError> for Fault {
 impl<T: Drop> From<AllocFailed<T>> for Fault {
     fn from(_: AllocFailed<T>) -> Fault {
         Fault::Memory
-    }
-}
-
-impl From<DescriptionFault> for Fault {
-    fn from(fault: DescriptionFault) -> Fault {
-        match fault {
-            DescriptionFault::BadDescription => Fault::BadDescription,
-            DescriptionFault::Memory => Fault::Memory,
-        }
     }
 }
 

@@ -6,6 +6,7 @@
 //! Free functions take the allocator first, behind a handle for files.
 #![tactic(auto)]
 
+mod bad_lines;
 mod checking;
 mod commands;
 mod fault;
@@ -17,5 +18,5 @@ mod verdicts;
 
 pub use commands::{Desk, GameCommand, Replay, Verify, VerifyLines, for_game};
 pub use fault::Fault;
-pub use rules::{GameSource, Rules, RulesFileFault, file_text, rules_text, told_rules};
+pub use rules::{GameSource, Rules, RulesFileFault, file_text, game_of, rules_text, told_rules};
 pub use script_fault::ScriptFault;

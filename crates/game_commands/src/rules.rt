@@ -1,9 +1,12 @@
 //! Where a game comes from.
+ghost use Rattle.std.specs.Prelude.{IfOk};
+ghost use Rattle.described_games.specs.Games.{IsDescribed};
 
 use crate::fault::Fault;
-use described_games::countdown_rules;
+use described_games::{DescriptionFault, countdown_rules, described_game, explanation};
 use game_core::{Countdown, Counted};
-use std::alloc::Global;
+use packed_rules::PackedGame;
+use std::alloc::{AllocError, Global};
 use std::borrow::CowSlice;
 use std::io::ErrorKind;
 use std::rt::Files;
@@ -83,6 +86,32 @@ pub fn rules_text<'a, F: Files>(
     }
 }
 
+/// The lines that say what is wrong with a text.
+fn description_lines(
+    alloc: Global,
+    text: &[u8],
+    fault: DescriptionFault,
+) -> Result<String, AllocError> {
+    let mut lines = String::new(alloc);
+    if let Some(remedy) = fault.remedy() {
+        write!(lines, "ggp_manager: {remedy}\n")?;
+    }
+    let what = explanation(alloc, text, fault)?;
+    write!(lines, "ggp_manager: {what}\n")?;
+    Ok(lines)
+}
+
+/// The game that a text describes. Where it describes none, the fault has the lines that say why.
+pub fn game_of(alloc: Global, text: &[u8]) -> Result<PackedGame, Fault>
+    ensures { IfOk result (IsDescribed text.now) }
+{
+    match described_game(alloc, text) {
+        Ok(game) => Ok(game),
+        Err(DescriptionFault::Memory) => Err(Fault::Memory),
+        Err(fault) => Err(Fault::BadDescription(description_lines(alloc, text, fault).ok())),
+    }
+}
+
 /// The text of a game whose players are told its rules: that of Countdown is written here.
 pub fn told_rules<'a, F: Files>(
     files: &F,
@@ -92,7 +121,7 @@ pub fn told_rules<'a, F: Files>(
     match game {
         GameSource::Described(rules) => rules_text(files, alloc, rules),
         GameSource::Countdown(size) => {
-            let game = Countdown::new(size).ok_or(Fault::WrongUse)?;
+            let game = Countdown::new(size).ok_or(Fault::WrongUse(None))?;
             match countdown_rules(alloc, game.size) {
                 Ok(text) => Ok(CowSlice::Owned(text.into_bytes())),
                 Err(_) => Err(Fault::Memory),

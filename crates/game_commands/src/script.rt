@@ -5,6 +5,7 @@ ghost use Rattle.std.specs.Str.Lines.{lines};
 ghost use Rattle.desk_text.specs.Script.{bad_lines, script_output};
 ghost use Rattle.game_commands.specs.ScriptFaults.{ScriptFails};
 
+use crate::bad_lines::first_bad_line;
 use crate::script_fault::ScriptFault;
 use desk_text::answer_script;
 use game_core::{Counted, Game};
@@ -16,12 +17,14 @@ use whole_streams::{read_to_end, write_all};
 const MAX_SCRIPT: usize = 1_048_576;
 
 /// Reads a whole script, answers each of its lines on a manager of these games, and writes the
-/// answers and then the record of each match in order of opening. The number of bad lines is answered.
+/// answers and then the record of each match in order of opening. The number of bad lines is returned; what is wrong with the first
+/// of them is told in `lines`.
 pub fn run_script<R: Read, W: Write, G: Game + Drop>(
     alloc: Global,
     reader: &mut Counted<R>,
     writer: &mut Counted<W>,
     games: Vec<G>,
+    lines: &mut Option<String>,
 ) -> Result<u64, ScriptFault>
     ensures output { IfOk result (λ bad. (input : List ℕ)
         × Consumes (R.remaining reader.old.stream) (R.remaining reader.new.stream) input
@@ -36,5 +39,6 @@ pub fn run_script<R: Read, W: Write, G: Game + Drop>(
     let input = read_to_end(alloc, reader, MAX_SCRIPT)?;
     let answers = answer_script(alloc, games, &input)?;
     write_all(writer, answers.text.as_slice())?;
+    *lines = first_bad_line(alloc, &input, answers.bad_lines);
     Ok(answers.bad_lines)
 }

@@ -282,7 +282,8 @@ fn check_command<'a>(alloc: Global) -> Result<Command<'a>, AllocError> {
         .arg(player_argument(alloc))
 }
 
-fn program<'a>(alloc: Global) -> Result<Command<'a>, AllocError> {
+/// The program's command line.
+pub fn program<'a>(alloc: Global) -> Result<Command<'a>, AllocError> {
     Command::new(alloc, "ggp_manager")
         .about("The referee of General Game Playing")
         .version(VERSION)
@@ -295,6 +296,20 @@ fn program<'a>(alloc: Global) -> Result<Command<'a>, AllocError> {
         .subcommand(replay_command(alloc)?)?
         .subcommand(info_command(alloc)?)?
         .subcommand(check_command(alloc)?)
+}
+
+/// The command of this name.
+pub fn command_named<'a>(alloc: Global, name: &str) -> Result<Command<'a>, AllocError> {
+    match name {
+        "desk" => desk_command(alloc),
+        "run" => run_command(alloc),
+        "season" => season_command(alloc),
+        "verify" => verify_command(alloc),
+        "replay" => replay_command(alloc),
+        "info" => info_command(alloc),
+        "check" => check_command(alloc),
+        _ => program(alloc),
+    }
 }
 
 /// Exactly one of `--rules` and `--rules-file` has to be there.
@@ -314,7 +329,7 @@ fn game_source<'a>(found: &ArgMatches<'a>) -> Option<GameSource<'a>> {
     if found.get_str("rules").is_some() || found.get_str("rules-file").is_some() {
         return None;
     }
-    let size = decimal(size, u64::from(u8::MAX))?;
+    let size = decimal(size, 100).filter(|size| *size > 0)?;
     Some(GameSource::Countdown(u8::try_from(size).ok()?))
 }
 

@@ -2,10 +2,12 @@
 
 use crate::arguments::{PlayerTrial, RunPlan, SeasonPlan, Task, read_arguments};
 use crate::faults::{check_fault, contact_fault, match_fault, season_fault};
+use crate::refusals::{argument_fault, has_own_word};
 use crate::told::start_rules;
-use described_games::described_game;
 use desk_text::push_history;
-use game_commands::{Desk, Fault, Replay, Verify, VerifyLines, for_game, rules_text, told_rules};
+use game_commands::{
+    Desk, Fault, Replay, Verify, VerifyLines, for_game, game_of, rules_text, told_rules,
+};
 use game_core::Counted;
 use match_log::{LoggedPlayer, Logging, Progress, StatusStream, Telling};
 use match_messages::{Info, info_message, read_info};
@@ -65,7 +67,8 @@ impl<'a, E> Console<'a, E> {
 }
 
 /// Does what the words after the program's name ask for, and answers the program's status. A fault
-/// is one line on `errors`; a failed write to `errors` is passed by. Where that is a terminal it shows how far matches are.
+/// is one line on `errors`, and before it the lines that say more stand where they may; a failed write to `errors` is passed by. Where
+/// that is a terminal it shows how far matches are.
 pub fn command<H, P, S, R: Read, W: Write, E: Write + Send>(
     rt: &H,
     alloc: Global,
@@ -94,14 +97,23 @@ where
     match performed {
         Ok(()) => 0,
         Err(fault) => {
-            report(errors, fault);
+            if is_terminal || has_own_word(words) {
+                report_lines(errors, &fault);
+            }
+            report(errors, &fault);
             fault.status()
         }
     }
 }
 
+/// Writes the lines that say more of a fault, as far as the stream takes them.
+fn report_lines<E: Write>(errors: &mut E, fault: &Fault) {
+    let mut pieces = Pieces { stream: errors };
+    let _ = pieces.write_str(fault.lines());
+}
+
 /// Writes the fault's line, as far as the stream takes it.
-pub fn report<E: Write>(errors: &mut E, fault: Fault) {
+pub fn report<E: Write>(errors: &mut E, fault: &Fault) {
     let mut pieces = Pieces { stream: errors };
     let _ = writeln!(pieces, "ggp_manager: {fault}");
 }
@@ -122,7 +134,10 @@ where
     S: Reach<P>,
 {
     let words: Vec<&str> = words.iter().map(|word| word.as_str()).collect(alloc)?;
-    let task = read_arguments(alloc, words.as_slice())?;
+    let task = match read_arguments(alloc, words.as_slice()) {
+        Ok(task) => task,
+        Err(fault) => return Err(argument_fault(alloc, words.as_slice(), fault)),
+    };
     let console = Console {
         stream: Mutex::new(StatusStream::new(errors)),
         progress: Progress::new(),
@@ -177,7 +192,7 @@ where
     P: Player + Explains + Drop + Send,
     S: Reach<P>,
 {
-    let game = described_game(alloc, &rules_text(rt, alloc, run.rules)?)?;
+    let game = game_of(alloc, &rules_text(rt, alloc, run.rules)?)?;
     let rules = start_rules(rt, alloc, &game, run.told)?;
     let logging = console.logging(rt, reach, run.is_logged);
     let entrants: Entrants<LoggedPlayer<'_, H, P, &mut E>> = entrants_of(
@@ -217,7 +232,7 @@ where
     P: Player + Explains + Drop + Send,
     S: Reach<P>,
 {
-    let game = described_game(alloc, &told_rules(rt, alloc, plan.game)?)?;
+    let game = game_of(alloc, &told_rules(rt, alloc, plan.game)?)?;
     let rules = start_rules(rt, alloc, &game, plan.told)?;
     let input = read_to_end(alloc, reader, MAX_SCHEDULE)?;
     let plans = read_schedule(alloc, &input, plan.strikes)?;
@@ -305,7 +320,7 @@ where
     P: Player + Explains + Drop + Send,
     S: Reach<P>,
 {
-    let game = described_game(alloc, &told_rules(rt, alloc, trial.game)?)?;
+    let game = game_of(alloc, &told_rules(rt, alloc, trial.game)?)?;
     let rules = start_rules(rt, alloc, &game, trial.told)?;
     let hosted = HostedGame {
         game: &game,

@@ -1,20 +1,10 @@
 //! The program's fault where a part of its work fails.
 
-use crate::arguments::ArgumentFault;
 use game_commands::Fault;
 use match_play::MatchFault;
 use match_season::SeasonFault;
 use network_players::{ContactFault, Shortage};
 use player_check::CheckFault;
-
-impl From<ArgumentFault> for Fault {
-    fn from(fault: ArgumentFault) -> Fault {
-        match fault {
-            ArgumentFault::WrongUse => Fault::WrongUse,
-            ArgumentFault::Memory => Fault::Memory,
-        }
-    }
-}
 
 /// The fault of the program where a match fails.
 pub fn match_fault(fault: MatchFault) -> Fault {

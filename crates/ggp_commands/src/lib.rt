@@ -11,9 +11,9 @@
 mod arguments;
 mod commands;
 mod faults;
+mod refusals;
 mod told;
 
-pub use arguments::ArgumentFault;
 pub use commands::{command, report};
 pub use faults::contact_fault;
 pub use game_commands::{Fault, RulesFileFault, ScriptFault};

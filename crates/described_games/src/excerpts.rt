@@ -1,0 +1,50 @@
+//! Expressions as they are shown.
+
+use crate::scan::Scan;
+use std::alloc::{AllocError, Global};
+
+/// How many bytes of an expression are shown.
+const SHOWN: usize = 80;
+
+fn shown_byte(byte: u8) -> char {
+    if byte.is_ascii_graphic() {
+        char::from(byte)
+    } else {
+        '?'
+    }
+}
+
+/// The expression with which a text begins, in one line: without comments, with one space for white space, and `?` for a byte that is
+/// not seen. Of a long one the first 80 bytes stand here, with two dots behind.
+pub fn excerpt(alloc: Global, text: &[u8]) -> Result<String, AllocError> {
+    let mut shown = String::new(alloc);
+    let mut scan = Scan::new();
+    let mut is_spaced = false;
+    let mut is_after_opening = false;
+    for byte in text {
+        let is_outside = scan.depth == 0;
+        let is_hidden = scan.is_hidden(*byte);
+        let begins = scan.pass(*byte);
+        if is_outside && !shown.is_empty() && (begins || is_hidden || *byte == b')') {
+            break;
+        }
+        if is_hidden {
+            is_spaced = !is_after_opening;
+            continue;
+        }
+        if is_spaced && *byte != b')' && shown.len() < SHOWN {
+            shown.push(' ')?;
+        }
+        if shown.len() >= SHOWN {
+            shown.push_str("..")?;
+            break;
+        }
+        shown.push(shown_byte(*byte))?;
+        if *byte == b')' && scan.depth == 0 {
+            break;
+        }
+        is_spaced = false;
+        is_after_opening = *byte == b'(';
+    }
+    Ok(shown)
+}
