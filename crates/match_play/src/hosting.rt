@@ -18,7 +18,7 @@ pub struct HostedGame<'g> {
 }
 
 fn copies(alloc: Global, sentences: &[Expr]) -> Result<Vec<Expr>, AllocError>
-    ensures { IfOk result (λ copies. views copies.items ≡ views sentences.now) }
+    ensures { IfOk result (λ copies. map view copies.items ≡ map view sentences.now) }
 {
     let mut rules = Vec::with_capacity(alloc, sentences.len())?;
     for sentence in sentences {
@@ -32,7 +32,8 @@ pub fn own_rules(alloc: Global, game: &PackedGame) -> Result<PrintedRules, Alloc
     ensures { IfOk result (λ printed. map view printed.items ≡ sentences_of game.now) }
 {
     let sentences = copies(alloc, game.description())?;
-    PrintedRules::of(alloc, &sentences)
+    let printed = PrintedRules::of(alloc, &sentences)?;
+    Ok(printed)
 }
 
 /// The sentences of a description in another form, without capitals, printed: the players are given it in place of the game's own.
