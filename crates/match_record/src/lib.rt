@@ -1,8 +1,8 @@
 //! The writing of a match's record.
 //!
-//! `record_json` writes the record of a match: one JSON object of fifteen keys, which holds the recorded
-//! turns alone. What a record is, its keys, its faults and what holds of records stands in `record_reading`,
-//! and is handed on from there.
+//! `record_json` writes the record of a match: one JSON object of fifteen keys, which holds only the recorded
+//! turns. `record_reading` defines records, their keys and faults, and states what holds of them. This crate
+//! exports these too.
 //!
 //! Free functions take the allocator first.
 #![tactic(auto)]

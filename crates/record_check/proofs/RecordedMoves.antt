@@ -109,7 +109,7 @@ right-move {S} {M} g retired moves m text e p error place taken fits may =
     part false fits (inl empty) = ((p, place.0, sym taken), inl empty)
     part false fits (inr first) = first-judged g moves m e error fits (first-at moves p m place.0 taken first.0) first.1
 
--- a move that is right but for the role's retirement
+-- a move that is right except for the role's retirement
 pub unfit-move : {S M : Type 0} (g : Rules S M) (retired : Bool) (moves : List M) (text e : List ℕ) (p : ℕ) → (p < length moves) × HoldsAt (λ n. g.move_text n ≡ text) moves p → IsWrongFor retired e → MayFollow g moves p e
     → IsWrongRetired g retired moves text e
 unfit-move {S} {M} g retired moves text e p place wrong may =

@@ -86,7 +86,7 @@ turn-fault g p t s WrongGoals comes fault = absurd fault
 turn-fault g p t s WrongEnd comes fault = inl (t, s, comes, fault)
 turn-fault g p t s Memory comes fault = tt
 
--- ---- who is retired, by what is kept of the roles
+-- ---- which roles are retired, by their substitutions so far
 
 module _ {S M : Type 0} (g : Rules S M) (p q : ℕ → Bool) (same : (r : ℕ) → r < g.roles → p r ≡ q r) where
   goes_on-by : (s : S) → GoesOn g p s → GoesOn g q s
@@ -126,7 +126,7 @@ turn_fault-by g p q same s moves errors t WrongGoals fault = fault
 turn_fault-by g p q same s moves errors t WrongEnd fault = λ goes_on. fault (goes_on-back g p q same s goes_on)
 turn_fault-by g p q same s moves errors t Memory fault = tt
 
--- the turns that lead to a state, and what is kept of the roles after them
+-- the turns that lead to a state, and the roles' substitutions after them
 pub record HasCome {S M : Type 0} (g : Rules S M) (p : RecordParts) (t : ℕ) (s : S) (kept : List RoleStrikes) : Type 0 where
   pub leads : LeadsTo g p t s
   pub strikes : AreStrikes g.roles p.strikes leads.turns kept
@@ -138,7 +138,7 @@ come-start {S} {M} g laws p s kept is kept_is =
     subst (λ (x : S). HasCome g p 0 x kept) (sym is)
     (subst (λ (ks : List RoleStrikes). HasCome g p 0 g.initial ks) (sym kept_is) (record { leads = LeadsTo-start g p; strikes = strikes-none {M = M} g.roles p.strikes; is_state = laws.initial_is_state }))
 
--- as many roles are retired as are kept so
+-- the number of retired roles is the number that the substitutions give
 pub come-retired : {S M : Type 0} (g : Rules S M) (p : RecordParts) (t : ℕ) (s : S) (kept : List RoleStrikes) (retired : ℕ) (come : HasCome g p t s kept) → retired ≡ count_roles (length kept) (is_retired_in kept) → AreRetired g p come.leads.turns retired
 come-retired g p t s kept retired come is = all_retired-count g.roles p.strikes come.leads.turns retired (is ∙ strikes-count g.roles p.strikes come.leads.turns kept come.strikes)
 
@@ -147,7 +147,7 @@ come-few g p t s kept come lt few =
     let many = come.leads.many in
     strikes-few g.roles p.strikes come.leads.turns kept come.strikes (omega arith)
 
--- what follows on a state, by the texts that the record has there and by what is kept of the roles
+-- what comes after a state, by the texts that the record has there and the roles' substitutions so far
 module _ {S M : Type 0} (g : Rules S M) (laws : IsLawful g) (p : RecordParts) (t : ℕ) (s : S) (moves errors : List (List ℕ)) (kept : List RoleStrikes) (come : HasCome g p t s kept) (shown : ShowsState g p t s) (at_moves : slice_get p.moves t ≡ Some moves) (at_errors : slice_get p.errors t ≡ Some errors) where
   retired-is : (r : ℕ) → r < g.roles → is_retired_in kept r ≡ retired_by p.strikes come.leads.turns r
   retired-is r lt = strikes-retired g.roles p.strikes come.leads.turns kept come.strikes r unstruck lt
@@ -229,7 +229,7 @@ leads-within {S} {M} g p t s leads =
     let many : t ≡ min t (length p.moves) = sym leads.many ∙ sym (length-map leads.turns (λ (u : Turn M). map g.move_text u.moves)) ∙ ap length leads.moves ∙ length-take t p.moves in
     omega arith
 
--- the turns that lead to a state of a record are the first turns of any lawful ones that it shows
+-- the turns that lead to a state of a record are the first turns of each lawful list that it shows
 pub leads-front : {S M : Type 0} (g : Rules S M) → IsLawful g → (p : RecordParts) (t : ℕ) (s : S) (leads : LeadsTo g p t s) (turns : List (Turn M)) → AreLawful g p.strikes turns
     → map (λ u. map g.move_text u.moves) turns ≡ p.moves → map (λ u. u.errors) turns ≡ p.errors → leads.turns ≡ take t turns
 leads-front {S} {M} g laws p t s leads turns lawful moves errors =

@@ -63,8 +63,7 @@ pub record AreRightBelow {S M : Type 0} (g : Rules S M) (retired : ℕ → Bool)
 abbrev pub ShowsState : {S M : Type 0} → Rules S M → RecordParts → ℕ → S → Type 0
 ShowsState g p t s = slice_get p.states t ≡ Some (g.state_text s)
 
--- Lawful turns lead to the state s. They are as many as t, and the record shows their moves and errors, and the state
--- before each of them.
+-- t lawful turns lead to the state s. The record shows their moves and errors, and the state before each of them.
 pub record LeadsTo {S M : Type 0} (g : Rules S M) (p : RecordParts) (t : ℕ) (s : S) : Type 0 where
   pub turns : List (Turn M)
   pub many : length turns ≡ t
@@ -80,7 +79,7 @@ pub record ComesTo {S M : Type 0} (g : Rules S M) (p : RecordParts) (t : ℕ) (s
   pub shown : ShowsState g p t s
   pub follows : t < length p.moves
 
--- whom the record's turns retire, up to this state
+-- the roles that the record's turns retire, up to this state
 abbrev pub retired_in : {S M : Type 0} {g : Rules S M} {t : ℕ} {s : S} → (p : RecordParts) → ComesTo g p t s → ℕ → Bool
 retired_in p comes = retired_by p.strikes comes.leads.turns
 
@@ -131,7 +130,7 @@ pub record IsReplayed {S M : Type 0} (g : Rules S M) (p : RecordParts) (s : S) :
   pub leads : LeadsTo g p (length p.moves) s
   pub shown : ShowsState g p (length p.moves) s
 
--- this fault is the first of the record: what stands before it is right, and this is not
+-- this fault is the first of the record: everything before it is right, and this is not
 abbrev pub IsFirstFault : {S M : Type 0} → Rules S M → RecordParts → VerifyFault → Type 0
 IsFirstFault g p NotJson = ⊥
 IsFirstFault g p (BadShape key) = ⊥

@@ -62,7 +62,8 @@ fn is_blank(marks: &[Option<Mark>]) -> bool
     true
 }
 
-/// What a match is doing whose last state is settled so: an asked abort comes first, then missing START marks.
+/// The stage of a match with this settlement of its last state. An abort on request comes first, then missing START
+/// marks.
 fn stage_by(asked: bool, started: bool, settled: Stage) -> Stage
     ensures { result ≡ stage_by asked started settled }
 {
@@ -82,7 +83,7 @@ fn is_live(stage: Stage) -> bool
     matches!(stage, Stage::Starting | Stage::Playing)
 }
 
-/// Whether phase, cause and marks are those of a match whose last state is settled so.
+/// Whether phase, cause and marks are those of a match with this settlement of its last state.
 fn agrees_with(parts: &RecordParts, settled: Stage, roles: usize) -> bool
     requires starts { length parts.now.start_marks ≡ roles }
     requires ends { length parts.now.end_marks ≡ roles }
@@ -104,7 +105,7 @@ fn agrees_with(parts: &RecordParts, settled: Stage, roles: usize) -> bool
     stage.phase(ended) == parts.phase && stage.cause() == parts.cause
 }
 
-/// Whether phase, cause and marks are those of a match with this last state, in which so many roles are retired.
+/// Whether phase, cause and marks are those of a match with this last state and this number of retired roles.
 pub fn is_right_end<G: Game>(
     alloc: Global,
     game: &G,

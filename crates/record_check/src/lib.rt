@@ -1,8 +1,8 @@
-//! The check of a record: whether a match of the game can have left it.
+//! The check of a record: whether it can be the record of a match of the game.
 //!
-//! `verify` checks a text against a game: it passes exactly where the text is the record of some lawful match,
-//! and else the first test that fails is named. The turns are replayed by the rules, and no state of the record
-//! is trusted.
+//! `verify` checks a text against a game. The text passes exactly if it is the record of some lawful match.
+//! Otherwise `verify` names the first test that fails. It replays the turns by the rules, and trusts no state of the
+//! record.
 //!
 //! Free functions take the allocator first.
 #![tactic(auto)]

@@ -20,17 +20,18 @@ use std::alloc::{AllocError, Global};
 /// What a recorded move is.
 #[derive(Drop)]
 enum RecordedMove<M> {
-    /// A legal move, and its error may stand beside it.
+    /// A legal move with an error that may stand beside it.
     Right(M),
     /// No legal move has the text.
     NoMove,
-    /// The move is legal, and its error may not stand beside it.
+    /// A legal move with an error that may not stand beside it.
     WrongError,
-    /// The error may stand beside the move, but not of a role that is retired, or of one that is not.
+    /// A legal move with an error that may stand beside it, but not for this role: the error says that the role is
+    /// retired and it is not, or the other way round.
     WrongRetired,
 }
 
-/// The answer that was not legal, if the error says so of one.
+/// The answer that the error calls illegal, if it names one.
 fn denied_answer(error: &[u8]) -> Option<&[u8]>
     ensures { MatchOption result ((x : List ℕ) → error.now ≢ error_text (Illegal x)) (λ x. error.now ≡ error_text (Illegal x.now)) }
 {
@@ -48,8 +49,7 @@ fn denies_one<G: Game>(game: &G, moves: &[G::Move], error: &[u8]) -> bool
     }
 }
 
-/// What the move is that a record shows by this text and this error, where these moves are legal, by whether the
-/// role is retired.
+/// What a recorded move with this text and this error is, for a role with these legal moves that is retired or not.
 fn recorded_move<G: Game>(
     alloc: Global,
     game: &G,
@@ -80,7 +80,7 @@ fn recorded_move<G: Game>(
     Ok(RecordedMove::Right(game.copy_move(alloc, &moves[place])?))
 }
 
-/// Whether each of these roles is retired.
+/// Whether all these roles are retired.
 fn are_all_retired(strikes: &[RoleStrikes]) -> bool
     ensures { result ≡ every_role (length strikes.now) (is_retired_in strikes.now) }
 {
@@ -94,7 +94,7 @@ fn is_retired_at(strikes: &[RoleStrikes], role: usize) -> bool
     strikes[role].is_retired
 }
 
-/// The legal moves of each role, where the state is not terminal, each role has one and not all are retired.
+/// The legal moves of each role. `None` if the state is terminal, a role has no legal move, or all roles are retired.
 fn next_moves<G: Game>(
     alloc: Global,
     game: &G,
@@ -118,9 +118,8 @@ fn next_moves<G: Game>(
     }
 }
 
-/// The joint move of these texts, or the fault of the lowest role at fault. This is kept of the roles'
-/// substitutions in the turns before. Each role's moves are asked for
-/// once: a game may take long to find them.
+/// The joint move of these texts, or the fault of the lowest role at fault. `strikes` are the roles' substitutions in
+/// the turns before. Each role's moves are computed once, since a game may take long to find them.
 fn recorded_joint<G: Game>(
     alloc: Global,
     game: &G,
@@ -157,7 +156,7 @@ fn recorded_joint<G: Game>(
     Ok(Joint { moves: joint })
 }
 
-/// The state after a turn with these moves and errors, or the first fault of the turn. This is kept of the roles'
+/// The state after a turn with these moves and errors, or the first fault of the turn. `strikes` are the roles'
 /// substitutions in the turns before.
 pub fn replay_turn<G: Game>(
     alloc: Global,

@@ -28,7 +28,7 @@ question_is_error text is = inr (Unreadable, is, tt)
 pub retired_is_error : (text : List ℕ) → text ≡ retired_text → IsErrorText text
 retired_is_error text is = inr (Retired, is, tt)
 
--- the text that an error names as what was answered
+-- the text that an error names as the answer
 pub record Names (text x : List ℕ) : Type 0 where
   pub named : text ≡ illegal_prefix ++ x
   pub is_folded : IsFoldedText x
@@ -48,7 +48,7 @@ named_why text o shown is other active Unreadable same may = absurd (other same)
 named_why text o shown is other active Retired same may = absurd (active same)
 named_why text o shown is other active (Illegal x) same may = (x, record { named = same; is_folded = may.0; short = may.1 })
 
--- an error that is neither a mark nor that of an unreadable answer or a retired role names what was answered
+-- an error that is no mark, and not that of an unreadable answer or a retired role, names the answer
 pub names_something : (text : List ℕ) (o : Option Mark) → Shows mark_text AnyShape (Some text) o → is_some o ≡ false → text ≢ unreadable_text → text ≢ retired_text → IsErrorText text → (x : List ℕ) × Names text x
 names_something text o shown is other active (inl empty) = absurd (no_mark text o Clear shown is empty)
 names_something text o shown is other active (inr (why, same, may)) = named_why text o shown is other active why same may

@@ -118,7 +118,7 @@ member_more written vs i v xs zs x within at done shown pushed =
 pub members_all : {A : Type 0} (written : A → Data) (vs : List Value) (i : ℕ) (xs : List A) → length vs ≤ i → map view (take i vs) ≡ map written xs → map view vs ≡ map written xs
 members_all written vs i xs past done = ap (map view) (sym (take_all i vs past)) ∙ done
 
--- a member behind those that are shown shows nothing, and so the list shows nothing
+-- if the member after those that are shown shows nothing, the list shows nothing
 pub none_behind : {A : Type 0} (written : A → Data) (done : List A) (d : Data) (more : List Data) (ys : List A) → map written done ++ d ∷ more ≡ map written ys → Shows written AnyShape (Some d) None → ⊥
 none_behind written [] d more [] is none = absurd cc
 none_behind written [] d more (y ∷ ys) is none =
@@ -154,7 +154,7 @@ data_lent (Some v) found is = ap data_of is
 pub shown_lent : {A : Type 0} (written : A → Data) (P : A → Type 0) (lent : Option (Bor Value)) (found : Option Value) (read : Option A) → option_copied lent ≡ found → Shows written P (data_in lent) read → Shows written P (data_of found) read
 shown_lent written P lent found read is shown = subst (λ d. Shows written P d read) (data_lent lent found is) shown
 
--- as many values are written as members stand there
+-- there are as many values as members
 pub shown_length : {A : Type 0} (written : A → Data) (found : Option Data) (vs : List Value) (ys : List A) → found ≡ Some (array (items_view vs)) → found ≡ Some (list_tree (map written ys)) → length vs ≡ length ys
 shown_length written found vs ys is shown =
     let trees : list_tree (map view vs) ≡ list_tree (map written ys) = cc in

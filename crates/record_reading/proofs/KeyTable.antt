@@ -70,7 +70,7 @@ before_at i d below =
 
 -- ---- reading
 
--- as many roles by another name
+-- the same number of roles under another name
 pub by_roles : {A : Type 0} (written : A → Data) (Fits : ℕ → A → Type 0) (found : Option Data) (read : Option A) {n m : ℕ} → n ≡ m → Shows written (Fits n) found read → Shows written (Fits m) found read
 by_roles written Fits found read same shows = subst (λ k. Shows written (Fits k) found read) same shows
 

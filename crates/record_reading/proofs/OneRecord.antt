@@ -1,4 +1,4 @@
--- A tree holds what one record says at most; and a text that is refused for its shape is no lawful record.
+-- A tree holds the parts of one record only, and a text that is refused for its shape is no lawful record.
 use Rattle.std.proofs.Common.{◌≡◌, ◌≢◌, ℕ, suc, ◌<◌, ◌≤◌, Option, Some, None, List, [], ◌∷◌, length, drop, inl, inr, refl, sym, ap, ◌∙◌, subst, arith, codes, if◌then◌else◌}
 use Rattle.std.specs.Prelude.{IfSome}
 use Rattle.std.specs.Fmt.{decimal}

@@ -40,7 +40,7 @@ lawful_parts g laws text p (tree, json, holds, shape) (other, m, found) =
 pub no_shape_refuses : {S M T : Type 0} (g : Rules S M) → IsLawful g → (text : List ℕ) (r : Result T VerifyFault) → IfErr r (HasNoShape g text) → IfErr r (λ fault. fault ≢ Memory → ¬ IsLawfulRecord g text)
 no_shape_refuses g laws text r none = IfErr-weaker r (HasNoShape g text) (λ fault. fault ≢ Memory → ¬ IsLawfulRecord g text) (λ fault misshapen other. refused_is_unlawful g laws text fault other misshapen) none
 
--- a text whose keys have their shapes, and whose list at this key is of a wrong length
+-- a text with keys of their shapes, but a list of a wrong length at this key
 pub wrong_length_refuses : {S M : Type 0} (g : Rules S M) → IsLawful g → (text : List ℕ) (tree : Data) (p : RecordParts) (key : Key) → IsJson text tree → Holds tree p × ((at : Key) → IsShapedAt g at p) → HasWrongLength p key → BadShape key ≢ Memory
     → ¬ IsLawfulRecord g text
 wrong_length_refuses g laws text tree p key json (holds, shaped) wrong other = refused_is_unlawful g laws text (BadShape key) other (tree, json, inr (p, holds, shaped, wrong))

@@ -17,7 +17,7 @@ no_role ds roles few plain r is below =
     let no : is_plain_numeral (decimal r) ≡ false = subst (λ (t : List ℕ). is_plain_numeral t ≡ false) same plain in
     true≢false (sym yes ∙ no)
 
--- nor do plain digits of too great a number
+-- plain digits of too large a number print none either
 no_such_role : (ds : List ℕ) (roles : ℕ) → roles < 2 ^ 32 → roles ≤ digits_value 10 ds → (r : ℕ) → Some ds ≡ Some (decimal r) → r < roles → ⊥
 no_such_role ds roles few great r is below =
     let same : ds ≡ decimal r = cc in

@@ -20,7 +20,7 @@ pub record IsJson (text : List ℕ) (tree : Data) : Type 0 where
   pub utf8 : IsUtf8 text
   pub is_read : read text ≡ Some tree
 
--- The text is JSON whose keys hold what the record of some lawful match says, in one of the versions: in the first its strikes are 0. Other keys may stand beside them.
+-- The text is JSON, and its keys hold what the record of some lawful match says in one of the versions. In the first version the strikes are 0. There may be other keys.
 pub record IsRecordOf {S M : Type 0} (g : Rules S M) (text : List ℕ) (tree : Data) (m : MatchValue M) : Type 0 where
   pub json : IsJson text tree
   pub setup : IsLawfulSetup m.setup
@@ -39,11 +39,11 @@ AreLawfulParts {S} {M} g p = (m : MatchValue M) × IsLawfulMatch g m × (parts_i
 abbrev pub IsShaped : {S M : Type 0} → Rules S M → Data → Key → Type 0
 IsShaped g tree key = (x : (row_of key).Value) × (found_at tree key ≡ Some ((row_of key).written x)) × (row_of key).IsOfShape g x
 
--- the first of these that fails
+-- x is the first of these that fails
 abbrev pub IsFirstWithout : {A : Type 0} → (A → Type 0) → List A → A → Type 0
 IsFirstWithout {A} Passes xs x = (before after : List A) × (xs ≡ before ++ x ∷ after) × All Passes before × ¬ Passes x
 
--- the key whose list has not as many members as the moves ask for: errors first, then states
+-- the list at this key has another length than the moves ask for: errors are tested first, then states
 abbrev pub HasWrongLength : RecordParts → Key → Type 0
 HasWrongLength p key = ((key ≡ Errors) × (length p.errors ≢ length p.moves)) ⊎ ((key ≡ States) × (length p.errors ≡ length p.moves) × (length p.states ≢ suc (length p.moves)))
 
@@ -71,7 +71,7 @@ RecordTreeHoldsParts {S} {M} g = (m : MatchValue M) → Holds (record_tree g m) 
 abbrev pub RecordsAreLawful : {S M : Type 0} → Rules S M → Type 0
 RecordsAreLawful {S} {M} g = (text : List ℕ) (m : MatchValue M) → IsLawfulMatch g m → IsLawfulSetup m.setup → IsJson text (record_tree g m) → IsLawfulRecord g text
 
--- a tree holds one record's parts at most, of those that have the shape
+-- a tree holds the parts of one record only, of those that have the shape
 abbrev pub HoldsOnePartsAtMost : {S M : Type 0} → Rules S M → Type 0
 HoldsOnePartsAtMost g = (tree : Data) (p q : RecordParts) → HasShape g p → HasShape g q → Holds tree p → Holds tree q → p ≡ q
 

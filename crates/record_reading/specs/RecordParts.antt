@@ -63,7 +63,7 @@ NamesRole roles (NoGoal r) = r < roles
 NamesRole roles TooLong = Unit {0}
 NamesRole roles AllRetired = Unit {0}
 
--- the reason of a substitution, whatever moves are legal and whoever is retired
+-- a reason that a record may give for a substitution, with any legal moves and any retired roles
 abbrev pub MayBeGiven : Substitution → Type 0
 MayBeGiven TimeOut = Unit {0}
 MayBeGiven ConnectionError = Unit {0}
@@ -83,7 +83,7 @@ AreErrors roles turns = All (λ texts. (length texts ≡ roles) × All IsErrorTe
 abbrev pub AreGoals : ℕ → List ℕ → Type 0
 AreGoals roles goals = (goals ≡ []) ⊎ ((length goals ≡ roles) × All (λ goal. goal ≤ max_goal) goals)
 
--- one text for each role in each turn, and not too many turns
+-- one text for each role in each turn, and no more turns than a match may have
 abbrev pub AreMoves : ℕ → List (List (List ℕ)) → Type 0
 AreMoves roles turns = All (λ texts. length texts ≡ roles) turns × (length turns ≤ max_turns)
 

@@ -87,22 +87,22 @@ as_whole d = option_and_then as_u64 (as_number d)
 abbrev pub version_numbered : ℕ → Option Version
 version_numbered n = if n == 1 then Some First else (if n == 2 then Some Second else None)
 
--- the version of a record by what stands at its key, if it is one: without the key it is the first
+-- the version of a record by the value at its key, if that is a version: the first if the key is missing
 abbrev pub version_said : Option Data → Option Version
 version_said None = Some First
 version_said (Some d) = option_and_then version_numbered (as_whole d)
 
--- What counts as standing at a key, by the record's version and by what does: in every version this itself.
+-- What counts as the value at a key, by the record's version and the value that is there: in every version the value itself.
 abbrev pub in_each_version : Option Version → Option Data → Option Data
 in_each_version version there = there
 
--- or, where the key is since the second version, in another record always the same, whatever stands there
+-- or, at a key since the second version: in other records always the same value, whatever is there
 abbrev pub since_second : Data → Option Version → Option Data → Option Data
 since_second before None there = Some before
 since_second before (Some First) there = Some before
 since_second before (Some Second) there = there
 
--- or, where a record may lack the key, the same if it does
+-- or, at a key that may be missing: this value if it is
 abbrev pub unless_there : Data → Option Version → Option Data → Option Data
 unless_there absent version there = option_or there (Some absent)
 

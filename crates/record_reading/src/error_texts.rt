@@ -10,8 +10,8 @@ use kif_text::{KifFault, fold, print, read_one};
 use match_book::{ILLEGAL_PREFIX, MAX_READING, RETIRED, UNREADABLE};
 use std::alloc::{AllocError, Global};
 
-/// Whether a text may be what an answer is read as: the canonical text of an expression without capitals, and no
-/// longer than that of any answer.
+/// Whether an answer can be read as this text. Such a text is canonical, without capitals, and of at most
+/// `MAX_READING` bytes.
 fn is_folded_text(alloc: Global, text: &[u8]) -> Result<bool, AllocError>
     ensures { IfOk result (λ b. IsTrue b ↔ (IsFoldedText text.now × (length text.now ≤ max_reading))) }
 {
@@ -29,8 +29,8 @@ fn is_folded_text(alloc: Global, text: &[u8]) -> Result<bool, AllocError>
     }
 }
 
-/// Whether the text is an error: empty beside a move that was answered, or else why a move is substituted.
-/// The empty text, `TO` and `CE` are also the marks.
+/// Whether the text is an error: the empty text beside the role's own answer, or the reason of a substitution. The
+/// empty text, `TO` and `CE` are also the texts of marks.
 fn is_error_text(alloc: Global, text: &[u8]) -> Result<bool, AllocError>
     ensures { IfOk result (λ b. IsTrue b ↔ IsErrorText text.now) }
 {

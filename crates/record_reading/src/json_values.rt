@@ -1,4 +1,4 @@
-//! Texts, lists and numbers, taken from JSON. A missing value is of no shape.
+//! Texts, lists and numbers, taken from JSON. A missing value has no shape.
 ghost use Rattle.std.specs.Prelude.{◌≡◌, IfOk, IsTrue, List, is_some, map, option_and_then, option_copied, option_map, ℕ};
 ghost use Rattle.serde_json.specs.Data.{Data, string};
 ghost use Rattle.serde_json.specs.Find.{as_array, as_null, as_str, get, get_member};
@@ -75,11 +75,11 @@ pub fn into_object(alloc: Global, tree: Value) -> Map<String, Value>
     }
 }
 
-/// What is written in one way in JSON.
+/// A type whose values are written in JSON in one way each.
 pub trait FromJson: Sized + Drop {
     ghost written: { Self → Data };
 
-    /// The value that is written there, if it is one of these. Its texts are taken over.
+    /// The value that is written there, if it is one of this type. Its texts are taken over.
     fn value_in(alloc: Global, found: Option<Value>) -> Result<Option<Self>, AllocError>
         ensures { IfOk result (λ o. Shows written AnyShape (data_of found) o) };
 }

@@ -1,4 +1,4 @@
-//! What holds of records, whatever the match.
+//! What holds of all records.
 ghost use Rattle.game_core.specs.Play.{Rules};
 ghost use Rattle.record_reading.specs.LawfulRecord.{HoldsOnePartsAtMost, LawfulPartsHaveShape, RecordTreeHoldsParts, RecordsAreLawful, RefusedIsUnlawful};
 
@@ -19,7 +19,7 @@ pub fn lawful_parts_have_shape<G: Game>(game: &G)
     ensures { LawfulPartsHaveShape (G.rules game.now) }
 {}
 
-/// A tree holds what one record says at most, where that is of the shape.
+/// A tree holds the values of one record only, of those that have the shape.
 pub fn holds_one_parts_at_most<G: Game>(game: &G)
     ensures { HoldsOnePartsAtMost (G.rules game.now) }
 {}

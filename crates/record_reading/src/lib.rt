@@ -1,8 +1,8 @@
 //! The record of a match: what it says, and the reading of one.
 //!
-//! A record is one JSON object of fifteen keys, which holds the recorded turns of a match alone. `read_record`
-//! reads what a text says, if it has the shape of a record of the game, and else names the first test of the
-//! shape that fails. `laws` says what holds of records, whatever the match.
+//! A record is one JSON object of fifteen keys, which holds only the recorded turns of a match. `read_record`
+//! reads what a text says if it has the shape of a record of the game. Otherwise it names the first test of the
+//! shape that fails. `laws` says what holds of all records.
 //!
 //! Free functions take the allocator first.
 #![tactic(auto)]

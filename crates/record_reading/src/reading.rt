@@ -58,7 +58,7 @@ fn goal_in(found: Option<&Value>) -> Option<u8>
     }
 }
 
-/// Whether there may be as many goals.
+/// Whether there may be this many goals: none, or one for each role.
 fn is_goal_count(goals: usize, roles: usize) -> bool
     ensures { result ≡ (goals == 0 || goals == roles) }
 {
@@ -111,7 +111,7 @@ fn clock_in(found: Option<&Value>) -> Option<u32>
     }
 }
 
-/// The version of a record by what stands at its key: without the key it is the first.
+/// The version of a record, by the value at its key. It is the first if the key is missing.
 fn version_in(found: Option<&Value>) -> Option<Version>
     ensures said { result ≡ version_said (data_in found.entry) }
     ensures shown { Shows version_tree AnyShape (unless_there (version_tree First) result (data_in found.entry)) result }
@@ -126,7 +126,7 @@ fn version_in(found: Option<&Value>) -> Option<Version>
     }
 }
 
-/// A lawful number of strikes. In a record of another version than the second it is 0, whatever stands there.
+/// A lawful number of strikes. It is 0 in a record of another version than the second, whose value is not read.
 fn strikes_in(version: Option<Version>, found: Option<&Value>) -> Option<u8>
     ensures { Shows whole_tree (λ strikes. is_strikes strikes ≡ true) (since_second (whole_tree 0) version (data_in found.entry)) result }
 {
@@ -172,7 +172,7 @@ fn are_moves(turns: &[Texts], roles: usize) -> bool
     turns.len() <= MAX_TURNS && are_wide(turns, roles)
 }
 
-/// One text for each role in each turn, and not too many turns.
+/// One text for each role in each turn, and no more turns than a match may have.
 fn moves_in(
     alloc: Global,
     found: Option<Value>,
@@ -247,7 +247,7 @@ fn roles_in<G: Game>(
     }
 }
 
-/// Keeps what was read, if anything was, and says whether.
+/// Stores the value that was read, if there is one, and returns whether there is.
 fn keep<T: Drop>(part: &mut T, read: Option<T>) -> bool
     ensures { read ≡ (if result then Some part.new else None) }
 {
@@ -260,14 +260,14 @@ fn keep<T: Drop>(part: &mut T, read: Option<T>) -> bool
     }
 }
 
-/// The same of what was read where memory sufficed.
+/// Stores the value that was read, unless reading ran out of memory.
 fn keep_read<T: Drop>(part: &mut T, read: Result<Option<T>, AllocError>) -> Result<bool, AllocError>
     ensures { IfOk result (λ kept. read ≡ Ok (if kept then Some part.new else None)) }
 {
     Ok(keep(part, read?))
 }
 
-/// Reads what was taken from a key in a record of this version, if it is of the key's shape, and says whether it is.
+/// Reads the value at a key of a record of this version into `parts`, if it has the key's shape. Returns whether it has.
 fn read_into<G: Game>(
     alloc: Global,
     game: &G,
@@ -304,7 +304,7 @@ fn read_into<G: Game>(
     }
 }
 
-/// What the keys of a tree hold, each of its shape.
+/// The values at the keys of a tree, if each has its shape.
 fn parts_in<G: Game>(alloc: Global, game: &G, tree: Value) -> Result<RecordParts, VerifyFault>
     ensures ok { IfOk result (λ p. Holds (view tree) p × ((key : Key) → IsShapedAt (G.rules game.now) key p)) }
     ensures err { IfErr result (λ fault. (fault ≡ Memory) ⊎ ((key : Key) × (fault ≡ BadShape key) × IsFirstWithout (IsShaped (G.rules game.now) (view tree)) keys key)) }
@@ -333,8 +333,8 @@ fn tree_of(alloc: Global, text: &[u8]) -> Result<Value, VerifyFault>
     }
 }
 
-/// What a text says, if it has the shape of a record of the game. The text is a lawful record exactly where what it
-/// says is what the record of some lawful match says.
+/// What a text says, if it has the shape of a record of the game. The text is a lawful record exactly where the record
+/// of some lawful match says the same.
 pub fn read_record<G: Game>(
     alloc: Global,
     game: &G,

@@ -72,7 +72,7 @@ impl Key {
     }
 }
 
-/// The version of a record. One of the first does not say the strikes, which are 0.
+/// The version of a record. A record of the first version has no strikes, which count as 0.
 #[derive(Clone, Copy, PartialEq, Eq)]
 pub enum Version {
     First,
@@ -116,7 +116,7 @@ impl TextLists {
         }
     }
 
-    /// How many lists there are.
+    /// The number of lists.
     pub fn count(&self) -> usize
         ensures { result ≡ length self.now }
     {

@@ -12,7 +12,7 @@ use game_core::numeral::plain_number;
 use match_book::{Cause, Mark, Phase};
 use serde_json::Value;
 
-/// What stands behind this word, if the text begins with it.
+/// The rest of the text after this word, if the text begins with it.
 pub fn after<'a>(text: &'a [u8], word: &[u8]) -> Option<&'a [u8]>
     ensures { MatchOption result ((rest : List ℕ) → text.now ≢ word.now ++ rest) (λ rest. text.now ≡ word.now ++ rest.now) }
 {

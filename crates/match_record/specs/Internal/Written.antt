@@ -22,7 +22,7 @@ tokens_of d = json_tokens (outline d)
 abbrev pub IsWritten : Written → Written → Data → Type 0
 IsWritten old new d = HasAdded old new (tokens_of d)
 
--- the tokens of values, one behind the other
+-- the tokens of values, one after another
 abbrev pub each_tokens : List Data → List Token
 each_tokens [] = []
 each_tokens (d ∷ ds) = tokens_of d ++ each_tokens ds

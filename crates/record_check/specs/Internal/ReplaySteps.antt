@@ -17,7 +17,7 @@ use Rattle.record_check.specs.declared.recorded_turn.RecordedMove.TheVariants.{R
 use Rattle.record_reading.specs.declared.verify_fault.VerifyFault.{VerifyFault}
 use Rattle.record_reading.specs.declared.verify_fault.VerifyFault.TheVariants.{NotJson, BadShape, Illegal, NotFirst, WrongRetired, WrongState, WrongGoals, WrongEnd, Memory}
 
--- what the move with this text and this error is, where these moves are legal, by whether the role is retired
+-- what the move with this text and this error is, for a role with these legal moves that is retired or not
 abbrev pub IsRecorded : {S M : Type 0} → Rules S M → Bool → List M → List ℕ → List ℕ → RecordedMove M → Type 0
 IsRecorded g retired moves text error (Right m) = (g.move_text m ≡ text) × IsPart g retired moves m error
 IsRecorded g retired moves text error NoMove = NamesNone g moves text
@@ -31,7 +31,7 @@ pub record IsRightJoint {S M : Type 0} (g : Rules S M) (retired : ℕ → Bool) 
   pub texts : map g.move_text played ≡ moves
   pub parts : (r : ℕ) (d : M) → r < g.roles → IsPart g (retired r) (g.legal s r) (slice_index_or played r d) (text_at errors r)
 
--- the fault of a turn with these moves and errors, which follows on the state s, where these roles are retired
+-- the fault of a turn with these moves and errors in the state s, where these roles are retired
 abbrev pub IsTurnFault : {S M : Type 0} → Rules S M → (ℕ → Bool) → S → (moves errors : List (List ℕ)) → ℕ → VerifyFault → Type 0
 IsTurnFault g retired s moves errors turn NotJson = ⊥
 IsTurnFault g retired s moves errors turn (BadShape key) = ⊥
@@ -52,11 +52,11 @@ abbrev pub IsTurnAnswer : {S M : Type 0} → Rules S M → (ℕ → Bool) → S 
 IsTurnAnswer {S} {M} g retired s moves errors turn (Ok t) = (joint : List M) × IsRightJoint g retired s moves errors joint × (t ≡ g.next s joint)
 IsTurnAnswer g retired s moves errors turn (Err f) = IsTurnFault g retired s moves errors turn f
 
--- so many roles are all, exactly where these turns retire all
+-- this number of retired roles is the number of all roles exactly if these turns retire all
 abbrev pub AreRetired : {S M : Type 0} → Rules S M → RecordParts → List (Turn M) → ℕ → Type 0
 AreRetired g p turns retired = every_role g.roles (retired_by p.strikes turns) ≡ (retired == g.roles)
 
--- the last state of a record and how many roles are retired then, or the first fault of its turns and states
+-- the last state of a record and the number of roles that are retired then, or the first fault of its turns and states
 abbrev pub IsReplayAnswer : {S M : Type 0} → Rules S M → RecordParts → Result (S × ℕ) VerifyFault → Type 0
 IsReplayAnswer g p (Ok (s, retired)) = (played : IsReplayed g p s) × AreRetired g p played.leads.turns retired × g.IsState s
 IsReplayAnswer g p (Err f) = IsFirstFault g p f
@@ -71,7 +71,7 @@ has_started roles p = every_role roles (is_there p.start_marks)
 abbrev pub has_ended : ℕ → RecordParts → Bool
 has_ended roles p = every_role roles (is_there p.end_marks)
 
--- phase, cause and marks are those of a match whose last state is settled so
+-- phase, cause and marks are those of a match with this settlement of its last state
 pub record AgreesWith (roles : ℕ) (p : RecordParts) (settled : Stage) : Type 0 where
   pub phase_is : phase_in (stage_by (is_asked p.cause) (has_started roles p) settled) (has_ended roles p) ≡ p.phase
   pub cause_is : cause_in (stage_by (is_asked p.cause) (has_started roles p) settled) ≡ p.cause
@@ -79,6 +79,6 @@ pub record AgreesWith (roles : ℕ) (p : RecordParts) (settled : Stage) : Type 0
   pub ends_at_end : is_live (stage_by (is_asked p.cause) (has_started roles p) settled) ≡ true → p.end_marks ≡ blank roles
   pub asked_when_live : is_asked p.cause ≡ true → is_live (stage_by false (has_started roles p) settled) ≡ true
 
--- whether the record's end is right, whatever turns lead to its last state and retire so many roles
+-- whether the record's end is right, for any turns that lead to its last state and retire this number of roles
 abbrev pub IsEndAnswer : {S M : Type 0} → Rules S M → RecordParts → S → ℕ → Bool → Type 0
 IsEndAnswer {S} {M} g p s retired right = (turns : List (Turn M)) → length turns ≡ length p.moves → s ≡ state_after g turns → AreRetired g p turns retired → IsTrue right ↔ IsRightEnd g p turns
