@@ -1,12 +1,13 @@
 -- The records of a desk's matches, one after another.
 use Rattle.std.proofs.Common.{◌≡◌, ℕ, ◌+◌, List, [], ◌∷◌, ◌++◌, take, Option, Some, None, refl, sym, ap, subst, ◌∙◌, append_assoc, append-nil}
 use Rattle.std.specs.Prelude.{slice_get, option_map, option_and_then, unwrap_or}
+use Rattle.std.proofs.lemmas.List.{take_more}
+use Rattle.std.proofs.lemmas.Option.{get_or_from_slice_get, slice_get_within}
 use Rattle.game_core.specs.Bytes.{line_feed}
 use Rattle.game_core.specs.Play.{Rules}
 use Rattle.match_book.specs.MatchValue.{GameMatch}
 use Rattle.match_desk.specs.ManagerValue.{ManagerValue, DeskMatch, game_of, game_match}
 use Rattle.match_record.specs.RecordTree.{record_text}
-use Rattle.match_record.proofs.RecordLists.{take-next}
 use Rattle.desk_text.specs.Script.{record_line, records}
 
 -- the record of a match with its game, as a line: nothing if there is no such match
@@ -21,7 +22,7 @@ records-append rules d (m ∷ ms) ns = ap (λ x. record_line rules d m ++ x) (re
 pub records-next : {G S M : Type 0} (rules : G → Rules S M) (d : ManagerValue G M) (k : ℕ) (m : DeskMatch M) → slice_get d.matches k ≡ Some m
     → records rules d (take (k + 1) d.matches) ≡ records rules d (take k d.matches) ++ record_line rules d m
 records-next rules d k m at =
-    ap (records rules d) (take-next d.matches k m at) ∙ records-append rules d (take k d.matches) (m ∷ [])
+    ap (records rules d) (take_more d.matches k m (slice_get_within d.matches k m at) ∙ ap (λ x. take k d.matches ++ x ∷ []) (get_or_from_slice_get d.matches k m m at)) ∙ records-append rules d (take k d.matches) (m ∷ [])
     ∙ ap (λ z. records rules d (take k d.matches) ++ z) (append-nil (record_line rules d m))
 
 -- the match at a place, as the manager's functions return it, adds its record

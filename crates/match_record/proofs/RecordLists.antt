@@ -1,4 +1,4 @@
--- The lists of a record, member by member, and its tree: no floats, and three levels.
+-- The lists of a record, member by member, and the depth of its tree.
 use Rattle.std.proofs.Common.{◌≡◌, ℕ, zero, suc, ◌+◌, ◌<◌, ◌≤◌, false, Option, Some, None, List, [], ◌∷◌, ◌++◌, length, take, map, refl, sym, ap, ◌∙◌, subst, arith, add-one}
 use Rattle.std.specs.Prelude.{slice_get, slice_index_or, option_map, option_and_then, option_to_list}
 use Rattle.std.proofs.lemmas.List.{map-append, take_more, take_all}
@@ -36,38 +36,9 @@ goals-next n goal = ap (map whole_tree) (goals_from-more n goal) ∙ map-append 
 pub take-next : {A : Type 0} (xs : List A) (i : ℕ) (x : A) → slice_get xs i ≡ Some x → take (i + 1) xs ≡ take i xs ++ x ∷ []
 take-next xs i x at = take_more xs i x (slice_get_within xs i x at) ∙ ap (λ y. take i xs ++ y ∷ []) (get_or_from_slice_get xs i x x at)
 
-pub map-next : {A B : Type 0} (f : A → B) (xs : List A) (i : ℕ) (y : B) → Some y ≡ option_map f (slice_get xs i) → map f (take (i + 1) xs) ≡ map f (take i xs) ++ y ∷ []
-map-next {A} {B} f xs i y is = go (slice_get xs i) refl is
-  where
-    go : (o : Option A) → slice_get xs i ≡ o → Some y ≡ option_map f o → map f (take (i + 1) xs) ≡ map f (take i xs) ++ y ∷ []
-    go None at found = absurd cc
-    go (Some x) at found =
-        let same : y ≡ f x = cc in
-        ap (map f) (take-next xs i x at) ∙ map-append f (take i xs) (x ∷ []) ∙ ap (λ z. map f (take i xs) ++ z ∷ []) (sym same)
-
 -- Of the turn at a place, the first members of a list: what f makes of them.
 abbrev pub part_of : {T A B : Type 0} → (T → List A) → (A → B) → ℕ → Option T → Option (List B)
 part_of part f r o = option_map (λ t. map f (take r (part t))) o
-
-pub part_of-none : {T A B : Type 0} (part : T → List A) (f : A → B) (ts : List T) (k : ℕ) → k < length ts → part_of part f 0 (slice_get ts k) ≡ Some []
-part_of-none part f [] k within = absurd (omega arith)
-part_of-none part f (t ∷ ts) zero within = refl
-part_of-none part f (t ∷ ts) (suc k) within = part_of-none part f ts k (omega arith)
-
-pub part_of-more : {T A B : Type 0} (part : T → List A) (f : A → B) (r : ℕ) (o : Option T) (done : List B) (x : A) → part_of part f r o ≡ Some done → option_and_then (λ t. slice_get (part t) r) o ≡ Some x
-    → part_of part f (r + 1) o ≡ Some (done ++ f x ∷ [])
-part_of-more part f r None done x is at = absurd cc
-part_of-more part f r (Some t) done x is at =
-    let same : map f (take r (part t)) ≡ done = cc in
-    ap Some (ap (map f) (take-next (part t) r x at) ∙ map-append f (take r (part t)) (x ∷ []) ∙ ap (λ ys. ys ++ f x ∷ []) same)
-
-pub part_of-all : {T A B : Type 0} (part : T → List A) (f : A → B) (r : ℕ) (ts : List T) (k : ℕ) (done : List B) → ((t : T) → slice_get ts k ≡ Some t → length (part t) ≡ r) → part_of part f r (slice_get ts k) ≡ Some done
-    → option_map (λ t. map f (part t)) (slice_get ts k) ≡ Some done
-part_of-all {T} {A} {B} part f r ts k done wide is = go (slice_get ts k) refl is
-  where
-    go : (o : Option T) → slice_get ts k ≡ o → part_of part f r o ≡ Some done → option_map (λ t. map f (part t)) o ≡ Some done
-    go None at found = absurd cc
-    go (Some t) at found = ap (λ xs. Some (map f xs)) (sym (take_all r (part t) (omega (arith, wide t at)))) ∙ found
 
 -- each turn has a move and an error for each role
 pub turn-widths : {S M : Type 0} (g : Rules S M) {strikes : ℕ} (turns : List (Turn M)) (k : ℕ) (t : Turn M) → AreLawful g strikes turns → slice_get turns k ≡ Some t → (length t.moves ≡ g.roles) × (length t.errors ≡ g.roles)
@@ -93,53 +64,6 @@ prefixes-next [] k lt = absurd (omega arith)
 prefixes-next (x ∷ xs) k lt =
     let more = take-next (x ∷ xs) k (slice_index_or (x ∷ xs) k x) (slice_get-get_or (x ∷ xs) k x lt) in
     ap prefixes more ∙ prefixes-push (take k (x ∷ xs)) (slice_index_or (x ∷ xs) k x) ∙ ap (λ ts. prefixes (take k (x ∷ xs)) ++ ts ∷ []) (sym more)
-
--- ---- no floats
-
-texts_have_none : (ts : List (List ℕ)) → items_have_float (items_of (map string ts)) ≡ false
-texts_have_none [] = refl
-texts_have_none (t ∷ ts) = texts_have_none ts
-
-text_or_null_has_none : (o : Option (List ℕ)) → has_float (text_or_null o) ≡ false
-text_or_null_has_none None = refl
-text_or_null_has_none (Some t) = refl
-
-marks_have_none : (marks : List (Option Mark)) → items_have_float (items_of (map mark_tree marks)) ≡ false
-marks_have_none [] = refl
-marks_have_none (m ∷ ms) = rw (text_or_null_has_none (option_map mark_text m)) (marks_have_none ms)
-
-goals_have_none : (goals : List ℕ) → items_have_float (items_of (map whole_tree goals)) ≡ false
-goals_have_none [] = refl
-goals_have_none (n ∷ ns) = goals_have_none ns
-
-lists_have_none : (lists : List (List (List ℕ))) → items_have_float (items_of (map texts_tree lists)) ≡ false
-lists_have_none [] = refl
-lists_have_none (texts ∷ more) = rw (texts_have_none texts) (lists_have_none more)
-
-key_has_none : (key : Key) (p : RecordParts) → has_float (key_tree key p) ≡ false
-key_has_none AtCause p = text_or_null_has_none (option_map cause_text p.cause)
-key_has_none EndMarks p = marks_have_none p.end_marks
-key_has_none Errors p = lists_have_none p.errors
-key_has_none GoalValues p = goals_have_none p.goals
-key_has_none MatchId p = refl
-key_has_none Moves p = lists_have_none p.moves
-key_has_none AtPhase p = refl
-key_has_none PlayClock p = refl
-key_has_none Players p = texts_have_none p.players
-key_has_none Roles p = texts_have_none p.roles
-key_has_none StartClock p = refl
-key_has_none StartMarks p = marks_have_none p.start_marks
-key_has_none States p = lists_have_none p.states
-key_has_none Strikes p = refl
-key_has_none AtVersion p = refl
-
-members_have_none : (ks : List Key) (p : RecordParts) → members_have_float (members_at ks p) ≡ false
-members_have_none [] p = refl
-members_have_none (key ∷ more) p = rw (key_has_none key p) (members_have_none more p)
-
-pub record_has_no_float : {S M : Type 0} (g : Rules S M) (m : MatchValue M) → has_float (record_tree g m) ≡ false
-unfolding record_tree
-record_has_no_float g m = members_have_none keys (parts_of g m)
 
 -- ---- depth
 

@@ -1,6 +1,7 @@
 -- What is written of a record, member by member, and what is read of it again.
 use Rattle.std.proofs.Common.{◌≡◌, ℕ, zero, suc, ◌+◌, ◌<◌, ◌≤◌, ◌^◌, true, Option, Some, None, Ok, List, [], ◌∷◌, ◌++◌, length, map, take, get_or, refl, sym, ap, ◌∙◌, subst, append_assoc, append-nil, arith, inl, inr}
 use Rattle.std.specs.Prelude.{option_map, option_and_then, slice_get, All, IfSome}
+use Rattle.std.specs.Str.{IsUtf8}
 use Rattle.std.proofs.lemmas.Bool.Decides.{nat_tests}
 use Rattle.std.proofs.lemmas.List.{take_all, take_more, map-append}
 use Rattle.json.specs.Token.{Token, begin_array, end_array, end_object, begin_object}
@@ -17,13 +18,14 @@ use Rattle.serde_json.specs.View.{items_of}
 use Rattle.serde_json.specs.Written.{outline, items_outline, members_outline}
 use Rattle.serde_json.proofs.Texts.{print-outline}
 use Rattle.serde_json.proofs.Numbers.{number_of-decimal}
-use Rattle.game_core.specs.Play.{Rules, IsLawful, max_goal}
+use Rattle.game_core.specs.Play.{Rules, max_goal}
 use Rattle.match_book.specs.Lawful.{IsLawfulMatch}
 use Rattle.match_book.specs.MatchValue.{MatchValue}
 use Rattle.match_book.specs.Marks.{mark_text}
 use Rattle.match_book.specs.Names.{is_clock, is_strikes, max_clock, max_strikes, IsLawfulSetup}
 use Rattle.match_book.specs.declared.answer.Mark.{Mark}
 use Rattle.match_record.specs.Internal.Written.{HasAdded, IsWritten, HasBegun, HasMembers, tokens_of, each_tokens, member_tokens}
+use Rattle.record_reading.specs.LawfulRecord.{IsJson, LawfulPartsHaveShape}
 use Rattle.record_reading.specs.RecordParts.{parts_of, AreGoals}
 use Rattle.record_reading.specs.RecordTree.{list_tree, texts_tree, text_or_null, cause_text, mark_tree, whole_tree, key_text, key_tree, keys, members_at, version_tree, record_tree, record_text, HasShape}
 use Rattle.record_reading.specs.declared.record_parts.Key.{Key}
@@ -31,7 +33,6 @@ use Rattle.record_reading.specs.declared.record_parts.Key.TheVariants.{Cause as 
 use Rattle.record_reading.specs.declared.record_parts.RecordParts.{RecordParts}
 use Rattle.record_reading.specs.declared.record_parts.Version.{Version}
 use Rattle.record_reading.specs.declared.record_parts.Version.TheVariants.{First, Second}
-use Rattle.record_reading.proofs.LawfulParts.{lawful_parts_have_shape}
 use Rattle.match_record.proofs.RecordLists.{part_of, take-next, map_twice, record_is_shallow}
 
 -- ---- one token, and more
@@ -250,18 +251,27 @@ unfolding whole
 text_reads d text back shallow same =
     ap whole (ap (json.value max_depth) (same ∙ sym (append-nil (tokens_of d))) ∙ value-json_tokens (outline d) max_depth [] (omega (arith, outline_depth d))) ∙ back
 
-tree_reads : {S M : Type 0} (g : Rules S M) → IsLawful g → (m : MatchValue M) → IsLawfulMatch g m → IsLawfulSetup m.setup → ReadsBack (record_tree g m)
+tree_reads : {S M : Type 0} (g : Rules S M) → LawfulPartsHaveShape g → (m : MatchValue M) → IsLawfulMatch g m → IsLawfulSetup m.setup → ReadsBack (record_tree g m)
 unfolding record_tree
-tree_reads g laws m lawful setup = record_reads g (parts_of g m) (lawful_parts_have_shape g laws m Second lawful setup)
-
--- the record of a lawful match is read from the text of its tokens
-pub record_text_reads : {S M : Type 0} (g : Rules S M) → IsLawful g → (m : MatchValue M) (text : List ℕ) → IsLawfulMatch g m → IsLawfulSetup m.setup → tokens text ≡ tokens_of (record_tree g m) → read text ≡ Some (record_tree g m)
-record_text_reads g laws m text lawful setup same = text_reads (record_tree g m) text (tree_reads g laws m lawful setup) (record_is_shallow g m) same
+tree_reads g shapes m lawful setup = record_reads g (parts_of g m) (shapes m Second lawful setup)
 
 -- the tokens of what was written behind nothing
-pub tokens_written : {a b : Written} {ts : List Token} → a.tokens ≡ [] → HasAdded a b ts → b.tokens ≡ ts
+tokens_written : {a b : Written} {ts : List Token} → a.tokens ≡ [] → HasAdded a b ts → b.tokens ≡ ts
 tokens_written {ts = ts} fresh added = added.tokens ∙ ap (λ so_far. so_far ++ ts) fresh
+
+printed : {S M : Type 0} (g : Rules S M) (m : MatchValue M) (a b : Written) → a.tokens ≡ [] → HasAdded a b (tokens_of (record_tree g m)) → print b.tokens ≡ record_text g m
+printed g m a b fresh added = ap print (tokens_written fresh added) ∙ print-outline (record_tree g m)
 
 -- the text of a record, behind what was there
 pub text_written : {S M : Type 0} (g : Rules S M) (m : MatchValue M) (a b : Written) → a.tokens ≡ [] → HasAdded a b (tokens_of (record_tree g m)) → b.before ++ print b.tokens ≡ a.before ++ record_text g m
-text_written g m a b fresh added = ap (λ front. front ++ print b.tokens) added.before ∙ ap (λ ts. a.before ++ print ts) (tokens_written fresh added) ∙ ap (λ text. a.before ++ text) (print-outline (record_tree g m))
+text_written g m a b fresh added = ap (λ front. front ++ print b.tokens) added.before ∙ ap (λ text. a.before ++ text) (printed g m a b fresh added)
+
+-- and it is the JSON text of the match's tree
+pub text_is_json : {S M : Type 0} (g : Rules S M) → LawfulPartsHaveShape g → (m : MatchValue M) (a b : Written) → IsLawfulMatch g m → IsLawfulSetup m.setup → a.tokens ≡ [] → HasAdded a b (tokens_of (record_tree g m))
+    → tokens (print b.tokens) ≡ b.tokens → IsUtf8 (print b.tokens) → IsJson (record_text g m) (record_tree g m)
+text_is_json g shapes m a b lawful setup fresh added reads_back utf8 =
+    let same = printed g m a b fresh added in
+    record {
+      utf8 = subst IsUtf8 same utf8;
+      is_read = text_reads (record_tree g m) (record_text g m) (tree_reads g shapes m lawful setup) (record_is_shallow g m) (ap tokens (sym same) ∙ reads_back ∙ tokens_written fresh added);
+    }

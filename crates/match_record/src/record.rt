@@ -15,6 +15,7 @@ use crate::writing::{
 use game_core::{Game, Text};
 use json::Writer;
 use match_book::Match;
+use record_reading::laws::{lawful_parts_have_shape, records_are_lawful};
 use record_reading::{Key, Version, phase_text};
 use std::alloc::{AllocError, Global};
 use std::mem;
@@ -190,7 +191,7 @@ fn write_states<G: Game>(
     Ok(())
 }
 
-/// What stands at a key of the record.
+/// The value at a key of the record.
 fn write_value_at<G: Game>(
     alloc: Global,
     out: &mut Writer,
@@ -244,17 +245,19 @@ fn write_record<G: Game>(
     Ok(())
 }
 
-/// The record of a match as JSON text, in the second version: one object without white space, whose keys stand
-/// in byte order. It holds the recorded turns alone, and nothing of the turn that is open.
+/// The record of a match as JSON text, in the second version: one object without white space, with its keys in byte
+/// order. It holds only the recorded turns, and nothing of the open turn.
 pub fn record_json<G: Game>(alloc: Global, game: &G, held: &Match<G>) -> Result<Text, AllocError>
     requires game { held.now.game ≡ game.now }
     requires setup { IsLawfulSetup held.now.value.setup }
     ensures text { IfOk result (λ t. t ≡ record_text (G.rules game.now) held.now.value) }
-    // So a reader of JSON finds the tree again.
+    // A reader of JSON finds the tree again.
     ensures reads_back { IfOk result (λ t. read t ≡ Some (record_tree (G.rules game.now) held.now.value)) }
-    // And `verify` refuses it for want of memory alone.
+    // `verify` refuses it only if it runs out of memory.
     ensures lawful { IfOk result (λ t. IsLawfulRecord (G.rules game.now) t) }
 {
+    records_are_lawful(game);
+    lawful_parts_have_shape(game);
     // This reader says that the match is lawful.
     let _state = held.state();
     let mut out = Writer::new(Vec::new(alloc));
@@ -264,7 +267,7 @@ pub fn record_json<G: Game>(alloc: Global, game: &G, held: &Match<G>) -> Result<
     })
 }
 
-/// Writes what `record_json` gives behind `out`, in the memory of `out`.
+/// Appends to `out` what `record_json` returns, without a copy of it.
 pub fn push_record<G: Game>(
     alloc: Global,
     out: &mut Vec<u8>,
@@ -273,8 +276,12 @@ pub fn push_record<G: Game>(
 ) -> Result<(), AllocError>
     requires game { held.now.game ≡ game.now }
     requires setup { IsLawfulSetup held.now.value.setup }
-    ensures { OnOk result (out.new.items ≡ out.old.items ++ record_text (G.rules game.now) held.now.value) }
+    ensures text { OnOk result (out.new.items ≡ out.old.items ++ record_text (G.rules game.now) held.now.value) }
+    ensures reads_back { OnOk result (read (record_text (G.rules game.now) held.now.value) ≡ Some (record_tree (G.rules game.now) held.now.value)) }
+    ensures lawful { OnOk result (IsLawfulRecord (G.rules game.now) (record_text (G.rules game.now) held.now.value)) }
 {
+    records_are_lawful(game);
+    lawful_parts_have_shape(game);
     // This reader says that the match is lawful.
     let _state = held.state();
     let mut writer = Writer::new(mem::replace(out, Vec::new(alloc)));

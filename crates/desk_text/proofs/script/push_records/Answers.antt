@@ -16,4 +16,4 @@ loop-place-preserved g c =
     (sym c.match_at.ensures ∙ ap option_copied c.unwrap-held.ensures) in
     one_line c.args.out.now.items (records rules d (take k d.matches)) (record_text (rules c.unwrap-game.result.now) held.value) (records rules d (take (k + 1) d.matches))
     c.loop-place.out.items c.push_record.new.out.items c.push.new.self.items
-    c.loop-place.invariant c.in_ok-push_record.ensures c.in_ok-push.ensures.items here
+    c.loop-place.invariant c.in_ok-push_record.ensures.text c.in_ok-push.ensures.items here
