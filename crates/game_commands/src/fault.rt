@@ -30,7 +30,7 @@ pub enum Fault {
     ToldFile(RulesFileFault),
     /// The file of the rules that players are told is not KIF.
     #[error("bad told description")]
-    BadTold,
+    BadTold(Option<String>),
     /// Standard input failed.
     #[error("read fault")]
     ReadFault,
@@ -90,6 +90,7 @@ impl Fault {
         match self {
             Fault::WrongUse(Some(lines))
             | Fault::BadDescription(Some(lines))
+            | Fault::BadTold(Some(lines))
             | Fault::BadLines(_, Some(lines)) => lines.as_str(),
             _ => "",
         }

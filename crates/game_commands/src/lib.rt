@@ -18,5 +18,7 @@ mod verdicts;
 
 pub use commands::{Desk, GameCommand, Replay, Verify, VerifyLines, for_game};
 pub use fault::Fault;
-pub use rules::{GameSource, Rules, RulesFileFault, file_text, game_of, rules_text, told_rules};
+pub use rules::{
+    GameSource, Rules, RulesFileFault, file_text, game_of, rules_text, told_fault, told_rules,
+};
 pub use script_fault::ScriptFault;

@@ -5,6 +5,7 @@ ghost use Rattle.described_games.specs.Games.{IsDescribed};
 use crate::fault::Fault;
 use described_games::{DescriptionFault, countdown_rules, described_game, explanation};
 use game_core::{Countdown, Counted};
+use kif_text::KifFault;
 use packed_rules::PackedGame;
 use std::alloc::{AllocError, Global};
 use std::borrow::CowSlice;
@@ -109,6 +110,14 @@ pub fn game_of(alloc: Global, text: &[u8]) -> Result<PackedGame, Fault>
         Ok(game) => Ok(game),
         Err(DescriptionFault::Memory) => Err(Fault::Memory),
         Err(fault) => Err(Fault::BadDescription(description_lines(alloc, text, fault).ok())),
+    }
+}
+
+/// The fault where the text that players are to be told is not KIF, with the lines that say why.
+pub fn told_fault(alloc: Global, text: &[u8], fault: KifFault) -> Fault {
+    match DescriptionFault::from(fault) {
+        DescriptionFault::Memory => Fault::Memory,
+        fault => Fault::BadTold(description_lines(alloc, text, fault).ok()),
     }
 }
 

@@ -14,7 +14,7 @@ const PROGRAM: &str = "ggp_manager";
 const OWN_COMMANDS: [&str; 3] = ["season", "check", "replay"];
 
 /// The options with which it does so.
-const OWN_OPTIONS: [&str; 4] = ["--rules-file", "--lines", "--log", "--history"];
+const OWN_OPTIONS: [&str; 5] = ["--rules-file", "--told", "--lines", "--log", "--history"];
 
 /// Whether the word is this option, by itself or with its value.
 fn is_option(word: &str, option: &str) -> bool {

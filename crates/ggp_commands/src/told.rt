@@ -1,7 +1,6 @@
 //! What the players of a game are told of its rules.
 
-use game_commands::{Fault, file_text};
-use kif_text::KifFault;
+use game_commands::{Fault, file_text, told_fault};
 use match_messages::PrintedRules;
 use match_play::{other_rules, own_rules};
 use packed_rules::PackedGame;
@@ -17,8 +16,7 @@ fn rules_in<F: Files>(files: &F, alloc: Global, path: &str) -> Result<PrintedRul
     };
     match other_rules(alloc, &text) {
         Ok(rules) => Ok(rules),
-        Err(KifFault::Memory) => Err(Fault::Memory),
-        Err(_) => Err(Fault::BadTold),
+        Err(fault) => Err(told_fault(alloc, &text, fault)),
     }
 }
 
