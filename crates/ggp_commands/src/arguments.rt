@@ -3,7 +3,7 @@
 use clap::error::ErrorKind;
 use clap::{Arg, ArgAction, ArgMatches, Command};
 use game_commands::{GameSource, Rules};
-use match_plans::{MAX_MATCHES, MatchPlan, PlayerAddress, decimal, player_address};
+use match_plans::{MAX_AT_ONCE, MatchPlan, PlayerAddress, decimal, player_address};
 use match_season::{RecordOrder, SeasonForm};
 use player_check::CheckPlan;
 use std::alloc::{AllocError, AllocFailed, Global};
@@ -354,7 +354,7 @@ fn record_order(found: &ArgMatches<'_>) -> RecordOrder {
 }
 
 fn season_plan<'a>(found: &ArgMatches<'a>) -> Option<SeasonPlan<'a>> {
-    let at_once = decimal(found.get_str("at-once")?, MAX_MATCHES as u64)?;
+    let at_once = decimal(found.get_str("at-once")?, MAX_AT_ONCE as u64)?;
     if at_once == 0 {
         return None;
     }

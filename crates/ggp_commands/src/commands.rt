@@ -8,7 +8,7 @@ use desk_text::push_history;
 use game_commands::{
     Desk, Fault, Replay, Verify, VerifyLines, for_game, game_of, rules_text, told_rules,
 };
-use game_core::Counted;
+use game_core::{Counted, Game};
 use match_log::{LoggedPlayer, Logging, Progress, StatusStream, Telling};
 use match_messages::{Info, info_message, read_info};
 use match_plans::{PlayerAddress, Reach, read_schedule};
@@ -215,7 +215,7 @@ where
 }
 
 /// How many bytes a schedule has at most.
-const MAX_SCHEDULE: usize = 4_194_304;
+const MAX_SCHEDULE: usize = 16_777_216;
 
 /// Plays the matches of the schedule on standard input. The game and the schedule are read before one is begun.
 fn season<H, P, S, R: Read, W: Write, E: Write + Send>(
@@ -235,7 +235,7 @@ where
     let game = game_of(alloc, &told_rules(rt, alloc, plan.game)?)?;
     let rules = start_rules(rt, alloc, &game, plan.told)?;
     let input = read_to_end(alloc, reader, MAX_SCHEDULE)?;
-    let plans = read_schedule(alloc, &input, plan.strikes)?;
+    let plans = read_schedule(alloc, &input, game.roles(), plan.strikes)?;
     let logging = console.logging(rt, reach, plan.is_logged);
     let fixtures: Vec<Fixture<'_, LoggedPlayer<'_, H, P, &mut E>>> = fixtures(
         alloc, &logging, &plans,

@@ -7,11 +7,12 @@
 mod addresses;
 mod numbers;
 mod plan;
+mod plan_line;
 mod schedule;
 mod seats;
 
 pub use addresses::{PlayerAddress, player_address};
 pub use numbers::decimal;
 pub use plan::MatchPlan;
-pub use schedule::{LineFault, MAX_MATCHES, ScheduleFault, read_schedule};
+pub use schedule::{LineFault, MAX_AT_ONCE, MAX_MATCHES, ScheduleFault, read_schedule};
 pub use seats::{Reach, Seat};

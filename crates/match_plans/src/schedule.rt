@@ -1,18 +1,19 @@
 //! The schedule of a season: a match a line.
-ghost use Rattle.std.specs.Prelude.{◌≡◌, ◌≤◌, IfOk, IfSome, length, map};
-ghost use Rattle.std.specs.Str.Lines.{strip_carriage_return};
-ghost use Rattle.match_plans.specs.Addresses.{addressed_name};
-ghost use Rattle.match_plans.specs.Schedules.{is_passed, clock_of, spaced_words, cut_lines};
+ghost use Rattle.std.specs.Prelude.{◌≡◌, ◌≤◌, All, IfNone, IfOk, length, vec_len};
+ghost use Rattle.std.specs.List.{AllZip};
+ghost use Rattle.match_plans.specs.Schedules.{match_lines, IsPlanned};
 
-use crate::addresses::{PlayerAddress, player_address};
 use crate::plan::MatchPlan;
-use game_core::numeral::plain_number;
+use crate::plan_line::{lines, planned_match, tells_nothing, without_return, words};
+use indexmap::IndexSet;
 use std::alloc::{AllocError, AllocFailed, Global};
-use std::str;
 use thiserror::Error;
 
 /// How many matches a schedule has at most.
-pub const MAX_MATCHES: usize = 1_024;
+pub const MAX_MATCHES: usize = 65_536;
+
+/// How many matches of a schedule are played at once at most.
+pub const MAX_AT_ONCE: usize = 1_024;
 
 /// Why a line of a schedule is a bad one.
 #[derive(Clone, Copy, Debug, PartialEq, Eq, Error)]
@@ -20,6 +21,9 @@ pub enum LineFault {
     /// It is not `ID START PLAY NAME@HOST:PORT ..`.
     #[error("no match")]
     NoMatch,
+    /// It has fewer players than the game has roles, or more.
+    #[error("not one player for each role")]
+    WrongPlayers,
     /// A match before it has the id.
     #[error("an id twice")]
     IdTwice,
@@ -50,127 +54,51 @@ impl<T: Drop> From<AllocFailed<T>> for ScheduleFault {
     }
 }
 
-/// A line without the carriage return at its end.
-fn without_return(line: &[u8]) -> &[u8]
-    ensures { result.now ≡ strip_carriage_return line.now }
+/// Why a match can't stand behind those with these ids, in a game of so many roles. Where it can, its id is added to them.
+fn misplaced<'a>(
+    ids: &mut IndexSet<&'a [u8]>,
+    plan: &MatchPlan<'a>,
+    roles: usize,
+) -> Result<Option<LineFault>, AllocError>
+    ensures { IfOk result (λ fault. IfNone fault (vec_len plan.now.players ≡ roles)) }
 {
-    let count = line.len();
-    if count > 0 && line[count - 1] == b'\r' {
-        return &line[..count - 1];
+    if plan.players.len() != roles {
+        return Ok(Some(LineFault::WrongPlayers));
     }
-    line
-}
-
-/// The lines of a text: the pieces between its line feeds.
-fn lines<'a>(alloc: Global, text: &'a [u8]) -> Result<Vec<&'a [u8]>, AllocError>
-    ensures { IfOk result (λ v. map (λ l. l.now) v.items ≡ cut_lines text.now) }
-{
-    text.split(|b| *b == b'\n').collect(alloc)
-}
-
-/// The words of a line: the pieces between its spaces. A doubled space gives an empty one.
-fn words<'a>(alloc: Global, line: &'a [u8]) -> Result<Vec<&'a [u8]>, AllocError>
-    ensures { IfOk result (λ v. map (λ w. w.now) v.items ≡ spaced_words line.now) }
-{
-    line.split(|b| *b == b' ').collect(alloc)
-}
-
-/// Whether a line is none of a match, and no bad one.
-fn is_passed(line: &[u8]) -> bool
-    ensures { result ≡ is_passed line.now }
-{
-    line.is_empty() || line[0] == b'#'
-}
-
-/// The largest number that a clock's word may write.
-const MAX_CLOCK: usize = 4_294_967_295;
-
-/// The seconds that a word gives, in or out of a clock's range.
-fn clock(word: &[u8]) -> Option<u32>
-    ensures { result ≡ clock_of word.now }
-{
-    Some(plain_number(word, MAX_CLOCK)? as u32)
-}
-
-/// The player whose address the word is.
-fn player(word: &[u8]) -> Option<PlayerAddress<'_>>
-    ensures { IfSome result (λ p. p.name.now ≡ addressed_name word.now) }
-{
-    player_address(str::from_utf8(word).ok()?)
-}
-
-/// The players whose addresses the words are.
-fn players<'a>(
-    alloc: Global,
-    words: &[&'a [u8]],
-) -> Result<Option<Vec<PlayerAddress<'a>>>, AllocError>
-    ensures { IfOk result (λ o. IfSome o (λ v. map (λ p. p.name.now) v.items ≡ map (λ w. addressed_name w.now) words.now)) }
-{
-    let mut players = Vec::with_capacity(alloc, words.len())?;
-    for word in words {
-        let Some(player) = player(word) else {
-            return Ok(None);
-        };
-        players.push(player)?;
+    let id = plan.id.as_bytes();
+    if ids.contains(&id) {
+        return Ok(Some(LineFault::IdTwice));
     }
-    Ok(Some(players))
+    ids.insert(id)?;
+    Ok(None)
 }
 
-/// The match that a line tells.
-fn match_of_line<'a>(
-    alloc: Global,
-    line: &'a [u8],
-    strikes: u8,
-) -> Result<Option<MatchPlan<'a>>, AllocError> {
-    let words = words(alloc, line)?;
-    let [id, start, play, addresses @ ..] = words.as_slice() else {
-        return Ok(None);
-    };
-    let (Ok(id), Some(start), Some(play)) = (str::from_utf8(id), clock(start), clock(play)) else {
-        return Ok(None);
-    };
-    let Some(players) = players(alloc, addresses)? else {
-        return Ok(None);
-    };
-    if id.is_empty() || players.is_empty() {
-        return Ok(None);
-    }
-    Ok(Some(MatchPlan {
-        id,
-        start,
-        play,
-        strikes,
-        players,
-    }))
-}
-
-/// Whether one of the matches has this id.
-fn has_id(plans: &[MatchPlan<'_>], id: &str) -> bool {
-    plans.iter().any(|plan| plan.id == id)
-}
-
-/// The matches of a schedule, in the order of their lines; they share the number of strikes. An empty line, or one that begins
-/// with `#`, is passed by. The first bad line is the fault.
+/// The matches of a schedule for a game of so many roles, in the order of their lines; they share the number of strikes. A line
+/// without words, or whose first word begins with `#`, is skipped. The first bad line is the fault.
 pub fn read_schedule<'a>(
     alloc: Global,
     input: &'a [u8],
+    roles: usize,
     strikes: u8,
 ) -> Result<Vec<MatchPlan<'a>>, ScheduleFault>
-    ensures { IfOk result (λ plans. length plans.items ≤ 1024) }
+    ensures within { IfOk result (λ plans. length plans.items ≤ 65536) }
+    ensures planned { IfOk result (λ plans. AllZip (IsPlanned strikes) (match_lines input.now) plans.items) }
+    ensures roles { IfOk result (λ plans. All (λ plan. vec_len plan.players ≡ roles) plans.items) }
 {
     let lines = lines(alloc, input)?;
+    let mut ids = IndexSet::new(alloc);
     let mut plans = Vec::new(alloc);
     for (place, line) in lines.iter().enumerate() {
-        let line = without_return(line);
-        if is_passed(line) {
+        let words = words(alloc, without_return(line))?;
+        if tells_nothing(&words) {
             continue;
         }
         let number = place as u64 + 1;
-        let Some(plan) = match_of_line(alloc, line, strikes)? else {
+        let Some(plan) = planned_match(alloc, &words, strikes)? else {
             return Err(ScheduleFault::BadLine(number, LineFault::NoMatch));
         };
-        if has_id(plans.as_slice(), plan.id) {
-            return Err(ScheduleFault::BadLine(number, LineFault::IdTwice));
+        if let Some(fault) = misplaced(&mut ids, &plan, roles)? {
+            return Err(ScheduleFault::BadLine(number, fault));
         }
         if plans.len() >= MAX_MATCHES {
             return Err(ScheduleFault::BadLine(number, LineFault::TooMany));

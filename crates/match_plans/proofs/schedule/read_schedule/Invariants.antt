@@ -1,5 +1,11 @@
-use Rattle.std.proofs.Common.{◌≤◌, length}
+use Rattle.std.proofs.Common.{◌≡◌, ◌≤◌, All, length, map, take, vec_len}
+use Rattle.std.specs.List.{AllZip}
+use Rattle.match_plans.specs.Schedules.{match_words, IsPlanned}
 use Rattle.match_plans.proofs.schedule.read_schedule.Given as goal
 
 abbrev pub invariant-loop-place : goal.invariant-loop-place
-invariant-loop-place l = length l.plans.items ≤ 1024
+invariant-loop-place l = record {
+  within : length l.plans.items ≤ 65536;
+  planned : AllZip (IsPlanned l.strikes) (match_words (map (λ line. line.now) (take l.place l.line-items))) l.plans.items;
+  roles : All (λ plan. vec_len plan.players ≡ l.roles) l.plans.items;
+}
