@@ -4,7 +4,7 @@ use crate::arguments::{ArgumentFault, command_named, program};
 use clap::ArgMatches;
 use clap::error::ErrorKind;
 use game_commands::Fault;
-use match_plans::{MAX_MATCHES, decimal, player_address};
+use match_plans::{MAX_AT_ONCE, decimal, player_address};
 use std::alloc::{AllocError, Global};
 
 /// The program's name in its usage.
@@ -56,7 +56,7 @@ const NUMBERS: [(&str, u64, u64); 5] = [
     ("start", 0, 4_294_967_295),
     ("play", 0, 4_294_967_295),
     ("strikes", 0, 255),
-    ("at-once", 1, MAX_MATCHES as u64),
+    ("at-once", 1, MAX_AT_ONCE as u64),
 ];
 
 /// The first word for a player that names none.
