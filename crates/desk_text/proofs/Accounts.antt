@@ -1,45 +1,85 @@
--- An account, made again, grows line by line.
-use Rattle.std.proofs.Common.{◌≡◌, ℕ, ◌+◌, List, [], ◌∷◌, ◌++◌, map, refl, sym, ap, ◌∙◌, append_assoc, append-nil}
-use Rattle.std.proofs.lemmas.List.{map-append, length-append}
+-- An account, made again line by line, and the history that its lines tell.
+use Rattle.std.proofs.Common.{◌≡◌, ℕ, ◌+◌, Bool, true, false, not, List, [], ◌∷◌, ◌++◌, length, map, refl, sym, ap, ◌∙◌, subst, append-nil, arith}
+use Rattle.std.specs.List.{AllByRecursion}
+use Rattle.std.specs.Str.{bytes_eq}
+use Rattle.std.specs.Str.Lines.{lines}
+use Rattle.std.proofs.lemmas.Slice.Eq.{bytes_eq-Decides}
+use Rattle.call_history.specs.History.{IsLegalHistory, run}
 use Rattle.call_history.specs.declared.journal.Entry.{Entry}
-use Rattle.call_history.proofs.Histories.{run-snoc, IsLegalHistory-snoc}
 use Rattle.match_desk.specs.declared.call.Call.{Call}
 use Rattle.match_desk.specs.declared.call.Reply.{Reply}
-use Rattle.desk_text.specs.Account.{entry_text, IsAccount}
+use Rattle.desk_text.specs.Account.{IsAccount, IsRead, entry_text}
+use Rattle.desk_text.specs.Replaying.{IsFirstFault, RefusesLine}
+use Rattle.desk_text.specs.declared.replaying.ReplayFault.{ReplayFault}
 
--- the first of these lines hold a history that leaves the object, and the others are still to come
-pub record IsAccountSoFar {S : Type 0} (reply : S → Call → Reply) (after : S → Call → S) (start : S) (told rest : List (List ℕ)) (object : S) (calls : ℕ) : Type 0 where
-  pub before : List (List ℕ)
-  pub is_cut : told ≡ before ++ rest
-  pub account : IsAccount reply after start before object calls
+pub apart_when_not : (xs ys : List ℕ) → not (bytes_eq xs ys) ≡ true → xs ≡ ys → ⊥
+apart_when_not xs ys is same = go (bytes_eq xs ys) is ((bytes_eq-Decides xs ys).1 same)
+  where
+    go : (b : Bool) → not b ≡ true → b ≡ true → ⊥
+    go true h equal = cc
+    go false h equal = cc
 
-module _ {S : Type 0} (reply : S → Call → Reply) (after : S → Call → S) (start : S) where
-  pub account_begins : (told : List (List ℕ)) → IsAccountSoFar reply after start told told start 0
-  account_begins told = record {
-    before = [];
-    is_cut = refl;
-    account = record { history = []; is_told = refl; legal = tt; leaves = refl; counted = refl };
-  }
+pub no_lines : (text : List ℕ) → length text ≡ 0 → lines text ≡ []
+no_lines [] empty = refl
+no_lines (byte ∷ text) empty = absurd (omega arith)
 
-  pub account_ends : (told : List (List ℕ)) (object : S) (calls : ℕ) → IsAccountSoFar reply after start told [] object calls → IsAccount reply after start told object calls
-  account_ends told object calls so_far = rw (so_far.is_cut ∙ append-nil so_far.before) so_far.account
+module _ {S : Type 0} (reply : S → Call → Reply) (after : S → Call → S) where
+  -- the lines before these last ones tell a history that is legal from the start: it makes as many calls, and then those that the object takes
+  pub record Tells (start : S) (told last : List (List ℕ)) (object : S) (calls : ℕ) (more : List (Entry Call Reply)) : Type 0 where
+    pub history : List (Entry Call Reply)
+    pub cut : told ≡ map entry_text history ++ last
+    pub are_read : AllByRecursion IsRead history
+    pub legal : IsLegalHistory reply after start history
+    pub leaves : run after object more ≡ run after start history
+    pub counted : calls + length more ≡ length history
+
+  -- however a history goes on from the object in the lines that are left, it is one from the start in all lines
+  abbrev pub IsAccountSoFar : S → List (List ℕ) → List (List ℕ) → S → ℕ → Type 0
+  IsAccountSoFar start told rest object calls = (more : List (Entry Call Reply)) (last : List (List ℕ))
+      → rest ≡ map entry_text more ++ last → AllByRecursion IsRead more → IsLegalHistory reply after object more → Tells start told last object calls more
+
+  pub account_begins : (start : S) (told : List (List ℕ)) → IsAccountSoFar start told told start 0
+  account_begins start told more last cut read legal = record { history = more; cut = cut; are_read = read; legal = legal; leaves = refl; counted = omega arith }
 
   -- one entry more
-  pub account_goes_on : (told rest : List (List ℕ)) (line : List ℕ) (old new : S) (calls : ℕ) (e : Entry Call Reply)
-      → IsAccountSoFar reply after start told (line ∷ rest) old calls
-      → line ≡ entry_text e → e.reply ≡ reply old e.call → new ≡ after old e.call
-      → IsAccountSoFar reply after start told rest new (calls + 1)
-  account_goes_on told rest line old new calls e so_far is_line is_reply is_new =
-      let account = so_far.account in
-      let history = account.history in
+  pub account_goes_on : (start : S) (told rest : List (List ℕ)) (line : List ℕ) (old new : S) (calls : ℕ) (e : Entry Call Reply)
+      → IsAccountSoFar start told (line ∷ rest) old calls
+      → line ≡ entry_text e → IsRead e → e.reply ≡ reply old e.call → new ≡ after old e.call
+      → IsAccountSoFar start told rest new (calls + 1)
+  account_goes_on start told rest line old new calls e so_far is_line is_read is_reply is_new more last cut read legal =
+      let whole = so_far (e ∷ more) last (ap (λ x. x ∷ rest) is_line ∙ ap (λ xs. entry_text e ∷ xs) cut) (is_read, read) (is_reply, subst (λ s. IsLegalHistory reply after s more) is_new legal) in
       record {
-        before = so_far.before ++ line ∷ [];
-        is_cut = so_far.is_cut ∙ sym (append_assoc so_far.before (line ∷ []) rest);
-        account = record {
-          history = history ++ e ∷ [];
-          is_told = ap (λ x. x ++ line ∷ []) account.is_told ∙ ap (λ x. map entry_text history ++ x ∷ []) is_line ∙ sym (map-append entry_text history (e ∷ []));
-          legal = IsLegalHistory-snoc reply after start history e account.legal (is_reply ∙ ap (λ s. reply s e.call) account.leaves);
-          leaves = is_new ∙ (ap (λ s. after s e.call) account.leaves ∙ sym (run-snoc reply after start history e));
-          counted = ap (λ n. n + 1) account.counted ∙ sym (length-append history (e ∷ []));
-        };
+        history = whole.history;
+        cut = whole.cut;
+        are_read = whole.are_read;
+        legal = whole.legal;
+        leaves = ap (λ s. run after s more) is_new ∙ whole.leaves;
+        counted = omega (arith, whole.counted);
+      }
+
+  pub account_ends : (start : S) (told : List (List ℕ)) (object : S) (calls : ℕ) → IsAccountSoFar start told [] object calls → IsAccount reply after start told object calls
+  account_ends start told object calls so_far =
+      let whole = so_far [] [] refl tt tt in
+      record {
+        history = whole.history;
+        tell = record { texts = whole.cut ∙ append-nil (map entry_text whole.history); are_read = whole.are_read };
+        legal = whole.legal;
+        leaves = whole.leaves;
+        counted = omega (arith, whole.counted);
+      }
+
+  -- the next line is refused
+  pub fault_comes : (start : S) (told rest : List (List ℕ)) (line : List ℕ) (old : S) (calls : ℕ) (fault : ReplayFault)
+      → IsAccountSoFar start told (line ∷ rest) old calls → RefusesLine reply old (calls + 1) line fault → IsFirstFault reply after start told fault
+  fault_comes start told rest line old calls fault so_far refused =
+      let whole = so_far [] (line ∷ rest) refl tt tt in
+      let count : calls ≡ length whole.history = omega (arith, whole.counted) in
+      record {
+        history = whole.history;
+        line = line;
+        rest = rest;
+        cut = whole.cut;
+        are_read = whole.are_read;
+        legal = whole.legal;
+        refused = subst (λ s. RefusesLine reply s (length whole.history + 1) line fault) whole.leaves (subst (λ n. RefusesLine reply old (n + 1) line fault) count refused);
       }

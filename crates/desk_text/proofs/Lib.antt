@@ -1,7 +1,13 @@
 pub mod Accounts
-pub mod Escapes
+pub mod Bytes
+pub mod CallTexts
+pub mod Digits
+pub mod EscapedTexts
 pub mod LineLemmas
+pub mod Numbers
 pub mod Pieces
 pub mod Records
 pub mod Submits
+pub mod ToldCalls
+pub mod ToldHistories
 pub mod WordLemmas

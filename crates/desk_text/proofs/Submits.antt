@@ -1,17 +1,17 @@
 -- The text of a `submit` line is the rest of the line, as it stands.
-use Rattle.std.proofs.Common.{◌≡◌, ℕ, ◌<◌, List, [], ◌∷◌, length, Option, Some, None, refl, sym, arith, Bor}
+use Rattle.std.proofs.Common.{◌≡◌, ℕ, List, [], ◌∷◌, Option, Some, None, refl, sym, Bor}
 use Rattle.std.specs.Prelude.{option_copied, unwrap_or}
 use Rattle.match_desk.specs.declared.call.Call.TheVariants.{Submit}
-use Rattle.desk_text.specs.Words.{words, words_behind, number_of}
+use Rattle.game_core.specs.Numerals.{plain_number}
+use Rattle.desk_text.specs.Words.{words, words_behind, max_in_64_bits}
 use Rattle.desk_text.specs.ScriptLines.{submit_call}
 use Rattle.desk_text.proofs.WordLemmas.{spaced_behind}
 
 pub submitted : (rest id role round after_id after_role : List ℕ) (text : Option (List ℕ)) (r n : ℕ)
     → words rest ≡ id ∷ words_behind (Some after_id) → words after_id ≡ role ∷ words_behind (Some after_role) → words after_role ≡ round ∷ words_behind text
-    → 0 < length id → Some r ≡ number_of role → Some n ≡ number_of round
+    → Some r ≡ plain_number role max_in_64_bits → Some n ≡ plain_number round max_in_64_bits
     → Some (Submit id r n (unwrap_or text [])) ≡ submit_call (words rest)
-submitted rest [] role round after_id after_role text r n first second third named is_role is_round = absurd (omega arith)
-submitted rest (b ∷ bs) role round after_id after_role text r n first second third named is_role is_round =
+submitted rest id role round after_id after_role text r n first second third is_role is_round =
     rw (first, second, third, sym is_role, sym is_round, spaced_behind text) refl
 
 pub or_text : (text : Option (Bor (List ℕ))) (other : Bor (List ℕ)) → (unwrap_or text other).now ≡ unwrap_or (option_copied text) other.now

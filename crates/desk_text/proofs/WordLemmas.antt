@@ -1,4 +1,4 @@
--- Words are cut off one by one, and put together again.
+-- Words are put together again.
 use Rattle.std.proofs.Common.{◌≡◌, ℕ, ◌+◌, ◌==◌, Bool, List, [], ◌∷◌, ◌++◌, take, drop, refl, Option, Some, None, ap, ◌∙◌}
 use Rattle.std.specs.Prelude.{position, unwrap_or}
 use Rattle.std.specs.List.{join_with_byte}
@@ -6,16 +6,6 @@ use Rattle.std.proofs.lemmas.List.{append-nil}
 use Rattle.std.proofs.lemmas.List.Splits.{join_with_byte-slice_split}
 use Rattle.game_core.specs.Bytes.{space}
 use Rattle.desk_text.specs.Words.{words, words_behind, spaced}
-use Rattle.desk_text.proofs.Pieces.{pieces_cut, pieces_whole}
-
-abbrev pub is_space : ℕ → Bool
-is_space b = b == space
-
-pub words_cut : (text : List ℕ) (end : ℕ) → position is_space text ≡ Some end → words text ≡ take end text ∷ words (drop (end + 1) text)
-words_cut text end h = pieces_cut is_space text end h
-
-pub words_whole : (text : List ℕ) → position is_space text ≡ None → words text ≡ text ∷ []
-words_whole text h = pieces_whole is_space text h
 
 spaced_join : (words : List (List ℕ)) → spaced words ≡ join_with_byte space words
 spaced_join [] = refl

@@ -1,59 +1,111 @@
--- The account of a desk: its history as text, one line for each entry.
-use Rattle.std.specs.Prelude.{◌≡◌, ◌==◌, ℕ, ◌+◌, ◌/◌, ◌%◌, nat_lt, Bool, false, List, [], ◌∷◌, ◌++◌, map, length, codes, if◌then◌else◌}
+-- The account of a desk: its history as text, one line for each entry, and the history that the lines of an account tell.
+use Rattle.std.specs.Prelude.{◌≡◌, ◌≢◌, ◌==◌, ℕ, ◌+◌, ◌≤◌, ◌<◌, Bool, List, [], ◌∷◌, ◌++◌, map, length, Option, Some, None, option_and_then, option_map, codes, if◌then◌else◌}
 use Rattle.std.specs.Fmt.{decimal}
-use Rattle.game_core.specs.Bytes.{line_feed}
+use Rattle.std.specs.List.{AllByRecursion}
+use Rattle.game_core.specs.Bytes.{line_feed, tab}
+use Rattle.game_core.specs.Numerals.{plain_number}
 use Rattle.call_history.specs.History.{IsLegalHistory, run}
 use Rattle.call_history.specs.declared.journal.Entry.{Entry}
 use Rattle.match_desk.specs.declared.call.Call.{Call}
 use Rattle.match_desk.specs.declared.call.Call.TheVariants.{Open, Next, Submit, Miss, Query, Abort}
 use Rattle.match_desk.specs.declared.call.Reply.{Reply}
-use Rattle.desk_text.specs.Words.{behind_spaces}
-use Rattle.desk_text.specs.ScriptLines.{reply_text}
+use Rattle.desk_text.specs.Escapes.{escaped_name, escaped_text, unescaped, all_unescaped}
+use Rattle.desk_text.specs.Words.{pieces, words, spaced, max_in_32_bits, max_in_64_bits}
+use Rattle.desk_text.specs.ScriptLines.{call_of_words, names_in, reply_text}
 
--- the script's line for a call; an `open` is always written with its strikes
+-- ---- what is written
+
+-- the words of a call, as in a script, but for the escapes in names and text: `open` where strikes are 0, else `strict`
+abbrev pub call_words : Call → List (List ℕ)
+call_words (Open id game start play strikes players) =
+    if strikes == 0 then codes "open" ∷ (escaped_name id ∷ (decimal game ∷ (decimal start ∷ (decimal play ∷ map escaped_name players))))
+    else codes "strict" ∷ (escaped_name id ∷ (decimal game ∷ (decimal start ∷ (decimal play ∷ (decimal strikes ∷ map escaped_name players)))))
+call_words (Next id role) = codes "next" ∷ (escaped_name id ∷ (decimal role ∷ []))
+call_words (Submit id role round text) = codes "submit" ∷ (escaped_name id ∷ (decimal role ∷ (decimal round ∷ (escaped_text text ∷ []))))
+call_words (Miss id role round broken) = codes "miss" ∷ (escaped_name id ∷ (decimal role ∷ (decimal round ∷ ((if broken then codes "broken" else codes "silent") ∷ []))))
+call_words (Query id) = codes "query" ∷ (escaped_name id ∷ [])
+call_words (Abort id) = codes "abort" ∷ (escaped_name id ∷ [])
+
 abbrev pub call_text : Call → List ℕ
-call_text (Open id game start play strikes players) =
-    codes "strict " ++ id ++ codes " " ++ decimal game ++ codes " " ++ decimal start ++ codes " " ++ decimal play ++ codes " " ++ decimal strikes ++ behind_spaces players
-call_text (Next id role) = codes "next " ++ id ++ codes " " ++ decimal role
-call_text (Submit id role round text) = codes "submit " ++ id ++ codes " " ++ decimal role ++ codes " " ++ decimal round ++ codes " " ++ text
-call_text (Miss id role round broken) = codes "miss " ++ id ++ codes " " ++ decimal role ++ codes " " ++ decimal round ++ (if broken then codes " broken" else codes " silent")
-call_text (Query id) = codes "query " ++ id
-call_text (Abort id) = codes "abort " ++ id
-
--- a byte that is written as it is: from the space to the tilde, except the backslash
-abbrev pub is_plain : ℕ → Bool
-is_plain byte = if byte == 92 then false else (if nat_lt byte 32 then false else nat_lt byte 127)
-
--- the digit for a number below 16: 0 to 9, A to F
-abbrev pub hex_digit : ℕ → ℕ
-hex_digit number = if nat_lt number 10 then 48 + number else 55 + number
-
--- a byte as it stands, or as \xHH
-abbrev pub escaped_byte : ℕ → List ℕ
-escaped_byte byte = if is_plain byte then byte ∷ [] else 92 ∷ (120 ∷ (hex_digit (byte / 16) ∷ (hex_digit (byte % 16) ∷ [])))
-
-abbrev pub escaped : List ℕ → List ℕ
-escaped [] = []
-escaped (byte ∷ more) = escaped_byte byte ++ escaped more
-
--- the byte between the fields of a line
-abbrev pub tab : ℕ
-tab = 9
+call_text call = spaced (call_words call)
 
 -- an entry's line, without its line feed: the number of the line that made the call, the call, and its reply
 abbrev pub entry_text : Entry Call Reply → List ℕ
-entry_text e = decimal e.line ++ tab ∷ (escaped (call_text e.call) ++ tab ∷ escaped (reply_text e.reply))
+entry_text e = decimal e.line ++ tab ∷ (call_text e.call ++ tab ∷ escaped_text (reply_text e.reply))
 
 -- the entries in their order, each with a line feed
 abbrev pub history_text : List (Entry Call Reply) → List ℕ
 history_text [] = []
 history_text (e ∷ more) = entry_text e ++ line_feed ∷ history_text more
 
--- These lines hold a history: this many calls from this start on, each with the reply that it gets there. The object is what the
+-- ---- what is read
+
+-- the call with its names and text unescaped
+abbrev pub unescaped_call : Call → Option Call
+unescaped_call (Open id game start play strikes players) = option_and_then (λ name. option_map (λ names. Open name game start play strikes names) (all_unescaped players)) (unescaped id)
+unescaped_call (Next id role) = option_map (λ name. Next name role) (unescaped id)
+unescaped_call (Submit id role round text) = option_and_then (λ name. option_map (λ bytes. Submit name role round bytes) (unescaped text)) (unescaped id)
+unescaped_call (Miss id role round broken) = option_map (λ name. Miss name role round broken) (unescaped id)
+unescaped_call (Query id) = option_map (λ name. Query name) (unescaped id)
+unescaped_call (Abort id) = option_map (λ name. Abort name) (unescaped id)
+
+-- the call that a text of an account tells: that of its words, unescaped
+abbrev pub told_call : List ℕ → Option Call
+told_call text = option_and_then unescaped_call (call_of_words (words text))
+
+-- the number of the line that made the call, and the call, in the fields of a line
+abbrev pub told_fields : List (List ℕ) → Option (ℕ × Call)
+told_fields (made_by ∷ (call ∷ more)) = option_and_then (λ number. option_map (λ made. (number, made)) (told_call call)) (plain_number made_by max_in_32_bits)
+told_fields _ = None
+
+-- the same in a line
+abbrev pub told : List ℕ → Option (ℕ × Call)
+told line = told_fields (pieces tab line)
+
+-- what is read of an entry's line is the entry's
+abbrev pub IsRead : Entry Call Reply → Type 0
+IsRead e = told (entry_text e) ≡ Some (e.line, e.call)
+
+-- the lines are those of a history, of which each is read as its entry
+pub record Tell (lines : List (List ℕ)) (history : List (Entry Call Reply)) : Type 0 where
+  pub texts : lines ≡ map entry_text history
+  pub are_read : AllByRecursion IsRead history
+
+-- These lines tell a history: this many calls from this start on, each with the reply that it gets there. The object is what the
 -- calls leave.
-pub record IsAccount {S : Type 0} (reply : S → Call → Reply) (after : S → Call → S) (start : S) (told : List (List ℕ)) (object : S) (calls : ℕ) : Type 0 where
+pub record IsAccount {S : Type 0} (reply : S → Call → Reply) (after : S → Call → S) (start : S) (lines : List (List ℕ)) (object : S) (calls : ℕ) : Type 0 where
   pub history : List (Entry Call Reply)
-  pub is_told : told ≡ map entry_text history
+  pub tell : Tell lines history
   pub legal : IsLegalHistory reply after start history
   pub leaves : object ≡ run after start history
   pub counted : calls ≡ length history
+
+-- ---- what the fields of a call hold
+
+abbrev pub AreBytes : List ℕ → Type 0
+AreBytes text = AllByRecursion (λ byte. byte < 256) text
+
+-- numbers of as many bits as their types have
+abbrev pub HasNumbers : Call → Type 0
+HasNumbers (Open id game start play strikes players) = (game ≤ max_in_64_bits) × (start ≤ max_in_32_bits) × (play ≤ max_in_32_bits) × (strikes ≤ max_in_32_bits)
+HasNumbers (Next id role) = role ≤ max_in_64_bits
+HasNumbers (Submit id role round text) = (role ≤ max_in_64_bits) × (round ≤ max_in_64_bits)
+HasNumbers (Miss id role round broken) = (role ≤ max_in_64_bits) × (round ≤ max_in_64_bits)
+HasNumbers (Query id) = Unit {0}
+HasNumbers (Abort id) = Unit {0}
+
+-- the text of a submission, or none
+abbrev pub text_in : Call → List ℕ
+text_in (Submit id role round text) = text
+text_in _ = []
+
+-- a call as it can be made: its texts are of bytes
+pub record IsCall (call : Call) : Type 0 where
+  pub names : AllByRecursion AreBytes (names_in call)
+  pub text : AreBytes (text_in call)
+  pub numbers : HasNumbers call
+
+-- an entry as it can stand in a history
+pub record IsEntry (e : Entry Call Reply) : Type 0 where
+  pub line : e.line ≤ max_in_32_bits
+  pub call : IsCall e.call

@@ -1,4 +1,6 @@
 pub mod Words
 pub mod ScriptLines
 pub mod Script
+pub mod Escapes
 pub mod Account
+pub mod Replaying

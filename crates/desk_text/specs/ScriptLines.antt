@@ -1,5 +1,5 @@
 -- The calls of script lines, and the lines of replies.
-use Rattle.std.specs.Prelude.{ℕ, nat_lt, Bool, true, false, List, [], ◌∷◌, ◌++◌, length, Option, Some, None, option_and_then, if◌then◌else◌, bytes_eq, codes}
+use Rattle.std.specs.Prelude.{ℕ, ◌&&◌, nat_le, nat_lt, Bool, true, false, List, [], ◌∷◌, ◌++◌, length, Option, Some, None, option_and_then, if◌then◌else◌, bytes_eq, codes}
 use Rattle.std.specs.List.{list_all}
 use Rattle.std.specs.Fmt.{decimal}
 use Rattle.game_core.specs.Bytes.{left_parenthesis, right_parenthesis}
@@ -15,38 +15,32 @@ use Rattle.match_desk.specs.declared.call.Reply.TheVariants.{Opened, Due as IsDu
 use Rattle.match_desk.specs.declared.call.Refusal.{Refusal}
 use Rattle.match_desk.specs.declared.call.Refusal.TheVariants.{BadId, IdUsed, NoGame, WrongPlayers, BadName, BadClock, BadStrikes, DeskFull, NoMatch, NoRole, Over as IsOver, Stale, Twice, Ended}
 use Rattle.match_record.specs.RecordTree.{phase_text}
-use Rattle.desk_text.specs.Words.{words, spaced, number_of, name_of}
+use Rattle.game_core.specs.Numerals.{plain_number}
+use Rattle.desk_text.specs.Words.{words, spaced, max_number, max_in_32_bits, max_in_64_bits}
 
--- the call that f makes from a name, if the word is a name
-abbrev pub with_name : List ℕ → (List ℕ → Option Call) → Option Call
-with_name word f = option_and_then f (name_of word)
-
--- the call that f makes from a number, if the word is a number
-abbrev pub with_number : List ℕ → (ℕ → Option Call) → Option Call
-with_number word f = option_and_then f (number_of word)
-
-abbrev pub is_named : List ℕ → Bool
-is_named word = nat_lt 0 (length word)
+-- the call that f makes from a number up to this limit, if the word is one: in decimal digits, without leading zeros
+abbrev pub with_number : ℕ → List ℕ → (ℕ → Option Call) → Option Call
+with_number most word f = option_and_then f (plain_number word most)
 
 -- ID GAME START PLAY PLAYER .., with 0 strikes
 abbrev pub open_call : List (List ℕ) → Option Call
-open_call (id ∷ (game ∷ (start ∷ (play ∷ players)))) = with_name id (λ i. with_number game (λ g. with_number start (λ s. with_number play (λ p. if list_all is_named players then Some (Open i g s p 0 players) else None))))
+open_call (id ∷ (game ∷ (start ∷ (play ∷ players)))) = with_number max_in_64_bits game (λ g. with_number max_in_32_bits start (λ s. with_number max_in_32_bits play (λ p. Some (Open id g s p 0 players))))
 open_call _ = None
 
 -- ID GAME START PLAY STRIKES PLAYER ..
 abbrev pub strict_call : List (List ℕ) → Option Call
 strict_call (id ∷ (game ∷ (start ∷ (play ∷ (strikes ∷ players))))) =
-    with_name id (λ i. with_number game (λ g. with_number start (λ s. with_number play (λ p. with_number strikes (λ k. if list_all is_named players then Some (Open i g s p k players) else None)))))
+    with_number max_in_64_bits game (λ g. with_number max_in_32_bits start (λ s. with_number max_in_32_bits play (λ p. with_number max_in_32_bits strikes (λ k. Some (Open id g s p k players)))))
 strict_call _ = None
 
 -- ID ROLE
 abbrev pub next_call : List (List ℕ) → Option Call
-next_call (id ∷ (role ∷ [])) = with_name id (λ i. with_number role (λ r. Some (Next i r)))
+next_call (id ∷ (role ∷ [])) = with_number max_in_64_bits role (λ r. Some (Next id r))
 next_call _ = None
 
 -- ID ROLE ROUND TEXT, where the text is the rest of the line
 abbrev pub submit_call : List (List ℕ) → Option Call
-submit_call (id ∷ (role ∷ (round ∷ text))) = with_name id (λ i. with_number role (λ r. with_number round (λ n. Some (Submit i r n (spaced text)))))
+submit_call (id ∷ (role ∷ (round ∷ text))) = with_number max_in_64_bits role (λ r. with_number max_in_64_bits round (λ n. Some (Submit id r n (spaced text))))
 submit_call _ = None
 
 -- `silent` or `broken`
@@ -55,19 +49,19 @@ is_broken word = if bytes_eq word (codes "silent") then Some false else (if byte
 
 -- ID ROLE ROUND, and why there is no answer
 abbrev pub miss_call : List (List ℕ) → Option Call
-miss_call (id ∷ (role ∷ (round ∷ (why ∷ [])))) = with_name id (λ i. with_number role (λ r. with_number round (λ n. option_and_then (λ broken. Some (Miss i r n broken)) (is_broken why))))
+miss_call (id ∷ (role ∷ (round ∷ (why ∷ [])))) = with_number max_in_64_bits role (λ r. with_number max_in_64_bits round (λ n. option_and_then (λ broken. Some (Miss id r n broken)) (is_broken why)))
 miss_call _ = None
 
 -- ID
 abbrev pub query_call : List (List ℕ) → Option Call
-query_call (id ∷ []) = with_name id (λ i. Some (Query i))
+query_call (id ∷ []) = Some (Query id)
 query_call _ = None
 
 abbrev pub abort_call : List (List ℕ) → Option Call
-abort_call (id ∷ []) = with_name id (λ i. Some (Abort i))
+abort_call (id ∷ []) = Some (Abort id)
 abort_call _ = None
 
--- the call of a keyword and the words after it
+-- the call of a keyword and the words after it, with any names, and any numbers that a call holds
 abbrev pub call_of_words : List (List ℕ) → Option Call
 call_of_words [] = None
 call_of_words (keyword ∷ rest) =
@@ -80,9 +74,33 @@ call_of_words (keyword ∷ rest) =
     else (if bytes_eq keyword (codes "strict") then strict_call rest
     else None))))))
 
--- the call of a line: none for a bad line
+-- the names in a call, and its numbers
+abbrev pub names_in : Call → List (List ℕ)
+names_in (Open id game start play strikes players) = id ∷ players
+names_in (Next id role) = id ∷ []
+names_in (Submit id role round text) = id ∷ []
+names_in (Miss id role round broken) = id ∷ []
+names_in (Query id) = id ∷ []
+names_in (Abort id) = id ∷ []
+
+abbrev pub numbers_in : Call → List ℕ
+numbers_in (Open id game start play strikes players) = game ∷ (start ∷ (play ∷ (strikes ∷ [])))
+numbers_in (Next id role) = role ∷ []
+numbers_in (Submit id role round text) = role ∷ (round ∷ [])
+numbers_in (Miss id role round broken) = role ∷ (round ∷ [])
+numbers_in (Query id) = []
+numbers_in (Abort id) = []
+
+abbrev pub is_named : List ℕ → Bool
+is_named word = nat_lt 0 (length word)
+
+-- a script's names are not empty, and its numbers not past the largest
+abbrev pub is_scripted : Call → Bool
+is_scripted call = list_all is_named (names_in call) && list_all (λ number. nat_le number max_number) (numbers_in call)
+
+-- the call of a script's line: none for a bad line
 abbrev pub call_of : List ℕ → Option Call
-call_of line = call_of_words (words line)
+call_of line = option_and_then (λ call. if is_scripted call then Some call else None) (call_of_words (words line))
 
 -- the last joint move: NIL before the first turn
 abbrev pub joint_text : Option (List (List ℕ)) → List ℕ

@@ -2,16 +2,22 @@
 use Rattle.std.specs.Prelude.{ℕ, ◌==◌, List, [], ◌∷◌, ◌++◌, Option, Some, None}
 use Rattle.std.specs.List.{slice_split}
 use Rattle.game_core.specs.Bytes.{space}
-use Rattle.game_core.specs.Numerals.{plain_number}
 
--- the pieces of a text between its spaces: one more than it has spaces
+-- the pieces of a text between its separators: one more than it has separators
+abbrev pub pieces : ℕ → List ℕ → List (List ℕ)
+pieces separator text = slice_split (λ b. b == separator) text
+
+-- the pieces after a piece: none if no separator stands after it
+abbrev pub pieces_behind : ℕ → Option (List ℕ) → List (List ℕ)
+pieces_behind separator None = []
+pieces_behind separator (Some rest) = pieces separator rest
+
+-- the words of a text: its pieces between spaces
 abbrev pub words : List ℕ → List (List ℕ)
-words text = slice_split (λ b. b == space) text
+words text = pieces space text
 
--- the words after a word: none if no space stands after it
 abbrev pub words_behind : Option (List ℕ) → List (List ℕ)
-words_behind None = []
-words_behind (Some rest) = words rest
+words_behind rest = pieces_behind space rest
 
 -- these words, each after a space
 abbrev pub behind_spaces : List (List ℕ) → List ℕ
@@ -23,15 +29,13 @@ abbrev pub spaced : List (List ℕ) → List ℕ
 spaced [] = []
 spaced (word ∷ more) = word ++ behind_spaces more
 
--- the largest number that a line may name
+-- the largest number that a script may name
 abbrev pub max_number : ℕ
 max_number = 1000000000
 
--- the number of a word, up to the largest
-abbrev pub number_of : List ℕ → Option ℕ
-number_of word = plain_number word max_number
+-- the largest numbers of 32 and of 64 bits, which the fields of a call hold
+abbrev pub max_in_32_bits : ℕ
+max_in_32_bits = 4294967295
 
--- a word that names something is not empty
-abbrev pub name_of : List ℕ → Option (List ℕ)
-name_of [] = None
-name_of (b ∷ bs) = Some (b ∷ bs)
+abbrev pub max_in_64_bits : ℕ
+max_in_64_bits = 18446744073709551615

@@ -1,44 +1,102 @@
 //! The account of a desk: its history as text, one line for each entry, so that anyone can make its calls again.
-ghost use Rattle.std.specs.Prelude.{◌≡◌, ◌<◌, ◌++◌, codes, OnOk};
+ghost use Rattle.std.specs.Prelude.{◌≡◌, [], ◌∷◌, ◌++◌, map, OnOk};
 ghost use Rattle.std.specs.Fmt.{decimal};
-ghost use Rattle.std.specs.List.{list_all};
+ghost use Rattle.game_core.specs.Bytes.{space};
+ghost use Rattle.match_desk.specs.declared.call.Call.TheVariants.{Open};
+ghost use Rattle.desk_text.specs.Account.{call_text, entry_text, history_text};
+ghost use Rattle.desk_text.specs.Escapes.{escaped_name, escaped_text};
 ghost use Rattle.desk_text.specs.Words.{behind_spaces};
-ghost use Rattle.desk_text.specs.Account.{call_text, is_plain, hex_digit, escaped_byte, escaped, entry_text, history_text};
 
+use crate::escapes::push_escaped;
 use crate::reply_lines::{push_number, push_reply};
 use call_history::Entry;
-use game_core::Text;
+use game_core::{Text, Texts};
 use match_desk::{Call, Reply};
 use std::alloc::{AllocError, Global};
 
 /// Appends a space and the number to `out`.
 fn push_behind_space(out: &mut Vec<u8>, number: u64) -> Result<(), AllocError>
-    ensures { OnOk result (out.new.items ≡ out.old.items ++ codes " " ++ decimal number) }
+    ensures { OnOk result (out.new.items ≡ out.old.items ++ space ∷ decimal number) }
 {
     out.push(b' ')?;
     push_number(out, number)
 }
 
-/// Appends the texts to `out`, each after a space.
-fn push_behind_spaces(out: &mut Vec<u8>, texts: &[Text]) -> Result<(), AllocError>
-    ensures { OnOk result (out.new.items ≡ out.old.items ++ behind_spaces texts.now) }
+/// Appends a name to `out`, as a word without spaces.
+fn push_name(out: &mut Vec<u8>, name: &Text) -> Result<(), AllocError>
+    ensures { OnOk result (out.new.items ≡ out.old.items ++ escaped_name name.now) }
 {
-    for text in texts {
+    push_escaped(out, name.as_slice(), b'!')
+}
+
+/// Appends a text to `out`, in which spaces stand.
+fn push_text(out: &mut Vec<u8>, text: &[u8]) -> Result<(), AllocError>
+    ensures { OnOk result (out.new.items ≡ out.old.items ++ escaped_text text.now) }
+{
+    push_escaped(out, text, b' ')
+}
+
+/// Appends a space and the text to `out`.
+fn push_text_behind_space(out: &mut Vec<u8>, text: &[u8]) -> Result<(), AllocError>
+    ensures { OnOk result (out.new.items ≡ out.old.items ++ space ∷ escaped_text text.now) }
+{
+    out.push(b' ')?;
+    push_text(out, text)
+}
+
+/// Appends the names to `out`, each after a space.
+fn push_names(out: &mut Vec<u8>, names: &[Text]) -> Result<(), AllocError>
+    ensures { OnOk result (out.new.items ≡ out.old.items ++ behind_spaces (map escaped_name names.now)) }
+{
+    for name in names {
         out.push(b' ')?;
-        out.extend_from_slice(text.as_slice())?;
+        push_name(out, name)?;
     }
     Ok(())
 }
 
-/// Appends a keyword, which ends with its space, and a match's id to `out`.
+/// Appends a keyword and a match's id to `out`, with a space between.
 fn push_keyword(out: &mut Vec<u8>, keyword: &[u8], id: &Text) -> Result<(), AllocError>
-    ensures { OnOk result (out.new.items ≡ out.old.items ++ keyword.now ++ id.now) }
+    ensures { OnOk result (out.new.items ≡ out.old.items ++ keyword.now ++ space ∷ escaped_name id.now) }
 {
     out.extend_from_slice(keyword)?;
-    out.extend_from_slice(id.as_slice())
+    out.push(b' ')?;
+    push_name(out, id)
 }
 
-/// Appends the script's line for the call to `out`, without its line feed.
+/// Appends a game and its clocks to `out`, each after a space.
+fn push_opening(out: &mut Vec<u8>, game: usize, start: u32, play: u32) -> Result<(), AllocError>
+    ensures { OnOk result (out.new.items ≡ out.old.items ++ behind_spaces (decimal game ∷ (decimal start ∷ (decimal play ∷ [])))) }
+{
+    push_behind_space(out, game as u64)?;
+    push_behind_space(out, u64::from(start))?;
+    push_behind_space(out, u64::from(play))
+}
+
+/// Appends the words of an `Open` to `out`.
+fn push_open(
+    out: &mut Vec<u8>,
+    id: &Text,
+    game: usize,
+    start: u32,
+    play: u32,
+    strikes: u32,
+    players: &Texts,
+) -> Result<(), AllocError>
+    ensures { OnOk result (out.new.items ≡ out.old.items ++ call_text (Open id.now game start play strikes players.now)) }
+{
+    if strikes == 0 {
+        push_keyword(out, b"open", id)?;
+        push_opening(out, game, start, play)?;
+        return push_names(out, players.as_slice());
+    }
+    push_keyword(out, b"strict", id)?;
+    push_opening(out, game, start, play)?;
+    push_behind_space(out, u64::from(strikes))?;
+    push_names(out, players.as_slice())
+}
+
+/// Appends the words of the call to `out`, with one space between each two.
 fn push_call(out: &mut Vec<u8>, call: &Call) -> Result<(), AllocError>
     ensures { OnOk result (out.new.items ≡ out.old.items ++ call_text call.now) }
 {
@@ -50,16 +108,9 @@ fn push_call(out: &mut Vec<u8>, call: &Call) -> Result<(), AllocError>
             play,
             strikes,
             players,
-        } => {
-            push_keyword(out, b"strict ", id)?;
-            push_behind_space(out, *game as u64)?;
-            push_behind_space(out, u64::from(*start))?;
-            push_behind_space(out, u64::from(*play))?;
-            push_behind_space(out, u64::from(*strikes))?;
-            push_behind_spaces(out, players.as_slice())
-        }
+        } => push_open(out, id, *game, *start, *play, *strikes, players),
         Call::Next { id, role } => {
-            push_keyword(out, b"next ", id)?;
+            push_keyword(out, b"next", id)?;
             push_behind_space(out, *role as u64)
         }
         Call::Submit {
@@ -68,11 +119,10 @@ fn push_call(out: &mut Vec<u8>, call: &Call) -> Result<(), AllocError>
             round,
             text,
         } => {
-            push_keyword(out, b"submit ", id)?;
+            push_keyword(out, b"submit", id)?;
             push_behind_space(out, *role as u64)?;
             push_behind_space(out, *round)?;
-            out.push(b' ')?;
-            out.extend_from_slice(text.as_slice())
+            push_text_behind_space(out, text.as_slice())
         }
         Call::Miss {
             id,
@@ -80,7 +130,7 @@ fn push_call(out: &mut Vec<u8>, call: &Call) -> Result<(), AllocError>
             round,
             broken,
         } => {
-            push_keyword(out, b"miss ", id)?;
+            push_keyword(out, b"miss", id)?;
             push_behind_space(out, *role as u64)?;
             push_behind_space(out, *round)?;
             if *broken {
@@ -89,64 +139,12 @@ fn push_call(out: &mut Vec<u8>, call: &Call) -> Result<(), AllocError>
                 out.extend_from_slice(b" silent")
             }
         }
-        Call::Query { id } => push_keyword(out, b"query ", id),
-        Call::Abort { id } => push_keyword(out, b"abort ", id),
+        Call::Query { id } => push_keyword(out, b"query", id),
+        Call::Abort { id } => push_keyword(out, b"abort", id),
     }
 }
 
-/// Whether a byte is written in an account as it is.
-fn is_plain(byte: u8) -> bool
-    ensures { result ≡ is_plain byte }
-{
-    byte != b'\\' && byte >= b' ' && byte <= b'~'
-}
-
-/// The digit for a number below 16.
-fn hex_digit(number: u8) -> u8
-    requires { number < 16 }
-    ensures { result ≡ hex_digit number }
-{
-    if number < 10 {
-        b'0' + number
-    } else {
-        b'A' + (number - 10)
-    }
-}
-
-fn push_escaped_byte(out: &mut Vec<u8>, byte: u8) -> Result<(), AllocError>
-    ensures { OnOk result (out.new.items ≡ out.old.items ++ escaped_byte byte) }
-{
-    if is_plain(byte) {
-        out.push(byte)?;
-        return Ok(());
-    }
-    out.push(b'\\')?;
-    out.push(b'x')?;
-    out.push(hex_digit(byte / 16))?;
-    out.push(hex_digit(byte % 16))?;
-    Ok(())
-}
-
-fn are_plain(text: &[u8]) -> bool
-    ensures { result ≡ list_all is_plain text.now }
-{
-    text.iter().all(|byte| is_plain(*byte))
-}
-
-fn push_escaped(out: &mut Vec<u8>, text: &[u8]) -> Result<(), AllocError>
-    ensures { OnOk result (out.new.items ≡ out.old.items ++ escaped text.now) }
-{
-    if are_plain(text) {
-        out.extend_from_slice(text)?;
-        return Ok(());
-    }
-    for byte in text {
-        push_escaped_byte(out, *byte)?;
-    }
-    Ok(())
-}
-
-/// The initial capacity for an entry's text. Most entries fit.
+/// The initial capacity for a reply's text. Most replies fit.
 const USUAL_LENGTH: usize = 128;
 
 /// Appends the line of an entry to `out`, without its line feed.
@@ -157,20 +155,18 @@ pub(crate) fn push_entry(
 ) -> Result<(), AllocError>
     ensures { OnOk result (out.new.items ≡ out.old.items ++ entry_text entry.now) }
 {
-    let mut told = Vec::with_capacity(alloc, USUAL_LENGTH)?;
-    push_call(&mut told, &entry.call)?;
-    let call_end = told.len();
-    push_reply(&mut told, &entry.reply)?;
     push_number(out, u64::from(entry.line))?;
     out.push(b'\t')?;
-    push_escaped(out, &told[..call_end])?;
+    push_call(out, &entry.call)?;
     out.push(b'\t')?;
-    push_escaped(out, &told[call_end..])
+    let mut reply = Vec::with_capacity(alloc, USUAL_LENGTH)?;
+    push_reply(&mut reply, &entry.reply)?;
+    push_text(out, reply.as_slice())
 }
 
 /// Appends the lines of a history to `out`, each with its line feed. A line has the number of the desk's line that made the call,
-/// the call in the words of a script, and the reply, with a tab between each two. A byte that is not visible ASCII or a space, and
-/// the backslash, are written `\xHH`.
+/// the call in the words of a script, and the reply, with a tab between each two. In names each byte that is not visible ASCII, and
+/// the backslash, are written `\xHH`; so they are in the text of a submission and in the reply, where spaces stand.
 pub fn push_history(
     alloc: Global,
     out: &mut Vec<u8>,

@@ -8,11 +8,14 @@
 #![tactic(auto)]
 
 mod account;
+mod escapes;
+pub mod laws;
 mod lines;
 mod replaying;
 mod reply_lines;
 mod script;
 mod script_lines;
+mod told_calls;
 mod words;
 
 pub use account::push_history;

@@ -1,15 +1,16 @@
 //! How the calls of an account are made again, one by one, on one thread.
-ghost use Rattle.std.specs.Prelude.{◌≡◌, ◌<◌, IfOk, IfSome, OnOk};
+ghost use Rattle.std.specs.Prelude.{◌≡◌, ◌≢◌, IfErr, IfOk, OnOk};
 ghost use Rattle.std.specs.Str.Lines.{lines};
 ghost use Rattle.match_desk.specs.Steps.{reply, after};
 ghost use Rattle.call_history.specs.declared.journal.Entry.{Entry};
 ghost use Rattle.desk_text.specs.Script.{no_matches};
-ghost use Rattle.desk_text.specs.Account.{entry_text, IsAccount};
+ghost use Rattle.desk_text.specs.Account.{entry_text, IsAccount, IsRead};
+ghost use Rattle.desk_text.specs.Replaying.{IsFirstFault, RefusesLine, TellNoHistory};
+ghost use Rattle.desk_text.specs.declared.replaying.ReplayFault.TheVariants.{Memory};
 
 use crate::account::push_entry;
 use crate::lines::first_line;
-use crate::script_lines::call_of;
-use crate::words::number;
+use crate::told_calls::told;
 use call_history::{Entry, Object};
 use game_core::Game;
 use match_desk::{Call, Manager, Reply};
@@ -44,56 +45,6 @@ impl From<AllocError> for ReplayFault {
     }
 }
 
-fn hex_value(digit: u8) -> Option<u8>
-    ensures { IfSome result (λ value. value < 16) }
-{
-    match digit {
-        b'0'..=b'9' => Some(digit - b'0'),
-        b'A'..=b'F' => Some(digit - b'A' + 10),
-        _ => None,
-    }
-}
-
-/// The text without its escapes. `None` if a backslash is not followed by `xHH`.
-fn unescaped(alloc: Global, text: &[u8]) -> Result<Option<Vec<u8>>, AllocError> {
-    let mut bytes = Vec::new(alloc);
-    let mut is_first = true;
-    for piece in text.split(|b| *b == b'\\') {
-        if is_first {
-            bytes.extend_from_slice(piece)?;
-            is_first = false;
-            continue;
-        }
-        let [b'x', high, low, rest @ ..] = piece else {
-            return Ok(None);
-        };
-        let (Some(high), Some(low)) = (hex_value(*high), hex_value(*low)) else {
-            return Ok(None);
-        };
-        bytes.push(high * 16 + low)?;
-        bytes.extend_from_slice(rest)?;
-    }
-    Ok(Some(bytes))
-}
-
-/// The number of the desk's line and the call in a line of an account.
-fn told_call(alloc: Global, line: &[u8]) -> Result<Option<(u32, Call)>, AllocError> {
-    let mut fields = line.split(|b| *b == b'\t');
-    let (Some(made_by), Some(call)) = (fields.next(), fields.next()) else {
-        return Ok(None);
-    };
-    let Some(made_by) = number(made_by).and_then(|number| u32::try_from(number).ok()) else {
-        return Ok(None);
-    };
-    let Some(call) = unescaped(alloc, call)? else {
-        return Ok(None);
-    };
-    match call_of(alloc, &call)? {
-        Some(call) => Ok(Some((made_by, call))),
-        None => Ok(None),
-    }
-}
-
 /// Makes the call of the account's line with the number `place`. The line must be the one that is written for this call and its
 /// reply.
 fn replay_line<O: Object<Call = Call, Reply = Reply>>(
@@ -102,9 +53,10 @@ fn replay_line<O: Object<Call = Call, Reply = Reply>>(
     place: u64,
     line: &[u8],
 ) -> Result<(), ReplayFault>
-    ensures { OnOk result ((e : Entry _ _) × (line.now ≡ entry_text e) × (e.reply ≡ O.reply object.old e.call) × (object.new ≡ O.after object.old e.call)) }
+    ensures ok { OnOk result ((e : Entry _ _) × (line.now ≡ entry_text e) × IsRead e × (e.reply ≡ O.reply object.old e.call) × (object.new ≡ O.after object.old e.call)) }
+    ensures refused { IfErr result (RefusesLine O.reply object.old place line.now) }
 {
-    let Some((made_by, call)) = told_call(alloc, line)? else {
+    let Some((made_by, call)) = told(alloc, line)? else {
         return Err(ReplayFault::NoEntry(place));
     };
     let reply = object.answer(alloc, &call)?;
@@ -128,7 +80,8 @@ fn replay_lines<O: Object<Call = Call, Reply = Reply>>(
     object: &mut O,
     input: &[u8],
 ) -> Result<u64, ReplayFault>
-    ensures { IfOk result (IsAccount O.reply O.after object.old (lines input.now) object.new) }
+    ensures ok { IfOk result (IsAccount O.reply O.after object.old (lines input.now) object.new) }
+    ensures fault { IfErr result (λ fault. fault ≢ Memory → IsFirstFault O.reply O.after object.old (lines input.now) fault) }
 {
     let mut calls = 0;
     let mut rest = input;
@@ -141,15 +94,20 @@ fn replay_lines<O: Object<Call = Call, Reply = Reply>>(
     Ok(calls)
 }
 
-/// Makes the calls of an account again on a manager of these games. Each line must hold the reply that its call gets now.
+/// Makes the calls of an account again on a manager of these games. Each line must be the one that is written for its call
+/// and the reply that the call gets now: so lines are taken exactly where they tell a legal history.
 pub fn replay<G: Game + Drop>(
     alloc: Global,
     games: Vec<G>,
     input: &[u8],
 ) -> Result<Replayed<G>, ReplayFault>
-    ensures { IfOk result (λ r. IsAccount (reply G.rules) (after G.rules) (no_matches games.items) (lines input.now) r.manager r.calls) }
+    ensures ok { IfOk result (λ r. IsAccount (reply G.rules) (after G.rules) (no_matches games.items) (lines input.now) r.manager r.calls) }
+    ensures fault { IfErr result (λ fault. fault ≢ Memory → IsFirstFault (reply G.rules) (after G.rules) (no_matches games.items) (lines input.now) fault) }
+    ensures refused { IfErr result (λ fault. fault ≢ Memory → TellNoHistory (reply G.rules) (after G.rules) (no_matches games.items) (lines input.now)) }
 {
     let mut manager = Manager::new(alloc, games)?;
-    let calls = replay_lines(alloc, &mut manager, input)?;
-    Ok(Replayed { manager, calls })
+    match replay_lines(alloc, &mut manager, input) {
+        Ok(calls) => Ok(Replayed { manager, calls }),
+        Err(fault) => Err(fault),
+    }
 }

@@ -1,23 +1,20 @@
 //! The calls of script lines.
-ghost use Rattle.std.specs.Prelude.{◌≡◌, ◌≢◌, ◌∷◌, IfOk, map, codes};
+ghost use Rattle.std.specs.Prelude.{◌≡◌, ◌≢◌, ◌∷◌, IfOk, map, codes, nat_le};
 ghost use Rattle.std.specs.List.{list_all};
-ghost use Rattle.desk_text.specs.Words.{words};
-ghost use Rattle.desk_text.specs.ScriptLines.{open_call, next_call, submit_call, miss_call, query_call, abort_call, strict_call, call_of_words, call_of, is_named, is_broken};
+ghost use Rattle.game_core.specs.Numerals.{plain_number};
+ghost use Rattle.desk_text.specs.Words.{words, max_number, max_in_64_bits};
+ghost use Rattle.desk_text.specs.ScriptLines.{open_call, next_call, submit_call, miss_call, query_call, abort_call, strict_call, call_of_words, call_of, is_named, names_in, numbers_in, is_broken};
 
-use crate::words::{first_word, number, words};
+use crate::words::{first_word, number_up_to, small_number, words};
 use game_core::{Text, Texts};
 use match_desk::Call;
 use std::alloc::{AllocError, Global};
 
-fn are_named(words: &[&[u8]]) -> bool
-    ensures { result ≡ list_all is_named (map (λ w. w.now) words.now) }
+/// The number of a word, up to the largest of 64 bits.
+fn number(word: &[u8]) -> Option<u64>
+    ensures { result ≡ plain_number word.now max_in_64_bits }
 {
-    for word in words {
-        if word.is_empty() {
-            return false;
-        }
-    }
-    true
+    number_up_to(word, u64::MAX)
 }
 
 fn texts(alloc: Global, words: &[&[u8]]) -> Result<Texts, AllocError>
@@ -36,17 +33,18 @@ fn open_call(alloc: Global, words: &[&[u8]]) -> Result<Option<Call>, AllocError>
     let [id, game, start, play, players @ ..] = words else {
         return Ok(None);
     };
-    let (Some(game), Some(start), Some(play)) = (number(game), number(start), number(play)) else {
+    let (Some(game), Some(start), Some(play)) = (
+        number(game),
+        small_number(start),
+        small_number(play),
+    ) else {
         return Ok(None);
     };
-    if id.is_empty() || !are_named(players) {
-        return Ok(None);
-    }
     Ok(Some(Call::Open {
         id: Text::from_slice(alloc, id)?,
         game: game as usize,
-        start: start as u32,
-        play: play as u32,
+        start,
+        play,
         strikes: 0,
         players: texts(alloc, players)?,
     }))
@@ -58,21 +56,22 @@ fn strict_call(alloc: Global, words: &[&[u8]]) -> Result<Option<Call>, AllocErro
     let [id, game, start, play, strikes, players @ ..] = words else {
         return Ok(None);
     };
-    let (Some(game), Some(start), Some(play)) = (number(game), number(start), number(play)) else {
+    let (Some(game), Some(start), Some(play)) = (
+        number(game),
+        small_number(start),
+        small_number(play),
+    ) else {
         return Ok(None);
     };
-    let Some(strikes) = number(strikes) else {
+    let Some(strikes) = small_number(strikes) else {
         return Ok(None);
     };
-    if id.is_empty() || !are_named(players) {
-        return Ok(None);
-    }
     Ok(Some(Call::Open {
         id: Text::from_slice(alloc, id)?,
         game: game as usize,
-        start: start as u32,
-        play: play as u32,
-        strikes: strikes as u32,
+        start,
+        play,
+        strikes,
         players: texts(alloc, players)?,
     }))
 }
@@ -86,9 +85,6 @@ fn next_call(alloc: Global, words: &[&[u8]]) -> Result<Option<Call>, AllocError>
     let Some(role) = number(role) else {
         return Ok(None);
     };
-    if id.is_empty() {
-        return Ok(None);
-    }
     let id = Text::from_slice(alloc, id)?;
     Ok(Some(Call::Next {
         id,
@@ -111,9 +107,6 @@ fn submit_call(alloc: Global, rest: &[u8]) -> Result<Option<Call>, AllocError>
     let (Some(role), Some(round)) = (number(role), number(round)) else {
         return Ok(None);
     };
-    if id.is_empty() {
-        return Ok(None);
-    }
     let id = Text::from_slice(alloc, id)?;
     let text = Text::from_slice(alloc, text.unwrap_or(b""))?;
     Ok(Some(Call::Submit {
@@ -146,9 +139,6 @@ fn miss_call(alloc: Global, words: &[&[u8]]) -> Result<Option<Call>, AllocError>
     else {
         return Ok(None);
     };
-    if id.is_empty() {
-        return Ok(None);
-    }
     let id = Text::from_slice(alloc, id)?;
     Ok(Some(Call::Miss {
         id,
@@ -162,7 +152,7 @@ fn query_call(alloc: Global, words: &[&[u8]]) -> Result<Option<Call>, AllocError
     ensures { IfOk result (λ o. o ≡ query_call (map (λ w. w.now) words.now)) }
 {
     match words {
-        [id] if !id.is_empty() => {
+        [id] => {
             let id = Text::from_slice(alloc, id)?;
             Ok(Some(Call::Query { id }))
         }
@@ -174,7 +164,7 @@ fn abort_call(alloc: Global, words: &[&[u8]]) -> Result<Option<Call>, AllocError
     ensures { IfOk result (λ o. o ≡ abort_call (map (λ w. w.now) words.now)) }
 {
     match words {
-        [id] if !id.is_empty() => {
+        [id] => {
             let id = Text::from_slice(alloc, id)?;
             Ok(Some(Call::Abort { id }))
         }
@@ -204,9 +194,9 @@ fn call_of_words(alloc: Global, keyword: &[u8], words: &[&[u8]]) -> Result<Optio
     }
 }
 
-/// The call of a script line. `None` if it is a bad line.
-pub fn call_of(alloc: Global, line: &[u8]) -> Result<Option<Call>, AllocError>
-    ensures { IfOk result (λ o. o ≡ call_of line.now) }
+/// The call of a line's words, with any names, and any numbers that a call holds. `None` if there is none.
+pub(crate) fn worded_call(alloc: Global, line: &[u8]) -> Result<Option<Call>, AllocError>
+    ensures { IfOk result (λ o. o ≡ call_of_words (words line.now)) }
 {
     let (keyword, Some(rest)) = first_word(line) else {
         return Ok(None);
@@ -216,4 +206,77 @@ pub fn call_of(alloc: Global, line: &[u8]) -> Result<Option<Call>, AllocError>
     }
     let words = words(alloc, rest)?;
     call_of_words(alloc, keyword, words.as_slice())
+}
+
+/// The largest number that a script may name.
+const MAX_NUMBER: u64 = 1_000_000_000;
+
+fn are_numbers(numbers: &[u64]) -> bool
+    ensures { result ≡ list_all (λ number. nat_le number max_number) numbers.now }
+{
+    numbers.iter().all(|number| *number <= MAX_NUMBER)
+}
+
+fn has_numbers(call: &Call) -> bool
+    ensures { result ≡ list_all (λ number. nat_le number max_number) (numbers_in call.now) }
+{
+    match call {
+        Call::Open {
+            game,
+            start,
+            play,
+            strikes,
+            ..
+        } => are_numbers(&[
+            *game as u64,
+            u64::from(*start),
+            u64::from(*play),
+            u64::from(*strikes),
+        ]),
+        Call::Next { role, .. } => are_numbers(&[*role as u64]),
+        Call::Submit { role, round, .. } | Call::Miss { role, round, .. } => {
+            are_numbers(&[*role as u64, *round])
+        }
+        Call::Query { .. } | Call::Abort { .. } => true,
+    }
+}
+
+fn is_named(name: &Text) -> bool
+    ensures { result ≡ is_named name.now }
+{
+    !name.as_slice().is_empty()
+}
+
+fn are_named(names: &[Text]) -> bool
+    ensures { result ≡ list_all is_named names.now }
+{
+    for name in names {
+        if !is_named(name) {
+            return false;
+        }
+    }
+    true
+}
+
+fn has_names(call: &Call) -> bool
+    ensures { result ≡ list_all is_named (names_in call.now) }
+{
+    match call {
+        Call::Open { id, players, .. } => is_named(id) && are_named(players.as_slice()),
+        Call::Next { id, .. }
+        | Call::Submit { id, .. }
+        | Call::Miss { id, .. }
+        | Call::Query { id }
+        | Call::Abort { id } => is_named(id),
+    }
+}
+
+/// The call of a script's line. `None` if it is a bad line: one that has no call, an empty name, or a number past the largest.
+pub fn call_of(alloc: Global, line: &[u8]) -> Result<Option<Call>, AllocError>
+    ensures { IfOk result (λ o. o ≡ call_of line.now) }
+{
+    match worded_call(alloc, line)? {
+        Some(call) if has_names(&call) && has_numbers(&call) => Ok(Some(call)),
+        _ => Ok(None),
+    }
 }

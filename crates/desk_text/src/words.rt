@@ -1,9 +1,10 @@
-//! The words of a script line.
-ghost use Rattle.std.specs.Prelude.{◌≡◌, ◌==◌, ◌∷◌, IfOk, map, option_copied, position};
-ghost use Rattle.game_core.specs.Bytes.{space};
-ghost use Rattle.desk_text.specs.Words.{words, words_behind, number_of};
+//! The words of a line, and the numbers that words write.
+ghost use Rattle.std.specs.Prelude.{◌≡◌, ◌^◌, ◌≤◌, ◌==◌, ◌∷◌, IfOk, IsTrue, MatchOption, map, option_copied, position};
+ghost use Rattle.std.specs.Str.Parse.{digits_value};
+ghost use Rattle.game_core.specs.Numerals.{are_digits, is_plain_numeral, plain_number};
+ghost use Rattle.desk_text.specs.Words.{pieces, pieces_behind, words, words_behind, max_in_32_bits};
 
-use game_core::numeral::plain_number;
+use game_core::numeral::are_digits;
 use std::alloc::{AllocError, Global};
 
 /// The words of a text: the pieces between its spaces. A doubled space gives an empty word.
@@ -13,28 +14,67 @@ pub fn words<'a>(alloc: Global, text: &'a [u8]) -> Result<Vec<&'a [u8]>, AllocEr
     text.split(|b| *b == b' ').collect(alloc)
 }
 
-fn word_end(text: &[u8]) -> Option<usize>
-    ensures { result ≡ position (λ b. b == space) text.now }
+fn piece_end(text: &[u8], separator: u8) -> Option<usize>
+    ensures { result ≡ position (λ b. b == separator) text.now }
 {
-    text.iter().position(|b| *b == b' ')
+    text.iter().position(|b| *b == separator)
+}
+
+/// The piece of a text before the first separator, and the text after it.
+pub fn first_piece(text: &[u8], separator: u8) -> (&[u8], Option<&[u8]>)
+    ensures { pieces separator text.now ≡ result.0.now ∷ pieces_behind separator (option_copied result.1) }
+{
+    match piece_end(text, separator) {
+        Some(end) => (&text[..end], Some(&text[end + 1..])),
+        None => (text, None),
+    }
 }
 
 /// The first word of a text, and the text after the space that ends the word.
 pub fn first_word(text: &[u8]) -> (&[u8], Option<&[u8]>)
     ensures { words text.now ≡ result.0.now ∷ words_behind (option_copied result.1) }
 {
-    match word_end(text) {
-        Some(end) => (&text[..end], Some(&text[end + 1..])),
-        None => (text, None),
-    }
+    first_piece(text, b' ')
 }
 
-/// The largest number that a script line may name.
-const MAX_NUMBER: usize = 1_000_000_000;
-
-/// The number of a word: decimal, without sign or leading zeros, at most 1,000,000,000.
-pub fn number(word: &[u8]) -> Option<u64>
-    ensures { result ≡ number_of word.now }
+/// Whether a word is decimal digits without leading zeros.
+fn is_plain_numeral(word: &[u8]) -> bool
+    ensures { result ≡ is_plain_numeral word.now }
 {
-    Some(plain_number(word, MAX_NUMBER)? as u64)
+    are_digits(word) && (word.len() == 1 || word[0] != b'0')
+}
+
+/// The number that digits write. `None` if 64 bits don't hold it.
+fn digits_value(digits: &[u8]) -> Option<u64>
+    requires { IsTrue (are_digits digits.now) }
+    ensures { MatchOption result (2 ^ 64 ≤ digits_value 10 digits.now) (λ number. number ≡ digits_value 10 digits.now) }
+{
+    let mut number = 0;
+    for digit in digits {
+        let digit = u64::from(*digit - b'0');
+        if number > (u64::MAX - digit) / 10 {
+            return None;
+        }
+        number = number * 10 + digit;
+    }
+    Some(number)
+}
+
+/// The number of a word: decimal, without sign or leading zeros, and at most `most`.
+pub fn number_up_to(word: &[u8], most: u64) -> Option<u64>
+    ensures { result ≡ plain_number word.now most }
+{
+    if !is_plain_numeral(word) {
+        return None;
+    }
+    let number = digits_value(word)?;
+    if number <= most { Some(number) } else { None }
+}
+
+/// The number of a word, up to the largest of 32 bits.
+pub fn small_number(word: &[u8]) -> Option<u32>
+    ensures { result ≡ plain_number word.now max_in_32_bits }
+{
+    let number = number_up_to(word, u64::from(u32::MAX))?;
+    Some(number as u32)
 }

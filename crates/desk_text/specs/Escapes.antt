@@ -1,0 +1,64 @@
+-- The texts of an account: visible ASCII and spaces, with an escape \xHH for each other byte and for the backslash.
+use Rattle.std.specs.Prelude.{◌==◌, ◌&&◌, ℕ, ◌+◌, ◌-◌, ◌*◌, ◌/◌, ◌%◌, nat_le, nat_lt, Bool, not, List, [], ◌∷◌, ◌++◌, Option, Some, None, option_and_then, option_map, if◌then◌else◌}
+use Rattle.game_core.specs.Bytes.{space}
+
+abbrev pub backslash : ℕ
+backslash = 92
+
+-- the letter between the backslash and the digits
+abbrev pub letter_x : ℕ
+letter_x = 120
+
+-- the first visible byte
+abbrev pub exclamation_mark : ℕ
+exclamation_mark = 33
+
+-- whether a byte from this one on stands as it is: up to the tilde, except the backslash
+abbrev pub stands_from : ℕ → ℕ → Bool
+stands_from least byte = nat_le least byte && nat_lt byte 127 && not (byte == backslash)
+
+-- the digit for a number below 16: 0 to 9, a to f
+abbrev pub hex_digit : ℕ → ℕ
+hex_digit number = if nat_lt number 10 then 48 + number else 87 + number
+
+-- a byte as \xHH
+abbrev pub escape : ℕ → List ℕ
+escape byte = backslash ∷ (letter_x ∷ (hex_digit (byte / 16) ∷ (hex_digit (byte % 16) ∷ [])))
+
+-- these bytes, with an escape for each that doesn't stand as it is
+abbrev pub escaped_from : ℕ → List ℕ → List ℕ
+escaped_from least [] = []
+escaped_from least (byte ∷ more) = (if stands_from least byte then byte ∷ [] else escape byte) ++ escaped_from least more
+
+-- a name, as a word without spaces
+abbrev pub escaped_name : List ℕ → List ℕ
+escaped_name name = escaped_from exclamation_mark name
+
+-- a text, in which spaces stand
+abbrev pub escaped_text : List ℕ → List ℕ
+escaped_text text = escaped_from space text
+
+-- the number that a hexadecimal digit writes
+abbrev pub hex_value : ℕ → Option ℕ
+hex_value digit = if nat_le 48 digit && nat_le digit 57 then Some (digit - 48) else (if nat_le 97 digit && nat_le digit 102 then Some (digit - 87) else None)
+
+-- the byte that two hexadecimal digits write
+abbrev pub escaped_byte : ℕ → ℕ → Option ℕ
+escaped_byte high low = option_and_then (λ h. option_map (λ l. h * 16 + l) (hex_value low)) (hex_value high)
+
+-- a byte in front of what stands behind it
+abbrev pub before_rest : Option ℕ → Option (List ℕ) → Option (List ℕ)
+before_rest byte rest = option_and_then (λ b. option_map (λ bytes. b ∷ bytes) rest) byte
+
+-- the text without its escapes: none if a backslash is followed by anything but xHH
+abbrev pub unescaped : List ℕ → Option (List ℕ)
+unescaped [] = Some []
+unescaped (byte ∷ (mark ∷ (high ∷ (low ∷ rest)))) =
+    if byte == backslash then (if mark == letter_x then before_rest (escaped_byte high low) (unescaped rest) else None)
+    else before_rest (Some byte) (unescaped (mark ∷ (high ∷ (low ∷ rest))))
+unescaped (byte ∷ rest) = if byte == backslash then None else before_rest (Some byte) (unescaped rest)
+
+-- the texts without their escapes, if each can be read so
+abbrev pub all_unescaped : List (List ℕ) → Option (List (List ℕ))
+all_unescaped [] = Some []
+all_unescaped (text ∷ more) = option_and_then (λ bytes. option_map (λ others. bytes ∷ others) (all_unescaped more)) (unescaped text)

@@ -1,0 +1,30 @@
+-- Why the lines of an account are refused.
+use Rattle.std.specs.Prelude.{◌≡◌, ◌≢◌, ℕ, ◌+◌, List, ◌∷◌, ◌++◌, map, length, Some, None}
+use Rattle.std.specs.List.{AllByRecursion}
+use Rattle.call_history.specs.History.{IsLegalHistory, run}
+use Rattle.call_history.specs.declared.journal.Entry.{Entry}
+use Rattle.match_desk.specs.declared.call.Call.{Call}
+use Rattle.match_desk.specs.declared.call.Reply.{Reply}
+use Rattle.desk_text.specs.Account.{IsAccount, IsRead, entry_text, told}
+use Rattle.desk_text.specs.declared.replaying.ReplayFault.{ReplayFault}
+use Rattle.desk_text.specs.declared.replaying.ReplayFault.TheVariants.{Memory, NoEntry, Differs}
+
+-- why the line at this place, counted from 1, is refused where the object stands so: it tells no call, or it is not the line of the call and its reply
+abbrev pub RefusesLine : {S : Type 0} → (S → Call → Reply) → S → ℕ → List ℕ → ReplayFault → Type 0
+RefusesLine reply s place line Memory = Unit {0}
+RefusesLine reply s place line (NoEntry at) = (at ≡ place) × (told line ≡ None)
+RefusesLine reply s place line (Differs at right) = (at ≡ place) × (e : Entry Call Reply) × (told line ≡ Some (e.line, e.call)) × (e.reply ≡ reply s e.call) × (right.items ≡ entry_text e) × (line ≢ entry_text e)
+
+-- the lines before one tell a legal history, and that one is refused
+pub record IsFirstFault {S : Type 0} (reply : S → Call → Reply) (after : S → Call → S) (start : S) (lines : List (List ℕ)) (fault : ReplayFault) : Type 0 where
+  pub history : List (Entry Call Reply)
+  pub line : List ℕ
+  pub rest : List (List ℕ)
+  pub cut : lines ≡ map entry_text history ++ line ∷ rest
+  pub are_read : AllByRecursion IsRead history
+  pub legal : IsLegalHistory reply after start history
+  pub refused : RefusesLine reply (run after start history) (length history + 1) line fault
+
+-- no history that is legal from this start on has these lines
+abbrev pub TellNoHistory : {S : Type 0} → (S → Call → Reply) → (S → Call → S) → S → List (List ℕ) → Type 0
+TellNoHistory {S} reply after start lines = (object : S) (calls : ℕ) → ¬ IsAccount reply after start lines object calls

@@ -1,0 +1,17 @@
+//! What holds of accounts, whatever the desk.
+ghost use Rattle.std.specs.Prelude.{◌≡◌, List, Some};
+ghost use Rattle.std.specs.List.{AllByRecursion};
+ghost use Rattle.std.specs.Str.Lines.{lines};
+ghost use Rattle.call_history.specs.declared.journal.Entry.{Entry};
+ghost use Rattle.match_desk.specs.declared.call.Call.{Call};
+ghost use Rattle.desk_text.specs.Account.{IsCall, IsEntry, Tell, call_text, history_text, told_call};
+
+/// The text of a call tells that call, so no two calls have the same text.
+pub fn calls_are_told()
+    ensures { (call : Call) → IsCall call → told_call (call_text call) ≡ Some call }
+{}
+
+/// The text of a history is made of the lines of its entries, and each line tells its entry.
+pub fn histories_are_told()
+    ensures { (history : List (Entry _ _)) → AllByRecursion IsEntry history → Tell (lines (history_text history)) history }
+{}
