@@ -30,8 +30,8 @@ use std::sync::Wait;
 use std::thread::Threads;
 use thiserror::Error;
 
-/// How often a role may ask what is due to it. To wait for a message of another takes the role of a player on the network 101 asks in
-/// ten seconds and 1,011 in a day.
+/// How often a role may ask what is due to it. To wait for a message of another takes the role of a player on the network 9 asks in ten
+/// seconds, 34 in a minute and 1,804 in an hour.
 const MAX_TRIES: u64 = 100_000;
 
 /// Why a match has no record.
