@@ -83,9 +83,7 @@ pub fn ten_replies<W: Wire<Call = Call, Reply = Reply>>(
     alloc: Global,
     wire: &mut W,
     line: u32,
-) -> Option<Vec<Reply>>
-    ensures { W.same_line wire.old wire.new }
-{
+) -> Option<Vec<Reply>> {
     let mut replies = Vec::new(alloc);
     for turn in 0..CALLS {
         let call = call_of(alloc, line, turn).ok()?;

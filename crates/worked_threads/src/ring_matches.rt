@@ -1,17 +1,12 @@
 //! A desk over rings, of matches of Countdown.
-ghost use Rattle.std.specs.Prelude.{◌≤◌, List, IfOk, All};
+ghost use Rattle.std.specs.Prelude.{◌≤◌};
 ghost use Rattle.call_history.specs.Limits.{max_lines};
-ghost use Rattle.call_history.specs.RingLines.{SameLine, SamePorts, IsLineOf, AreEndsOf};
-ghost use Rattle.call_history.specs.declared.port.Port.{Port};
-ghost use Rattle.match_desk.specs.declared.call.Call.{Call as CallIs};
-ghost use Rattle.match_desk.specs.declared.call.Reply.{Reply as ReplyIs};
 
 use crate::calls::{are_calls_of, manager, open, ten_replies, text};
 use crate::holding::holds;
-use call_history::laws::{desks_stay, lines_stay};
-use call_history::{Closed, LineEnd, MAX_ENTRIES, RingDesk, RingLine, RingWire, open_rings};
+use call_history::{MAX_ENTRIES, RingDesk, RingLine, RingWire, open_rings};
 use game_core::Countdown;
-use match_desk::{Call, Manager, Refusal, Reply, close_rings};
+use match_desk::{Call, Manager, Refusal, Reply};
 use std::alloc::{AllocError, Global};
 use std::process::Abort;
 use std::sync::Wait;
@@ -32,7 +27,6 @@ const TRIES: u64 = 1_000_000_000;
 /// A desk of Countdown with a heap of three, and its lines.
 fn open_desk<R: Abort>(rt: &R, alloc: Global, lines: u32) -> (Desk, Vec<Line>)
     requires { (1 ≤ lines) × (lines ≤ max_lines) }
-    ensures { All (IsLineOf result.0.ports) result.1.items }
 {
     let object = manager(rt, alloc);
     let Ok(opened) = open_rings(alloc, object, MAX_ENTRIES, lines, ROOM) else {
@@ -103,11 +97,8 @@ fn the_lower_line_answers_first(rt: HostRuntime) {
     check_first_round(&rt, rt.alloc(), &mut desk, &mut first, &mut second);
 }
 
-/// Serves the lines until it is over.
-fn serve(desk: Desk, is_over: &AtomicU64) -> Desk
-    ensures { SamePorts desk.ports result.ports }
-{
-    desks_stay::<Manager<Countdown>>();
+/// Serves the lines until that is told to be over.
+fn serve(desk: Desk, is_over: &AtomicU64) -> Desk {
     let mut desk = desk;
     for _ in 0..u64::MAX {
         if is_over.load(Ordering::SeqCst) > 0 {
@@ -120,102 +111,41 @@ fn serve(desk: Desk, is_over: &AtomicU64) -> Desk
     desk
 }
 
-/// A line that has made its calls: its end, and the replies that it got.
-#[derive(Drop)]
-struct Made {
-    end: LineEnd<Manager<Countdown>>,
-    replies: Option<Vec<Reply>>,
-}
-
-/// Makes the ten calls of a line, and ends it.
-fn make_calls(alloc: Global, line: Line) -> Made
-    ensures { SameLine line result.end.line }
-{
+/// Makes the ten calls of a line.
+fn make_calls(alloc: Global, line: Line) -> Option<Vec<Reply>> {
     let number = line.number();
-    let mut wire = RingWire::new(line, TRIES);
-    let replies = ten_replies(alloc, &mut wire, number);
-    let end = wire.end().finish();
-    Made { end, replies }
+    ten_replies(alloc, &mut RingWire::new(line, TRIES), number)
 }
 
-/// Makes the calls of each line in a thread of its own. The lines stay lines of their desk.
-fn ask_in_threads<R: Threads + Sync>(
-    rt: &R,
-    alloc: Global,
-    lines: Vec<Line>,
-) -> Result<Vec<Made>, AllocError>
-    ensures { IfOk result (λ made. (ports : List (Port CallIs ReplyIs)) → All (IsLineOf ports) lines.items → All (λ m. IsLineOf ports m.end.line) made.items) }
-{
-    lines_stay::<Manager<Countdown>>();
-    desks_stay::<Manager<Countdown>>();
-    let made = thread::map_vec(rt, lines, &|line| make_calls(alloc, line))?;
-    Ok(made)
-}
-
-/// The ends of the lines, and the replies of each.
-fn parted<R: Abort>(
-    rt: &R,
-    alloc: Global,
-    desk: &Desk,
-    made: Vec<Made>,
-) -> (Vec<LineEnd<Manager<Countdown>>>, Vec<Vec<Reply>>)
-    requires { All (λ m. IsLineOf desk.now.ports m.end.line) made.items }
-    ensures { AreEndsOf desk.now.ports result.0.items }
-{
-    let mut ends = Vec::new(alloc);
-    let mut replies = Vec::new(alloc);
-    for Made { end, replies: got } in made {
-        let Some(got) = got else {
-            panic!(rt; "a call was refused");
-        };
-        let (Ok(()), Ok(())) = (ends.push(end), replies.push(got)) else {
-            panic!(rt; "no memory");
-        };
-    }
-    (ends, replies)
-}
-
-/// Four lines make ten calls each, in threads of their own. Then the desk is closed.
+/// Four lines make ten calls each, in threads of their own.
 fn run_four_lines<R: Threads + Wait + Abort + Sync>(rt: &R, alloc: Global) {
-    lines_stay::<Manager<Countdown>>();
     let (desk, lines) = open_desk(rt, alloc, 4);
     let is_over = AtomicU64::new(0);
     let is_over = &is_over;
-    let (desk, made) = thread::join(
+    let (desk, done) = thread::join(
         rt,
-        move || -> Desk
-            ensures { SamePorts desk.ports result.ports }
-        { serve(desk, is_over) },
-        move || -> Result<Vec<Made>, AllocError>
-            ensures { IfOk result (λ made. (ports : List (Port CallIs ReplyIs)) → All (IsLineOf ports) lines.items → All (λ m. IsLineOf ports m.end.line) made.items) }
-        {
-            let made = ask_in_threads(rt, alloc, lines);
+        move || serve(desk, is_over),
+        move || {
+            let done = thread::map_vec(rt, lines, &|line| make_calls(alloc, line));
             is_over.store(1, Ordering::SeqCst);
-            made
+            done
         },
     );
-    let Ok(made) = made else {
+    let Ok(replies) = done else {
         panic!(rt; "no memory");
     };
-    let (ends, replies) = parted(rt, alloc, &desk, made);
-    let Ok(closed) = close_rings(desk, ends) else {
-        panic!(rt; "not closed");
-    };
-    check_four_lines(rt, &closed, replies.as_slice());
+    check_four_lines(rt, &desk, replies.as_slice());
 }
 
-fn check_four_lines<R: Abort>(rt: &R, closed: &Closed<Manager<Countdown>>, replies: &[Vec<Reply>]) {
-    let history = closed.history.as_slice();
-    let made_by_line = closed.made_by_line.as_slice();
-    holds(rt, history.len() == 40, "the entries");
-    holds(
-        rt,
-        made_by_line == [10, 10, 10, 10].as_slice(),
-        "the calls of each line",
-    );
-    holds(rt, closed.object.matches() == 3, "the matches");
+fn check_four_lines<R: Abort>(rt: &R, desk: &Desk, replies: &[Option<Vec<Reply>>]) {
+    let journal = desk.journal();
+    holds(rt, journal.entries().len() == 40, "the entries");
+    holds(rt, journal.object().matches() == 3, "the matches");
     for (number, got) in (0..4).zip(replies) {
-        let is_so = are_calls_of(history, number, got.as_slice());
+        let is_so = match got {
+            Some(got) => are_calls_of(journal.entries(), number, got.as_slice()),
+            None => false,
+        };
         holds(rt, is_so, "the calls of a line");
     }
 }
