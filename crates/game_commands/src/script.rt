@@ -18,13 +18,13 @@ const MAX_SCRIPT: usize = 1_048_576;
 
 /// Reads a whole script, answers each of its lines on a manager of these games, and writes the
 /// answers and then the record of each match in order of opening. The number of bad lines is returned; what is wrong with the first
-/// of them is told in `lines`.
+/// of them is left in `remark`.
 pub fn run_script<R: Read, W: Write, G: Game + Drop>(
     alloc: Global,
     reader: &mut Counted<R>,
     writer: &mut Counted<W>,
     games: Vec<G>,
-    lines: &mut Option<String>,
+    remark: &mut Option<String>,
 ) -> Result<u64, ScriptFault>
     ensures output { IfOk result (λ bad. (input : List ℕ)
         × Consumes (R.remaining reader.old.stream) (R.remaining reader.new.stream) input
@@ -39,6 +39,6 @@ pub fn run_script<R: Read, W: Write, G: Game + Drop>(
     let input = read_to_end(alloc, reader, MAX_SCRIPT)?;
     let answers = answer_script(alloc, games, &input)?;
     write_all(writer, answers.text.as_slice())?;
-    *lines = first_bad_line(alloc, &input, answers.bad_lines);
+    *remark = first_bad_line(alloc, &input, answers.bad_lines);
     Ok(answers.bad_lines)
 }
