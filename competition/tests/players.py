@@ -27,6 +27,8 @@ class TestPlayer(threading.Thread):
         self.name, self.kind, self.random = name, kind, random.Random(seed)
         # Of each match in which it sits its role, game and state.
         self.matches, self.most, self.plays = {}, most, 0
+        # In how many matches it sat at once.
+        self.sat = 0
         # The ids of matches that began, were aborted, and were offered while it sat in another.
         self.begun, self.aborted, self.clashes = [], [], []
         self.told = {}
@@ -97,6 +99,7 @@ class TestPlayer(threading.Thread):
                     return "busy"
                 game = interpreting.Game(rules) if has_variables(rules) else example.Game(rules)
                 self.matches[match] = role, game, game.initial()
+                self.sat = max(self.sat, len(self.matches))
                 self.begun.append(match)
                 self.told[match] = rules
                 return "ready"
