@@ -1,0 +1,56 @@
+"""Which imports reach past the public definitions of another crate, and how they are listed."""
+import os
+import sys
+import unittest
+
+sys.path.insert(0, os.path.dirname(os.path.dirname(os.path.realpath(__file__))))
+from layers import lines_of, listed, merged, reaching
+
+KNOWN = ("low", "high")
+
+
+def found(text, path="crates/high/proofs/One.antt"):
+    return [*reaching(path, text, KNOWN)]
+
+
+class Reaching(unittest.TestCase):
+    def test_a_lemma_of_another_crate(self):
+        self.assertEqual(found("use Rattle.low.proofs.Laws.{one-two, ◌⊕◌, both as own}\n"), [("low.proofs.Laws", it) for it in ("one-two", "◌⊕◌", "both")])
+        self.assertEqual(found("ghost use Rattle.low.proofs.Laws.{one};", "crates/high/src/lib.rt"), [("low.proofs.Laws", "one")])
+        self.assertEqual(found("use Rattle.low.proofs.Laws\n"), [("low.proofs.Laws", "*")])
+
+    def test_a_name_without_an_import_or_over_two_lines(self):
+        self.assertEqual(found("one = (Rattle.low.proofs.Laws.one x)"), [("low.proofs.Laws.one", "*")])
+        self.assertEqual(found("use Rattle.low.proofs.Laws.{one,\n  two}\n"), [("low.proofs.Laws", "one"), ("low.proofs.Laws", "two")])
+
+    def test_a_definition_that_another_crate_keeps_to_itself(self):
+        self.assertEqual(found("use Rattle.low.specs.Internal.Rows.{row}\n"), [("low.specs.Internal.Rows", "row")])
+
+    def test_a_public_definition_that_rests_on_one_that_is_not(self):
+        text = "use Rattle.high.specs.Internal.Rows.{row}\n"
+        self.assertEqual(found(text, "crates/high/specs/Open.antt"), [("high.specs.Internal.Rows", "row")])
+        for path in ("crates/high/specs/Internal/Other.antt", "crates/high/proofs/One.antt", "crates/high/src/lib.rt"):
+            self.assertEqual(found(text, path), [])
+
+    def test_what_is_public_or_the_kits_is_none(self):
+        for text in ("use Rattle.low.specs.Open.{one}\n", "use Rattle.std.proofs.Common.{refl}\n", "use Rattle.json.proofs.Laws.{one}\n"):
+            self.assertEqual(found(text), [])
+
+    def test_a_comment_is_none(self):
+        self.assertEqual(found("-- use Rattle.low.proofs.Laws.{one}\n"), [])
+
+
+class Listed(unittest.TestCase):
+    ROWS = merged([("crates/high/proofs/One.antt", "low.proofs.Laws", "two"), ("crates/high/proofs/One.antt", "low.proofs.Laws", "one")])
+    LINES = ["high 1", "  proofs/One.antt low.proofs.Laws: one two"]
+
+    def test_a_list_is_read_as_it_was_written(self):
+        self.assertEqual(lines_of(self.ROWS), self.LINES)
+        self.assertEqual(listed("# What it is.\n" + "\n".join(self.LINES)), (self.ROWS, []))
+
+    def test_a_number_that_is_not_that_of_the_lines_is_wrong(self):
+        self.assertEqual(listed("high 2\n" + self.LINES[1])[1], ["high has 1 lines, and says 2"])
+
+
+if __name__ == "__main__":
+    unittest.main()
