@@ -24,10 +24,8 @@ const TURNS: &str = "(role red) (role blue) (init (turn red))
 (<= (goal blue 0) (true (heap 0)) (true (turn blue)))
 ";
 
-/// The rules of Countdown with a heap of this size.
-pub fn countdown_rules(alloc: Global, size: u8) -> Result<String, fmt::Error> {
-    let mut rules = String::new(alloc);
-    write!(rules, "{TURNS}(init (heap {size}))\n")?;
+/// Puts the rules of what is left of the heap behind what is written.
+fn push_steps(rules: &mut String, size: u8) -> fmt::Result {
     for left in 0..size {
         let one_more = u16::from(left) + 1;
         write!(
@@ -42,5 +40,13 @@ pub fn countdown_rules(alloc: Global, size: u8) -> Result<String, fmt::Error> {
             )?;
         }
     }
+    Ok(())
+}
+
+/// The rules of Countdown with a heap of this size.
+pub fn countdown_rules(alloc: Global, size: u8) -> Result<String, fmt::Error> {
+    let mut rules = String::new(alloc);
+    write!(rules, "{TURNS}(init (heap {size}))\n")?;
+    push_steps(&mut rules, size)?;
     Ok(rules)
 }

@@ -1,7 +1,7 @@
 //! Expressions as they are shown.
 
 use crate::scan::Scan;
-use std::alloc::{AllocError, Global};
+use std::alloc::AllocError;
 
 /// How many bytes of an expression are shown.
 const SHOWN: usize = 80;
@@ -14,10 +14,10 @@ fn shown_byte(byte: u8) -> char {
     }
 }
 
-/// The expression with which a text begins, in one line: without comments, with one space for white space, and `?` for a byte that is
-/// not seen. Of a long one the first 80 bytes stand here, with two dots behind.
-pub fn excerpt(alloc: Global, text: &[u8]) -> Result<String, AllocError> {
-    let mut shown = String::new(alloc);
+/// Puts the expression with which a text begins behind what is written, in one line: without comments, with one space for white space,
+/// and `?` for a byte that is not seen. Of a long one the first 80 bytes stand there, with two dots behind.
+pub fn push_excerpt(out: &mut String, text: &[u8]) -> Result<(), AllocError> {
+    let mut shown: usize = 0;
     let mut scan = Scan::new();
     let mut is_spaced = false;
     let mut is_after_opening = false;
@@ -25,26 +25,27 @@ pub fn excerpt(alloc: Global, text: &[u8]) -> Result<String, AllocError> {
         let is_outside = scan.depth == 0;
         let is_hidden = scan.is_hidden(*byte);
         let begins = scan.pass(*byte);
-        if is_outside && !shown.is_empty() && (begins || is_hidden || *byte == b')') {
+        if is_outside && shown > 0 && (begins || is_hidden || *byte == b')') {
             break;
         }
         if is_hidden {
             is_spaced = !is_after_opening;
             continue;
         }
-        if is_spaced && *byte != b')' && shown.len() < SHOWN {
-            shown.push(' ')?;
+        if is_spaced && *byte != b')' && shown < SHOWN {
+            out.push(' ')?;
+            shown = shown.saturating_add(1);
         }
-        if shown.len() >= SHOWN {
-            shown.push_str("..")?;
-            break;
+        if shown >= SHOWN {
+            return out.push_str("..");
         }
-        shown.push(shown_byte(*byte))?;
+        out.push(shown_byte(*byte))?;
+        shown = shown.saturating_add(1);
         if *byte == b')' && scan.depth == 0 {
             break;
         }
         is_spaced = false;
         is_after_opening = *byte == b'(';
     }
-    Ok(shown)
+    Ok(())
 }

@@ -6,18 +6,15 @@ use ground_rules::{GroundGame, LoadFault, load};
 use kif_text::{KifFault, read_all};
 use packed_rules::{PackedGame, pack};
 use std::alloc::{AllocError, Global};
-use thiserror::Error;
 
 /// Why a text gives no game.
-#[derive(Clone, Copy, Debug, Error)]
+#[derive(Clone, Copy)]
 pub enum DescriptionFault {
     /// It is not KIF.
-    #[error("{0}")]
     Unread(KifFault),
     /// Its sentences are no ground description.
-    #[error("{0}")]
     Unfit(LoadFault),
-    #[error("want of memory")]
+    /// Out of memory.
     Memory,
 }
 

@@ -1,6 +1,6 @@
 //! Games that are given as text.
 //!
-//! `described_game` makes a game of its ground description, or says which fault its text has, and `explanation` says in words where that
+//! `described_game` makes a game of its ground description, or says which fault its text has, and `push_explanation` says in words where that
 //! is; `countdown_rules` writes the description of Countdown.
 //!
 //! Free functions take the allocator first.
@@ -15,7 +15,8 @@ mod members;
 mod places;
 mod scan;
 mod shared_faults;
+mod spots;
 
 pub use countdown_text::countdown_rules;
-pub use explaining::explanation;
+pub use explaining::push_explanation;
 pub use games::{DescriptionFault, described_game};

@@ -1,125 +1,48 @@
-//! Which derived atoms the rules of a description speak of, and ways along them.
+//! Ways along which the derived atoms of a description speak of each other.
 
 use indexmap::IndexSet;
 use rule_sentences::sentence::{Atomic, Derived, Literal, Rule};
 use std::alloc::{AllocError, Global};
+
+/// The heads of a description, each once.
+pub type Heads<'r> = IndexSet<&'r Derived>;
+
+/// What ways are looked for.
+#[derive(Clone, Copy, PartialEq, Eq)]
+pub enum Way {
+    /// From an atom back to itself.
+    Cycle,
+    /// From `legal`, `goal` or `terminal` to `does`.
+    ToMoves,
+    /// From `init` to `true` or `does`.
+    ToState,
+}
+
+impl Way {
+    /// Whether such a way may begin with this head.
+    fn begins_with(self, head: &Derived) -> bool {
+        match head {
+            Derived::Legal(_, _) | Derived::Goal(_, _) | Derived::Terminal => self != Way::ToState,
+            Derived::Init(_) => self != Way::ToMoves,
+            Derived::Role(_) | Derived::Next(_) | Derived::Other(_) => self == Way::Cycle,
+        }
+    }
+
+    /// Whether such a way ends where a sentence speaks of this.
+    fn ends_with(self, atomic: &Atomic) -> bool {
+        match atomic {
+            Atomic::Does(_, _) => self != Way::Cycle,
+            Atomic::InState(_) => self == Way::ToState,
+            Atomic::Derived(_) => false,
+        }
+    }
+}
 
 /// That a sentence speaks of a derived atom.
 #[derive(Clone, Copy)]
 struct Link {
     atom: usize,
     sentence: usize,
-}
-
-/// The heads of a description, each once, and for each the heads of which its rules speak.
-#[derive(Drop)]
-pub struct Links {
-    pub heads: IndexSet<Derived>,
-    of: Vec<Vec<Link>>,
-}
-
-#[cycle(add_links)]
-fn add_links(
-    heads: &IndexSet<Derived>,
-    literal: &Literal,
-    sentence: usize,
-    out: &mut Vec<Link>,
-) -> Result<(), AllocError> {
-    match literal {
-        Literal::Atomic(Atomic::Derived(atom)) => {
-            if let Some(atom) = heads.get_index_of(atom) {
-                out.push(Link { atom, sentence })?;
-            }
-            Ok(())
-        }
-        Literal::Atomic(_) | Literal::Distinct(_, _) => Ok(()),
-        Literal::Not(inner) => add_links(heads, inner, sentence, out),
-        Literal::Or(literals) => add_all_links(heads, literals, sentence, out),
-    }
-}
-
-#[cycle(add_links)]
-fn add_all_links(
-    heads: &IndexSet<Derived>,
-    literals: &Vec<Literal>,
-    sentence: usize,
-    out: &mut Vec<Link>,
-) -> Result<(), AllocError> {
-    for literal in literals {
-        add_links(heads, literal, sentence, out)?;
-    }
-    Ok(())
-}
-
-/// The heads of the rules, each once.
-pub fn heads_of(alloc: Global, rules: &[Rule]) -> Result<IndexSet<Derived>, AllocError> {
-    let mut heads = IndexSet::new(alloc);
-    for rule in rules {
-        if !heads.contains(&rule.head) {
-            heads.insert(rule.head.clone()?)?;
-        }
-    }
-    Ok(heads)
-}
-
-impl Links {
-    pub fn new(alloc: Global, rules: &[Rule]) -> Result<Links, AllocError> {
-        let heads = heads_of(alloc, rules)?;
-        let mut of = Vec::with_capacity(alloc, heads.len())?;
-        for _ in 0..heads.len() {
-            of.push(Vec::new(alloc))?;
-        }
-        for (sentence, rule) in rules.iter().enumerate() {
-            if let Some(head) = heads.get_index_of(&rule.head) {
-                if let Some(links) = of.get_mut(head) {
-                    add_all_links(&heads, &rule.body, sentence, links)?;
-                }
-            }
-        }
-        Ok(Links { heads, of })
-    }
-
-    /// For each head a sentence of it that speaks of `does`, or, if these count, of `true`.
-    pub fn sources(
-        &self,
-        alloc: Global,
-        rules: &[Rule],
-        of_state: bool,
-    ) -> Result<Vec<Option<usize>>, AllocError> {
-        let mut sources = vec![in alloc; None; self.heads.len()]?;
-        for (sentence, rule) in rules.iter().enumerate() {
-            if any_speaks(&rule.body, of_state) {
-                if let Some(head) = self.heads.get_index_of(&rule.head) {
-                    if let Some(source) = sources.get_mut(head) {
-                        *source = Some(sentence);
-                    }
-                }
-            }
-        }
-        Ok(sources)
-    }
-}
-
-/// Whether the literal speaks of a `does` sentence, or, if these count, of a `true` sentence.
-#[cycle(speaks)]
-fn speaks(literal: &Literal, of_state: bool) -> bool {
-    match literal {
-        Literal::Atomic(Atomic::Does(_, _)) => true,
-        Literal::Atomic(Atomic::InState(_)) => of_state,
-        Literal::Atomic(Atomic::Derived(_)) | Literal::Distinct(_, _) => false,
-        Literal::Not(inner) => speaks(inner, of_state),
-        Literal::Or(literals) => any_speaks(literals, of_state),
-    }
-}
-
-#[cycle(speaks)]
-fn any_speaks(literals: &Vec<Literal>, of_state: bool) -> bool {
-    for literal in literals {
-        if speaks(literal, of_state) {
-            return true;
-        }
-    }
-    false
 }
 
 /// How far a search has come with an atom.
@@ -130,86 +53,156 @@ enum Mark {
     Done,
 }
 
-/// A search along links, in depth: for a way to a source, or for one that comes back to itself.
+/// A derived atom: the atoms of which its rules speak, and the sentence with which a way ends, if one does.
 #[derive(Drop)]
-pub struct Search<'a> {
-    links: &'a Links,
-    /// For each atom the sentence with which a way ends.
-    sources: Vec<Option<usize>>,
-    marks: Vec<Mark>,
-    /// How many links of each atom were followed.
-    followed: Vec<usize>,
+struct Atom {
+    links: Vec<Link>,
+    end: Option<usize>,
+    mark: Mark,
+    /// How many of the links were followed.
+    followed: usize,
+}
+
+impl Atom {
+    /// Takes up that a sentence speaks of this.
+    fn add(
+        &mut self,
+        heads: &Heads<'_>,
+        sentence: usize,
+        atomic: &Atomic,
+        way: Way,
+    ) -> Result<(), AllocError> {
+        if way.ends_with(atomic) {
+            self.end = Some(sentence);
+        }
+        if let Atomic::Derived(head) = atomic {
+            if let Some(atom) = heads.get_index_of(&head) {
+                self.links.push(Link { atom, sentence })?;
+            }
+        }
+        Ok(())
+    }
+
+    #[cycle(add_literal)]
+    fn add_literal(
+        &mut self,
+        heads: &Heads<'_>,
+        sentence: usize,
+        literal: &Literal,
+        way: Way,
+    ) -> Result<(), AllocError> {
+        match literal {
+            Literal::Atomic(atomic) => self.add(heads, sentence, atomic, way),
+            Literal::Not(inner) => self.add_literal(heads, sentence, inner, way),
+            Literal::Or(literals) => self.add_body(heads, sentence, literals, way),
+            Literal::Distinct(_, _) => Ok(()),
+        }
+    }
+
+    #[cycle(add_literal)]
+    fn add_body(
+        &mut self,
+        heads: &Heads<'_>,
+        sentence: usize,
+        literals: &Vec<Literal>,
+        way: Way,
+    ) -> Result<(), AllocError> {
+        for literal in literals {
+            self.add_literal(heads, sentence, literal, way)?;
+        }
+        Ok(())
+    }
+}
+
+/// The heads of the rules, each once.
+pub fn heads_of<'r>(alloc: Global, rules: &'r [Rule]) -> Result<Heads<'r>, AllocError> {
+    let mut heads = IndexSet::new(alloc);
+    for rule in rules {
+        heads.insert(&rule.head)?;
+    }
+    Ok(heads)
+}
+
+/// The atoms of these heads, with the links that the rules have.
+fn atoms_of<'r>(
+    alloc: Global,
+    heads: &Heads<'r>,
+    rules: &'r [Rule],
+    way: Way,
+) -> Result<Vec<Atom>, AllocError> {
+    let mut atoms = Vec::with_capacity(alloc, heads.len())?;
+    for _ in 0..heads.len() {
+        atoms.push(Atom {
+            links: Vec::new(alloc),
+            end: None,
+            mark: Mark::New,
+            followed: 0,
+        })?;
+    }
+    for (sentence, rule) in rules.iter().enumerate() {
+        let atom = heads.get_index_of(&&rule.head).unwrap_or(0);
+        if let Some(atom) = atoms.get_mut(atom) {
+            atom.add_body(heads, sentence, &rule.body, way)?;
+        }
+    }
+    Ok(atoms)
+}
+
+/// A search along links, in depth.
+#[derive(Drop)]
+struct Search {
+    atoms: Vec<Atom>,
     /// The atoms on the way, and by which sentence it goes on from each.
     path: Vec<Link>,
 }
 
-impl<'a> Search<'a> {
-    pub fn new(
-        alloc: Global,
-        links: &'a Links,
-        sources: Vec<Option<usize>>,
-    ) -> Result<Search<'a>, AllocError> {
-        Ok(Search {
-            links,
-            sources,
-            marks: vec![in alloc; Mark::New; links.heads.len()]?,
-            followed: vec![in alloc; 0; links.heads.len()]?,
-            path: Vec::new(alloc),
-        })
-    }
-
-    fn mark(&mut self, atom: usize, mark: Mark) {
-        if let Some(slot) = self.marks.get_mut(atom) {
-            *slot = mark;
+impl Search {
+    /// Where on the path this atom is.
+    fn place_of(&self, atom: usize) -> Option<usize> {
+        for (place, link) in self.path.iter().enumerate() {
+            if link.atom == atom {
+                return Some(place);
+            }
         }
+        None
     }
 
-    /// Goes on to this atom, and returns whether a way ends here.
-    fn open(&mut self, atom: usize) -> Result<bool, AllocError> {
-        self.mark(atom, Mark::Open);
-        let source = self.sources.get(atom).copied().flatten();
-        let sentence = source.unwrap_or(0);
-        self.path.push(Link { atom, sentence })?;
-        Ok(source.is_some())
-    }
-
-    /// The next link of this atom.
-    fn next_link(&mut self, atom: usize) -> Option<Link> {
-        let followed = self.followed.get_mut(atom)?;
-        let link = *self.links.of.get(atom)?.get(*followed)?;
-        *followed = followed.saturating_add(1);
-        Some(link)
+    /// Meets this atom, and returns with which of its atoms a way begins that is found by it.
+    fn meet(&mut self, number: usize) -> Result<Option<usize>, AllocError> {
+        let Some(atom) = self.atoms.get_mut(number) else {
+            return Ok(None);
+        };
+        match atom.mark {
+            Mark::New => {
+                atom.mark = Mark::Open;
+                let end = atom.end;
+                self.path.push(Link {
+                    atom: number,
+                    sentence: end.unwrap_or(0),
+                })?;
+                Ok(if end.is_some() { Some(0) } else { None })
+            }
+            Mark::Open => Ok(self.place_of(number)),
+            Mark::Done => Ok(None),
+        }
     }
 
     /// Follows a link from the end of the way, and returns to which atom. The last atom is left where it has no further link.
     fn follow(&mut self) -> Option<usize> {
-        let last = *self.path.last()?;
-        let Some(link) = self.next_link(last.atom) else {
-            self.mark(last.atom, Mark::Done);
+        let last = self.path.last_mut()?;
+        let atom = self.atoms.get_mut(last.atom)?;
+        let Some(link) = atom.links.get(atom.followed) else {
+            atom.mark = Mark::Done;
             self.path.pop();
             return None;
         };
-        if let Some(last) = self.path.last_mut() {
-            last.sentence = link.sentence;
-        }
+        atom.followed = atom.followed.saturating_add(1);
+        last.sentence = link.sentence;
         Some(link.atom)
     }
 
-    /// Whether a way was found, and with which of its atoms it begins.
-    fn meet(&mut self, atom: usize) -> Result<Option<usize>, AllocError> {
-        match self.marks.get(atom) {
-            Some(Mark::New) => Ok(if self.open(atom)? { Some(0) } else { None }),
-            Some(Mark::Open) => Ok(self.path.iter().position(|link| link.atom == atom)),
-            _ => Ok(None),
-        }
-    }
-
-    /// Searches from this atom on. The sentences of the way that was found are returned, in their order.
-    pub fn way_from(
-        &mut self,
-        alloc: Global,
-        atom: usize,
-    ) -> Result<Option<Vec<usize>>, AllocError> {
+    /// Searches from this atom on, and returns with which atom of the path the way begins that was found.
+    fn way_from(&mut self, atom: usize) -> Result<Option<usize>, AllocError> {
         let mut found = self.meet(atom)?;
         for _ in 0..u64::MAX {
             if found.is_some() || self.path.is_empty() {
@@ -219,10 +212,42 @@ impl<'a> Search<'a> {
                 found = self.meet(atom)?;
             }
         }
-        let Some(start) = found else {
-            return Ok(None);
-        };
-        let way = self.path.iter().skip(start);
-        Ok(Some(way.map(|link| link.sentence).collect(alloc)?))
+        Ok(found)
+    }
+
+    /// Looks for a way from each head with which one may begin, and returns with which atom of the path the first begins that is found.
+    fn find(&mut self, heads: &Heads<'_>, way: Way) -> Result<Option<usize>, AllocError> {
+        for (atom, head) in heads.iter().enumerate() {
+            if way.begins_with(*head) {
+                let found = self.way_from(atom)?;
+                if found.is_some() {
+                    return Ok(found);
+                }
+            }
+        }
+        Ok(None)
+    }
+
+    /// The sentences by which the path goes on, from the atom at this place.
+    fn sentences(&self, alloc: Global, start: usize) -> Result<Vec<usize>, AllocError> {
+        let mut sentences = Vec::new(alloc);
+        for link in self.path.iter().skip(start) {
+            sentences.push(link.sentence)?;
+        }
+        Ok(sentences)
+    }
+}
+
+/// The sentences of the first such way that is found: each speaks of the head of the next, and the last of what the way ends with. None
+/// where there is no such way.
+pub fn sentences_of_way(alloc: Global, rules: &[Rule], way: Way) -> Result<Vec<usize>, AllocError> {
+    let heads = heads_of(alloc, rules)?;
+    let mut search = Search {
+        atoms: atoms_of(alloc, &heads, rules, way)?,
+        path: Vec::new(alloc),
+    };
+    match search.find(&heads, way)? {
+        Some(start) => search.sentences(alloc, start),
+        None => Ok(Vec::new(alloc)),
     }
 }

@@ -1,39 +1,16 @@
 //! Which part of a sentence is at fault.
 
-use game_core::Text;
-use kif_text::{Expr, copy};
+use crate::games::DescriptionFault;
+use crate::places::{atom_at, end_of, next_start};
+use kif_text::read_all;
+use rule_sentences::sentence::Rule;
 use rule_sentences::{LoadFault, read_rules};
-use std::alloc::{AllocError, Global};
+use std::alloc::Global;
 
-fn atom(alloc: Global, word: &[u8]) -> Result<Expr, AllocError> {
-    Ok(Expr::Atom(Text::from_slice(alloc, word)?))
-}
-
-/// A rule that has this condition alone, and a head without fault.
-fn rule_on(alloc: Global, condition: Expr) -> Result<Expr, AllocError> {
-    let mut members = Vec::with_capacity(alloc, 3)?;
-    members.push(atom(alloc, b"<=")?)?;
-    members.push(atom(alloc, b"head")?)?;
-    members.push(condition)?;
-    Ok(Expr::List(members))
-}
-
-/// Whether the sentence by itself has this fault.
-fn has_fault(alloc: Global, sentence: Expr, fault: LoadFault) -> Result<bool, AllocError> {
-    let mut alone = Vec::with_capacity(alloc, 1)?;
-    alone.push(sentence)?;
-    match read_rules(alloc, alone.as_slice()) {
-        Ok(_) => Ok(false),
-        Err(LoadFault::Memory) => Err(AllocError),
-        Err(found) => Ok(found == fault),
-    }
-}
-
-fn is_rule(members: &[Expr]) -> bool {
-    match members.first() {
-        Some(Expr::Atom(word)) => word.as_slice() == b"<=".as_slice(),
-        _ => false,
-    }
+/// The rules that a text without capitals spells, or its first fault.
+pub fn rules_in(alloc: Global, folded: &[u8]) -> Result<Vec<Rule>, DescriptionFault> {
+    let sentences = read_all(alloc, folded)?;
+    Ok(read_rules(alloc, sentences.as_slice())?)
 }
 
 /// What of a sentence has a fault.
@@ -43,89 +20,123 @@ pub enum Part {
     Fact,
     /// The rule as a whole.
     Rule,
-    /// The member of this number of a rule, from 0 on. Its head is member 1, and its conditions stand behind.
-    Member(usize),
+    /// The head of a rule.
+    Head,
+    /// A condition of a rule.
+    Condition,
 }
 
-/// What of a sentence has a fault, and the form that it has to have, if its first word says so.
+/// What of a sentence has a fault, and at which byte that begins.
 #[derive(Clone, Copy)]
 pub struct FaultyPart {
     pub part: Part,
-    pub form: Option<&'static str>,
+    pub at: usize,
 }
 
-/// The form of an expression with this word at its head, or of the word alone, if GDL keeps the word for heads and conditions, or, where
-/// it is a condition, for these alone.
+/// A word that GDL keeps, whether it is kept for conditions alone, and the form of an expression with the word at its head, or of the
+/// word alone.
+const FORMS: [(&[u8], bool, &str); 11] = [
+    (b"role", false, "(role NAME)"),
+    (b"init", false, "(init TERM)"),
+    (b"true", false, "(true TERM)"),
+    (b"next", false, "(next TERM)"),
+    (b"does", false, "(does ROLE MOVE)"),
+    (b"legal", false, "(legal ROLE MOVE)"),
+    (
+        b"goal",
+        false,
+        "(goal ROLE NUMBER), with a number from 0 to 100",
+    ),
+    (b"terminal", false, "terminal"),
+    (b"not", true, "(not LITERAL)"),
+    (b"or", true, "(or LITERAL ..)"),
+    (b"distinct", true, "(distinct TERM TERM)"),
+];
+
+/// The form of an expression with this word at its head, or of the word alone, if GDL keeps the word.
 fn form_of(word: &[u8], is_condition: bool) -> Option<&'static str> {
-    match word {
-        b"role" => Some("(role NAME)"),
-        b"init" => Some("(init TERM)"),
-        b"true" => Some("(true TERM)"),
-        b"next" => Some("(next TERM)"),
-        b"does" => Some("(does ROLE MOVE)"),
-        b"legal" => Some("(legal ROLE MOVE)"),
-        b"goal" => Some("(goal ROLE NUMBER), with a number from 0 to 100"),
-        b"terminal" => Some("terminal"),
-        b"not" if is_condition => Some("(not LITERAL)"),
-        b"or" if is_condition => Some("(or LITERAL ..)"),
-        b"distinct" if is_condition => Some("(distinct TERM TERM)"),
-        _ => None,
-    }
-}
-
-/// The word at the head of a list, or the word alone.
-fn first_word(expr: &Expr) -> Option<&[u8]> {
-    match expr {
-        Expr::Atom(word) => Some(word.as_slice()),
-        Expr::List(members) => match members.first() {
-            Some(Expr::Atom(word)) => Some(word.as_slice()),
-            _ => None,
-        },
-    }
-}
-
-/// The form that a part has to have, which is the expression.
-fn form_in(part: Part, expr: &Expr) -> Option<&'static str> {
-    match part {
-        Part::Rule => Some("(<= HEAD CONDITION ..)"),
-        Part::Fact | Part::Member(1) => form_of(first_word(expr)?, false),
-        Part::Member(_) => form_of(first_word(expr)?, true),
-    }
-}
-
-/// The part of a sentence without capitals that has this fault, which names a first sentence, and that part.
-fn part_in<'a>(
-    alloc: Global,
-    sentence: &'a Expr,
-    fault: LoadFault,
-) -> Result<(Part, &'a Expr), AllocError> {
-    let members = match sentence {
-        Expr::List(members) if is_rule(members) => members,
-        _ => return Ok((Part::Fact, sentence)),
-    };
-    for (place, member) in members.iter().enumerate().skip(1) {
-        let copied = copy(alloc, member)?;
-        let alone = if place > 1 {
-            rule_on(alloc, copied)?
-        } else {
-            copied
-        };
-        if has_fault(alloc, alone, fault)? {
-            return Ok((Part::Member(place), member));
+    for (name, is_of_conditions, form) in FORMS {
+        if word == name && (is_condition || !is_of_conditions) {
+            return Some(form);
         }
     }
-    Ok((Part::Rule, sentence))
+    None
 }
 
-/// What of a sentence without capitals has this fault, which names a first sentence.
+/// The word at the head of the list at this byte, or the atom there; empty where a list stands at the head, or nothing.
+fn first_word(folded: &[u8], at: usize) -> &[u8] {
+    match folded.get(at) {
+        Some(b'(') => match next_start(folded, at.saturating_add(1)) {
+            Some(first) => atom_at(folded, first),
+            None => b"",
+        },
+        _ => atom_at(folded, at),
+    }
+}
+
+impl FaultyPart {
+    /// The form that the part has to have, if its first word says so.
+    pub fn form(self, folded: &[u8]) -> Option<&'static str> {
+        let word = first_word(folded, self.at);
+        match self.part {
+            Part::Rule => Some("(<= HEAD CONDITION ..)"),
+            Part::Fact | Part::Head => form_of(word, false),
+            Part::Condition => form_of(word, true),
+        }
+    }
+}
+
+/// Whether the text of a part has this fault by itself; a condition is that of a rule without other faults.
+fn has_fault(
+    alloc: Global,
+    part: Part,
+    text: &[u8],
+    fault: LoadFault,
+) -> Result<bool, DescriptionFault> {
+    let before = match (part, text.first()) {
+        (Part::Condition, Some(b'(')) => b"(<= h".as_slice(),
+        (Part::Condition, _) => b"(<= h ".as_slice(),
+        _ => b"",
+    };
+    let behind = if before.is_empty() {
+        b""
+    } else {
+        b")".as_slice()
+    };
+    let alone = [before, text, behind].concat(alloc)?;
+    match rules_in(alloc, &alone) {
+        Err(DescriptionFault::Memory) => Err(DescriptionFault::Memory),
+        Err(DescriptionFault::Unfit(found)) => Ok(found == fault),
+        _ => Ok(false),
+    }
+}
+
+/// What of the sentence at this byte has this fault, which names a first sentence.
 pub fn faulty_part(
     alloc: Global,
-    sentence: &Expr,
+    folded: &[u8],
+    start: usize,
     fault: LoadFault,
-) -> Result<FaultyPart, AllocError> {
-    let (part, expr) = part_in(alloc, sentence, fault)?;
+) -> Result<FaultyPart, DescriptionFault> {
+    let mut part = Part::Fact;
+    if folded.get(start) != Some(&b'(') || first_word(folded, start) != b"<=".as_slice() {
+        return Ok(FaultyPart { part, at: start });
+    }
+    let arrow = next_start(folded, start.saturating_add(1)).unwrap_or(start);
+    let mut end = end_of(folded, arrow);
+    part = Part::Head;
+    for _ in 0..folded.len() {
+        let Some(at) = next_start(folded, end) else {
+            break;
+        };
+        end = end_of(folded, at);
+        if has_fault(alloc, part, folded.get(at..end).unwrap_or(b""), fault)? {
+            return Ok(FaultyPart { part, at });
+        }
+        part = Part::Condition;
+    }
     Ok(FaultyPart {
-        part,
-        form: form_in(part, expr),
+        part: Part::Rule,
+        at: start,
     })
 }

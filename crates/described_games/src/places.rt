@@ -2,7 +2,7 @@
 ghost use Rattle.std.specs.Prelude.{◌≡◌, take};
 ghost use Rattle.described_games.specs.Places.{line_after, column_after};
 
-use crate::scan::Scan;
+use crate::scan::{Scan, is_atom_byte};
 
 /// A place in a text: its line and its column, both from 1 on. Columns count bytes.
 #[derive(Clone, Copy)]
@@ -32,52 +32,67 @@ impl Place {
     }
 }
 
-/// Where the sentence of this number begins, from 0 on.
-pub fn sentence_start(text: &[u8], number: usize) -> Option<usize> {
+/// The atom at this byte; empty where there is none.
+pub fn atom_at(text: &[u8], at: usize) -> &[u8] {
+    let rest = text.get(at..).unwrap_or(b"");
+    for (end, byte) in rest.iter().enumerate() {
+        if !is_atom_byte(*byte) {
+            return rest.get(..end).unwrap_or(rest);
+        }
+    }
+    rest
+}
+
+/// Where the next expression begins from this byte on, unless a list ends before it.
+pub fn next_start(text: &[u8], from: usize) -> Option<usize> {
     let mut scan = Scan::new();
-    let mut begun: usize = 0;
-    for (at, byte) in text.iter().enumerate() {
-        let is_outside = scan.depth == 0;
-        if scan.pass(*byte) && is_outside {
-            if begun == number {
-                return Some(at);
-            }
-            begun = begun.saturating_add(1);
+    for (at, byte) in text.iter().enumerate().skip(from) {
+        let is_hidden = scan.is_hidden(*byte);
+        if scan.pass(*byte) {
+            return Some(at);
+        }
+        if !is_hidden {
+            return None;
         }
     }
     None
+}
+
+/// The byte behind the expression that begins at this one.
+pub fn end_of(text: &[u8], start: usize) -> usize {
+    if text.get(start) != Some(&b'(') {
+        return start.saturating_add(atom_at(text, start).len());
+    }
+    let mut scan = Scan::new();
+    for (at, byte) in text.iter().enumerate().skip(start) {
+        scan.pass(*byte);
+        if scan.depth == 0 {
+            return at.saturating_add(1);
+        }
+    }
+    text.len()
+}
+
+/// Where the sentence of this number begins, from 0 on.
+pub fn sentence_start(text: &[u8], number: usize) -> Option<usize> {
+    let mut at = next_start(text, 0)?;
+    for _ in 0..number {
+        at = next_start(text, end_of(text, at))?;
+    }
+    Some(at)
 }
 
 /// Where the last sentence that begins before this byte begins, and whether it goes on there.
 pub fn sentence_before(text: &[u8], end: usize) -> Option<(usize, bool)> {
     let mut scan = Scan::new();
     let mut last = None;
-    for (at, byte) in text.iter().enumerate() {
-        if at >= end {
-            break;
-        }
+    for (at, byte) in text.iter().enumerate().take(end) {
         let is_outside = scan.depth == 0;
         if scan.pass(*byte) && is_outside {
             last = Some(at);
         }
     }
-    last.map(|at| (at, scan.depth > 0))
-}
-
-/// Where the member of this number begins, from 0 on, of the list that begins at this byte.
-pub fn member_start(text: &[u8], list: usize, number: usize) -> Option<usize> {
-    let mut scan = Scan::new();
-    let mut begun: usize = 0;
-    for (at, byte) in text.iter().enumerate().skip(list) {
-        let is_member = scan.depth == 1;
-        if scan.pass(*byte) && is_member {
-            if begun == number {
-                return Some(at);
-            }
-            begun = begun.saturating_add(1);
-        }
-    }
-    None
+    Some((last?, scan.depth > 0))
 }
 
 /// Where the first variable from this byte on begins.

@@ -1,14 +1,14 @@
 //! How expressions begin and end in a text, byte by byte.
 
 /// What goes on at a place of a text: how many lists are open, and whether a comment or an atom is.
-#[derive(Drop)]
+#[derive(Clone, Copy)]
 pub struct Scan {
     pub depth: usize,
     in_comment: bool,
     in_atom: bool,
 }
 
-fn is_atom_byte(byte: u8) -> bool {
+pub fn is_atom_byte(byte: u8) -> bool {
     byte.is_ascii_graphic() && !matches!(byte, b'(' | b')' | b';')
 }
 

@@ -16,18 +16,25 @@ enum Keyword {
     Abort,
 }
 
+/// The words with which calls begin.
+const KEYWORDS: [(&[u8], Keyword); 7] = [
+    (b"open", Keyword::Open),
+    (b"strict", Keyword::Strict),
+    (b"next", Keyword::Next),
+    (b"submit", Keyword::Submit),
+    (b"miss", Keyword::Miss),
+    (b"query", Keyword::Query),
+    (b"abort", Keyword::Abort),
+];
+
 impl Keyword {
     fn of(word: &[u8]) -> Option<Keyword> {
-        match word {
-            b"open" => Some(Keyword::Open),
-            b"strict" => Some(Keyword::Strict),
-            b"next" => Some(Keyword::Next),
-            b"submit" => Some(Keyword::Submit),
-            b"miss" => Some(Keyword::Miss),
-            b"query" => Some(Keyword::Query),
-            b"abort" => Some(Keyword::Abort),
-            _ => None,
+        for (name, keyword) in KEYWORDS {
+            if word == name {
+                return Some(keyword);
+            }
         }
+        None
     }
 
     /// The form of a line.
@@ -87,86 +94,108 @@ impl Kind {
     }
 }
 
-/// Where in a bad line something is wrong, by the byte, and what.
-fn line_fault(alloc: Global, line: &[u8]) -> Result<(usize, String), AllocError> {
-    let words: Vec<&[u8]> = line.split(|byte| *byte == b' ').collect(alloc)?;
-    let Some(keyword) = words.first().and_then(|word| Keyword::of(word)) else {
-        return Ok((0, String::from_str(alloc, "no call begins with this word")?));
-    };
-    let form = keyword.form();
-    let mut at: usize = 0;
-    for (place, word) in words.iter().enumerate() {
-        if place > 0 {
-            let Some(kind) = keyword.kind(place) else {
-                return Ok((at, format!(in alloc; "more words than in {form}")?));
-            };
-            if let Some(fault) = kind.fault(word) {
-                return Ok((at, String::from_str(alloc, fault)?));
-            }
+/// The bytes before the first of these, and those behind it.
+fn cut(text: &[u8], mark: u8) -> (&[u8], Option<&[u8]>) {
+    for (at, byte) in text.iter().enumerate() {
+        if *byte == mark {
+            return (
+                text.get(..at).unwrap_or(text),
+                text.get(at.saturating_add(1)..),
+            );
         }
-        at = at.saturating_add(word.len()).saturating_add(1);
     }
-    Ok((line.len(), format!(in alloc; "fewer words than in {form}")?))
+    (text, None)
+}
+
+/// What is wrong with a bad line: where, by the byte, in which words, and of which form of a line these speak.
+#[derive(Clone, Copy)]
+struct LineFault {
+    at: usize,
+    words: &'static str,
+    form: &'static str,
+}
+
+impl LineFault {
+    fn new(at: usize, words: &'static str, form: &'static str) -> LineFault {
+        LineFault { at, words, form }
+    }
+
+    /// What is wrong with a bad line that has a byte.
+    fn of(line: &[u8]) -> LineFault {
+        let (first, mut rest) = cut(line, b' ');
+        let Some(keyword) = Keyword::of(first) else {
+            return LineFault::new(0, "no call begins with this word", "");
+        };
+        let mut at = first.len().saturating_add(1);
+        for place in 1..=line.len() {
+            let Some(words) = rest else {
+                break;
+            };
+            let (word, more) = cut(words, b' ');
+            let Some(kind) = keyword.kind(place) else {
+                return LineFault::new(at, "more words than in ", keyword.form());
+            };
+            if let Some(words) = kind.fault(word) {
+                return LineFault::new(at, words, "");
+            }
+            at = at.saturating_add(word.len()).saturating_add(1);
+            rest = more;
+        }
+        LineFault::new(line.len(), "fewer words than in ", keyword.form())
+    }
 }
 
 /// How many bytes of a line are shown.
 const SHOWN: usize = 80;
 
-/// The beginning of a line, with `?` for a byte that is not seen, and two dots where more follows.
-fn shown_line(alloc: Global, line: &[u8]) -> Result<String, AllocError> {
-    let mut shown = String::new(alloc);
+/// Puts the beginning of a line behind what is written, with `?` for a byte that is not seen, and two dots where more follows.
+fn push_shown(out: &mut String, line: &[u8]) -> Result<(), AllocError> {
     for byte in line.iter().take(SHOWN) {
         let is_seen = byte.is_ascii_graphic() || *byte == b' ';
-        shown.push(if is_seen { char::from(*byte) } else { '?' })?;
+        out.push(if is_seen { char::from(*byte) } else { '?' })?;
     }
     if line.len() > SHOWN {
-        shown.push_str("..")?;
+        out.push_str("..")?;
     }
-    Ok(shown)
+    out.push('\n')
 }
 
-/// What is wrong with the line of this number, from 0 on, as a line of standard error.
-fn told_line(alloc: Global, number: usize, line: &[u8]) -> Result<String, AllocError> {
+/// Puts what is wrong with the line of this number, from 0 on, behind what is written, as a line of standard error.
+fn push_line(out: &mut String, number: usize, line: &[u8]) -> Result<(), AllocError> {
     let number = number.saturating_add(1);
     if line.is_empty() {
-        return format!(in alloc; "ggp_manager: line {number}, column 1: an empty line\n");
+        return write!(out, "ggp_manager: line {number}, column 1: an empty line\n");
     }
-    let (at, words) = line_fault(alloc, line)?;
+    let LineFault { at, words, form } = LineFault::of(line);
     let column = at.saturating_add(1);
-    let shown = shown_line(alloc, line)?;
-    format!(in alloc; "ggp_manager: line {number}, column {column}: {words}: {shown}\n")
+    write!(
+        out,
+        "ggp_manager: line {number}, column {column}: {words}{form}: "
+    )?;
+    push_shown(out, line)
 }
 
 /// The first line of a text, without one carriage return before its line feed, and the text after it. The last line may have none.
 fn first_line(text: &[u8]) -> (&[u8], &[u8]) {
-    match text.iter().position(|byte| *byte == b'\n') {
-        Some(end) => {
-            let line = &text[..end];
-            let line = line.strip_suffix(b"\r".as_slice()).unwrap_or(line);
-            (line, &text[end + 1..])
-        }
-        None => (text, b""),
+    match cut(text, b'\n') {
+        (line, Some(more)) => (line.strip_suffix(b"\r".as_slice()).unwrap_or(line), more),
+        (line, None) => (line, b""),
     }
 }
 
-/// What is wrong with the first of the lines that tell no call.
-fn told_first(alloc: Global, input: &[u8]) -> Result<String, AllocError> {
-    let mut rest = input;
-    for number in 0..input.len() {
+/// Puts what is wrong with the first of the lines of a script that tell no call behind what is written, as a line of standard error.
+pub fn push_first_bad_line(
+    alloc: Global,
+    script: &[u8],
+    out: &mut String,
+) -> Result<(), AllocError> {
+    let mut rest = script;
+    for number in 0..script.len() {
         let (line, more) = first_line(rest);
         if call_of(alloc, line)?.is_none() {
-            return told_line(alloc, number, line);
+            return push_line(out, number, line);
         }
         rest = more;
     }
-    Ok(String::new(alloc))
-}
-
-/// What is wrong with the first bad line of a script that has so many, as a line of standard error. There is none where the script has
-/// no bad line, or memory for it is refused.
-pub fn first_bad_line(alloc: Global, input: &[u8], bad_lines: u64) -> Option<String> {
-    if bad_lines == 0 {
-        return None;
-    }
-    told_first(alloc, input).ok()
+    Ok(())
 }

@@ -2,109 +2,73 @@
 
 use crate::checking::{check_record, check_records};
 use crate::fault::Fault;
+use crate::remarks::Remarks;
 use crate::replaying::replay_account;
-use crate::rules::{GameSource, game_of, rules_text};
+use crate::rules::{game_of, rules_text};
 use crate::script::run_script;
 use game_core::{Countdown, Counted, Game};
-use std::alloc::Global;
+use match_plans::{GameCommand, GameSource};
+use std::alloc::{AllocFailed, Global};
 use std::io::{Read, Write};
 use std::rt::Files;
 
-/// A command over standard input and output that wants one game.
-pub trait GameCommand {
-    /// Does the command's work for this game.
-    fn perform<G: Game + Drop, R: Read, W: Write>(
-        alloc: Global,
-        game: G,
-        reader: &mut Counted<R>,
-        writer: &mut Counted<W>,
-    ) -> Result<(), Fault>;
+/// That so many lines, records or answers were not good, if any was.
+fn unless_none(count: u64, fault: Fault) -> Result<(), Fault> {
+    match count {
+        0 => Ok(()),
+        _ => Err(fault),
+    }
+}
+
+/// The game alone, as number 0.
+fn alone<G: Drop>(alloc: Global, game: G) -> Result<Vec<G>, AllocFailed<G>> {
+    let mut games = Vec::new(alloc);
+    games.push(game)?;
+    Ok(games)
+}
+
+/// Does a command's work for this game.
+fn perform<G: Game + Drop, R: Read, W: Write>(
+    alloc: Global,
+    command: GameCommand,
+    game: G,
+    reader: &mut Counted<R>,
+    writer: &mut Counted<W>,
+    remarks: &mut Remarks,
+) -> Result<(), Fault> {
+    match command {
+        GameCommand::Desk => {
+            let count = run_script(alloc, reader, writer, alone(alloc, game)?, remarks)?;
+            unless_none(count, Fault::BadLines(count))
+        }
+        GameCommand::Verify => check_record(alloc, &game, reader, writer),
+        GameCommand::VerifyLines => {
+            let count = check_records(alloc, &game, reader, writer)?;
+            unless_none(count, Fault::UnlawfulRecords(count))
+        }
+        GameCommand::Replay => replay_account(alloc, reader, writer, alone(alloc, game)?),
+    }
 }
 
 /// Does a command's work for the game that the command line gives.
-pub fn for_game<C: GameCommand, F: Files, R: Read, W: Write>(
+pub fn for_game<F: Files, R: Read, W: Write>(
     files: &F,
     alloc: Global,
+    command: GameCommand,
     source: GameSource<'_>,
     reader: &mut Counted<R>,
     writer: &mut Counted<W>,
+    remarks: &mut Remarks,
 ) -> Result<(), Fault> {
     match source {
         GameSource::Countdown(size) => {
-            let game = Countdown::new(size).ok_or(Fault::WrongUse(None))?;
-            C::perform(alloc, game, reader, writer)
+            let game = Countdown::new(size).ok_or(Fault::WrongUse)?;
+            perform(alloc, command, game, reader, writer, remarks)
         }
         GameSource::Described(rules) => {
             let text = rules_text(files, alloc, rules)?;
-            let game = game_of(alloc, &text)?;
-            C::perform(alloc, game, reader, writer)
+            let game = game_of(alloc, &text, remarks)?;
+            perform(alloc, command, game, reader, writer, remarks)
         }
-    }
-}
-
-/// Answers a script, with the game as number 0.
-pub struct Desk;
-
-impl GameCommand for Desk {
-    fn perform<G: Game + Drop, R: Read, W: Write>(
-        alloc: Global,
-        game: G,
-        reader: &mut Counted<R>,
-        writer: &mut Counted<W>,
-    ) -> Result<(), Fault> {
-        let mut games = Vec::new(alloc);
-        games.push(game)?;
-        let mut lines = None;
-        match run_script(alloc, reader, writer, games, &mut lines)? {
-            0 => Ok(()),
-            count => Err(Fault::BadLines(count, lines)),
-        }
-    }
-}
-
-/// Checks a record of the game.
-pub struct Verify;
-
-impl GameCommand for Verify {
-    fn perform<G: Game + Drop, R: Read, W: Write>(
-        alloc: Global,
-        game: G,
-        reader: &mut Counted<R>,
-        writer: &mut Counted<W>,
-    ) -> Result<(), Fault> {
-        check_record(alloc, &game, reader, writer)
-    }
-}
-
-/// Checks each line as a record of the game.
-pub struct VerifyLines;
-
-impl GameCommand for VerifyLines {
-    fn perform<G: Game + Drop, R: Read, W: Write>(
-        alloc: Global,
-        game: G,
-        reader: &mut Counted<R>,
-        writer: &mut Counted<W>,
-    ) -> Result<(), Fault> {
-        match check_records(alloc, &game, reader, writer)? {
-            0 => Ok(()),
-            count => Err(Fault::UnlawfulRecords(count)),
-        }
-    }
-}
-
-/// Makes the calls of an account again, with the game as number 0.
-pub struct Replay;
-
-impl GameCommand for Replay {
-    fn perform<G: Game + Drop, R: Read, W: Write>(
-        alloc: Global,
-        game: G,
-        reader: &mut Counted<R>,
-        writer: &mut Counted<W>,
-    ) -> Result<(), Fault> {
-        let mut games = Vec::new(alloc);
-        games.push(game)?;
-        replay_account(alloc, reader, writer, games)
     }
 }

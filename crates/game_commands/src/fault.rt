@@ -7,92 +7,105 @@ use match_desk::Refusal;
 use match_plans::{LineFault, ScheduleFault};
 use match_record::VerifyFault;
 use std::alloc::{AllocError, AllocFailed};
-use thiserror::Error;
+use std::fmt;
 use whole_streams::WriteFault;
 
-/// A fault of the program. Its text is what standard error shows behind the program's name. Some have lines that say more, which may be
-/// shown before it: there are none where memory for them was refused.
-#[derive(Debug, PartialEq, Eq, Error, Drop)]
+/// A fault of the program. Its text is what standard error shows behind the program's name. Of some a `Remarks` says more.
+#[derive(Clone, Copy)]
 pub enum Fault {
     /// The command line is refused.
-    #[error("wrong use")]
-    WrongUse(Option<String>),
-    #[error("want of memory")]
+    WrongUse,
+    /// Out of memory.
     Memory,
     /// The text of the rules is not KIF, or is no ground description.
-    #[error("bad description")]
-    BadDescription(Option<String>),
+    BadDescription,
     /// The file of the rules was not read.
-    #[error("bad description: {0}")]
     RulesFile(RulesFileFault),
     /// The file of the rules that players are told was not read.
-    #[error("bad told description: {0}")]
     ToldFile(RulesFileFault),
     /// The file of the rules that players are told is not KIF.
-    #[error("bad told description")]
-    BadTold(Option<String>),
+    BadTold,
     /// Standard input failed.
-    #[error("read fault")]
     ReadFault,
     /// The input has more bytes than it may have.
-    #[error("input too long")]
     InputTooLong,
     /// Standard output failed.
-    #[error("write fault")]
     WriteFault,
     /// The player can't be reached, or its answer can't be taken.
-    #[error("no answer")]
     NoAnswer,
     /// The match was not opened.
-    #[error("refused {}", refusal_word(*.0))]
     Refused(Refusal),
     /// The match has neither finished nor been aborted.
-    #[error("match not ended")]
     MatchNotEnded,
     /// The line of that number of a schedule is a bad one. No match was begun.
-    #[error("bad schedule: line {0}: {1}")]
     BadSchedule(u64, LineFault),
     /// So many matches of a schedule have no record. The records of the others are output.
-    #[error("matches without record {0}")]
     NoRecords(u64),
     /// The record is not lawful: the first test that it fails.
-    #[error("not lawful: {0}")]
     NotLawful(VerifyFault),
     /// So many lines of the input are no lawful records. All verdicts are output.
-    #[error("records not lawful {0}")]
     UnlawfulRecords(u64),
     /// The line of that number tells no call.
-    #[error("not replayed: line {0} is no entry")]
     NoEntry(u64),
     /// The call of the line of that number gets another reply, or the line is written in another way. What it should be is output.
-    #[error("not replayed: line {0} differs")]
     Differs(u64),
     /// So many lines of a script were bad. All output is there.
-    #[error("bad lines {0}")]
-    BadLines(u64, Option<String>),
+    BadLines(u64),
     /// So many answers of a player that was checked were not good. The whole table is output.
-    #[error("bad answers {0}")]
     BadAnswers(u64),
 }
 
 impl Fault {
     /// The program's status.
-    pub fn status(&self) -> u8 {
+    pub fn status(self) -> u8 {
         match self {
-            Fault::WrongUse(_) => 2,
+            Fault::WrongUse => 2,
             Fault::Memory => 3,
             _ => 1,
         }
     }
 
-    /// The lines that say more, each with a line feed.
-    pub fn lines(&self) -> &str {
+    /// What the fault's text begins with.
+    fn words(self) -> &'static str {
         match self {
-            Fault::WrongUse(Some(lines))
-            | Fault::BadDescription(Some(lines))
-            | Fault::BadTold(Some(lines))
-            | Fault::BadLines(_, Some(lines)) => lines.as_str(),
-            _ => "",
+            Fault::WrongUse => "wrong use",
+            Fault::Memory => "want of memory",
+            Fault::BadDescription => "bad description",
+            Fault::RulesFile(_) => "bad description: ",
+            Fault::ToldFile(_) => "bad told description: ",
+            Fault::BadTold => "bad told description",
+            Fault::ReadFault => "read fault",
+            Fault::InputTooLong => "input too long",
+            Fault::WriteFault => "write fault",
+            Fault::NoAnswer => "no answer",
+            Fault::Refused(_) => "refused ",
+            Fault::MatchNotEnded => "match not ended",
+            Fault::BadSchedule(_, _) => "bad schedule: line ",
+            Fault::NoRecords(_) => "matches without record ",
+            Fault::NotLawful(_) => "not lawful: ",
+            Fault::UnlawfulRecords(_) => "records not lawful ",
+            Fault::NoEntry(_) | Fault::Differs(_) => "not replayed: line ",
+            Fault::BadLines(_) => "bad lines ",
+            Fault::BadAnswers(_) => "bad answers ",
+        }
+    }
+}
+
+impl fmt::Display for Fault {
+    fn fmt<F: fmt::Write>(&self, f: &mut fmt::Formatter<F>) -> fmt::Result {
+        f.write_str(self.words())?;
+        match *self {
+            Fault::RulesFile(why) | Fault::ToldFile(why) => f.write_str(why.words()),
+            Fault::Refused(refusal) => f.write_str(refusal_word(refusal)),
+            Fault::NotLawful(fault) => write!(f, "{fault}"),
+            Fault::BadSchedule(number, why) => write!(f, "{number}: {why}"),
+            Fault::NoEntry(number) => write!(f, "{number} is no entry"),
+            Fault::Differs(number) => write!(f, "{number} differs"),
+            Fault::NoRecords(number)
+            | Fault::UnlawfulRecords(number)
+            | Fault::BadLines(number)
+            | Fault::BadAnswers(number) => write!(f, "{number}"),
+            _ => Ok(()),
         }
     }
 }

@@ -10,15 +10,15 @@ mod bad_lines;
 mod checking;
 mod commands;
 mod fault;
+mod remarks;
 mod replaying;
 mod rules;
 mod script;
 mod script_fault;
 mod verdicts;
 
-pub use commands::{Desk, GameCommand, Replay, Verify, VerifyLines, for_game};
+pub use commands::for_game;
 pub use fault::Fault;
-pub use rules::{
-    GameSource, Rules, RulesFileFault, file_text, game_of, rules_text, told_fault, told_rules,
-};
+pub use remarks::Remarks;
+pub use rules::{RulesFileFault, file_text, game_of, rules_text, told_fault, told_rules};
 pub use script_fault::ScriptFault;

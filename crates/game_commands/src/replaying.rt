@@ -1,36 +1,62 @@
 //! An account is read, and its calls are made again.
 
 use crate::fault::Fault;
-use desk_text::{ReplayFault, push_records, replay};
+use desk_text::{ReplayFault, Replayed, push_records, replay};
 use game_core::{Counted, Game};
-use std::alloc::Global;
+use std::alloc::{AllocError, Global};
 use std::io::{Read, Write};
 use whole_streams::{read_to_end, write_all};
 
 /// How many bytes an account has at most: 256 MiB.
 const MAX_ACCOUNT: usize = 268_435_456;
 
-/// Makes the calls of an account again on a manager of these games, and writes how many they are and the records of its matches. Where
-/// a line is not right, the line that it should be is written instead.
+/// Puts how many calls were made behind what is written, and the records of their matches.
+fn push_replayed<G: Game + Drop>(
+    alloc: Global,
+    replayed: &Replayed<G>,
+    output: &mut Vec<u8>,
+) -> Result<(), AllocError> {
+    let calls = replayed.calls;
+    output.extend_from_slice(format!(in alloc; "replayed {calls} calls\n")?.as_bytes())?;
+    push_records(alloc, &replayed.manager, output)
+}
+
+/// Makes the calls of an account again on a manager of these games, and puts how many they are and the records of its matches behind
+/// what is written. Where a line is not right, the line that it should be is put there instead, and the fault is returned.
+fn push_answer<G: Game + Drop>(
+    alloc: Global,
+    games: Vec<G>,
+    account: &[u8],
+    output: &mut Vec<u8>,
+) -> Result<Option<Fault>, AllocError> {
+    match replay(alloc, games, account) {
+        Ok(replayed) => {
+            push_replayed(alloc, &replayed, output)?;
+            Ok(None)
+        }
+        Err(ReplayFault::Memory) => Err(AllocError),
+        Err(ReplayFault::NoEntry(place)) => Ok(Some(Fault::NoEntry(place))),
+        Err(ReplayFault::Differs(place, wanted)) => {
+            output.extend_from_slice(&wanted)?;
+            output.push(b'\n')?;
+            Ok(Some(Fault::Differs(place)))
+        }
+    }
+}
+
+/// Reads an account, makes its calls again on a manager of these games, and writes what comes of it.
 pub fn replay_account<R: Read, W: Write, G: Game + Drop>(
     alloc: Global,
     reader: &mut Counted<R>,
     writer: &mut Counted<W>,
     games: Vec<G>,
 ) -> Result<(), Fault> {
-    let input = read_to_end(alloc, reader, MAX_ACCOUNT)?;
-    let replayed = match replay(alloc, games, &input) {
-        Ok(replayed) => replayed,
-        Err(ReplayFault::Memory) => return Err(Fault::Memory),
-        Err(ReplayFault::NoEntry(place)) => return Err(Fault::NoEntry(place)),
-        Err(ReplayFault::Differs(place, mut wanted)) => {
-            wanted.push(b'\n')?;
-            write_all(writer, &wanted)?;
-            return Err(Fault::Differs(place));
-        }
-    };
-    let calls = replayed.calls;
-    let mut output = format!(in alloc; "replayed {calls} calls\n")?.into_bytes();
-    push_records(alloc, &replayed.manager, &mut output)?;
-    Ok(write_all(writer, &output)?)
+    let account = read_to_end(alloc, reader, MAX_ACCOUNT)?;
+    let mut output = Vec::new(alloc);
+    let fault = push_answer(alloc, games, &account, &mut output)?;
+    write_all(writer, &output)?;
+    match fault {
+        None => Ok(()),
+        Some(fault) => Err(fault),
+    }
 }

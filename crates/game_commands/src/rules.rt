@@ -3,48 +3,40 @@ ghost use Rattle.std.specs.Prelude.{IfOk};
 ghost use Rattle.described_games.specs.Games.{IsDescribed};
 
 use crate::fault::Fault;
-use described_games::{DescriptionFault, countdown_rules, described_game, explanation};
+use crate::remarks::Remarks;
+use described_games::{DescriptionFault, countdown_rules, described_game};
 use game_core::{Countdown, Counted};
 use kif_text::KifFault;
+use match_plans::{GameSource, Rules};
 use packed_rules::PackedGame;
-use std::alloc::{AllocError, Global};
+use std::alloc::Global;
 use std::borrow::CowSlice;
 use std::io::ErrorKind;
 use std::rt::Files;
 use std::{fs, io};
-use thiserror::Error;
 use whole_streams::{InputFault, read_to_end};
-
-/// A ground description: its text, or the file that holds it.
-#[derive(Clone, Copy)]
-pub enum Rules<'a> {
-    Text(&'a str),
-    /// The file's path, from the folder in which the program runs where it doesn't begin with a slash.
-    File(&'a str),
-}
-
-/// Where a game comes from.
-#[derive(Clone, Copy)]
-pub enum GameSource<'a> {
-    /// Countdown, with a heap of this size, in or out of its range.
-    Countdown(u8),
-    Described(Rules<'a>),
-}
 
 /// How many bytes a file of rules has at most: as many as a description may have.
 const MAX_RULES: usize = 1_048_576;
 
 /// Why a file of rules was not read.
-#[derive(Clone, Copy, Debug, PartialEq, Eq, Error)]
+#[derive(Clone, Copy)]
 pub enum RulesFileFault {
-    #[error("no such file")]
     NoFile,
-    #[error("the file can't be opened")]
     Unopened,
-    #[error("the file can't be read")]
     Unread,
-    #[error("the file is too long")]
     TooLong,
+}
+
+impl RulesFileFault {
+    pub fn words(self) -> &'static str {
+        match self {
+            RulesFileFault::NoFile => "no such file",
+            RulesFileFault::Unopened => "the file can't be opened",
+            RulesFileFault::Unread => "the file can't be read",
+            RulesFileFault::TooLong => "the file is too long",
+        }
+    }
 }
 
 fn opening_fault(error: io::Error) -> Fault {
@@ -87,37 +79,28 @@ pub fn rules_text<'a, F: Files>(
     }
 }
 
-/// The lines that say what is wrong with a text.
-fn description_lines(
-    alloc: Global,
-    text: &[u8],
-    fault: DescriptionFault,
-) -> Result<String, AllocError> {
-    let mut lines = String::new(alloc);
-    if let Some(remedy) = fault.remedy() {
-        write!(lines, "ggp_manager: {remedy}\n")?;
-    }
-    let what = explanation(alloc, text, fault)?;
-    write!(lines, "ggp_manager: {what}\n")?;
-    Ok(lines)
-}
-
-/// The game that a text describes. Where it describes none, the fault has the lines that say why.
-pub fn game_of(alloc: Global, text: &[u8]) -> Result<PackedGame, Fault>
+/// The game that a text describes. Where it describes none, the remarks say why.
+pub fn game_of(alloc: Global, text: &[u8], remarks: &mut Remarks) -> Result<PackedGame, Fault>
     ensures { IfOk result (IsDescribed text.now) }
 {
     match described_game(alloc, text) {
         Ok(game) => Ok(game),
         Err(DescriptionFault::Memory) => Err(Fault::Memory),
-        Err(fault) => Err(Fault::BadDescription(description_lines(alloc, text, fault).ok())),
+        Err(fault) => {
+            remarks.describe(text, fault);
+            Err(Fault::BadDescription)
+        }
     }
 }
 
-/// The fault where the text that players are to be told is not KIF, with the lines that say why.
-pub fn told_fault(alloc: Global, text: &[u8], fault: KifFault) -> Fault {
+/// The fault where the text that players are to be told is not KIF. The remarks say why.
+pub fn told_fault(text: &[u8], fault: KifFault, remarks: &mut Remarks) -> Fault {
     match DescriptionFault::from(fault) {
         DescriptionFault::Memory => Fault::Memory,
-        fault => Fault::BadTold(description_lines(alloc, text, fault).ok()),
+        fault => {
+            remarks.describe(text, fault);
+            Fault::BadTold
+        }
     }
 }
 
@@ -130,7 +113,7 @@ pub fn told_rules<'a, F: Files>(
     match game {
         GameSource::Described(rules) => rules_text(files, alloc, rules),
         GameSource::Countdown(size) => {
-            let game = Countdown::new(size).ok_or(Fault::WrongUse(None))?;
+            let game = Countdown::new(size).ok_or(Fault::WrongUse)?;
             match countdown_rules(alloc, game.size) {
                 Ok(text) => Ok(CowSlice::Owned(text.into_bytes())),
                 Err(_) => Err(Fault::Memory),

@@ -5,7 +5,7 @@ ghost use Rattle.std.specs.Str.Lines.{lines};
 ghost use Rattle.desk_text.specs.Script.{bad_lines, script_output};
 ghost use Rattle.game_commands.specs.ScriptFaults.{ScriptFails};
 
-use crate::bad_lines::first_bad_line;
+use crate::remarks::Remarks;
 use crate::script_fault::ScriptFault;
 use desk_text::answer_script;
 use game_core::{Counted, Game};
@@ -18,13 +18,13 @@ const MAX_SCRIPT: usize = 1_048_576;
 
 /// Reads a whole script, answers each of its lines on a manager of these games, and writes the
 /// answers and then the record of each match in order of opening. The number of bad lines is returned; what is wrong with the first
-/// of them is left in `remark`.
+/// of them is put into the remarks.
 pub fn run_script<R: Read, W: Write, G: Game + Drop>(
     alloc: Global,
     reader: &mut Counted<R>,
     writer: &mut Counted<W>,
     games: Vec<G>,
-    remark: &mut Option<String>,
+    remarks: &mut Remarks,
 ) -> Result<u64, ScriptFault>
     ensures output { IfOk result (λ bad. (input : List ℕ)
         × Consumes (R.remaining reader.old.stream) (R.remaining reader.new.stream) input
@@ -39,6 +39,8 @@ pub fn run_script<R: Read, W: Write, G: Game + Drop>(
     let input = read_to_end(alloc, reader, MAX_SCRIPT)?;
     let answers = answer_script(alloc, games, &input)?;
     write_all(writer, answers.text.as_slice())?;
-    *remark = first_bad_line(alloc, &input, answers.bad_lines);
+    if answers.bad_lines > 0 {
+        remarks.first_bad_line(&input);
+    }
     Ok(answers.bad_lines)
 }

@@ -1,24 +1,19 @@
 //! Why a script is not answered.
 
 use std::alloc::AllocError;
-use thiserror::Error;
 use whole_streams::{InputFault, WriteFault};
 
 /// Why a script was not answered: the first of these to come. After the first three nothing was
 /// written, and after a failed write a prefix of the output was.
-#[derive(Clone, Copy, Debug, PartialEq, Eq, Error)]
+#[derive(Clone, Copy)]
 pub enum ScriptFault {
     /// A read failed, interruptions included, or 200,000 reads came to no end.
-    #[error("the script can't be read")]
     ReadFault,
     /// The script has more than 1,048,576 bytes.
-    #[error("the script is too long")]
     TooLong,
     /// Want of memory.
-    #[error("want of memory")]
     Memory,
     /// A write failed, or took none of some bytes.
-    #[error("the answers can't be written")]
     WriteFault,
 }
 

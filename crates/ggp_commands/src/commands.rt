@@ -1,13 +1,12 @@
 //! The commands, over any streams, runtime and players.
 
-use crate::arguments::{PlayerTrial, RunPlan, SeasonPlan, Task, read_arguments};
 use crate::faults::{check_fault, contact_fault, match_fault, season_fault};
-use crate::refusals::{argument_fault, has_own_word};
-use crate::told::start_rules;
-use desk_text::push_history;
-use game_commands::{
-    Desk, Fault, Replay, Verify, VerifyLines, for_game, game_of, rules_text, told_rules,
+use crate::hosting::host;
+use command_line::{
+    ArgumentFault, PlayerTrial, RunPlan, SeasonPlan, Task, has_own_word, read_arguments, refusal,
 };
+use desk_text::push_history;
+use game_commands::{Fault, Remarks, for_game};
 use game_core::{Counted, Game};
 use match_log::{LoggedPlayer, Logging, Progress, StatusStream, Telling};
 use match_messages::{Info, info_message, read_info};
@@ -84,6 +83,7 @@ where
     P: Player + Explains + Drop + Send,
     S: Reach<P>,
 {
+    let mut remarks = Remarks::new(alloc, is_terminal || has_own_word(words));
     let performed = perform::<H, P, S, R, W, E>(
         rt,
         alloc,
@@ -93,29 +93,46 @@ where
         writer,
         errors,
         is_terminal,
+        &mut remarks,
     );
     match performed {
         Ok(()) => 0,
         Err(fault) => {
-            if is_terminal || has_own_word(words) {
-                report_lines(errors, &fault);
-            }
-            report(errors, &fault);
+            report_remarks(errors, &remarks);
+            report(errors, fault);
             fault.status()
         }
     }
 }
 
 /// Writes the lines that say more of a fault, as far as the stream takes them.
-fn report_lines<E: Write>(errors: &mut E, fault: &Fault) {
+fn report_remarks<E: Write>(errors: &mut E, remarks: &Remarks) {
     let mut pieces = Pieces { stream: errors };
-    let _ = pieces.write_str(fault.lines());
+    let _ = pieces.write_str(remarks.lines());
 }
 
 /// Writes the fault's line, as far as the stream takes it.
-pub fn report<E: Write>(errors: &mut E, fault: &Fault) {
+pub fn report<E: Write>(errors: &mut E, fault: Fault) {
     let mut pieces = Pieces { stream: errors };
     let _ = writeln!(pieces, "ggp_manager: {fault}");
+}
+
+/// What the words ask for. Of words that are refused the remarks say why.
+fn task_of<'a>(
+    alloc: Global,
+    words: &'a [&'a str],
+    remarks: &mut Remarks,
+) -> Result<Task<'a>, Fault> {
+    match read_arguments(alloc, words) {
+        Ok(task) => Ok(task),
+        Err(ArgumentFault::Memory) => Err(Fault::Memory),
+        Err(fault) => {
+            if remarks.are_wanted() {
+                remarks.take(refusal(alloc, words, fault));
+            }
+            Err(Fault::WrongUse)
+        }
+    }
 }
 
 fn perform<H, P, S, R: Read, W: Write, E: Write + Send>(
@@ -127,6 +144,7 @@ fn perform<H, P, S, R: Read, W: Write, E: Write + Send>(
     writer: &mut Counted<W>,
     errors: &mut E,
     is_terminal: bool,
+    remarks: &mut Remarks,
 ) -> Result<(), Fault>
 where
     H: Net + Clock + Files + Threads + Wait + Sync,
@@ -134,16 +152,15 @@ where
     S: Reach<P>,
 {
     let words: Vec<&str> = words.iter().map(|word| word.as_str()).collect(alloc)?;
-    let task = match read_arguments(alloc, words.as_slice()) {
-        Ok(task) => task,
-        Err(fault) => return Err(argument_fault(alloc, words.as_slice(), fault)),
-    };
+    let task = task_of(alloc, words.as_slice(), remarks)?;
     let console = Console {
         stream: Mutex::new(StatusStream::new(errors)),
         progress: Progress::new(),
         is_terminal,
     };
-    let done = perform_task::<H, P, S, R, W, E>(rt, alloc, reach, task, reader, writer, &console);
+    let done = perform_task::<H, P, S, R, W, E>(
+        rt, alloc, reach, task, reader, writer, &console, remarks,
+    );
     console.stream.lock(rt).clear();
     done
 }
@@ -156,6 +173,7 @@ fn perform_task<H, P, S, R: Read, W: Write, E: Write + Send>(
     reader: &mut Counted<R>,
     writer: &mut Counted<W>,
     console: &Console<'_, E>,
+    remarks: &mut Remarks,
 ) -> Result<(), Fault>
 where
     H: Net + Clock + Files + Threads + Wait + Sync,
@@ -164,45 +182,65 @@ where
 {
     match task {
         Task::Show(text) => Ok(write_all(writer, text.as_bytes())?),
-        Task::Desk(game) => for_game::<Desk, H, R, W>(rt, alloc, game, reader, writer),
-        Task::Verify(game) => for_game::<Verify, H, R, W>(rt, alloc, game, reader, writer),
-        Task::VerifyLines(game) => for_game::<VerifyLines, H, R, W>(
-            rt, alloc, game, reader, writer,
-        ),
-        Task::Replay(game) => for_game::<Replay, H, R, W>(rt, alloc, game, reader, writer),
-        Task::Run(plan) => run::<H, P, S, W, E>(rt, alloc, reach, &plan, writer, console),
-        Task::Season(plan) => {
-            season::<H, P, S, R, W, E>(rt, alloc, reach, plan, reader, writer, console)
-        }
+        Task::Game(command, game) => for_game(rt, alloc, command, game, reader, writer, remarks),
         Task::Info(player) => info(rt, alloc, &player, writer, console),
-        Task::Check(trial) => check::<H, P, S, W, E>(rt, alloc, reach, trial, writer, console),
+        Task::Run(plan) => {
+            let hosting = host(rt, alloc, plan.hosting, remarks)?;
+            let logging = console.logging(rt, reach, plan.hosting.is_logged);
+            run::<H, LoggedPlayer<'_, H, P, &mut E>, _, W>(
+                rt,
+                alloc,
+                &logging,
+                &plan,
+                hosting.hosted(),
+                writer,
+            )
+        }
+        Task::Season(plan) => {
+            let hosting = host(rt, alloc, plan.hosting, remarks)?;
+            let logging = console.logging(rt, reach, plan.hosting.is_logged);
+            season::<H, LoggedPlayer<'_, H, P, &mut E>, _, R, W, _>(
+                rt,
+                alloc,
+                &logging,
+                plan,
+                hosting.hosted(),
+                reader,
+                writer,
+                &console.stream,
+            )
+        }
+        Task::Check(trial) => {
+            let hosting = host(rt, alloc, trial.hosting, remarks)?;
+            let logging = console.logging(rt, reach, trial.hosting.is_logged);
+            check::<H, LoggedPlayer<'_, H, P, &mut E>, _, W>(
+                rt,
+                alloc,
+                &logging,
+                &trial,
+                hosting.hosted(),
+                writer,
+            )
+        }
     }
 }
 
-fn run<H, P, S, W: Write, E: Write + Send>(
+/// Referees a match, and writes its record, and its account where that is wanted.
+fn run<H, P, S, W: Write>(
     rt: &H,
     alloc: Global,
     reach: &S,
     run: &RunPlan<'_>,
+    game: HostedGame<'_>,
     writer: &mut Counted<W>,
-    console: &Console<'_, E>,
 ) -> Result<(), Fault>
 where
-    H: Net + Clock + Files + Threads + Wait + Sync,
-    P: Player + Explains + Drop + Send,
+    H: Threads + Wait + Sync,
+    P: Player + Drop + Send,
     S: Reach<P>,
 {
-    let game = game_of(alloc, &rules_text(rt, alloc, run.rules)?)?;
-    let rules = start_rules(rt, alloc, &game, run.told)?;
-    let logging = console.logging(rt, reach, run.is_logged);
-    let entrants: Entrants<LoggedPlayer<'_, H, P, &mut E>> = entrants_of(
-        alloc, &logging, 0, &run.plan,
-    )?;
-    let hosted = HostedGame {
-        game: &game,
-        rules: &rules,
-    };
-    let PlayedMatch { record, history } = match played_match(rt, alloc, entrants, hosted) {
+    let entrants: Entrants<P> = entrants_of(alloc, reach, 0, &run.plan)?;
+    let PlayedMatch { record, history } = match played_match(rt, alloc, entrants, game) {
         Ok(played) => played,
         Err(fault) => return Err(match_fault(fault)),
     };
@@ -217,46 +255,50 @@ where
 /// How many bytes a schedule has at most.
 const MAX_SCHEDULE: usize = 16_777_216;
 
-/// Plays the matches of the schedule on standard input. The game and the schedule are read before one is begun.
+/// Plays the matches of the schedule on standard input. The schedule is read before one is begun.
 fn season<H, P, S, R: Read, W: Write, E: Write + Send>(
     rt: &H,
     alloc: Global,
     reach: &S,
     plan: SeasonPlan<'_>,
+    game: HostedGame<'_>,
     reader: &mut Counted<R>,
     writer: &mut Counted<W>,
-    console: &Console<'_, E>,
+    errors: &Mutex<E>,
 ) -> Result<(), Fault>
 where
-    H: Clock + Files + Threads + Wait + Sync,
-    P: Player + Explains + Drop + Send,
+    H: Threads + Wait + Sync,
+    P: Player + Drop + Send,
     S: Reach<P>,
 {
-    let game = game_of(alloc, &told_rules(rt, alloc, plan.game)?)?;
-    let rules = start_rules(rt, alloc, &game, plan.told)?;
     let input = read_to_end(alloc, reader, MAX_SCHEDULE)?;
-    let plans = read_schedule(alloc, &input, game.roles(), plan.strikes)?;
-    let logging = console.logging(rt, reach, plan.is_logged);
-    let fixtures: Vec<Fixture<'_, LoggedPlayer<'_, H, P, &mut E>>> = fixtures(
-        alloc, &logging, &plans,
-    )?;
-    let hosted = HostedGame {
-        game: &game,
-        rules: &rules,
-    };
-    let written = play_season(
-        rt,
-        alloc,
-        hosted,
-        fixtures,
-        plan.form,
-        writer,
-        &console.stream,
-    );
-    match written {
+    let plans = read_schedule(alloc, &input, game.game.roles(), plan.strikes)?;
+    let fixtures: Vec<Fixture<'_, P>> = fixtures(alloc, reach, &plans)?;
+    match play_season(rt, alloc, game, fixtures, plan.form, writer, errors) {
         Ok(0) => Ok(()),
         Ok(count) => Err(Fault::NoRecords(count)),
         Err(fault) => Err(season_fault(fault)),
+    }
+}
+
+/// Checks a player, and prints its table.
+fn check<H, P, S, W: Write>(
+    rt: &H,
+    alloc: Global,
+    reach: &S,
+    trial: &PlayerTrial<'_>,
+    game: HostedGame<'_>,
+    writer: &mut Counted<W>,
+) -> Result<(), Fault>
+where
+    H: Clock + Threads + Wait + Sync,
+    P: Player + Explains + Drop + Send,
+    S: Reach<P>,
+{
+    match check_player::<H, P, S, W>(rt, alloc, reach, &trial.plan, game, writer) {
+        Ok(0) => Ok(()),
+        Ok(count) => Err(Fault::BadAnswers(count)),
+        Err(fault) => Err(check_fault(fault)),
     }
 }
 
@@ -304,40 +346,4 @@ fn info<N: Net + Clock + Wait, W: Write, E: Write>(
     };
     let info = read_info(alloc, answer.as_slice())?;
     Ok(write_all(writer, info_line(info))?)
-}
-
-/// Checks a player, and prints its table.
-fn check<H, P, S, W: Write, E: Write + Send>(
-    rt: &H,
-    alloc: Global,
-    reach: &S,
-    trial: PlayerTrial<'_>,
-    writer: &mut Counted<W>,
-    console: &Console<'_, E>,
-) -> Result<(), Fault>
-where
-    H: Clock + Files + Threads + Wait + Sync,
-    P: Player + Explains + Drop + Send,
-    S: Reach<P>,
-{
-    let game = game_of(alloc, &told_rules(rt, alloc, trial.game)?)?;
-    let rules = start_rules(rt, alloc, &game, trial.told)?;
-    let hosted = HostedGame {
-        game: &game,
-        rules: &rules,
-    };
-    let logging = console.logging(rt, reach, trial.is_logged);
-    let bad = check_player::<H, LoggedPlayer<'_, H, P, &mut E>, _, W>(
-        rt,
-        alloc,
-        &logging,
-        &trial.plan,
-        hosted,
-        writer,
-    );
-    match bad {
-        Ok(0) => Ok(()),
-        Ok(count) => Err(Fault::BadAnswers(count)),
-        Err(fault) => Err(check_fault(fault)),
-    }
 }

@@ -8,11 +8,9 @@
 //! Free functions take the allocator first, behind a handle for threads, waiting or the network.
 #![tactic(auto)]
 
-mod arguments;
 mod commands;
 mod faults;
-mod refusals;
-mod told;
+mod hosting;
 
 pub use commands::{command, report};
 pub use faults::contact_fault;

@@ -22,16 +22,16 @@ fn main(rt: HostRuntime) -> ExitCode {
         Err(error) => {
             let fault = match error.kind() {
                 ErrorKind::OutOfMemory => Fault::Memory,
-                _ => Fault::WrongUse(None),
+                _ => Fault::WrongUse,
             };
-            report(&mut errors, &fault);
+            report(&mut errors, fault);
             return ExitCode::from(fault.status());
         }
     };
     let mut reader = Counted::new(rt.stdin());
     let mut writer = Counted::new(rt.stdout());
     let Ok(signals) = Signal::many(rt.alloc(), MAX_AT_ONCE) else {
-        report(&mut errors, &Fault::Memory);
+        report(&mut errors, Fault::Memory);
         return ExitCode::from(Fault::Memory.status());
     };
     let reach = Sockets {

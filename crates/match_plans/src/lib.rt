@@ -1,18 +1,22 @@
-//! Matches as they are planned: the players at their addresses, one match, and the matches of a schedule; and where the players of a
-//! planned match are reached.
+//! Matches as they are planned: the players at their addresses, where a game comes from, one match, the matches of a schedule, the
+//! check of a player; and where the players of a planned match are reached.
 //!
 //! Free functions take the allocator first.
 #![tactic(auto)]
 
 mod addresses;
+mod game_source;
 mod numbers;
 mod plan;
 mod plan_line;
 mod schedule;
+mod season_form;
 mod seats;
 
 pub use addresses::{PlayerAddress, player_address};
+pub use game_source::{GameCommand, GameSource, Rules};
 pub use numbers::decimal;
-pub use plan::MatchPlan;
+pub use plan::{CheckPlan, MatchPlan};
 pub use schedule::{LineFault, MAX_AT_ONCE, MAX_MATCHES, ScheduleFault, read_schedule};
+pub use season_form::{RecordOrder, SeasonForm};
 pub use seats::{Reach, Seat};

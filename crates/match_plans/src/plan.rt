@@ -1,4 +1,4 @@
-//! A match, as it is planned.
+//! A match, and the check of a player, as they are planned.
 
 use crate::addresses::PlayerAddress;
 
@@ -11,4 +11,13 @@ pub struct MatchPlan<'a> {
     pub play: u32,
     pub strikes: u8,
     pub players: Vec<PlayerAddress<'a>>,
+}
+
+/// The player that is checked, and the clocks and strikes of its matches.
+#[derive(Clone, Copy)]
+pub struct CheckPlan<'a> {
+    pub player: PlayerAddress<'a>,
+    pub start: u32,
+    pub play: u32,
+    pub strikes: u8,
 }

@@ -8,5 +8,5 @@
 mod season;
 mod season_output;
 
-pub use season::{Fixture, SeasonForm, fixtures, play_season};
-pub use season_output::{RecordOrder, SeasonFault};
+pub use season::{Fixture, fixtures, play_season};
+pub use season_output::SeasonFault;

@@ -3,10 +3,10 @@ ghost use denote.Param.Send.{IsSend, IsSync};
 ghost use Rattle.match_messages.specs.contracts.start_rules.PrintedRules.{the_row as rules_row};
 ghost use Rattle.packed_rules.specs.contracts.packed_game.PackedGame.{the_row as game_row};
 
-use crate::season_output::{Over, RecordOrder, SeasonFault, write_season};
+use crate::season_output::{Over, SeasonFault, write_season};
 use crossbeam_channel::{Sender, bounded};
 use game_core::Counted;
-use match_plans::{MatchPlan, Reach};
+use match_plans::{MatchPlan, Reach, SeasonForm};
 use match_play::{Entrants, HostedGame, MatchFault, ended_match, entrants_of};
 use match_workers::Player;
 use std::alloc::{AllocError, Global};
@@ -15,16 +15,6 @@ use std::sync::atomic::{AtomicU64, Ordering};
 use std::sync::{Mutex, Wait};
 use std::thread;
 use std::thread::Threads;
-
-/// How the matches of a season are played and told.
-#[derive(Clone, Copy)]
-pub struct SeasonForm {
-    /// How many of them are played at once at most.
-    pub at_once: usize,
-    pub order: RecordOrder,
-    /// Whether the account of each match is written behind the records.
-    pub has_history: bool,
-}
 
 /// A match of a season: its entrants until it begins, if there was memory for them.
 #[derive(Drop)]

@@ -6,6 +6,7 @@ ghost use Rattle.match_season.specs.Seasons.{IsAccountOfDesk, WritesRecords, Wri
 
 use crossbeam_channel::Receiver;
 use game_core::{Counted, Text};
+use match_plans::RecordOrder;
 use match_play::{EndedMatch, MatchFault};
 use std::alloc::{AllocError, AllocFailed, Global};
 use std::fmt::Write as _;
@@ -13,15 +14,6 @@ use std::io::Write;
 use std::sync::{Mutex, Wait};
 use thiserror::Error;
 use whole_streams::{Pieces, WriteFault, write_all};
-
-/// In which order the records of a season are written.
-#[derive(Clone, Copy)]
-pub enum RecordOrder {
-    /// That of the schedule: each record as soon as it and those before it are there.
-    OfSchedule,
-    /// That in which the matches end.
-    OfEnds,
-}
 
 /// Why a season was not played, or not to its end.
 #[derive(Clone, Copy, Debug, PartialEq, Eq, Error)]

@@ -4,7 +4,7 @@ ghost use Rattle.std.specs.Prelude.{◌<◌};
 use crate::table::{HEADER, Row};
 use crate::watched::{Exchanges, Participant, Watching};
 use game_core::{Counted, Game};
-use match_plans::{MatchPlan, PlayerAddress, Reach};
+use match_plans::{CheckPlan, MatchPlan, PlayerAddress, Reach};
 use match_play::{Entrants, HostedGame, MatchFault, RoleTurn, entrants_of, played_turns};
 use match_workers::Player;
 use network_players::{Explains, Signal};
@@ -16,15 +16,6 @@ use std::thread::Threads;
 use std::time::Clock;
 use thiserror::Error;
 use whole_streams::{WriteFault, write_all};
-
-/// The player that is checked, and the clocks and strikes of its matches.
-#[derive(Clone, Copy)]
-pub struct CheckPlan<'a> {
-    pub player: PlayerAddress<'a>,
-    pub start: u32,
-    pub play: u32,
-    pub strikes: u8,
-}
 
 /// Why a check came to no end. The table has the rows of the matches before.
 #[derive(Clone, Copy, Debug, PartialEq, Eq, Error)]

@@ -10,4 +10,4 @@ mod check;
 mod table;
 mod watched;
 
-pub use check::{CheckFault, CheckPlan, check_player};
+pub use check::{CheckFault, check_player};

@@ -1,0 +1,236 @@
+//! Reading the command line.
+ghost use Rattle.std.specs.Prelude.{◌≤◌, IfOk};
+
+use crate::program::program;
+use crate::tasks::{HostingPlan, PlayerTrial, RunPlan, SeasonPlan, Task};
+use clap::ArgMatches;
+use clap::error::ErrorKind;
+use match_plans::{
+    CheckPlan, GameCommand, GameSource, MAX_AT_ONCE, MatchPlan, PlayerAddress, RecordOrder, Rules,
+    SeasonForm, decimal, player_address,
+};
+use std::alloc::{AllocError, AllocFailed, Global};
+
+/// What is wrong with a command line that has the form of one.
+#[derive(Clone, Copy)]
+pub enum WrongValue<'a> {
+    /// Not exactly one option says which game it is.
+    Game,
+    /// The value of the option is no number from the least to the most.
+    Number {
+        option: &'static str,
+        value: &'a str,
+        least: u64,
+        most: u64,
+    },
+    /// The word names no player.
+    Player(&'a str),
+}
+
+/// Why a command line is refused.
+#[derive(Clone, Copy)]
+pub enum ArgumentFault<'a> {
+    /// It has not the form of one.
+    Form,
+    Value(WrongValue<'a>),
+    Memory,
+}
+
+impl From<AllocError> for ArgumentFault<'_> {
+    fn from(_: AllocError) -> Self {
+        ArgumentFault::Memory
+    }
+}
+
+impl<T: Drop> From<AllocFailed<T>> for ArgumentFault<'_> {
+    fn from(_: AllocFailed<T>) -> Self {
+        ArgumentFault::Memory
+    }
+}
+
+impl<'a> From<WrongValue<'a>> for ArgumentFault<'a> {
+    fn from(wrong: WrongValue<'a>) -> ArgumentFault<'a> {
+        ArgumentFault::Value(wrong)
+    }
+}
+
+/// The number that an option gives, from the least to the most.
+fn number<'a>(
+    found: &ArgMatches<'a>,
+    option: &'static str,
+    least: u64,
+    most: u64,
+) -> Result<u64, WrongValue<'a>>
+    ensures { IfOk result (λ number. number ≤ most) }
+{
+    let value = found.get_str(option).unwrap_or("");
+    match decimal(value, most) {
+        Some(number) if number >= least => Ok(number),
+        _ => Err(WrongValue::Number {
+            option,
+            value,
+            least,
+            most,
+        }),
+    }
+}
+
+/// The seconds that an option gives, in or out of a clock's range.
+fn seconds<'a>(found: &ArgMatches<'a>, option: &'static str) -> Result<u32, WrongValue<'a>> {
+    Ok(number(found, option, 0, 4_294_967_295)? as u32)
+}
+
+/// After how many substituted moves in a row a role is retired.
+fn strikes<'a>(found: &ArgMatches<'a>) -> Result<u8, WrongValue<'a>> {
+    Ok(number(found, "strikes", 0, 255)? as u8)
+}
+
+/// Exactly one of the options has to be there that say which game it is.
+fn game_source<'a>(found: &ArgMatches<'a>) -> Result<GameSource<'a>, WrongValue<'a>> {
+    let size = found.get_str("countdown");
+    match (size, found.get_str("rules"), found.get_str("rules-file")) {
+        (Some(_), None, None) => {
+            let size = number(found, "countdown", 1, 100)?;
+            Ok(GameSource::Countdown(size as u8))
+        }
+        (None, Some(text), None) => Ok(GameSource::Described(Rules::Text(text))),
+        (None, None, Some(path)) => Ok(GameSource::Described(Rules::File(path))),
+        _ => Err(WrongValue::Game),
+    }
+}
+
+fn player(word: &str) -> Result<PlayerAddress<'_>, WrongValue<'_>> {
+    player_address(word).ok_or(WrongValue::Player(word))
+}
+
+/// The player, where there is one.
+fn only_player<'a>(found: &ArgMatches<'a>) -> Result<PlayerAddress<'a>, WrongValue<'a>> {
+    player(found.get_str("player").unwrap_or(""))
+}
+
+fn game_task<'a>(command: GameCommand, found: &ArgMatches<'a>) -> Result<Task<'a>, WrongValue<'a>> {
+    Ok(Task::Game(command, game_source(found)?))
+}
+
+fn verify_command(found: &ArgMatches<'_>) -> GameCommand {
+    if found.get_flag("lines") {
+        GameCommand::VerifyLines
+    } else {
+        GameCommand::Verify
+    }
+}
+
+fn hosting_plan<'a>(found: &ArgMatches<'a>) -> Result<HostingPlan<'a>, WrongValue<'a>> {
+    Ok(HostingPlan {
+        game: game_source(found)?,
+        told: found.get_str("told"),
+        is_logged: found.get_flag("log"),
+    })
+}
+
+fn record_order(found: &ArgMatches<'_>) -> RecordOrder {
+    if found.get_flag("as-they-end") {
+        RecordOrder::OfEnds
+    } else {
+        RecordOrder::OfSchedule
+    }
+}
+
+fn season_plan<'a>(found: &ArgMatches<'a>) -> Result<SeasonPlan<'a>, WrongValue<'a>> {
+    let hosting = hosting_plan(found)?;
+    let strikes = strikes(found)?;
+    let at_once = number(found, "at-once", 1, MAX_AT_ONCE as u64)? as usize;
+    Ok(SeasonPlan {
+        hosting,
+        strikes,
+        form: SeasonForm {
+            at_once,
+            order: record_order(found),
+            has_history: found.get_flag("history"),
+        },
+    })
+}
+
+fn player_trial<'a>(found: &ArgMatches<'a>) -> Result<PlayerTrial<'a>, WrongValue<'a>> {
+    Ok(PlayerTrial {
+        hosting: hosting_plan(found)?,
+        plan: CheckPlan {
+            start: seconds(found, "start")?,
+            play: seconds(found, "play")?,
+            strikes: strikes(found)?,
+            player: only_player(found)?,
+        },
+    })
+}
+
+fn match_plan<'a>(
+    alloc: Global,
+    found: &ArgMatches<'a>,
+) -> Result<MatchPlan<'a>, ArgumentFault<'a>> {
+    let start = seconds(found, "start")?;
+    let play = seconds(found, "play")?;
+    let strikes = strikes(found)?;
+    let mut players = Vec::new(alloc);
+    for word in found.get_strs("players").unwrap_or(&[]) {
+        players.push(player(word)?)?;
+    }
+    Ok(MatchPlan {
+        id: found.get_str("id").unwrap_or(""),
+        start,
+        play,
+        strikes,
+        players,
+    })
+}
+
+fn run_plan<'a>(alloc: Global, found: &ArgMatches<'a>) -> Result<RunPlan<'a>, ArgumentFault<'a>> {
+    let hosting = hosting_plan(found)?;
+    Ok(RunPlan {
+        hosting,
+        plan: match_plan(alloc, found)?,
+        has_history: found.get_flag("history"),
+    })
+}
+
+/// What the command of this name asks for.
+fn task<'a>(
+    alloc: Global,
+    name: &str,
+    found: &ArgMatches<'a>,
+) -> Result<Task<'a>, ArgumentFault<'a>> {
+    match name {
+        "desk" => Ok(game_task(GameCommand::Desk, found)?),
+        "verify" => Ok(game_task(verify_command(found), found)?),
+        "replay" => Ok(game_task(GameCommand::Replay, found)?),
+        "run" => Ok(Task::Run(run_plan(alloc, found)?)),
+        "season" => Ok(Task::Season(season_plan(found)?)),
+        "info" => Ok(Task::Info(only_player(found)?)),
+        "check" => Ok(Task::Check(player_trial(found)?)),
+        _ => Err(ArgumentFault::Form),
+    }
+}
+
+/// What the library's error comes to: the help and the version are among its errors.
+fn shown<'a>(alloc: Global, error: clap::Error) -> Result<Task<'a>, ArgumentFault<'a>> {
+    if !error.use_stderr() {
+        return Ok(Task::Show(error.to_string(alloc)?));
+    }
+    match error.kind() {
+        ErrorKind::OutOfMemory => Err(ArgumentFault::Memory),
+        _ => Err(ArgumentFault::Form),
+    }
+}
+
+/// What the words after the program's name ask for.
+pub fn read_arguments<'a>(
+    alloc: Global,
+    words: &'a [&'a str],
+) -> Result<Task<'a>, ArgumentFault<'a>> {
+    match program(alloc)?.try_get_matches_from(words) {
+        Ok(found) => match found.subcommand() {
+            Some((name, found)) => task(alloc, name, found),
+            None => Err(ArgumentFault::Form),
+        },
+        Err(error) => shown(alloc, error),
+    }
+}

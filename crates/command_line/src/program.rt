@@ -1,0 +1,257 @@
+//! The commands of the program, with their options.
+
+use clap::{Arg, ArgAction, Command};
+use std::alloc::{AllocError, Global};
+
+/// The program's version.
+const VERSION: &str = "0.1.0";
+
+/// The program's name in its usage.
+pub const PROGRAM: &str = "ggp_manager";
+
+/// How an argument of a command is written.
+#[derive(Clone, Copy)]
+enum Form {
+    /// An option with a value of this name.
+    Value(&'static str),
+    /// An option with a value of this name, which has to be there.
+    Required(&'static str),
+    /// An option with a value of this name, and the value where it is not there.
+    Default(&'static str, &'static str),
+    Flag,
+    Player,
+    Players,
+}
+
+/// An argument of a command.
+#[derive(Clone, Copy)]
+struct Argument {
+    name: &'static str,
+    form: Form,
+    help: &'static str,
+}
+
+impl Argument {
+    /// The argument as the library reads it.
+    fn arg<'a>(self, alloc: Global) -> Arg<'a> {
+        let arg = Arg::new(alloc, self.name).help(self.help);
+        let place = "NAME@HOST:PORT";
+        match self.form {
+            Form::Value(value) => arg.long(self.name).value_name(value).action(ArgAction::Set),
+            Form::Required(value) => arg
+                .long(self.name)
+                .value_name(value)
+                .action(ArgAction::Set)
+                .required(true),
+            Form::Default(value, default) => arg
+                .long(self.name)
+                .value_name(value)
+                .action(ArgAction::Set)
+                .default_value(default),
+            Form::Flag => arg.long(self.name).action(ArgAction::SetTrue),
+            Form::Player => arg.value_name(place).required(true).action(ArgAction::Set),
+            Form::Players => arg
+                .value_name(place)
+                .required(true)
+                .num_args(1..)
+                .action(ArgAction::Append),
+        }
+    }
+}
+
+const COUNTDOWN: Argument = Argument {
+    name: "countdown",
+    form: Form::Value("N"),
+    help: "The game is Countdown with a heap of N, 1 to 100",
+};
+
+const RULES: Argument = Argument {
+    name: "rules",
+    form: Form::Value("TEXT"),
+    help: "The game is this ground description",
+};
+
+const RULES_FILE: Argument = Argument {
+    name: "rules-file",
+    form: Form::Value("FILE"),
+    help: "The game is the ground description in this file",
+};
+
+const TOLD: Argument = Argument {
+    name: "told",
+    form: Form::Value("FILE"),
+    help: "START carries the description in this file, with variables for instance; the referee plays the game's own rules",
+};
+
+const STRIKES: Argument = Argument {
+    name: "strikes",
+    form: Form::Default("K", "0"),
+    help: "A role is asked no more once K of its moves in a row had to be replaced; 0 is never",
+};
+
+const START: Argument = Argument {
+    name: "start",
+    form: Form::Default("S", "10"),
+    help: "The seconds for START",
+};
+
+const PLAY: Argument = Argument {
+    name: "play",
+    form: Form::Default("S", "10"),
+    help: "The seconds for every other message",
+};
+
+const LOG: Argument = Argument {
+    name: "log",
+    form: Form::Flag,
+    help: "Each message and its answer is told on standard error",
+};
+
+const PLAYER: Argument = Argument {
+    name: "player",
+    form: Form::Player,
+    help: "The player",
+};
+
+const DESK: [Argument; 3] = [COUNTDOWN, RULES, RULES_FILE];
+
+const RUN: [Argument; 10] = [
+    RULES,
+    RULES_FILE,
+    TOLD,
+    Argument {
+        name: "id",
+        form: Form::Required("ID"),
+        help: "The match's id",
+    },
+    START,
+    PLAY,
+    STRIKES,
+    LOG,
+    Argument {
+        name: "history",
+        form: Form::Flag,
+        help: "The account of the match is printed behind the record",
+    },
+    Argument {
+        name: "players",
+        form: Form::Players,
+        help: "The players, in the order of the roles",
+    },
+];
+
+const SEASON: [Argument; 9] = [
+    COUNTDOWN,
+    RULES,
+    RULES_FILE,
+    TOLD,
+    STRIKES,
+    Argument {
+        name: "at-once",
+        form: Form::Default("N", "16"),
+        help: "How many matches are played at once at most, 1 to 1024",
+    },
+    Argument {
+        name: "as-they-end",
+        form: Form::Flag,
+        help: "The records are printed in the order in which the matches end",
+    },
+    LOG,
+    Argument {
+        name: "history",
+        form: Form::Flag,
+        help: "The accounts of the matches are printed behind the records",
+    },
+];
+
+const VERIFY: [Argument; 4] = [
+    COUNTDOWN,
+    RULES,
+    RULES_FILE,
+    Argument {
+        name: "lines",
+        form: Form::Flag,
+        help: "Each line of standard input is a record, and is told by a line",
+    },
+];
+
+const REPLAY: [Argument; 3] = [COUNTDOWN, RULES, RULES_FILE];
+
+const INFO: [Argument; 1] = [PLAYER];
+
+const CHECK: [Argument; 9] = [
+    COUNTDOWN, RULES, RULES_FILE, TOLD, START, PLAY, STRIKES, LOG, PLAYER,
+];
+
+/// A command with these arguments.
+fn command_of<'a>(
+    alloc: Global,
+    name: &'static str,
+    about: &'static str,
+    arguments: &[Argument],
+) -> Result<Command<'a>, AllocError> {
+    let mut command = Command::new(alloc, name).about(about);
+    for argument in arguments {
+        command = command.arg(argument.arg(alloc))?;
+    }
+    Ok(command)
+}
+
+/// The commands, by their names.
+pub const COMMANDS: [&str; 7] = ["desk", "run", "season", "verify", "replay", "info", "check"];
+
+/// The command of this name.
+pub fn command_named<'a>(alloc: Global, name: &str) -> Result<Command<'a>, AllocError> {
+    match name {
+        "desk" => command_of(
+            alloc,
+            "desk",
+            "Answers a script from standard input, line by line",
+            &DESK,
+        ),
+        "run" => command_of(
+            alloc,
+            "run",
+            "Referees a match between players over HTTP, and prints its record",
+            &RUN,
+        ),
+        "season" => command_of(
+            alloc,
+            "season",
+            "Referees the matches of the schedule on standard input, and prints their records",
+            &SEASON,
+        ),
+        "verify" => command_of(
+            alloc,
+            "verify",
+            "Says whether the record on standard input is lawful",
+            &VERIFY,
+        ),
+        "replay" => command_of(
+            alloc,
+            "replay",
+            "Makes the calls of the account on standard input again, and compares each reply",
+            &REPLAY,
+        ),
+        "info" => command_of(alloc, "info", "Asks a player whether it is free", &INFO),
+        _ => command_of(
+            alloc,
+            "check",
+            "Plays a match with a player for each role, and prints what it answered and what that counted as",
+            &CHECK,
+        ),
+    }
+}
+
+/// The program's command line.
+pub fn program<'a>(alloc: Global) -> Result<Command<'a>, AllocError> {
+    let mut program = Command::new(alloc, PROGRAM)
+        .about("The referee of General Game Playing")
+        .version(VERSION)
+        .no_binary_name(true)
+        .subcommand_required(true);
+    for name in COMMANDS {
+        program = program.subcommand(command_named(alloc, name)?)?;
+    }
+    Ok(program)
+}

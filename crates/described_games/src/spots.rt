@@ -1,0 +1,90 @@
+//! What is told of one place in a text.
+
+use crate::excerpts::push_excerpt;
+use crate::places::{Place, sentence_before, variable_start};
+use kif_text::KifFault;
+use std::alloc::AllocError;
+
+/// What is wrong at a place.
+#[derive(Clone, Copy)]
+pub enum Words {
+    /// That was said at the place before.
+    Same,
+    Plain(&'static str),
+    /// What stands there has not this form.
+    NoForm(&'static str),
+    /// This byte is not of KIF text.
+    BadByte(u8),
+}
+
+/// A place in a text with what is wrong there, and where the expression begins that is shown.
+#[derive(Clone, Copy)]
+pub struct Spot {
+    pub at: usize,
+    pub words: Words,
+    pub start: usize,
+}
+
+impl Spot {
+    /// A fault of the text at a byte, with the sentence that goes on there.
+    fn inside(text: &[u8], at: usize, words: Words) -> Spot {
+        let start = match sentence_before(text, at) {
+            Some((start, true)) => start,
+            _ => at,
+        };
+        Spot { at, words, start }
+    }
+
+    /// A parenthesis that closes no list.
+    fn unopened(text: &[u8], at: usize) -> Spot {
+        let (words, start) = match sentence_before(text, at) {
+            Some((start, _)) => ("a parenthesis that closes no list, behind", start),
+            None => ("a parenthesis that closes no list", at),
+        };
+        Spot {
+            at,
+            words: Words::Plain(words),
+            start,
+        }
+    }
+
+    /// A fault of the text, if it is at one place.
+    pub fn of(text: &[u8], fault: KifFault) -> Option<Spot> {
+        let (at, words) = match fault {
+            KifFault::Unopened(at) => return Some(Spot::unopened(text, at)),
+            KifFault::BadByte(at) => (at, Words::BadByte(text.get(at).copied().unwrap_or(0))),
+            KifFault::TooDeep(at) => (
+                at,
+                Words::Plain("a list inside 64 others, but 64 are the limit"),
+            ),
+            KifFault::Unclosed(at) => (at, Words::Plain("a list that is not closed")),
+            _ => return None,
+        };
+        Some(Spot::inside(text, at, words))
+    }
+
+    /// The first variable of the sentence that begins at this byte.
+    pub fn variable(text: &[u8], start: usize) -> Spot {
+        Spot {
+            at: variable_start(text, start).unwrap_or(start),
+            words: Words::Plain("a variable, but rules have to be ground"),
+            start,
+        }
+    }
+
+    /// Puts what is told of the place behind what is written.
+    pub fn push(self, text: &[u8], out: &mut String) -> Result<(), AllocError> {
+        let Place { line, column } = Place::of(text, self.at);
+        write!(out, "line {line}, column {column}: ")?;
+        match self.words {
+            Words::Same => {}
+            Words::Plain(words) => write!(out, "{words}: ")?,
+            Words::NoForm(form) => write!(out, "not of the form {form}: ")?,
+            Words::BadByte(byte) => write!(
+                out,
+                "the byte 0x{byte:02X}, but it may stand in comments alone: "
+            )?,
+        }
+        push_excerpt(out, text.get(self.start..).unwrap_or(b""))
+    }
+}
