@@ -2,7 +2,6 @@
 use Rattle.std.proofs.Common.{◌≡◌, ◌⊎◌, inl, inr, List, [], ◌∷◌, ◌++◌, Option, Some, refl, ap, sym, ◌∙◌}
 use Rattle.call_history.specs.Told.{told_with}
 use Rattle.call_history.specs.declared.wire.AskFault.{AskFault}
-use Rattle.call_history.proofs.Tellings.{told_with-nil}
 use Rattle.match_book.specs.declared.due.Due.{Due}
 use Rattle.match_desk.specs.declared.call.Call.{Call}
 use Rattle.match_desk.specs.declared.call.Refusal.{Refusal}
@@ -14,7 +13,7 @@ use Rattle.match_workers.specs.Handing.{Handed}
 use Rattle.match_workers.specs.Events.{Event, makes, takes, Telling, telling, telling_with}
 use Rattle.match_workers.specs.AttendFaults.{attend_fault, next_fault}
 use Rattle.match_workers.specs.Attending.{CallStops, not_made, without_reply, at_reply, StopsAmid, at_the_last, at_a_call, for_memory}
-use Rattle.match_workers.proofs.Tellings.{same_telling, told_after}
+use Rattle.match_workers.proofs.Tellings.{told_with-nil, same_telling, told_after}
 
 -- the events that happened when a worker stopped amid these events, with some reply as the last one
 pub record StopsIn (whole : Reply → List Event) (fault_at : Reply → Option AttendFault) (fault : AttendFault) (before after : Telling) : Type 0 where

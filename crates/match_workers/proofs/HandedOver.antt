@@ -1,7 +1,6 @@
 -- A message that is handed over, with the call that brings its answer to the desk.
 use Rattle.std.proofs.Common.{◌≡◌, ℕ, List, [], ◌∷◌, Option, None, Result, Ok, Err, OnOk, IfErr, refl, ap, sym, ◌∙◌}
 use Rattle.call_history.specs.Told.{told_with}
-use Rattle.call_history.proofs.Tellings.{told_with-nil}
 use Rattle.match_book.specs.declared.answer.Answer.{Answer}
 use Rattle.match_book.specs.declared.answer.Answer.TheVariants.{Silent}
 use Rattle.match_book.specs.declared.due.Owed.{Owed}
@@ -17,7 +16,7 @@ use Rattle.match_workers.specs.Events.{Event, makes, takes, hands, Telling, tell
 use Rattle.match_workers.specs.AttendFaults.{answer_fault}
 use Rattle.match_workers.specs.Steps.{answer_call, handing_over}
 use Rattle.match_workers.specs.Attending.{CallStops, StopsAmid, for_memory}
-use Rattle.match_workers.proofs.Tellings.{same_telling, telling_with-nil, told_after}
+use Rattle.match_workers.proofs.Tellings.{told_with-nil, same_telling, telling_with-nil, told_after}
 use Rattle.match_workers.proofs.CallStops.{stops_in_call, told_reply}
 
 abbrev handed : ℕ → List ℕ → Answer → Handed

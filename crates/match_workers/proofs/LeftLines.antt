@@ -1,8 +1,8 @@
 -- The lines of a match's desk after its workers have ended.
-use Rattle.std.proofs.Common.{◌≡◌, ℕ, ◌+◌, ◌<◌, ◌≤◌, List, [], ◌∷◌, ◌++◌, length, map, Option, Some, option_map, Result, refl, ap, sym, subst, ◌∙◌, arith, rules, get_or, length-append}
+use Rattle.std.proofs.Common.{◌≡◌, ℕ, ◌+◌, ◌<◌, ◌≤◌, List, [], ◌∷◌, ◌++◌, length, map, Option, Some, option_map, Result, refl, ap, sym, subst, ◌∙◌, arith, rules, get_or}
 use Rattle.std.specs.Prelude.{slice_get, Contains, All}
 use Rattle.std.proofs.lemmas.List.{length-map}
-use Rattle.std.proofs.lemmas.List.Elements.{All-push}
+use Rattle.std.proofs.lemmas.List.Elements.{All-push, Contains-append_left}
 use Rattle.std.proofs.lemmas.Option.{slice_get-map, slice_get_within, slice_get-get_or, get_or_from_slice_get}
 use Rattle.call_history.specs.declared.object.Object.{Ghosts}
 use Rattle.call_history.specs.declared.port.Port.{Port}
@@ -11,9 +11,7 @@ use Rattle.call_history.specs.declared.ring_line.LineEnd.{LineEnd}
 use Rattle.call_history.specs.declared.ring_wire.RingWire.{RingWire}
 use Rattle.call_history.specs.declared.wire.Wire as Wire
 use Rattle.call_history.specs.RingLines.{posted_calls, taken_replies, SameLine, SamePorts, IsLineOf, AreEndsOf, IsNewLine}
-use Rattle.call_history.proofs.DeskLines.{line_of_new, line_of_same}
-use Rattle.call_history.proofs.ReturnedEnds.{port_of_same}
-use Rattle.call_history.proofs.NewLines.{before_last, at_last}
+use Rattle.call_history.specs.RingLaws.{LinesStay, NewLinesAreLines, NewLinesStay}
 use Rattle.match_desk.specs.declared.call.Call.{Call}
 use Rattle.match_desk.specs.declared.call.Reply.{Reply}
 use Rattle.match_messages.specs.declared.brief.Brief.{Brief}
@@ -27,14 +25,6 @@ use Rattle.match_workers.specs.Internal.Seats.{AreSeatsOf, AreLeftBy}
 use Rattle.match_workers.proofs.Places.{map_at}
 use Rattle.match_workers.proofs.SeatEnds.{same_ended}
 use Rattle.match_workers.proofs.Tellings.{same_telling}
-
--- a member of a list is a member of a longer one
-pub contains_before : {X : Type 0} (xs ys : List X) (last x : X) → ys ≡ xs ++ last ∷ [] → Contains xs x → Contains ys x
-contains_before {X} xs ys last x is (k, within, at) =
-    subst (λ zs. Contains zs x) (sym is) (k, omega (arith, within, length-append xs (last ∷ [])), before_last xs last k x within ∙ at)
-
-pub contains_last : {X : Type 0} (xs ys : List X) (last : X) → ys ≡ xs ++ last ∷ [] → Contains ys last
-contains_last {X} xs ys last is = subst (λ zs. Contains zs last) (sym is) (length xs, omega (arith, length-append xs (last ∷ [])), at_last xs last (length xs) last refl)
 
 -- the value at a place
 pub place_of : {X : Type 0} (xs : List X) (k : ℕ) → k < length xs → (x : X) × (slice_get xs k ≡ Some x)
@@ -94,17 +84,17 @@ module _ {O : Type 0} {G : Ghosts O Call Reply} {P : Type 0} (w : Wire.Ghosts (R
   same_line_trans a b c one other = search rules
 
   -- each line is one of the desk
-  pub desk_line : (ports' : List (Port Call Reply)) → SamePorts ports ports' → length ports ≡ length others + 1 → (k : ℕ) (end : LineEnd O Call Reply G) → slice_get lines k ≡ Some end → IsLineOf ports' end.line
-  desk_line ports' same count k end at =
+  pub desk_line : LinesStay G → NewLinesAreLines G → (ports' : List (Port Call Reply)) → SamePorts ports ports' → length ports ≡ length others + 1 → (k : ℕ) (end : LineEnd O Call Reply G) → slice_get lines k ≡ Some end → IsLineOf ports' end.line
+  desk_line stay are_lines ports' same count k end at =
       let worker = worker_at k end at in
       let kept = kept_at k end worker.0 at worker.1 in
       let within = slice_get_within wires k kept.wire kept.is_wire in
       let below : line_of k < length ports = omega (arith, within, count, ap length on, length-map wires (λ (x : RingWire O Call Reply G). x.line)) in
-      line_of_same ports ports' kept.wire.line end.line same (same_line_trans kept.wire.line worker.0.wire.line end.line kept.line kept.of_line.same)
-      (line_of_new ports (line_of k) kept.wire.line below kept.is_new)
+      stay ports ports' kept.wire.line end.line same (same_line_trans kept.wire.line worker.0.wire.line end.line kept.line kept.of_line.same)
+      (are_lines ports (line_of k) kept.wire.line below kept.is_new)
 
-  pub desk_ends : (ports' : List (Port Call Reply)) → SamePorts ports ports' → length ports ≡ length others + 1 → AreEndsOf ports' lines
-  desk_ends ports' same count k end within = desk_line ports' same count k (get_or lines k end) (slice_get-get_or lines k end within)
+  pub desk_ends : LinesStay G → NewLinesAreLines G → (ports' : List (Port Call Reply)) → SamePorts ports ports' → length ports ≡ length others + 1 → AreEndsOf ports' lines
+  desk_ends stay are_lines ports' same count k end within = desk_line stay are_lines ports' same count k (get_or lines k end) (slice_get-get_or lines k end within)
 
   -- each end of a worker is shown with its line
   left_line : (all : List (LineEnd O Call Reply G)) → ((end : LineEnd O Call Reply G) → Contains lines end → Contains all end) → (role : ℕ) (end : Result ℕ AttendFault)
@@ -150,20 +140,13 @@ module _ {O : Type 0} {G : Ghosts O Call Reply} {P : Type 0} (w : Wire.Ghosts (R
       let Within : LineEnd O Call Reply G → Type 0 = λ e. e.line.number ≤ length ends in
       record {
         one_each = λ each. as_many ∙ left.one_each ∙ seated.one_each each (sym (length-map wires (λ (x : RingWire O Call Reply G). x.line)) ∙ ap length on ∙ count);
-        each = λ role end at. left_line all (λ e among. contains_before lines all last e more among) role end (subst (λ es. slice_get es role ≡ Some end) is at);
+        each = λ role end at. left_line all (λ e among. subst (λ es. Contains es e) (sym more) (Contains-append_left lines (last ∷ []) e among)) role end (subst (λ es. slice_get es role ≡ Some end) is at);
         within = subst (All Within) (sym more) (All-push Within lines last
             (λ k e below. omega (arith, line_within k (get_or lines k e) (slice_get-get_or lines k e below), as_many)) (omega (arith, zeroth)));
       }
 
 -- new lines stay new while the desk serves
 module _ {O C R : Type 0} {G : Ghosts O C R} where
-  pub seats_of_ports : (ports ports' : List (Port C R)) (others : List (RingLine O C R G)) → SamePorts ports ports' → length ports ≡ length others + 1 → AreSeatLines ports others → AreSeatLines ports' others
-  seats_of_ports ports ports' others same count new role line at =
-      let was = new role line at in
-      let below : line_of role < length ports = omega (arith, slice_get_within others role line at, count) in
-      record {
-        number_is = was.number_is;
-        rings = λ p. port_of_same (get_or ports (line_of role) p) (get_or ports' (line_of role) p) line line (was.rings p) (same.each (line_of role) p below) (search rules);
-        posted = was.posted;
-        taken = was.taken;
-      }
+  pub seats_of_ports : NewLinesStay G → (ports ports' : List (Port C R)) (others : List (RingLine O C R G)) → SamePorts ports ports' → length ports ≡ length others + 1 → AreSeatLines ports others → AreSeatLines ports' others
+  seats_of_ports stay ports ports' others same count new role line at =
+      stay ports ports' (line_of role) line same (omega (arith, slice_get_within others role line at, count)) (new role line at)

@@ -16,6 +16,7 @@ use Rattle.call_history.specs.declared.port.Port.{Port}
 use Rattle.call_history.specs.Lines.{HasAll}
 use Rattle.call_history.specs.RingLines.{posted_calls, taken_replies, IsLineOf, AreEndsOf as DeskEnds}
 use Rattle.call_history.specs.RingClosing.{end_numbers, IsServed, TakesPrefix}
+use Rattle.call_history.specs.RingLaws.{NumbersAreOfEnds}
 use Rattle.match_book.specs.declared.setup.Setup.{Setup}
 use Rattle.match_desk.specs.declared.call.Call.{Call}
 use Rattle.match_desk.specs.declared.call.Reply.{Reply}
@@ -27,7 +28,6 @@ use Rattle.match_workers.specs.Events.{telling}
 use Rattle.match_workers.specs.Ends.{HasEnded, IsEndOf, AreEndsOf}
 use Rattle.match_workers.specs.LineParts.{open_call, OpensMatch, line_of, IsRoleCall, AreRoleLines}
 use Rattle.match_workers.specs.Internal.LeftLines.{IsFinishedOf, HasFinished, IsLeftLine, AreLeftLines}
-use Rattle.call_history.proofs.ReturnedEnds.{has_end}
 use Rattle.match_workers.proofs.LeftLines.{place_of}
 use Rattle.match_workers.proofs.RoleCalls.{role_calls, all_replies}
 
@@ -70,12 +70,6 @@ module _ {O : Type 0} {G : Ghosts O Call Reply} where
       prefix_trans (Opened ∷ []) (taken_replies end.line) (replies_of (part 0 history)) (subst (λ l. IsPrefix l (taken_replies end.line)) taken finished.taken) (subst (λ n. IsPrefix (taken_replies end.line) (replies_of (part n history))) zeroth first) in
       one_entry (part 0 history) (open_call setup) Opened (part_lines 0 history) (sym posted ∙ sym finished.posted ∙ calls ∙ ap (λ n. calls_of (part n history)) zeroth) reply
 
-  -- the property of each line holds for the one with this number
-  some_line : (lines : List (LineEnd O Call Reply G)) (number : ℕ) (k : ℕ) → k < length lines → ((e : LineEnd O Call Reply G) → (get_or lines k e).line.number ≡ number)
-      → (bound : ℕ) → All (λ e. e.line.number ≤ bound) lines → number ≤ bound
-  some_line [] number k below is bound all = absurd (omega arith)
-  some_line (e ∷ es) number k below is bound all = omega (arith, is e, all k e below)
-
   module _ {P : Type 0} (handed : P → Option (List Handed)) (brief : Brief) (tries : ℕ) (players : List P) (history : List (Entry Call Reply)) (lines : List (LineEnd O Call Reply G)) (ends : List (Result ℕ AttendFault))
       (left : AreLeftLines handed brief tries players lines ends) (served : All (IsServed history) lines) (replies : All (TakesPrefix history) lines) where
     calls_at : (role : ℕ) (end : Result ℕ AttendFault) (line : LineEnd O Call Reply G) → Contains lines line → IsLeftLine handed brief tries players role line end → posted_calls line.line ≡ calls_of (part (line_of role) history)
@@ -107,10 +101,10 @@ module _ {O : Type 0} {G : Ghosts O Call Reply} where
     }
 
     -- all lines came back, so each role was attended
-    pub as_many : (ports : List (Port Call Reply)) (roles : ℕ) → DeskEnds ports lines → length ports ≡ roles + 1 → HasAll (end_numbers lines) (length ports) → length ends ≡ roles
-    as_many ports roles of_desk count all =
-        let last = has_end lines roles (all roles (omega (arith, count))) in
-        let not_fewer : roles ≤ length ends = some_line lines roles last.0 last.1 last.2 (length ends) left.within in
+    pub as_many : NumbersAreOfEnds G → (ports : List (Port Call Reply)) (roles : ℕ) → DeskEnds ports lines → length ports ≡ roles + 1 → HasAll (end_numbers lines) (length ports) → length ends ≡ roles
+    as_many numbers ports roles of_desk count all =
+        let last = numbers lines roles (all roles (omega (arith, count))) in
+        let not_fewer : roles ≤ length ends = omega (arith, All-contains (λ e. e.line.number ≤ length ends) lines last.0 left.within last.1, last.2) in
         ⊎_elim
         (λ (less : roles < length ends).
         let place = place_of ends roles less in

@@ -1,13 +1,20 @@
 -- What is shown grows event by event.
-use Rattle.std.proofs.Common.{◌≡◌, List, [], ◌++◌, Option, ap, sym, ◌∙◌}
+use Rattle.std.proofs.Common.{◌≡◌, List, [], ◌++◌, Option, None, Some, refl, ap, sym, ◌∙◌, append_assoc, append-nil}
 use Rattle.std.specs.List.{filter_map}
 use Rattle.std.proofs.lemmas.List.Elements.{filter_map-append}
 use Rattle.call_history.specs.Told.{told_with}
-use Rattle.call_history.proofs.Tellings.{told_with-append, told_with-nil}
 use Rattle.match_desk.specs.declared.call.Call.{Call}
 use Rattle.match_desk.specs.declared.call.Reply.{Reply}
 use Rattle.match_workers.specs.Handing.{Handed}
 use Rattle.match_workers.specs.Events.{Event, call_in, reply_in, message_in, Telling, telling, telling_with}
+
+pub told_with-nil : {A : Type 0} (told : Option (List A)) → told_with told [] ≡ told
+told_with-nil None = refl
+told_with-nil (Some before) = ap Some (append-nil before)
+
+told_with-append : {A : Type 0} (told : Option (List A)) (xs ys : List A) → told_with (told_with told xs) ys ≡ told_with told (xs ++ ys)
+told_with-append None xs ys = refl
+told_with-append (Some before) xs ys = ap Some (append_assoc before xs ys)
 
 pub same_telling : (calls calls' : Option (List Call)) (replies replies' : Option (List Reply)) (messages messages' : Option (List Handed))
     → calls ≡ calls' → replies ≡ replies' → messages ≡ messages' → telling calls replies messages ≡ telling calls' replies' messages'

@@ -12,9 +12,10 @@ ghost use Rattle.match_workers.specs.LineParts.{AreCounts};
 use crate::attend_fault::AttendFault;
 use crate::refereeing::RefereeFault;
 use crate::seat::Attended;
+use call_history::laws::lines_stay;
 use call_history::{Closed, LineEnd, Object, RingDesk, RingLine, RingWire};
 use game_core::Game;
-use match_desk::Manager;
+use match_desk::{Manager, close_rings};
 use std::alloc::AllocError;
 
 /// The limit of calls, and of replies, that wait on a line.
@@ -75,9 +76,10 @@ pub fn close_match<G: Game + Drop>(
     // The waiting calls are served first, or else a full history would be reported as an unclosed desk.
     ensures unclosed { IfErr result (λ fault. fault ≡ IsUnclosed → WasIdle desk lines.items) }
 {
+    lines_stay::<Manager<G>>();
     let mut desk = desk;
     desk.serve_all()?;
-    match desk.close(lines) {
+    match close_rings(desk, lines) {
         Ok(closed) => Ok(closed),
         Err(_) => Err(RefereeFault::Unclosed),
     }

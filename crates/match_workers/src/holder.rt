@@ -3,6 +3,7 @@ ghost use Rattle.std.specs.Prelude.{◌≡◌, ◌∷◌, ◌++◌, [], IfOk, On
 ghost use Rattle.call_history.specs.Faults.{ask_fault};
 ghost use Rattle.call_history.specs.RingLines.{posted_calls, taken_replies, SameLine, SamePorts};
 
+use call_history::laws::desks_stay;
 use call_history::{AskFault, Bell, CallFault, DeskFault, Object, Pause, RingDesk, RingLine};
 use std::sync::Wait;
 use std::time::Duration;
@@ -53,6 +54,7 @@ pub fn serve_until<O: Object, R: Wait>(rt: &R, desk: &mut RingDesk<O>, bell: &Be
     ensures ports { SamePorts desk.old.ports desk.new.ports }
     ensures opening { O.opening desk.new.journal.object ≡ O.opening desk.old.journal.object }
 {
+    desks_stay::<O>();
     let mut pause = Pause::new(bell, Duration::from_millis(LONGEST_SLEEP));
     for _ in rt.forever() {
         if bell.left() >= workers {

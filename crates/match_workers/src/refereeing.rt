@@ -20,6 +20,7 @@ use crate::finishing::{Finished, ROOM, close_match, finish_all, finish_line};
 use crate::holder::{DeskHolder, ask_own};
 use crate::player::Player;
 use crate::seats::{Attendance, attend_all, seat_players};
+use call_history::laws::{lines_stay, new_lines_are_lines, numbers_are_of_ends};
 use call_history::{
     AskFault, Bell, CallFault, Closed, DeskFault, LineEnd, MAX_ENTRIES, Object, RingDesk, RingLine,
     RingWire, open_rings,
@@ -244,6 +245,8 @@ where
     ensures first { IfOk result (λ played. HasFinished holder.line played.lines.items) }
     ensures ends { IfOk result (λ played. AreLeftLines P.handed plan.entry.brief plan.entry.tries plan.entry.players.items played.lines.items played.ends.items) }
 {
+    lines_stay::<Manager<G>>();
+    new_lines_are_lines::<Manager<G>>();
     let Plan {
         brief,
         players,
@@ -298,6 +301,9 @@ where
     // Each player got this match's data, and was attended as the role at its place, over the role's line.
     ensures ends { IfOk result (λ r. (told : Told) × IsBriefOf (G.rules game) setup (sentences_of rules.entry).items told × AreEndsOf P.handed told tries players.items r.closed.history.items r.ends.items) }
 {
+    lines_stay::<Manager<G>>();
+    new_lines_are_lines::<Manager<G>>();
+    numbers_are_of_ends::<Manager<G>>();
     let id = setup.id.copy(alloc)?;
     let roles = role_names(alloc, &game)?;
     let brief = brief_of(&id, &roles, rules, setup.start, setup.play);

@@ -5,8 +5,7 @@ use Rattle.call_history.specs.declared.journal.CallFault.{CallFault}
 use Rattle.call_history.specs.declared.journal.CallFault.TheVariants.{Full, Memory}
 use Rattle.call_history.specs.Lines.{HasAll}
 use Rattle.call_history.specs.RingClosing.{end_numbers}
-use Rattle.call_history.proofs.DeskLines.{ends_of_ports}
-use Rattle.match_desk.proofs.FollowedHistories.{replay-headline}
+use Rattle.match_desk.specs.Headline.{HasHeadline}
 use Rattle.match_workers.specs.RefereeFaults.{referee_fault}
 use Rattle.match_workers.specs.declared.refereeing.RefereeFault.TheVariants.{Unclosed}
 use Rattle.match_workers.proofs.finishing.close_match.Goals as goal
@@ -16,13 +15,12 @@ never_unclosed : (cause : CallFault) → referee_fault (ask_fault cause) ≡ Unc
 never_unclosed Full is = cc
 never_unclosed Memory is = cc
 
-pub close-requires : goal.close-requires
-close-requires g c = record { lines = ends_of_ports _ _ _ c.serve_all.ensures.lines c.requires.lines }
+pub close_rings-requires : goal.close_rings-requires
+close_rings-requires g c = record { lines = c.lines_stay.ensures.ends _ _ _ c.serve_all.ensures.lines c.requires.lines }
 
 pub returns-in-Ok-clause-headline : goal.returns-in-Ok-clause-headline
 returns-in-Ok-clause-headline g c =
-    replay-headline g.G.Game.rules g.met.G.Game.laws c.in-Ok.closed.object c.in-Ok.closed.history.items c.in-Ok.ensures.replay _ c.in-Ok.closed.made_by_line.items
-    (c.in-Ok.ensures.closed.one_each ∙ c.serve_all.ensures.lines.count) c.in-Ok.ensures.counted
+    subst (λ n. HasHeadline g.G.Game.rules n c.in-Ok.closed.object c.in-Ok.closed.history.items c.in-Ok.closed.made_by_line.items) c.serve_all.ensures.lines.count c.in-Ok.ensures.headline
 
 pub returns-in-Ok-clause-all : goal.returns-in-Ok-clause-all
 returns-in-Ok-clause-all g c = subst (λ n. HasAll (end_numbers c.args.lines.items) n) c.serve_all.ensures.lines.count c.in-Ok.ensures.closed.has_all

@@ -1,7 +1,9 @@
-use Rattle.std.proofs.Common.{◌≡◌, ◌∙◌, refl, ap, subst}
-use Rattle.call_history.proofs.DeskLines.{line_of_same, ends_snoc}
+use Rattle.std.proofs.Common.{◌≡◌, ◌∙◌, refl, ap, sym, subst}
+use Rattle.std.specs.Prelude.{Contains}
+use Rattle.std.proofs.lemmas.List.Elements.{All-push, Contains-push}
+use Rattle.call_history.specs.RingLines.{IsLineOf, AreEndsOf}
 use Rattle.match_workers.specs.Internal.LeftLines.{IsFinishedOf}
-use Rattle.match_workers.proofs.LeftLines.{contains_last, desk_ends, left_lines}
+use Rattle.match_workers.proofs.LeftLines.{desk_ends, left_lines}
 use Rattle.match_workers.proofs.refereeing.attend_match.Goals as goal
 
 pub returns-clause-lines : goal.returns-clause-lines
@@ -10,14 +12,14 @@ returns-clause-lines g c =
     let same = c.in_ok-holder.ensures.ports in
     let finished = subst (λ l. IsFinishedOf l c.finish_line.result) c.in_ok-holder.ensures.line c.finish_line.ensures in
     let ends = desk_ends _ g.P.Player (λ x. refl) (λ x. refl) (λ x y s. s) c.args.plan.brief c.args.plan.tries c.args.plan.players.items c.in_ok-wires.wires.items c.in_ok-seats.seats.items c.in_ok-holder.field-0.attended.items
-    c.args.others.items c.in_ok-lines.field-0.lines.items c.in_ok-seats.ensures c.in_ok-holder.ensures.left c.in_ok-wires.ensures c.in_ok-lines.ensures.lines c.args.holder.desk.ports c.requires.seats holder.desk.ports same c.requires.ports in
-    ends_snoc holder.desk.ports c.in_ok-lines.field-0.lines.items c.push.new.self.items c.finish_line.result ends
-    (line_of_same c.args.holder.desk.ports holder.desk.ports c.args.holder.line c.finish_line.result.line same finished.same c.requires.first) c.in_ok-push.ensures.items
+    c.args.others.items c.in_ok-lines.field-0.lines.items c.in_ok-seats.ensures c.in_ok-holder.ensures.left c.in_ok-wires.ensures c.in_ok-lines.ensures.lines c.args.holder.desk.ports c.requires.seats c.lines_stay.ensures.lines c.new_lines_are_lines.ensures.lines holder.desk.ports same c.requires.ports in
+    subst (AreEndsOf holder.desk.ports) (sym c.in_ok-push.ensures.items) (All-push (λ e. IsLineOf holder.desk.ports e.line) c.in_ok-lines.field-0.lines.items c.finish_line.result ends
+    (c.lines_stay.ensures.lines c.args.holder.desk.ports holder.desk.ports c.args.holder.line c.finish_line.result.line same finished.same c.requires.first))
 
 pub returns-clause-first : goal.returns-clause-first
 returns-clause-first g c = (
   c.finish_line.result,
-  contains_last c.in_ok-lines.field-0.lines.items c.push.new.self.items c.finish_line.result c.in_ok-push.ensures.items,
+  subst (λ lines. Contains lines c.finish_line.result) (sym c.in_ok-push.ensures.items) (Contains-push c.in_ok-lines.field-0.lines.items c.finish_line.result),
   subst (λ l. IsFinishedOf l c.finish_line.result) c.in_ok-holder.ensures.line c.finish_line.ensures,
 )
 

@@ -1,5 +1,4 @@
 use Rattle.std.proofs.Common.{◌≡◌, ◌∙◌, ◌+◌, ◌++◌, ◌∷◌, [], length, refl, sym, ap, subst, arith}
-use Rattle.call_history.proofs.DeskLines.{line_of_new, line_of_same}
 use Rattle.match_desk.specs.Headline.{HasHeadline}
 use Rattle.match_desk.specs.declared.call.Reply.TheVariants.{Opened}
 use Rattle.match_messages.specs.declared.brief.Brief.{Brief}
@@ -12,13 +11,13 @@ use Rattle.match_workers.proofs.refereeing.referee_shared.Goals as goal
 pub attend_match-requires-clause-first : goal.attend_match-requires-clause-first
 attend_match-requires-clause-first g c κs within =
     let opened = c.in_ok-holder.ensures in
-    let first = line_of_new c.in_ok-holder.holder.desk.ports 0 c.in_ok-holder.holder.line (omega (arith, opened.desk)) opened.first in
-    line_of_same c.in_ok-holder.holder.desk.ports c.open_match.new.holder.desk.ports c.in_ok-holder.holder.line c.open_match.new.holder.line c.open_match.ensures.ports c.open_match.ensures.line first
+    let first = c.new_lines_are_lines.ensures.lines c.in_ok-holder.holder.desk.ports 0 c.in_ok-holder.holder.line (omega (arith, opened.desk)) opened.first in
+    c.lines_stay.ensures.lines c.in_ok-holder.holder.desk.ports c.open_match.new.holder.desk.ports c.in_ok-holder.holder.line c.open_match.new.holder.line c.open_match.ensures.ports c.open_match.ensures.line first
 
 pub attend_match-requires-clause-seats : goal.attend_match-requires-clause-seats
 attend_match-requires-clause-seats g c κs within =
     let opened = c.in_ok-holder.ensures in
-    seats_of_ports c.in_ok-holder.holder.desk.ports c.open_match.new.holder.desk.ports c.in_ok-holder.others.items c.open_match.ensures.ports (omega (arith, opened.desk, opened.one_each)) opened.seats
+    seats_of_ports c.new_lines_are_lines.ensures.stay c.in_ok-holder.holder.desk.ports c.open_match.new.holder.desk.ports c.in_ok-holder.others.items c.open_match.ensures.ports (omega (arith, opened.desk, opened.one_each)) opened.seats
 
 pub attend_match-requires-clause-roles : goal.attend_match-requires-clause-roles
 attend_match-requires-clause-roles g c κs within = c.in_ok-holder.ensures.one_each ∙ sym (ap (λ (b : Brief). length b.roles) c.brief_of-brief.ensures ∙ c.in_ok-roles.ensures.one_each)
@@ -52,7 +51,7 @@ returns-clause-first_line g c =
 pub returns-clause-one_end_each : goal.returns-clause-one_end_each
 returns-clause-one_end_each g c =
     as_many g.P.Player.handed c.brief_of-brief.result c.args.tries c.args.players.items c.in_ok-closed.closed.history.items c.in_ok-desk.field-0.lines.items c.in_ok-desk.field-0.ends.items
-    c.in_ok-desk.ensures.ends c.in_ok-closed.ensures.served c.in_ok-closed.ensures.replies c.in_ok-desk.field-0.desk.ports (g.G.Game.rules c.args.game).roles c.in_ok-desk.ensures.lines
+    c.in_ok-desk.ensures.ends c.in_ok-closed.ensures.served c.in_ok-closed.ensures.replies c.numbers_are_of_ends.ensures c.in_ok-desk.field-0.desk.ports (g.G.Game.rules c.args.game).roles c.in_ok-desk.ensures.lines
     (c.in_ok-desk.ensures.ports.count ∙ c.open_match.ensures.ports.count ∙ c.in_ok-holder.ensures.desk) c.in_ok-closed.ensures.all
 
 pub returns-clause-role_lines : goal.returns-clause-role_lines
@@ -60,7 +59,7 @@ returns-clause-role_lines g c =
     role_lines g.P.Player.handed c.brief_of-brief.result c.args.tries c.args.players.items c.in_ok-closed.closed.history.items c.in_ok-desk.field-0.lines.items c.in_ok-desk.field-0.ends.items
     c.in_ok-desk.ensures.ends c.in_ok-closed.ensures.served c.in_ok-closed.ensures.replies c.args.setup.id (g.G.Game.rules c.args.game).roles (ap (λ (b : Brief). b.id) c.brief_of-brief.ensures ∙ c.in_ok-id.ensures)
     (as_many g.P.Player.handed c.brief_of-brief.result c.args.tries c.args.players.items c.in_ok-closed.closed.history.items c.in_ok-desk.field-0.lines.items c.in_ok-desk.field-0.ends.items
-    c.in_ok-desk.ensures.ends c.in_ok-closed.ensures.served c.in_ok-closed.ensures.replies c.in_ok-desk.field-0.desk.ports (g.G.Game.rules c.args.game).roles c.in_ok-desk.ensures.lines
+    c.in_ok-desk.ensures.ends c.in_ok-closed.ensures.served c.in_ok-closed.ensures.replies c.numbers_are_of_ends.ensures c.in_ok-desk.field-0.desk.ports (g.G.Game.rules c.args.game).roles c.in_ok-desk.ensures.lines
     (c.in_ok-desk.ensures.ports.count ∙ c.open_match.ensures.ports.count ∙ c.in_ok-holder.ensures.desk) c.in_ok-closed.ensures.all)
 
 pub returns-clause-ends : goal.returns-clause-ends
