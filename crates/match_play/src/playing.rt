@@ -1,13 +1,9 @@
 //! A match between players on the network, from its plan to its record.
-ghost use Rattle.std.specs.Prelude.{◌≡◌, ◌≢◌, ◌+◌, ◌∷◌, List, [], IfOk, IfErr, IfSome, length, vec_len};
+ghost use Rattle.std.specs.Prelude.{◌≡◌, ◌≢◌, List, IfOk, IfErr, IfSome, length, vec_len};
 ghost use Rattle.call_history.specs.declared.journal.Entry.{Entry};
-ghost use Rattle.match_desk.specs.Headline.{HasHeadline};
 ghost use Rattle.match_desk.specs.declared.call.Call.{Call as DeskCall};
 ghost use Rattle.match_desk.specs.declared.call.Reply.{Reply as DeskReply};
-ghost use Rattle.match_messages.specs.declared.brief.Brief.{Brief as Told};
-ghost use Rattle.match_workers.specs.Briefs.{IsBriefOf};
-ghost use Rattle.match_workers.specs.Ends.{AreEndsOf};
-ghost use Rattle.match_workers.specs.LineParts.{OpensMatch, AreRoleLines};
+ghost use Rattle.match_workers.specs.Refereeing.{IsRefereed};
 ghost use Rattle.desk_text.specs.Account.{history_text};
 ghost use Rattle.match_play.specs.Matches.{IsEndedRecord, HasNoEndedMatch};
 ghost use Rattle.match_play.specs.EndedMatches.{IsEndedMatch};
@@ -183,14 +179,11 @@ pub(crate) fn refereed_match<'g, R, P>(
 where
     R: Threads + Wait + Sync,
     P: Player + Drop + Send,
-    ensures headline { IfOk result (λ r. HasHeadline ⟦<PackedGame as Game>⟧.rules ((⟦<PackedGame as Game>⟧.rules game.entry.game.now).roles + 1) r.closed.object r.closed.history.items r.closed.made_by_line.items) }
-    ensures game { IfOk result (λ r. r.closed.object.games ≡ game.entry.game.now ∷ []) }
-    ensures opened { IfOk result (λ r. OpensMatch entrants.setup r.closed.history.items) }
-    ensures lines { IfOk result (λ r. AreRoleLines entrants.setup.id (⟦<PackedGame as Game>⟧.rules game.entry.game.now).roles r.closed.history.items) }
-    ensures ends { IfOk result (λ r. (told : Told) × IsBriefOf (⟦<PackedGame as Game>⟧.rules game.entry.game.now) entrants.setup game.entry.rules.now.items told × AreEndsOf P.handed told max_tries entrants.players.items r.closed.history.items r.ends.items) }
+    ensures { IfOk result (λ r. (left : List _) × IsRefereed ⟦<PackedGame as Game>⟧.rules P.handed game.entry.game.now entrants.setup game.entry.rules.now.items max_tries entrants.players.items left
+        r.closed.object r.closed.history.items r.closed.made_by_line.items r.ends.items) }
 {
     let Entrants { setup, players } = entrants;
-    Ok(referee_shared(
+    let (refereed, _players) = referee_shared(
         rt,
         alloc,
         Lent::new(game.game),
@@ -198,7 +191,8 @@ where
         StartRules::Printed(game.rules),
         players,
         MAX_TRIES,
-    )?)
+    )?;
+    Ok(refereed)
 }
 
 /// Referees a match of this game between its entrants.

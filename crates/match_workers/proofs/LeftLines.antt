@@ -1,5 +1,5 @@
 -- The lines of a match's desk after its workers have ended.
-use Rattle.std.proofs.Common.{◌≡◌, ℕ, ◌+◌, ◌<◌, ◌≤◌, List, [], ◌∷◌, ◌++◌, length, map, Option, Some, option_map, Result, refl, ap, sym, subst, ◌∙◌, arith, rules, get_or}
+use Rattle.std.proofs.Common.{◌≡◌, ℕ, ◌+◌, ◌<◌, ◌≤◌, List, [], ◌∷◌, ◌++◌, length, map, Some, option_map, Result, refl, ap, sym, subst, ◌∙◌, arith, rules, get_or}
 use Rattle.std.specs.Prelude.{slice_get, Contains, All}
 use Rattle.std.proofs.lemmas.List.{length-map}
 use Rattle.std.proofs.lemmas.List.Elements.{All-push, Contains-append_left}
@@ -20,7 +20,7 @@ use Rattle.match_workers.specs.declared.player.Player as Player
 use Rattle.match_workers.specs.declared.seat.Attended.{Attended}
 use Rattle.match_workers.specs.declared.seat.Seat.{Seat}
 use Rattle.match_workers.specs.LineParts.{line_of}
-use Rattle.match_workers.specs.Internal.LeftLines.{AreSeatLines, IsFinishedOf, HasFinished, AreFinishedOf, IsLeftLine, AreLeftLines}
+use Rattle.match_workers.specs.Internal.LeftLines.{AreSeatLines, IsFinishedOf, AreFinishedOf, IsLeftLine, AreLeftLines}
 use Rattle.match_workers.specs.Internal.Seats.{AreSeatsOf, AreLeftBy}
 use Rattle.match_workers.proofs.Places.{map_at}
 use Rattle.match_workers.proofs.SeatEnds.{same_ended}
@@ -42,29 +42,29 @@ module _ {O : Type 0} {G : Ghosts O Call Reply} {P : Type 0} (w : Wire.Ghosts (R
     (replies : (x : RingWire O Call Reply G) → w.replies x ≡ Some (taken_replies x.line))
     (on_line : (x y : RingWire O Call Reply G) → w.same_line x y → SameLine x.line y.line)
     (brief : Brief) (tries : ℕ) (players : List P)
-    (wires : List (RingWire O Call Reply G)) (seats : List (Seat P (RingWire O Call Reply G))) (attended : List (Attended (RingWire O Call Reply G)))
+    (wires : List (RingWire O Call Reply G)) (seats : List (Seat P (RingWire O Call Reply G))) (attended : List (Attended P (RingWire O Call Reply G)))
     (others : List (RingLine O Call Reply G)) (lines : List (LineEnd O Call Reply G))
     (seated : AreSeatsOf brief players wires seats) (left : AreLeftBy w p tries seats attended)
     (on : map (λ (x : RingWire O Call Reply G). x.line) wires ≡ others)
-    (finished : AreFinishedOf (map (λ (a : Attended (RingWire O Call Reply G)). a.wire.line) attended) lines)
+    (finished : AreFinishedOf (map (λ (a : Attended P (RingWire O Call Reply G)). a.wire.line) attended) lines)
     (ports : List (Port Call Reply)) (new : AreSeatLines ports others) where
   -- a worker's wire, and the end of its line
-  record IsKept (k : ℕ) (end : LineEnd O Call Reply G) (a : Attended (RingWire O Call Reply G)) : Type 0 where
+  record IsKept (k : ℕ) (end : LineEnd O Call Reply G) (a : Attended P (RingWire O Call Reply G)) : Type 0 where
     pub wire : RingWire O Call Reply G
     pub is_wire : slice_get wires k ≡ Some wire
     pub is_new : IsNewLine ports (line_of k) wire.line
     pub line : SameLine wire.line a.wire.line
     pub of_line : IsFinishedOf a.wire.line end
 
-  kept_at : (k : ℕ) (end : LineEnd O Call Reply G) (a : Attended (RingWire O Call Reply G)) → slice_get lines k ≡ Some end → slice_get attended k ≡ Some a → IsKept k end a
+  kept_at : (k : ℕ) (end : LineEnd O Call Reply G) (a : Attended P (RingWire O Call Reply G)) → slice_get lines k ≡ Some end → slice_get attended k ≡ Some a → IsKept k end a
   kept_at k end a at is =
-      let here = left.each k a is in
-      let sits = seated.each k here.seat here.is_seat in
+      let here = left k a is in
+      let sits = seated k here.seat here.is_seat in
       let wire = here.seat.wire in
       let found = finished.each k end at in
-      let whose = map_at (λ (x : Attended (RingWire O Call Reply G)). x.wire.line) attended k found.0 found.1 in
+      let whose = map_at (λ (x : Attended P (RingWire O Call Reply G)). x.wire.line) attended k found.0 found.1 in
       let same : a ≡ whose.0 = same_at attended k a whose.0 is whose.1 in
-      let line : found.0 ≡ a.wire.line = sym whose.2 ∙ sym (ap (λ (x : Attended (RingWire O Call Reply G)). x.wire.line) same) in
+      let line : found.0 ≡ a.wire.line = sym whose.2 ∙ sym (ap (λ (x : Attended P (RingWire O Call Reply G)). x.wire.line) same) in
       record {
         wire = wire;
         is_wire = sits.wire_is;
@@ -75,9 +75,9 @@ module _ {O : Type 0} {G : Ghosts O Call Reply} {P : Type 0} (w : Wire.Ghosts (R
 
   -- as many lines as workers
   line_count : length lines ≡ length attended
-  line_count = finished.one_each ∙ length-map attended (λ (a : Attended (RingWire O Call Reply G)). a.wire.line)
+  line_count = finished.one_each ∙ length-map attended (λ (a : Attended P (RingWire O Call Reply G)). a.wire.line)
 
-  worker_at : (k : ℕ) (end : LineEnd O Call Reply G) → slice_get lines k ≡ Some end → (a : Attended (RingWire O Call Reply G)) × (slice_get attended k ≡ Some a)
+  worker_at : (k : ℕ) (end : LineEnd O Call Reply G) → slice_get lines k ≡ Some end → (a : Attended P (RingWire O Call Reply G)) × (slice_get attended k ≡ Some a)
   worker_at k end at = place_of attended k (omega (arith, slice_get_within lines k end at, line_count))
 
   same_line_trans : (a b c : RingLine O Call Reply G) → SameLine a b → SameLine b c → SameLine a c
@@ -97,17 +97,17 @@ module _ {O : Type 0} {G : Ghosts O Call Reply} {P : Type 0} (w : Wire.Ghosts (R
   desk_ends stay are_lines ports' same count k end within = desk_line stay are_lines ports' same count k (get_or lines k end) (slice_get-get_or lines k end within)
 
   -- each end of a worker is shown with its line
-  left_line : (all : List (LineEnd O Call Reply G)) → ((end : LineEnd O Call Reply G) → Contains lines end → Contains all end) → (role : ℕ) (end : Result ℕ AttendFault)
-      → slice_get (map (λ (a : Attended (RingWire O Call Reply G)). a.end) attended) role ≡ Some end
-      → (line : LineEnd O Call Reply G) × Contains all line × IsLeftLine p.handed brief tries players role line end
-  left_line all among role end is =
-      let found = map_at (λ (a : Attended (RingWire O Call Reply G)). a.end) attended role end is in
+  left_line : (players_left : List P) → players_left ≡ map (λ (a : Attended P (RingWire O Call Reply G)). a.player) attended → (all : List (LineEnd O Call Reply G)) → ((end : LineEnd O Call Reply G) → Contains lines end → Contains all end) → (role : ℕ) (end : Result ℕ AttendFault)
+      → slice_get (map (λ (a : Attended P (RingWire O Call Reply G)). a.end) attended) role ≡ Some end
+      → (line : LineEnd O Call Reply G) × Contains all line × IsLeftLine p.handed brief tries players players_left role line end
+  left_line players_left come all among role end is =
+      let found = map_at (λ (a : Attended P (RingWire O Call Reply G)). a.end) attended role end is in
       let a = found.0 in
       let at = place_of lines role (omega (arith, slice_get_within attended role a found.1, line_count)) in
       let kept = kept_at role at.0 a at.1 found.1 in
-      let here = left.each role a found.1 in
+      let here = left role a found.1 in
       let seat = here.seat in
-      let sits = seated.each role seat here.is_seat in
+      let sits = seated role seat here.is_seat in
       let wire : seat.wire ≡ kept.wire = same_at wires role seat.wire kept.wire sits.wire_is kept.is_wire in
       let before : w.calls seat.wire ≡ Some [] = ap (λ x. w.calls x) wire ∙ calls kept.wire ∙ ap Some kept.is_new.posted in
       let untaken : w.replies seat.wire ≡ Some [] = ap (λ x. w.replies x) wire ∙ replies kept.wire ∙ ap Some kept.is_new.taken in
@@ -118,7 +118,9 @@ module _ {O : Type 0} {G : Ghosts O Call Reply} {P : Type 0} (w : Wire.Ghosts (R
           number = kept.of_line.same.0 ∙ kept.line.0 ∙ kept.is_new.number_is;
           player = seat.player;
           is_player = sits.player_is;
-          left = here.left_by.player_left;
+          player_left = a.player;
+          is_left = subst (λ ps. slice_get ps role ≡ Some a.player) (sym come)
+              (slice_get-map (λ (x : Attended P (RingWire O Call Reply G)). x.player) attended role ∙ ap (λ o. option_map (λ (x : Attended P (RingWire O Call Reply G)). x.player) o) found.1);
           replies = taken_replies a.wire.line;
           are_first = kept.of_line.taken;
           ended = same_ended _ _ _ _ _ _ _ _ _ _ _ sits.brief_is sits.role_is (same_telling _ _ _ _ _ _ before untaken refl) (same_telling _ _ _ _ _ _ after (replies a.wire) refl) found.2 here.left_by.ended;
@@ -133,14 +135,14 @@ module _ {O : Type 0} {G : Ghosts O Call Reply} {P : Type 0} (w : Wire.Ghosts (R
       let number : end.line.number ≡ line_of k = kept.of_line.same.0 ∙ kept.line.0 ∙ kept.is_new.number_is in
       omega (arith, number, slice_get_within lines k end at, line_count)
 
-  pub left_lines : length others ≡ length brief.roles → (all : List (LineEnd O Call Reply G)) (last : LineEnd O Call Reply G) → all ≡ lines ++ last ∷ [] → last.line.number ≡ 0 → (ends : List (Result ℕ AttendFault))
-      → ends ≡ map (λ (a : Attended (RingWire O Call Reply G)). a.end) attended → AreLeftLines p.handed brief tries players all ends
-  left_lines count all last more zeroth ends is =
-      let as_many : length ends ≡ length attended = ap length is ∙ length-map attended (λ (a : Attended (RingWire O Call Reply G)). a.end) in
+  pub left_lines : (players_left : List P) → players_left ≡ map (λ (a : Attended P (RingWire O Call Reply G)). a.player) attended → (all : List (LineEnd O Call Reply G)) (last : LineEnd O Call Reply G) → all ≡ lines ++ last ∷ [] → last.line.number ≡ 0 → (ends : List (Result ℕ AttendFault))
+      → ends ≡ map (λ (a : Attended P (RingWire O Call Reply G)). a.end) attended → AreLeftLines p.handed brief tries players players_left all ends
+  left_lines players_left come all last more zeroth ends is =
+      let as_many : length ends ≡ length attended = ap length is ∙ length-map attended (λ (a : Attended P (RingWire O Call Reply G)). a.end) in
       let Within : LineEnd O Call Reply G → Type 0 = λ e. e.line.number ≤ length ends in
       record {
-        one_each = λ each. as_many ∙ left.one_each ∙ seated.one_each each (sym (length-map wires (λ (x : RingWire O Call Reply G). x.line)) ∙ ap length on ∙ count);
-        each = λ role end at. left_line all (λ e among. subst (λ es. Contains es e) (sym more) (Contains-append_left lines (last ∷ []) e among)) role end (subst (λ es. slice_get es role ≡ Some end) is at);
+        one_each = ap length come ∙ length-map attended (λ (a : Attended P (RingWire O Call Reply G)). a.player) ∙ sym as_many;
+        each = λ role end at. left_line players_left come all (λ e among. subst (λ es. Contains es e) (sym more) (Contains-append_left lines (last ∷ []) e among)) role end (subst (λ es. slice_get es role ≡ Some end) is at);
         within = subst (All Within) (sym more) (All-push Within lines last
             (λ k e below. omega (arith, line_within k (get_or lines k e) (slice_get-get_or lines k e below), as_many)) (omega (arith, zeroth)));
       }

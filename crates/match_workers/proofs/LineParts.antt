@@ -1,7 +1,6 @@
 -- Each line's part of the closed desk's history.
-use Rattle.std.proofs.Common.{◌≡◌, ◌==◌, ℕ, ◌+◌, ◌<◌, ◌≤◌, true, ⊎_elim, List, [], ◌∷◌, ◌++◌, length, map, All, Option, Some, Result, IsOk, refl, ap, sym, subst, ◌∙◌, arith, append_assoc, append-nil, length-append, get_or}
-use Rattle.std.specs.Prelude.{slice_get, Contains}
-use Rattle.std.specs.List.{filter}
+use Rattle.std.proofs.Common.{◌≡◌, ◌==◌, ℕ, ◌+◌, ◌<◌, ◌≤◌, true, ⊎_elim, List, [], ◌∷◌, ◌++◌, length, All, Option, Some, Result, ap, sym, subst, ◌∙◌, arith, append_assoc, append-nil, length-append, get_or}
+use Rattle.std.specs.Prelude.{Contains}
 use Rattle.std.proofs.lemmas.List.{length-map}
 use Rattle.std.proofs.lemmas.List.Elements.{All-contains, All-head, filter_passes}
 use Rattle.std.proofs.lemmas.Grind.{common_steps}
@@ -27,7 +26,7 @@ use Rattle.match_workers.specs.Handing.{Handed}
 use Rattle.match_workers.specs.Events.{telling}
 use Rattle.match_workers.specs.Ends.{HasEnded, IsEndOf, AreEndsOf}
 use Rattle.match_workers.specs.LineParts.{open_call, OpensMatch, line_of, IsRoleCall, AreRoleLines}
-use Rattle.match_workers.specs.Internal.LeftLines.{IsFinishedOf, HasFinished, IsLeftLine, AreLeftLines}
+use Rattle.match_workers.specs.Internal.LeftLines.{HasFinished, IsLeftLine, AreLeftLines}
 use Rattle.match_workers.proofs.LeftLines.{place_of}
 use Rattle.match_workers.proofs.RoleCalls.{role_calls, all_replies}
 
@@ -70,34 +69,39 @@ module _ {O : Type 0} {G : Ghosts O Call Reply} where
       prefix_trans (Opened ∷ []) (taken_replies end.line) (replies_of (part 0 history)) (subst (λ l. IsPrefix l (taken_replies end.line)) taken finished.taken) (subst (λ n. IsPrefix (taken_replies end.line) (replies_of (part n history))) zeroth first) in
       one_entry (part 0 history) (open_call setup) Opened (part_lines 0 history) (sym posted ∙ sym finished.posted ∙ calls ∙ ap (λ n. calls_of (part n history)) zeroth) reply
 
-  module _ {P : Type 0} (handed : P → Option (List Handed)) (brief : Brief) (tries : ℕ) (players : List P) (history : List (Entry Call Reply)) (lines : List (LineEnd O Call Reply G)) (ends : List (Result ℕ AttendFault))
-      (left : AreLeftLines handed brief tries players lines ends) (served : All (IsServed history) lines) (replies : All (TakesPrefix history) lines) where
-    calls_at : (role : ℕ) (end : Result ℕ AttendFault) (line : LineEnd O Call Reply G) → Contains lines line → IsLeftLine handed brief tries players role line end → posted_calls line.line ≡ calls_of (part (line_of role) history)
+  module _ {P : Type 0} (handed : P → Option (List Handed)) (brief : Brief) (tries : ℕ) (players players_left : List P) (history : List (Entry Call Reply)) (lines : List (LineEnd O Call Reply G)) (ends : List (Result ℕ AttendFault))
+      (left : AreLeftLines handed brief tries players players_left lines ends) (served : All (IsServed history) lines) (replies : All (TakesPrefix history) lines) where
+    calls_at : (role : ℕ) (end : Result ℕ AttendFault) (line : LineEnd O Call Reply G) → Contains lines line → IsLeftLine handed brief tries players players_left role line end → posted_calls line.line ≡ calls_of (part (line_of role) history)
     calls_at role end line among it = All-contains (IsServed history) lines line served among ∙ ap (λ n. calls_of (part n history)) it.number
 
-    replies_at : (role : ℕ) (end : Result ℕ AttendFault) (line : LineEnd O Call Reply G) → Contains lines line → (it : IsLeftLine handed brief tries players role line end) → IsPrefix it.replies (replies_of (part (line_of role) history))
+    replies_at : (role : ℕ) (end : Result ℕ AttendFault) (line : LineEnd O Call Reply G) → Contains lines line → (it : IsLeftLine handed brief tries players players_left role line end) → IsPrefix it.replies (replies_of (part (line_of role) history))
     replies_at role end line among it =
         prefix_trans it.replies (taken_replies line.line) (replies_of (part (line_of role) history)) it.are_first
         (subst (λ n. IsPrefix (taken_replies line.line) (replies_of (part n history))) it.number (All-contains (TakesPrefix history) lines line replies among))
 
-    end_at : (role : ℕ) (end : Result ℕ AttendFault) (line : LineEnd O Call Reply G) → Contains lines line → (it : IsLeftLine handed brief tries players role line end) → IsEndOf handed brief tries role it.player (part (line_of role) history) end
+    end_at : (role : ℕ) (end : Result ℕ AttendFault) (line : LineEnd O Call Reply G) → Contains lines line → (it : IsLeftLine handed brief tries players players_left role line end) → IsEndOf handed brief tries role it.player it.player_left (part (line_of role) history) end
     end_at role end line among it =
         let entries = part (line_of role) history in
         let calls = calls_at role end line among it in
         let first = replies_at role end line among it in
         record {
-          left = it.left;
           replies = it.replies;
           are_first = first;
           are_all = λ ok. whole_prefix it.replies (replies_of entries) first
               (omega (arith, all_replies brief role tries (posted_calls line.line) it.replies _ _ end ok it.ended, ap length calls, length-map entries (λ (e : Entry Call Reply). e.call), length-map entries (λ (e : Entry Call Reply). e.reply)));
-          ended = subst (λ cs. HasEnded brief role tries (telling (Some []) (Some []) (handed it.player)) (record { calls = Some cs; replies = Some it.replies; messages = handed it.left }) end) calls it.ended;
+          ended = subst (λ cs. HasEnded brief role tries (telling (Some []) (Some []) (handed it.player)) (record { calls = Some cs; replies = Some it.replies; messages = handed it.player_left }) end) calls it.ended;
         }
 
-    pub ends_of : AreEndsOf handed brief tries players history ends
+    pub ends_of : AreEndsOf handed brief tries players players_left history ends
     ends_of = record {
       one_each = left.one_each;
-      each = λ role end at. let found = left.each role end at in (found.2.player, found.2.is_player, end_at role end found.0 found.1 found.2);
+      each = λ role end at. let found = left.each role end at in record {
+        player = found.2.player;
+        is_player = found.2.is_player;
+        player_left = found.2.player_left;
+        is_left = found.2.is_left;
+        is_end = end_at role end found.0 found.1 found.2;
+      };
     }
 
     -- all lines came back, so each role was attended

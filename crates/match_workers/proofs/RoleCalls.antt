@@ -1,7 +1,6 @@
 -- The calls of a worker over its line.
-use Rattle.std.proofs.Common.{◌≡◌, ℕ, ◌+◌, List, [], ◌∷◌, ◌++◌, length, All, Option, None, Some, Result, Ok, Err, IsOk, unwrap_or, inl, inr, refl, ap, sym, ◌∙◌, subst, append_assoc, append-nil, length-append, arith}
+use Rattle.std.proofs.Common.{◌≡◌, ℕ, List, [], ◌∷◌, ◌++◌, length, All, Option, Some, Result, Ok, Err, IsOk, unwrap_or, inl, inr, refl, ap, sym, ◌∙◌, subst, append_assoc, append-nil, length-append, arith}
 use Rattle.std.specs.List.{filter_map}
-use Rattle.std.proofs.lemmas.List.Concat.{flat_map-append}
 use Rattle.std.proofs.lemmas.List.Elements.{All-nil, All-cons, All-append, All-head, All-tail, filter_map-append}
 use Rattle.match_book.specs.declared.answer.Answer.{Answer}
 use Rattle.match_book.specs.declared.answer.Answer.TheVariants.{Text, Silent, Broken}
@@ -12,8 +11,8 @@ use Rattle.match_messages.specs.declared.brief.Brief.{Brief}
 use Rattle.match_workers.specs.declared.attend_fault.AttendFault.{AttendFault}
 use Rattle.match_workers.specs.Handing.{Handed}
 use Rattle.match_workers.specs.Events.{Event, makes, takes, call_in, reply_in, Telling, telling, telling_with}
-use Rattle.match_workers.specs.Steps.{answer_call, handing_over, Step, rests, hands_over, finds_the_end, finds_no_due, events_of, fault_after}
-use Rattle.match_workers.specs.Attending.{events_of_all, Attends, StopsAmid, at_the_last, at_a_call, for_memory, StopsAfter, out_of_tries, in_a_step, StopsEarly}
+use Rattle.match_workers.specs.Steps.{answer_call, Step, rests, hands_over, finds_the_end, finds_no_due, events_of, fault_after}
+use Rattle.match_workers.specs.Attending.{events_of_all, StopsAmid, at_the_last, at_a_call, for_memory, StopsAfter, out_of_tries, in_a_step}
 use Rattle.match_workers.specs.LineParts.{IsRoleCall}
 use Rattle.match_workers.specs.Ends.{HasEnded}
 

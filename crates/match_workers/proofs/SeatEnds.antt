@@ -1,5 +1,5 @@
 -- Seats and their results, place by place.
-use Rattle.std.proofs.Common.{◌≡◌, ℕ, List, Some, Result, Ok, Err, IfOk, IfErr}
+use Rattle.std.proofs.Common.{◌≡◌, ℕ, List, Some, Result}
 use Rattle.std.specs.Prelude.{slice_get}
 use Rattle.call_history.specs.declared.wire.Wire as Wire
 use Rattle.match_desk.specs.declared.call.Call.{Call}
@@ -7,18 +7,12 @@ use Rattle.match_desk.specs.declared.call.Reply.{Reply}
 use Rattle.match_messages.specs.declared.brief.Brief.{Brief}
 use Rattle.match_workers.specs.declared.attend_fault.AttendFault.{AttendFault}
 use Rattle.match_workers.specs.Events.{Telling}
-use Rattle.match_workers.specs.Attending.{Attends, StopsEarly}
 use Rattle.match_workers.specs.Ends.{HasEnded}
 use Rattle.match_workers.specs.Internal.Seats.{IsLeftBy, IsLeftAt}
 use Rattle.match_workers.specs.declared.player.Player as Player
 use Rattle.match_workers.specs.declared.seat.Seat.{Seat}
 use Rattle.match_workers.specs.declared.seat.Attended.{Attended}
 use Rattle.match_workers.specs.declared.seats.LeftBy.{LeftBy}
-
-pub has_ended : (brief : Brief) (role tries : ℕ) (before after : Telling) (end : Result ℕ AttendFault)
-    → IfOk end (λ messages. Attends brief role tries before after messages) → IfErr end (λ fault. StopsEarly brief role tries before after fault) → HasEnded brief role tries before after end
-has_ended brief role tries before after (Ok messages) attends early = attends
-has_ended brief role tries before after (Err fault) attends early = early
 
 -- the promise is that of the seat at this place
 pub record IsPromisedFor {P W : Type 0} (tries : ℕ) (seats : List (Seat P W)) (k : ℕ) (promise : LeftBy P W) : Type 0 where
@@ -31,7 +25,7 @@ pub record IsPromisedFor {P W : Type 0} (tries : ℕ) (seats : List (Seat P W)) 
   pub wire : promise.wire.value ≡ seat.wire
 
 -- a result that keeps the promise is that of attending the seat
-pub left_at : {P W : Type 0} (w : Wire.Ghosts W Call Reply) (p : Player.Ghosts P) (tries : ℕ) (seats : List (Seat P W)) (k : ℕ) (promise : LeftBy P W) (left : Attended W) → IsPromisedFor tries seats k promise
+pub left_at : {P W : Type 0} (w : Wire.Ghosts W Call Reply) (p : Player.Ghosts P) (tries : ℕ) (seats : List (Seat P W)) (k : ℕ) (promise : LeftBy P W) (left : Attended P W) → IsPromisedFor tries seats k promise
     → IsLeftBy w p promise.brief.now promise.role promise.tries promise.player.value promise.wire.value left → IsLeftAt w p tries seats k left
 left_at w p tries seats k promise left it by = record {
   seat = it.seat;

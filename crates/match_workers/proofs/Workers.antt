@@ -1,5 +1,5 @@
 -- A worker's steps, one after another.
-use Rattle.std.proofs.Common.{◌≡◌, ℕ, ◌+◌, ◌<◌, true, is_none, unwrap_or, List, [], ◌∷◌, ◌++◌, length, All, Option, None, Some, inl, inr, refl, ap, sym, ◌∙◌, append_assoc, append-nil, length-append, arith}
+use Rattle.std.proofs.Common.{◌≡◌, ℕ, ◌+◌, ◌<◌, true, is_none, unwrap_or, List, [], ◌∷◌, ◌++◌, length, All, Option, None, inl, inr, refl, ap, sym, ◌∙◌, append_assoc, append-nil, length-append, arith}
 use Rattle.std.specs.List.{filter_map}
 use Rattle.call_history.specs.Told.{told_with}
 use Rattle.std.proofs.lemmas.List.Concat.{flat_map-append}
@@ -20,7 +20,7 @@ use Rattle.match_workers.specs.Handing.{Handed}
 use Rattle.match_workers.specs.Events.{Event, makes, takes, message_in, Telling, telling, telling_with}
 use Rattle.match_workers.specs.AttendFaults.{next_fault, answer_fault}
 use Rattle.match_workers.specs.Steps.{asking, handing_over, Step, rests, hands_over, finds_the_end, finds_no_due, events_of, goes_on, fault_after}
-use Rattle.match_workers.specs.Attending.{events_of_all, Attends, StopsAmid, at_the_last, at_a_call, for_memory, out_of_tries, in_a_step, StopsEarly, CallStops}
+use Rattle.match_workers.specs.Attending.{events_of_all, Attends, StopsAmid, at_the_last, at_a_call, for_memory, out_of_tries, in_a_step, StopsEarly, CallStops, MessagesAreCounted}
 use Rattle.match_workers.proofs.Tellings.{telling_with-nil, told_after}
 use Rattle.match_workers.proofs.CallStops.{stops_in_call, told_reply}
 
@@ -147,13 +147,12 @@ stops-handing brief role tried tries round owed due before cs cs' rs rs' ms next
     (told_after (telling cs rs ms) (telling cs' rs' ms) next asked events (told_due brief role due (Owe round owed) cs cs' rs rs' ms is c r) told)
 
 -- a player that shows its messages has as many more as were counted
-pub messages_told : (brief : Brief) (role tries : ℕ) (cs cs' : Option (List Call)) (rs rs' : Option (List Reply)) (old new : List Handed) (messages : ℕ)
-    → Attends brief role tries (telling cs rs (Some old)) (telling cs' rs' (Some new)) messages → length new ≡ length old + messages
-messages_told brief role tries cs cs' rs rs' old new messages attends =
+pub messages_told : MessagesAreCounted
+messages_told brief role tries before after messages old new attends shown_before shown =
     let events = events_of_all brief role attends.steps in
     let last = events_of brief role finds_the_end in
-    let told : new ≡ old ++ filter_map message_in (events_of_all brief role (attends.steps ++ finds_the_end ∷ [])) = ap (λ (t : Telling). unwrap_or t.messages []) attends.told in
+    let whole = events_of_all brief role (attends.steps ++ finds_the_end ∷ []) in
+    let told : new ≡ old ++ filter_map message_in whole =
+    sym (ap (λ ms. unwrap_or ms []) shown) ∙ ap (λ (t : Telling). unwrap_or t.messages []) attends.told ∙ ap (λ ms. unwrap_or (told_with ms (filter_map message_in whole)) []) shown_before in
     let all = ap (λ es. length (filter_map message_in es)) (events_of_all-push brief role attends.steps finds_the_end) in
-    let parts = messages_in-append events last in
-    let sum = length-append old (filter_map message_in (events_of_all brief role (attends.steps ++ finds_the_end ∷ []))) in
-    omega (arith, ap length told, sum, all, parts, attends.count)
+    omega (arith, ap length told, length-append old (filter_map message_in whole), all, messages_in-append events last, attends.count)

@@ -1,5 +1,5 @@
 -- How a role of a match is attended.
-use Rattle.std.specs.Prelude.{◌≡◌, ℕ, ◌<◌, true, List, [], ◌∷◌, ◌++◌, length, All, Option, Some, ◌⊎◌}
+use Rattle.std.specs.Prelude.{◌≡◌, ℕ, ◌+◌, ◌<◌, true, List, [], ◌∷◌, ◌++◌, length, All, Option, Some, ◌⊎◌}
 use Rattle.std.specs.List.{flat_map, filter_map}
 use Rattle.call_history.specs.Told.{told_with}
 use Rattle.call_history.specs.declared.wire.AskFault.{AskFault}
@@ -8,6 +8,7 @@ use Rattle.match_desk.specs.declared.call.Reply.{Reply}
 use Rattle.match_messages.specs.declared.brief.Brief.{Brief}
 use Rattle.match_workers.specs.declared.attend_fault.AttendFault.{AttendFault}
 use Rattle.match_workers.specs.declared.attend_fault.AttendFault.TheVariants.{Stalled, Memory}
+use Rattle.match_workers.specs.Handing.{Handed}
 use Rattle.match_workers.specs.Events.{Event, makes, takes, message_in, Telling, telling_with}
 use Rattle.match_workers.specs.AttendFaults.{attend_fault}
 use Rattle.match_workers.specs.Steps.{Step, finds_the_end, events_of, goes_on, fault_after}
@@ -24,6 +25,11 @@ pub record Attends (brief : Brief) (role tries : ℕ) (before after : Telling) (
   pub within : length steps < tries
   pub told : after ≡ telling_with before (events_of_all brief role (steps ++ finds_the_end ∷ []))
   pub count : messages ≡ length (filter_map message_in (events_of_all brief role steps))
+
+-- what a player shows that shows its messages: as many more as were counted
+abbrev pub MessagesAreCounted : Type 0
+MessagesAreCounted = (brief : Brief) (role tries : ℕ) (before after : Telling) (messages : ℕ) (old new : List Handed)
+    → Attends brief role tries before after messages → before.messages ≡ Some old → after.messages ≡ Some new → length new ≡ length old + messages
 
 -- The events that happened, among these, when the worker stopped at a fault.
 pub data StopsAmid (whole : List Event) (last_fault : Option AttendFault) (fault : AttendFault) (events : List Event) : Type 0 where

@@ -3,10 +3,12 @@ use Rattle.std.specs.Prelude.{◌≡◌, ℕ, List, [], length, Option, Some, Re
 use mathlib.Core.List.{IsPrefix}
 use Rattle.call_history.specs.declared.journal.Entry.{Entry}
 use Rattle.call_history.specs.Parts.{part, calls_of, replies_of}
+use Rattle.call_history.specs.declared.wire.Wire as Wire
 use Rattle.match_desk.specs.declared.call.Call.{Call}
 use Rattle.match_desk.specs.declared.call.Reply.{Reply}
 use Rattle.match_messages.specs.declared.brief.Brief.{Brief}
 use Rattle.match_workers.specs.declared.attend_fault.AttendFault.{AttendFault}
+use Rattle.match_workers.specs.declared.player.Player as Player
 use Rattle.match_workers.specs.Handing.{Handed}
 use Rattle.match_workers.specs.Events.{Telling, telling}
 use Rattle.match_workers.specs.Attending.{Attends, StopsEarly}
@@ -17,20 +19,34 @@ abbrev pub HasEnded : Brief → ℕ → ℕ → Telling → Telling → Result �
 HasEnded brief role tries before after (Ok messages) = Attends brief role tries before after messages
 HasEnded brief role tries before after (Err fault) = StopsEarly brief role tries before after fault
 
--- The role was attended with this player over a line that has these entries of the history, and this was its end.
-pub record IsEndOf {P : Type 0} (handed : P → Option (List Handed)) (brief : Brief) (tries role : ℕ) (player : P) (entries : List (Entry Call Reply)) (end : Result ℕ AttendFault) : Type 0 where
-  -- the player, as it was left
-  pub left : P
+-- The role was attended with this player over this wire, and this was its end: the wire stands for the same line as before, and wire
+-- and player show the events of attending.
+pub record IsAttended {P W : Type 0} (w : Wire.Ghosts W Call Reply) (p : Player.Ghosts P) (brief : Brief) (role tries : ℕ) (player player' : P) (wire wire' : W) (end : Result ℕ AttendFault) : Type 0 where
+  pub line : w.same_line wire wire'
+  pub ended : HasEnded brief role tries
+      (telling (w.calls wire) (w.replies wire) (p.handed player))
+      (telling (w.calls wire') (w.replies wire') (p.handed player')) end
+
+-- The role was attended with this player, which was left so, over a line that has these entries of the history, and this was its end.
+pub record IsEndOf {P : Type 0} (handed : P → Option (List Handed)) (brief : Brief) (tries role : ℕ) (player player_left : P) (entries : List (Entry Call Reply)) (end : Result ℕ AttendFault) : Type 0 where
   -- the replies that came to the worker: the first replies to its calls, and all of them if it found the end of the match
   pub replies : List Reply
   pub are_first : IsPrefix replies (replies_of entries)
   pub are_all : IsOk end → replies ≡ replies_of entries
   pub ended : HasEnded brief role tries
       (telling (Some []) (Some []) (handed player))
-      (telling (Some (calls_of entries)) (Some replies) (handed left)) end
+      (telling (Some (calls_of entries)) (Some replies) (handed player_left)) end
 
--- Each role was attended with the player at its place, over the role's line. The ends stand in the order of the roles.
-pub record AreEndsOf {P : Type 0} (handed : P → Option (List Handed)) (brief : Brief) (tries : ℕ) (players : List P) (history : List (Entry Call Reply)) (ends : List (Result ℕ AttendFault)) : Type 0 where
-  pub one_each : length players ≡ length brief.roles → length ends ≡ length brief.roles
-  pub each : (role : ℕ) (end : Result ℕ AttendFault) → slice_get ends role ≡ Some end
-      → (player : P) × (slice_get players role ≡ Some player) × IsEndOf handed brief tries role player (part (line_of role) history) end
+-- the end at this place is that of the role, with the player at its place, over the role's line
+pub record IsEndAt {P : Type 0} (handed : P → Option (List Handed)) (brief : Brief) (tries : ℕ) (players left : List P) (history : List (Entry Call Reply)) (role : ℕ) (end : Result ℕ AttendFault) : Type 0 where
+  pub player : P
+  pub is_player : slice_get players role ≡ Some player
+  pub player_left : P
+  pub is_left : slice_get left role ≡ Some player_left
+  pub is_end : IsEndOf handed brief tries role player player_left (part (line_of role) history) end
+
+-- Each role was attended with the player at its place, over the role's line. The ends, and the players as they were left, stand in the
+-- order of the roles.
+pub record AreEndsOf {P : Type 0} (handed : P → Option (List Handed)) (brief : Brief) (tries : ℕ) (players left : List P) (history : List (Entry Call Reply)) (ends : List (Result ℕ AttendFault)) : Type 0 where
+  pub one_each : length left ≡ length ends
+  pub each : (role : ℕ) (end : Result ℕ AttendFault) → slice_get ends role ≡ Some end → IsEndAt handed brief tries players left history role end

@@ -7,4 +7,5 @@ pub mod Steps
 pub mod Attending
 pub mod LineParts
 pub mod Ends
+pub mod Refereeing
 pub mod Internal

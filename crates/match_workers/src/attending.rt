@@ -9,7 +9,8 @@ ghost use Rattle.match_workers.specs.Handing.{seconds_for};
 ghost use Rattle.match_workers.specs.Events.{Event, telling, telling_with};
 ghost use Rattle.match_workers.specs.AttendFaults.{next_fault, answer_fault};
 ghost use Rattle.match_workers.specs.Steps.{answer_call, handing_over};
-ghost use Rattle.match_workers.specs.Attending.{Attends, StopsEarly, StopsAmid, CallStops};
+ghost use Rattle.match_workers.specs.Attending.{StopsAmid, CallStops};
+ghost use Rattle.match_workers.specs.Ends.{IsAttended};
 
 use crate::attend_fault::AttendFault;
 use crate::player::Player;
@@ -155,13 +156,7 @@ pub fn attend_shared<W: Wire<Call = Call, Reply = Reply>, P: Player>(
     tries: u64,
 ) -> Result<u64, AttendFault>
     requires { role < length brief.now.roles }
-    ensures line { W.same_line wire.old wire.new }
-    ensures attends { IfOk result (λ messages. Attends brief.now role tries
-        (telling (W.calls wire.old) (W.replies wire.old) (P.handed player.old))
-        (telling (W.calls wire.new) (W.replies wire.new) (P.handed player.new)) messages) }
-    ensures early { IfErr result (λ fault. StopsEarly brief.now role tries
-        (telling (W.calls wire.old) (W.replies wire.old) (P.handed player.old))
-        (telling (W.calls wire.new) (W.replies wire.new) (P.handed player.new)) fault) }
+    ensures { IsAttended W.Wire P.Player brief.now role tries player.old player.new wire.old wire.new result }
 {
     let mut messages = 0;
     for _ in 0..tries {
@@ -193,13 +188,7 @@ pub fn attend<W: Wire<Call = Call, Reply = Reply>, P: Player>(
     tries: u64,
 ) -> Result<u64, AttendFault>
     requires { role < length brief.now.roles }
-    ensures line { W.same_line wire.old wire.new }
-    ensures attends { IfOk result (λ messages. Attends brief.now role tries
-        (telling (W.calls wire.old) (W.replies wire.old) (P.handed player.old))
-        (telling (W.calls wire.new) (W.replies wire.new) (P.handed player.new)) messages) }
-    ensures early { IfErr result (λ fault. StopsEarly brief.now role tries
-        (telling (W.calls wire.old) (W.replies wire.old) (P.handed player.old))
-        (telling (W.calls wire.new) (W.replies wire.new) (P.handed player.new)) fault) }
+    ensures { IsAttended W.Wire P.Player brief.now role tries player.old player.new wire.old wire.new result }
 {
     attend_shared(alloc, wire, player, &brief.shared(), role, tries)
 }

@@ -21,11 +21,12 @@ use std::alloc::AllocError;
 /// The limit of calls, and of replies, that wait on a line.
 pub const ROOM: u64 = 2;
 
-/// The lines of the attended roles, and how attending each role ended, both in the order of the roles.
+/// The lines of the attended roles, how attending each role ended, and the players, all in the order of the roles.
 #[derive(Drop)]
-pub struct Finished<O: Object> {
+pub struct Finished<O: Object, P> {
     pub lines: Vec<LineEnd<O>>,
     pub ends: Vec<Result<u64, AttendFault>>,
+    pub players: Vec<P>,
 }
 
 /// Ends the posting of a line, and takes the replies that still wait.
@@ -39,25 +40,34 @@ pub fn finish_line<O: Object>(line: RingLine<O>) -> LineEnd<O>
     end
 }
 
-/// Finishes the lines of the attended roles. The lines and the ends go into lists that are empty and have room for them.
-pub fn finish_all<O: Object + Drop>(
-    attended: Vec<Attended<RingWire<O>>>,
-    room: Finished<O>,
-) -> Result<Finished<O>, AllocError>
+/// Finishes the lines of the attended roles. The lines, the ends and the players go into lists that are empty and have room for
+/// them.
+pub fn finish_all<O: Object + Drop, P: Drop>(
+    attended: Vec<Attended<P, RingWire<O>>>,
+    room: Finished<O, P>,
+) -> Result<Finished<O, P>, AllocError>
     requires no_lines { room.lines.items ≡ [] }
     requires no_ends { room.ends.items ≡ [] }
+    requires no_players { room.players.items ≡ [] }
     ensures lines { IfOk result (λ finished. AreFinishedOf (map (λ a. a.wire.line) attended.items) finished.lines.items) }
     ensures ends { IfOk result (λ finished. finished.ends.items ≡ map (λ a. a.end) attended.items) }
+    ensures players { IfOk result (λ finished. finished.players.items ≡ map (λ a. a.player) attended.items) }
 {
     let Finished {
         mut lines,
         mut ends,
+        mut players,
     } = room;
-    for Attended { wire, end } in attended {
+    for Attended { wire, end, player } in attended {
         lines.push(finish_line(wire.end()))?;
         ends.push(end)?;
+        players.push(player)?;
     }
-    Ok(Finished { lines, ends })
+    Ok(Finished {
+        lines,
+        ends,
+        players,
+    })
 }
 
 /// Serves the calls that still wait at the desk of a match, and closes it.

@@ -8,6 +8,7 @@ mod attend_fault;
 mod attending;
 mod finishing;
 mod holder;
+pub mod laws;
 mod player;
 mod refereeing;
 mod seat;

@@ -1,16 +1,13 @@
 //! A whole match between players.
-ghost use Rattle.std.specs.Prelude.{◌≡◌, ◌∷◌, ◌++◌, [], ◌+◌, ◌<◌, map, IfOk, OnOk, length, vec_len};
+ghost use Rattle.std.specs.Prelude.{◌≡◌, ◌∷◌, ◌++◌, [], ◌+◌, ◌<◌, List, map, IfOk, OnOk, length, vec_len};
 ghost use Rattle.call_history.specs.Faults.{ask_fault};
 ghost use Rattle.call_history.specs.Limits.{max_entries};
-ghost use Rattle.call_history.specs.RingLines.{posted_calls, taken_replies, SameLine, SamePorts, AreEndsOf as AreDeskEnds, IsLineOf, IsNewLine};
-ghost use Rattle.match_desk.specs.Headline.{HasHeadline};
-ghost use Rattle.match_desk.specs.ManagerValue.{opening};
+ghost use Rattle.call_history.specs.RingLines.{posted_calls, taken_replies, SameLine, SamePorts, AreEndsOf, IsLineOf, IsNewLine};
 ghost use Rattle.match_desk.specs.declared.call.Reply.TheVariants.{Opened as IsOpened};
 ghost use Rattle.match_messages.specs.StartRules.{sentences_of};
-ghost use Rattle.match_messages.specs.declared.brief.Brief.{Brief as Told};
-ghost use Rattle.match_workers.specs.Briefs.{AreRoleNames, IsBriefOf};
-ghost use Rattle.match_workers.specs.Ends.{AreEndsOf};
-ghost use Rattle.match_workers.specs.LineParts.{open_call, OpensMatch, AreRoleLines, AreCounts};
+ghost use Rattle.match_workers.specs.Briefs.{AreRoleNames};
+ghost use Rattle.match_workers.specs.LineParts.{open_call};
+ghost use Rattle.match_workers.specs.Refereeing.{IsRefereed};
 ghost use Rattle.match_workers.specs.declared.refereeing.RefereeFault.TheVariants.{Memory as IsMemory};
 ghost use Rattle.match_workers.specs.RefereeFaults.{referee_fault};
 ghost use Rattle.match_workers.specs.Internal.LeftLines.{AreSeatLines, HasFinished, AreLeftLines};
@@ -110,12 +107,13 @@ struct Plan<'r, P> {
     tries: u64,
 }
 
-/// A match that is over: its desk, all lines, which post no more, and how attending each role ended.
+/// A match that is over: its desk, all lines, which post no more, how attending each role ended, and the players.
 #[derive(Drop)]
-struct Played<O: Object> {
+struct Played<O: Object, P> {
     desk: RingDesk<O>,
     lines: Vec<LineEnd<O>>,
     ends: Vec<Result<u64, AttendFault>>,
+    players: Vec<P>,
 }
 
 /// The names of the game's roles, in their order.
@@ -227,7 +225,7 @@ fn attend_match<G, P, R>(
     holder: DeskHolder<Manager<G>>,
     others: Vec<RingLine<Manager<G>>>,
     plan: Plan<'_, P>,
-) -> Result<Played<Manager<G>>, AllocError>
+) -> Result<Played<Manager<G>, P>, AllocError>
 where
     G: Game + Drop + Send,
     G::State: Send,
@@ -237,13 +235,12 @@ where
     requires zeroth { holder.line.number ≡ 0 }
     requires first { IsLineOf holder.desk.ports holder.line }
     requires seats { AreSeatLines holder.desk.ports others.items }
-    requires roles { length others.items ≡ length plan.brief.roles }
     requires ports { length holder.desk.ports ≡ length others.items + 1 }
     ensures ports { IfOk result (λ played. SamePorts holder.desk.ports played.desk.ports) }
     ensures games { IfOk result (λ played. played.desk.journal.object.games ≡ holder.desk.journal.object.games) }
-    ensures lines { IfOk result (λ played. AreDeskEnds played.desk.ports played.lines.items) }
+    ensures lines { IfOk result (λ played. AreEndsOf played.desk.ports played.lines.items) }
     ensures first { IfOk result (λ played. HasFinished holder.line played.lines.items) }
-    ensures ends { IfOk result (λ played. AreLeftLines P.handed plan.entry.brief plan.entry.tries plan.entry.players.items played.lines.items played.ends.items) }
+    ensures ends { IfOk result (λ played. AreLeftLines P.handed plan.entry.brief plan.entry.tries plan.entry.players.items played.players.items played.lines.items played.ends.items) }
 {
     lines_stay::<Manager<G>>();
     new_lines_are_lines::<Manager<G>>();
@@ -257,18 +254,29 @@ where
     let room = Finished {
         lines: Vec::with_capacity(alloc, count + 1)?,
         ends: Vec::with_capacity(alloc, count)?,
+        players: Vec::with_capacity(alloc, count)?,
     };
     let bell = Arc::new(alloc, Bell::new())?;
     let wires = wires_over(alloc, others, &bell)?;
     let seats = seat_players(alloc, &brief, wires, players)?;
     let Attendance { holder, attended } = attend_all(rt, alloc, &bell, holder, seats, tries)?;
     let DeskHolder { desk, line } = holder;
-    let Finished { mut lines, ends } = finish_all(attended, room)?;
+    let Finished {
+        mut lines,
+        ends,
+        players,
+    } = finish_all(attended, room)?;
     lines.push(finish_line(line))?;
-    Ok(Played { desk, lines, ends })
+    Ok(Played {
+        desk,
+        lines,
+        ends,
+        players,
+    })
 }
 
-/// Referees a match of the game between these players to its end, as `referee` does, with rules that are lent.
+/// Referees a match of the game between these players to its end, as `referee` does, with rules that are lent. The players come back,
+/// in the order of the roles: each was handed the messages of its role, and nothing after them.
 pub fn referee_shared<G, P, R>(
     rt: &R,
     alloc: Global,
@@ -277,7 +285,7 @@ pub fn referee_shared<G, P, R>(
     rules: StartRules<'_>,
     players: Vec<P>,
     tries: u64,
-) -> Result<Refereed<G>, RefereeFault>
+) -> Result<(Refereed<G>, Vec<P>), RefereeFault>
 where
     G: Game + Drop + Send,
     G::State: Send,
@@ -286,20 +294,8 @@ where
     R: Threads + Wait + Sync,
     requires { vec_len players ≡ length setup.players }
 
-    ensures headline { IfOk result (λ r. HasHeadline G.rules ((G.rules game).roles + 1) r.closed.object r.closed.history.items r.closed.made_by_line.items) }
-
-    // The history begins at the given game without a match, and its first line opened the match with the given setup.
-    ensures game { IfOk result (λ r. opening r.closed.object ≡ record { games = game ∷ []; matches = [] }) }
-    ensures first_line { IfOk result (λ r. OpensMatch setup r.closed.history.items) }
-
-    // Each other line is a role's, and made only that role's calls.
-    ensures role_lines { IfOk result (λ r. AreRoleLines setup.id (G.rules game).roles r.closed.history.items) }
-    ensures counts { IfOk result (λ r. AreCounts r.closed.history.items r.closed.made_by_line.items) }
-
-    ensures one_end_each { IfOk result (λ r. length r.ends.items ≡ (G.rules game).roles) }
-
-    // Each player got this match's data, and was attended as the role at its place, over the role's line.
-    ensures ends { IfOk result (λ r. (told : Told) × IsBriefOf (G.rules game) setup (sentences_of rules.entry).items told × AreEndsOf P.handed told tries players.items r.closed.history.items r.ends.items) }
+    ensures { IfOk result (λ r. IsRefereed G.rules P.handed game setup (sentences_of rules.entry).items tries players.items r.1.items
+        r.0.closed.object r.0.closed.history.items r.0.closed.made_by_line.items r.0.ends.items) }
 {
     lines_stay::<Manager<G>>();
     new_lines_are_lines::<Manager<G>>();
@@ -314,9 +310,14 @@ where
     };
     let (mut holder, others) = open_desk(alloc, game)?;
     open_match(&mut holder, setup)?;
-    let Played { desk, lines, ends } = attend_match(rt, alloc, holder, others, plan)?;
+    let Played {
+        desk,
+        lines,
+        ends,
+        players,
+    } = attend_match(rt, alloc, holder, others, plan)?;
     let closed = close_match(desk, lines)?;
-    Ok(Refereed { closed, ends })
+    Ok((Refereed { closed, ends }, players))
 }
 
 /// Referees a match of the game between these players to its end. There is one player for each name in the setup.
@@ -347,21 +348,10 @@ where
     R: Threads + Wait + Sync,
     requires { vec_len players ≡ length setup.players }
 
-    ensures headline { IfOk result (λ r. HasHeadline G.rules ((G.rules game).roles + 1) r.closed.object r.closed.history.items r.closed.made_by_line.items) }
-
-    // The history begins at the given game without a match, and its first line opened the match with the given setup.
-    ensures game { IfOk result (λ r. opening r.closed.object ≡ record { games = game ∷ []; matches = [] }) }
-    ensures first_line { IfOk result (λ r. OpensMatch setup r.closed.history.items) }
-
-    // Each other line is a role's, and made only that role's calls.
-    ensures role_lines { IfOk result (λ r. AreRoleLines setup.id (G.rules game).roles r.closed.history.items) }
-    ensures counts { IfOk result (λ r. AreCounts r.closed.history.items r.closed.made_by_line.items) }
-
-    ensures one_end_each { IfOk result (λ r. length r.ends.items ≡ (G.rules game).roles) }
-
-    // Each player got this match's data, and was attended as the role at its place, over the role's line.
-    ensures ends { IfOk result (λ r. (told : Told) × IsBriefOf (G.rules game) setup rules.items told × AreEndsOf P.handed told tries players.items r.closed.history.items r.ends.items) }
+    ensures { IfOk result (λ r. (left : List _) × IsRefereed G.rules P.handed game setup rules.items tries players.items left
+        r.closed.object r.closed.history.items r.closed.made_by_line.items r.ends.items) }
 {
     let rules = StartRules::Sentences(&rules);
-    referee_shared(rt, alloc, game, setup, rules, players, tries)
+    let (refereed, _players) = referee_shared(rt, alloc, game, setup, rules, players, tries)?;
+    Ok(refereed)
 }

@@ -14,9 +14,10 @@ pub struct Seat<'a, P, W> {
     ghost is_role: { role < length brief.now.roles },
 }
 
-/// The result of attending a role.
+/// The result of attending a role: its wire and its player come back.
 #[derive(Drop)]
-pub struct Attended<W> {
+pub struct Attended<P, W> {
     pub wire: W,
     pub end: Result<u64, AttendFault>,
+    pub player: P,
 }

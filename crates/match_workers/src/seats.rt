@@ -22,9 +22,9 @@ use std::thread::{Promise, PromisedHandle, Threads};
 
 /// The result of `attend_all`: the desk, and one result for each seat in order.
 #[derive(Drop)]
-pub struct Attendance<O: Object, W> {
+pub struct Attendance<O: Object, P, W> {
     pub holder: DeskHolder<O>,
-    pub attended: Vec<Attended<W>>,
+    pub attended: Vec<Attended<P, W>>,
 }
 
 /// The promise that a seat's thread gives of its result.
@@ -37,7 +37,8 @@ struct LeftBy<'a, P, W> {
     wire: Snapshot<W>,
 }
 
-impl<'a, P: Player, W: Wire<Call = Call, Reply = Reply>> Promise<Attended<W>> for LeftBy<'a, P, W> {
+impl<'a, P: Player, W: Wire<Call = Call, Reply = Reply>> Promise<Attended<P, W>>
+    for LeftBy<'a, P, W> {
     ghost use Rattle.match_workers.specs.Internal.Seats.{IsLeftBy};
 
     ghost kept_by = { λ p left. IsLeftBy W.Wire P.Player p.brief.now p.role p.tries p.player.value p.wire.value left };
@@ -88,7 +89,7 @@ fn attend_seat<P: Player + Drop, W: Wire<Call = Call, Reply = Reply>>(
     wire: W,
     tries: u64,
     bell: &Bell,
-) -> Attended<W>
+) -> Attended<P, W>
     requires { role < length brief.now.roles }
     ensures { IsLeftBy W.Wire P.Player brief.now role tries player wire result }
 {
@@ -96,7 +97,7 @@ fn attend_seat<P: Player + Drop, W: Wire<Call = Call, Reply = Reply>>(
     let mut wire = wire;
     let end = attend_shared(alloc, &mut wire, &mut player, brief, role, tries);
     bell.leave();
-    Attended { wire, end }
+    Attended { wire, end, player }
 }
 
 /// The roles of these seats.
@@ -148,14 +149,13 @@ fn abort_without<O: Object<Call = Call, Reply = Reply>>(
 }
 
 /// Joins the threads of seats. Their results go into `attended`, which is empty and has room for them.
-fn join_seats<'a, P: Player, W: Wire<Call = Call, Reply = Reply> + Drop, R: Threads>(
+fn join_seats<'a, P: Player + Drop, W: Wire<Call = Call, Reply = Reply> + Drop, R: Threads>(
     rt: &R,
-    handles: Vec<PromisedHandle<Attended<W>, LeftBy<'a, P, W>>>,
-    attended: Vec<Attended<W>>,
-) -> Result<Vec<Attended<W>>, AllocError>
+    handles: Vec<PromisedHandle<Attended<P, W>, LeftBy<'a, P, W>>>,
+    attended: Vec<Attended<P, W>>,
+) -> Result<Vec<Attended<P, W>>, AllocError>
     requires { attended.items ≡ [] }
-    ensures one_each { IfOk result (λ all. length all.items ≡ length handles.entry.items) }
-    ensures each { IfOk result (λ all. (k : ℕ) (left : _) → slice_get all.items k ≡ Some left → IsKept W.Wire P.Player handles.entry.items k left) }
+    ensures { IfOk result (λ all. (k : ℕ) (left : _) → slice_get all.items k ≡ Some left → IsKept W.Wire P.Player handles.entry.items k left) }
 {
     let mut attended = attended;
     for handle in handles {
@@ -176,7 +176,7 @@ pub fn attend_all<O, W, P, R>(
     holder: DeskHolder<O>,
     seats: Vec<Seat<'_, P, W>>,
     tries: u64,
-) -> Result<Attendance<O, W>, AllocError>
+) -> Result<Attendance<O, P, W>, AllocError>
 where
     O: Object<Call = Call, Reply = Reply> + Drop,
     W: Wire<Call = Call, Reply = Reply> + Drop + Send,
@@ -190,7 +190,7 @@ where
     thread::scope(
         thread::scope_env(),
         rt,
-        move |scope| -> Result<Attendance<O, W>, AllocError>
+        move |scope| -> Result<Attendance<O, P, W>, AllocError>
             requires sent { IsSend W.row × IsSend P.row }
             ensures line { IfOk result (λ a. a.holder.line ≡ holder.line) }
             ensures ports { IfOk result (λ a. SamePorts holder.desk.ports a.holder.desk.ports) }
@@ -216,7 +216,7 @@ where
                     player: Snapshot::of(&player),
                     wire: Snapshot::of(&wire),
                 };
-                let work = move || -> Attended<W>
+                let work = move || -> Attended<P, W>
                     requires { role < length brief.now.roles }
                     ensures { IsLeftBy W.Wire P.Player brief.entry.now role tries player wire result }
                 { attend_seat(alloc, brief, role, player, wire, tries, bell) };

@@ -39,23 +39,25 @@ module _ {O C R : Type 0} {G : Ghosts O C R} where
     pub one_each : length ends ≡ length lines
     pub each : (k : ℕ) (end : LineEnd O C R G) → slice_get ends k ≡ Some end → IsFinishedAt lines k end
 
-module _ {O : Type 0} {G : Ghosts O Call Reply} {P : Type 0} (handed : P → Option (List Handed)) (brief : Brief) (tries : ℕ) (players : List P) where
+module _ {O : Type 0} {G : Ghosts O Call Reply} {P : Type 0} (handed : P → Option (List Handed)) (brief : Brief) (tries : ℕ) (players left : List P) where
   -- the role was attended with the player at its place, over the line of this end
   pub record IsLeftLine (role : ℕ) (line : LineEnd O Call Reply G) (end : Result ℕ AttendFault) : Type 0 where
     pub number : line.line.number ≡ line_of role
     pub player : P
     pub is_player : slice_get players role ≡ Some player
-    -- the player, as it was left, and the replies that came to the worker
-    pub left : P
+    -- the player, as it was left
+    pub player_left : P
+    pub is_left : slice_get left role ≡ Some player_left
+    -- the replies that came to the worker
     pub replies : List Reply
     pub are_first : IsPrefix replies (taken_replies line.line)
     pub ended : HasEnded brief role tries
         (telling (Some []) (Some []) (handed player))
-        (telling (Some (posted_calls line.line)) (Some replies) (handed left)) end
+        (telling (Some (posted_calls line.line)) (Some replies) (handed player_left)) end
 
   -- each role was attended, over the line of one of these ends
   pub record AreLeftLines (lines : List (LineEnd O Call Reply G)) (ends : List (Result ℕ AttendFault)) : Type 0 where
-    pub one_each : length players ≡ length brief.roles → length ends ≡ length brief.roles
+    pub one_each : length left ≡ length ends
     pub each : (role : ℕ) (end : Result ℕ AttendFault) → slice_get ends role ≡ Some end
         → (line : LineEnd O Call Reply G) × Contains lines line × IsLeftLine role line end
     -- no line belongs to a role that was not attended

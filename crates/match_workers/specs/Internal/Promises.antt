@@ -10,7 +10,7 @@ use Rattle.match_workers.specs.declared.seats.LeftBy.{LeftBy}
 use Rattle.match_workers.specs.Internal.Seats.{IsLeftBy}
 
 -- the result of the thread at this place keeps the promise that it was started with
-pub record IsKept {P W : Type 0} (w : Wire.Ghosts W Call Reply) (p : Player.Ghosts P) (handles : List (PromisedHandle (Attended W) (LeftBy P W))) (k : ℕ) (left : Attended W) : Type 0 where
-  pub handle : PromisedHandle (Attended W) (LeftBy P W)
+pub record IsKept {P W : Type 0} (w : Wire.Ghosts W Call Reply) (p : Player.Ghosts P) (handles : List (PromisedHandle (Attended P W) (LeftBy P W))) (k : ℕ) (left : Attended P W) : Type 0 where
+  pub handle : PromisedHandle (Attended P W) (LeftBy P W)
   pub is_handle : slice_get handles k ≡ Some handle
   pub left_by : IsLeftBy w p handle.promise.brief.now handle.promise.role handle.promise.tries handle.promise.player.value handle.promise.wire.value left

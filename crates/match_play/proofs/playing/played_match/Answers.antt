@@ -5,14 +5,9 @@ returns g c =
     let refereed = c.in_ok-refereed.ensures in
     record {
       desk = c.in_ok-refereed.refereed.closed.object;
-      games = refereed.game;
       ended = c.in_ok-record.ensures.ended;
       made_by_line = c.in_ok-refereed.refereed.closed.made_by_line.items;
-      headline = refereed.headline;
-      opened = refereed.opened;
-      lines = refereed.lines;
-      told = refereed.ends.0;
-      is_told = refereed.ends.1;
       ends = c.in_ok-refereed.refereed.ends.items;
-      attended = refereed.ends.2;
+      left = refereed.0;
+      refereed = refereed.1;
     }

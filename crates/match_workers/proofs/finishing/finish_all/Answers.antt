@@ -1,10 +1,14 @@
-use Rattle.std.proofs.Common.{◌≡◌, ◌∙◌, [], ◌∷◌, ◌+◌, ◌++◌, map, drop, length, length-append, append_assoc, option_map, sym, ap, subst, arith}
+use Rattle.std.proofs.Common.{◌≡◌, ◌∙◌, List, [], ◌∷◌, ◌+◌, ◌++◌, map, drop, length, length-append, append_assoc, option_map, sym, ap, subst, arith}
 use Rattle.std.specs.Vec.Iter.{into_iter_items}
 use Rattle.std.proofs.lemmas.List.{length-map}
 use Rattle.std.proofs.lemmas.Option.{slice_get-map}
 use Rattle.match_workers.specs.Internal.LeftLines.{IsFinishedOf, IsFinishedAt}
 use Rattle.match_workers.proofs.Places.{EachAt-push, first_of}
 use Rattle.match_workers.proofs.finishing.finish_all.Goals as goal
+
+-- one more of the rest has come
+one_more : {A B : Type 0} (f : A → B) (come come' : List B) (a : A) (rest before : List A) (all : List B) → before ≡ a ∷ rest → come' ≡ come ++ f a ∷ [] → come ++ map f before ≡ all → come' ++ map f rest ≡ all
+one_more f come come' a rest before all is more so = ap (λ l. l ++ map f rest) more ∙ append_assoc come (f a ∷ []) (map f rest) ∙ sym (ap (λ l. come ++ map f l) is) ∙ so
 
 pub loop-wire-preserved : goal.loop-wire-preserved
 loop-wire-preserved g c =
@@ -24,8 +28,8 @@ loop-wire-preserved g c =
       left = omega (arith, was.left, steps.1, count);
       each = EachAt-push (IsFinishedAt (map (λ x. x.wire.line) all)) old c.push.new.self.items c.finish_line.result pushed was.each
           (a.wire.line, slice_get-map (λ x. x.wire.line) all (length old) ∙ ap (λ o. option_map (λ x. x.wire.line) o) first.at, finished);
-      ends = ap (λ l. l ++ map (λ x. x.end) rest) c.in_ok-push-2.ensures.items ∙ append_assoc c.loop-wire.ends.items (a.end ∷ []) (map (λ x. x.end) rest)
-          ∙ sym (ap (λ l. c.loop-wire.ends.items ++ map (λ x. x.end) l) steps.0) ∙ was.ends;
+      ends = one_more (λ x. x.end) c.loop-wire.ends.items c.push-in-loop-wire.new.self.items a rest _ _ steps.0 c.in_ok-push-2.ensures.items was.ends;
+      players = one_more (λ x. x.player) c.loop-wire.players.items c.push-in-loop-wire-2.new.self.items a rest _ _ steps.0 c.in_ok-push-3.ensures.items was.players;
     }
 
 pub returns-clause-lines : goal.returns-clause-lines

@@ -11,4 +11,5 @@ invariant-loop-wire g l = record {
   left : into_iter_len l.wire-iterator + length l.lines.items ≡ length l.fn.attended.items;
   each : EachAt (IsFinishedAt (map (λ a. a.wire.line) l.fn.attended.items)) l.lines.items;
   ends : l.ends.items ++ map (λ a. a.end) (into_iter_items l.wire-iterator) ≡ map (λ a. a.end) l.fn.attended.items;
+  players : l.players.items ++ map (λ a. a.player) (into_iter_items l.wire-iterator) ≡ map (λ a. a.player) l.fn.attended.items;
 }

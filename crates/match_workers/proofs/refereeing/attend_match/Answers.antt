@@ -1,4 +1,4 @@
-use Rattle.std.proofs.Common.{◌≡◌, ◌∙◌, refl, ap, sym, subst}
+use Rattle.std.proofs.Common.{◌∙◌, refl, ap, sym, subst}
 use Rattle.std.specs.Prelude.{Contains}
 use Rattle.std.proofs.lemmas.List.Elements.{All-push, Contains-push}
 use Rattle.call_history.specs.RingLines.{IsLineOf, AreEndsOf}
@@ -26,5 +26,5 @@ returns-clause-first g c = (
 pub returns-clause-ends : goal.returns-clause-ends
 returns-clause-ends g c =
     left_lines _ g.P.Player (λ x. refl) (λ x. refl) (λ x y s. s) c.args.plan.brief c.args.plan.tries c.args.plan.players.items c.in_ok-wires.wires.items c.in_ok-seats.seats.items c.in_ok-holder.field-0.attended.items
-    c.args.others.items c.in_ok-lines.field-0.lines.items c.in_ok-seats.ensures c.in_ok-holder.ensures.left c.in_ok-wires.ensures c.in_ok-lines.ensures.lines c.args.holder.desk.ports c.requires.seats c.requires.roles
-    c.push.new.self.items c.finish_line.result c.in_ok-push.ensures.items (c.finish_line.ensures.same.0 ∙ ap (λ l. l.number) c.in_ok-holder.ensures.line ∙ c.requires.zeroth) c.in_ok-lines.field-0.ends.items c.in_ok-lines.ensures.ends
+    c.args.others.items c.in_ok-lines.field-0.lines.items c.in_ok-seats.ensures c.in_ok-holder.ensures.left c.in_ok-wires.ensures c.in_ok-lines.ensures.lines c.args.holder.desk.ports c.requires.seats
+    c.in_ok-lines.field-0.players.items c.in_ok-lines.ensures.players c.push.new.self.items c.finish_line.result c.in_ok-push.ensures.items (c.finish_line.ensures.same.0 ∙ ap (λ l. l.number) c.in_ok-holder.ensures.line ∙ c.requires.zeroth) c.in_ok-lines.field-0.ends.items c.in_ok-lines.ensures.ends

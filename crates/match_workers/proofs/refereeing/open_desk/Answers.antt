@@ -1,5 +1,4 @@
-use Rattle.std.proofs.Common.{◌≡◌, ◌+◌, ◌<◌, [], length, drop, length-drop, get_or, ap, sym, subst, ◌∙◌, arith}
-use Rattle.std.proofs.lemmas.Option.{slice_get_within, get_or_from_slice_get}
+use Rattle.std.proofs.Common.{◌+◌, ◌<◌, length, sym, subst, arith}
 use Rattle.call_history.specs.RingLines.{IsNewLine}
 use Rattle.match_workers.proofs.Places.{behind_first_at}
 use Rattle.match_workers.proofs.refereeing.open_desk.Goals as goal

@@ -19,53 +19,38 @@ attend_match-requires-clause-seats g c κs within =
     let opened = c.in_ok-holder.ensures in
     seats_of_ports c.new_lines_are_lines.ensures.stay c.in_ok-holder.holder.desk.ports c.open_match.new.holder.desk.ports c.in_ok-holder.others.items c.open_match.ensures.ports (omega (arith, opened.desk, opened.one_each)) opened.seats
 
-pub attend_match-requires-clause-roles : goal.attend_match-requires-clause-roles
-attend_match-requires-clause-roles g c κs within = c.in_ok-holder.ensures.one_each ∙ sym (ap (λ (b : Brief). length b.roles) c.brief_of-brief.ensures ∙ c.in_ok-roles.ensures.one_each)
-
 pub attend_match-requires-clause-ports : goal.attend_match-requires-clause-ports
 attend_match-requires-clause-ports g c κs within = omega (arith, c.in_ok-holder.ensures.desk, c.in_ok-holder.ensures.one_each, c.open_match.ensures.ports.count)
 
 pub close_match-requires : goal.close_match-requires
 close_match-requires g c = record { lines = c.in_ok-desk.ensures.lines }
 
-pub returns-clause-headline : goal.returns-clause-headline
-returns-clause-headline g c =
+pub returns : goal.returns
+returns g c =
+    let rules = g.G.Game.rules c.args.game in
+    let opened = c.in_ok-holder.ensures in
+    let played = c.in_ok-desk.field-0 in
+    let left = c.in_ok-desk.ensures in
     let closed = c.in_ok-closed.closed in
-    let lines : length c.in_ok-desk.field-0.desk.ports ≡ (g.G.Game.rules c.args.game).roles + 1 = c.in_ok-desk.ensures.ports.count ∙ c.open_match.ensures.ports.count ∙ c.in_ok-holder.ensures.desk in
-    subst (λ n. HasHeadline g.G.Game.rules n closed.object closed.history.items closed.made_by_line.items) lines c.in_ok-closed.ensures.headline
-
-pub returns-clause-game : goal.returns-clause-game
-returns-clause-game g c =
-    let games = c.in_ok-closed.ensures.games ∙ c.in_ok-desk.ensures.games ∙ c.open_match.ensures.games ∙ c.in_ok-holder.ensures.games in
-    ap (λ gs. record { games = gs; matches = [] }) games
-
-pub returns-clause-first_line : goal.returns-clause-first_line
-returns-clause-first_line g c =
-    let first = c.in_ok-holder.ensures.first in
-    opens_match c.args.setup c.in_ok-closed.closed.history.items c.open_match.new.holder.line c.in_ok-desk.field-0.lines.items
-    (c.open_match.ensures.line.0 ∙ first.number_is)
-    (c.in_ok-open_match.ensures.call ∙ ap (λ l. l ++ open_call c.args.setup ∷ []) first.posted)
-    (c.in_ok-open_match.ensures.reply ∙ ap (λ l. l ++ Opened ∷ []) first.taken)
-    c.in_ok-desk.ensures.first c.in_ok-closed.ensures.served c.in_ok-closed.ensures.replies
-
-pub returns-clause-one_end_each : goal.returns-clause-one_end_each
-returns-clause-one_end_each g c =
-    as_many g.P.Player.handed c.brief_of-brief.result c.args.tries c.args.players.items c.in_ok-closed.closed.history.items c.in_ok-desk.field-0.lines.items c.in_ok-desk.field-0.ends.items
-    c.in_ok-desk.ensures.ends c.in_ok-closed.ensures.served c.in_ok-closed.ensures.replies c.numbers_are_of_ends.ensures c.in_ok-desk.field-0.desk.ports (g.G.Game.rules c.args.game).roles c.in_ok-desk.ensures.lines
-    (c.in_ok-desk.ensures.ports.count ∙ c.open_match.ensures.ports.count ∙ c.in_ok-holder.ensures.desk) c.in_ok-closed.ensures.all
-
-pub returns-clause-role_lines : goal.returns-clause-role_lines
-returns-clause-role_lines g c =
-    role_lines g.P.Player.handed c.brief_of-brief.result c.args.tries c.args.players.items c.in_ok-closed.closed.history.items c.in_ok-desk.field-0.lines.items c.in_ok-desk.field-0.ends.items
-    c.in_ok-desk.ensures.ends c.in_ok-closed.ensures.served c.in_ok-closed.ensures.replies c.args.setup.id (g.G.Game.rules c.args.game).roles (ap (λ (b : Brief). b.id) c.brief_of-brief.ensures ∙ c.in_ok-id.ensures)
-    (as_many g.P.Player.handed c.brief_of-brief.result c.args.tries c.args.players.items c.in_ok-closed.closed.history.items c.in_ok-desk.field-0.lines.items c.in_ok-desk.field-0.ends.items
-    c.in_ok-desk.ensures.ends c.in_ok-closed.ensures.served c.in_ok-closed.ensures.replies c.numbers_are_of_ends.ensures c.in_ok-desk.field-0.desk.ports (g.G.Game.rules c.args.game).roles c.in_ok-desk.ensures.lines
-    (c.in_ok-desk.ensures.ports.count ∙ c.open_match.ensures.ports.count ∙ c.in_ok-holder.ensures.desk) c.in_ok-closed.ensures.all)
-
-pub returns-clause-ends : goal.returns-clause-ends
-returns-clause-ends g c = (
-  c.brief_of-brief.result,
-  subst (IsBriefOf (g.G.Game.rules c.args.game) c.args.setup _) (sym c.brief_of-brief.ensures) (record { id = c.in_ok-id.ensures; roles = c.in_ok-roles.ensures; rules_are = refl; start = refl; play = refl }),
-  ends_of g.P.Player.handed c.brief_of-brief.result c.args.tries c.args.players.items c.in_ok-closed.closed.history.items c.in_ok-desk.field-0.lines.items c.in_ok-desk.field-0.ends.items
-      c.in_ok-desk.ensures.ends c.in_ok-closed.ensures.served c.in_ok-closed.ensures.replies,
-)
+    let of_closed = c.in_ok-closed.ensures in
+    let brief = c.brief_of-brief.result in
+    let lines : length played.desk.ports ≡ rules.roles + 1 = left.ports.count ∙ c.open_match.ensures.ports.count ∙ opened.desk in
+    let as_roles =
+    as_many g.P.Player.handed brief c.args.tries c.args.players.items played.players.items closed.history.items played.lines.items played.ends.items left.ends of_closed.served of_closed.replies
+    c.numbers_are_of_ends.ensures played.desk.ports rules.roles left.lines lines of_closed.all in
+    record {
+      headline = subst (λ n. HasHeadline g.G.Game.rules n closed.object closed.history.items closed.made_by_line.items) lines of_closed.headline;
+      begins = ap (λ gs. record { games = gs; matches = [] }) (of_closed.games ∙ left.games ∙ c.open_match.ensures.games ∙ opened.games);
+      first_line = opens_match c.args.setup closed.history.items c.open_match.new.holder.line played.lines.items
+          (c.open_match.ensures.line.0 ∙ opened.first.number_is)
+          (c.in_ok-open_match.ensures.call ∙ ap (λ l. l ++ open_call c.args.setup ∷ []) opened.first.posted)
+          (c.in_ok-open_match.ensures.reply ∙ ap (λ l. l ++ Opened ∷ []) opened.first.taken)
+          left.first of_closed.served of_closed.replies;
+      role_lines = role_lines g.P.Player.handed brief c.args.tries c.args.players.items played.players.items closed.history.items played.lines.items played.ends.items left.ends of_closed.served of_closed.replies
+          c.args.setup.id rules.roles (ap (λ (b : Brief). b.id) c.brief_of-brief.ensures ∙ c.in_ok-id.ensures) as_roles;
+      counts = of_closed.made;
+      one_end_each = as_roles;
+      told = brief;
+      is_told = subst (IsBriefOf rules c.args.setup _) (sym c.brief_of-brief.ensures) (record { id = c.in_ok-id.ensures; roles = c.in_ok-roles.ensures; rules_are = refl; start = refl; play = refl });
+      attended = ends_of g.P.Player.handed brief c.args.tries c.args.players.items played.players.items closed.history.items played.lines.items played.ends.items left.ends of_closed.served of_closed.replies;
+    }

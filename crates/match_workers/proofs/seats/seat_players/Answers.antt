@@ -15,33 +15,7 @@ loop-role-preserved g c =
     record {
       wires = w.left;
       players = p.left;
-      wires_left = omega (arith, was.wires_left, c.in-Some.ensures.cases.1);
-      players_left = omega (arith, was.players_left, c.in-Some-next.ensures.cases.1);
       count = omega (arith, ap length c.in_ok-push.ensures.items, length-append old (seat ∷ []), was.count);
       each = EachAt-push (IsSeatOf c.args.brief.now c.args.players.items c.args.wires.items) old c.push.new.self.items seat c.in_ok-push.ensures.items was.each
           (subst (λ n. IsSeatOf c.args.brief.now c.args.players.items c.args.wires.items n seat) (sym was.count) here);
-    }
-
-pub returns : goal.returns
-returns g c =
-    let was = c.loop-role.invariant in
-    record {
-      one_each = λ players wires. omega (arith, players, wires, was.count, c.role_count-role-end.ensures);
-      each = was.each;
-    }
-
-pub returns-in_default : goal.returns-in_default
-returns-in_default g c =
-    let was = c.loop-role.invariant in
-    record {
-      one_each = λ players wires. absurd (omega (arith, wires, c.in_default.ensures, c.next.ensures.len, was.wires_left, c.loop-role-test.true, c.role_count-role-end.ensures));
-      each = was.each;
-    }
-
-pub returns-in_default-next : goal.returns-in_default-next
-returns-in_default-next g c =
-    let was = c.loop-role.invariant in
-    record {
-      one_each = λ players wires. absurd (omega (arith, players, c.in_default-next.ensures, c.next-in-loop-role.ensures.len, was.players_left, c.loop-role-test.true, c.role_count-role-end.ensures));
-      each = was.each;
     }

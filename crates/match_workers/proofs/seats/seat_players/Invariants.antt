@@ -1,5 +1,4 @@
-use Rattle.std.proofs.Common.{◌≡◌, ◌+◌, length, drop}
-use Rattle.std.specs.Vec.Iter.{into_iter_len}
+use Rattle.std.proofs.Common.{◌≡◌, length, drop}
 use Rattle.match_workers.specs.Internal.Seats.{IsSeatOf}
 use Rattle.match_workers.proofs.Places.{EachAt}
 use Rattle.match_workers.proofs.seats.seat_players.Given as goal
@@ -8,8 +7,6 @@ abbrev pub invariant-loop-role : goal.invariant-loop-role
 invariant-loop-role g l = record {
   wires : l.wires.rest.items ≡ drop l.role l.fn.wires.items;
   players : l.players.rest.items ≡ drop l.role l.fn.players.items;
-  wires_left : into_iter_len l.wires + l.role ≡ length l.fn.wires.items;
-  players_left : into_iter_len l.players + l.role ≡ length l.fn.players.items;
   count : length l.seats.items ≡ l.role;
   each : EachAt (IsSeatOf l.brief l.fn.players.items l.fn.wires.items) l.seats.items;
 }

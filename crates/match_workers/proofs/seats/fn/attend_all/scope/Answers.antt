@@ -42,16 +42,12 @@ pub returns : goal.returns
 returns g c =
     let was = c.loop-seat.invariant in
     let given = c.into_iter-seat-iterator.ensures.into_iter_gives in
-    let joined = c.in_ok-attended-2.ensures in
     record {
       line = refl;
       ports = c.serve_until-2.ensures.ports;
       opening = c.serve_until-2.ensures.opening;
-      left = record {
-        one_each = omega (arith, joined.one_each, was.left, given.1, c.len-started.ensures, c.loop-seat.handles.ok.0, c.if-started-count.false, c.len-count.ensures, c.captures.seats.ok.0);
-        each = λ k left is.
-            let kept = joined.each k left is in
-            subst (λ (seats : List (Seat g.row.P.Denot g.row.W.Denot)). IsLeftAt g.W.Wire g.P.Player c.captures.tries seats k left) given.0
-            (left_at g.W.Wire g.P.Player c.captures.tries _ k kept.handle.promise left (was.each k kept.handle kept.is_handle) kept.left_by);
-      };
+      left = λ k left is.
+          let kept = c.in_ok-attended-2.ensures k left is in
+          subst (λ (seats : List (Seat g.row.P.Denot g.row.W.Denot)). IsLeftAt g.W.Wire g.P.Player c.captures.tries seats k left) given.0
+          (left_at g.W.Wire g.P.Player c.captures.tries _ k kept.handle.promise left (was.each k kept.handle kept.is_handle) kept.left_by);
     }
