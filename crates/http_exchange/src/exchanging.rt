@@ -35,7 +35,7 @@ pub fn exchange<S: Read + Write>(
         × TakesNone HttpKind.Reply S.remaining sent stream.new fault))) }
 {
     let text = request_text(alloc, player, body)?;
-    send(stream, &text)?;
+    send(stream, &text.first, text.second)?;
     receive(alloc, stream, HttpKind::Reply)
 }
 
@@ -60,5 +60,5 @@ pub fn give_reply<S: Write>(
         ⊎ BreaksOff S.contents stream.old stream.new (reply_text body.now) fault) }
 {
     let text = reply_text(alloc, body)?;
-    send(stream, &text)
+    send(stream, &text.first, text.second)
 }

@@ -21,36 +21,67 @@ fn push_field(text: &mut Vec<u8>, name: &[u8], value: &[u8]) -> Result<(), Alloc
     push_line(text, value)
 }
 
-/// Adds the fields that describe a body, the empty line, and the body.
-fn push_body(alloc: Global, text: &mut Vec<u8>, body: &[u8]) -> Result<(), AllocError>
-    ensures { OnOk result (text.new.items ≡ text.old.items ++ described_body body.now) }
+/// The longest body that is copied behind its head, in bytes.
+const LONGEST_COPIED: usize = 65_536;
+
+/// A text that is written in two parts. A short body stands behind its head in the first, so that both go out in one write. A long
+/// one is the second, which is lent: no copy of it is made.
+#[derive(Drop)]
+pub(crate) struct PartedText<'a> {
+    pub(crate) first: Vec<u8>,
+    pub(crate) second: &'a [u8],
+}
+
+/// Adds the fields that describe a body, and the empty line.
+fn push_description(alloc: Global, text: &mut Vec<u8>, body: &[u8]) -> Result<(), AllocError>
+    ensures { OnOk result (text.new.items ++ body.now ≡ text.old.items ++ described_body body.now) }
 {
     let length = body.len().to_string(alloc)?;
     push_field(text, b"Content-Type", b"text/acl")?;
     push_field(text, b"Content-Length", length.as_bytes())?;
-    push_line(text, b"")?;
-    text.extend_from_slice(body)
+    push_line(text, b"")
+}
+
+/// The text with a description of the body and the body.
+fn with_body<'a>(alloc: Global, head: Vec<u8>, body: &'a [u8]) -> Result<PartedText<'a>, AllocError>
+    ensures { IfOk result (λ text. text.first.items ++ text.second.now ≡ head.items ++ described_body body.now) }
+{
+    let mut first = head;
+    push_description(alloc, &mut first, body)?;
+    if body.len() > LONGEST_COPIED {
+        return Ok(PartedText {
+            first,
+            second: body,
+        });
+    }
+    first.extend_from_slice(body)?;
+    Ok(PartedText {
+        first,
+        second: b"".as_slice(),
+    })
 }
 
 /// The request with that body to the player of that name.
-pub(crate) fn request_text(alloc: Global, player: &[u8], body: &[u8]) -> Result<Vec<u8>, AllocError>
-    ensures { IfOk result (λ text. text.items ≡ request_text player.now body.now) }
+pub(crate) fn request_text<'a>(
+    alloc: Global,
+    player: &[u8],
+    body: &'a [u8],
+) -> Result<PartedText<'a>, AllocError>
+    ensures { IfOk result (λ text. text.first.items ++ text.second.now ≡ request_text player.now body.now) }
 {
-    let mut text = Vec::new(alloc);
-    push_line(&mut text, b"POST / HTTP/1.0")?;
-    push_field(&mut text, b"Accept", b"text/delim")?;
-    push_field(&mut text, b"Sender", b"GAMESERVER")?;
-    push_field(&mut text, b"Receiver", player)?;
-    push_body(alloc, &mut text, body)?;
-    Ok(text)
+    let mut head = Vec::new(alloc);
+    push_line(&mut head, b"POST / HTTP/1.0")?;
+    push_field(&mut head, b"Accept", b"text/delim")?;
+    push_field(&mut head, b"Sender", b"GAMESERVER")?;
+    push_field(&mut head, b"Receiver", player)?;
+    with_body(alloc, head, body)
 }
 
 /// The reply with that body.
-pub(crate) fn reply_text(alloc: Global, body: &[u8]) -> Result<Vec<u8>, AllocError>
-    ensures { IfOk result (λ text. text.items ≡ reply_text body.now) }
+pub(crate) fn reply_text(alloc: Global, body: &[u8]) -> Result<PartedText<'_>, AllocError>
+    ensures { IfOk result (λ text. text.first.items ++ text.second.now ≡ reply_text body.now) }
 {
-    let mut text = Vec::new(alloc);
-    push_line(&mut text, b"HTTP/1.0 200 OK")?;
-    push_body(alloc, &mut text, body)?;
-    Ok(text)
+    let mut head = Vec::new(alloc);
+    push_line(&mut head, b"HTTP/1.0 200 OK")?;
+    with_body(alloc, head, body)
 }
