@@ -6,7 +6,6 @@ pub mod EscapedTexts
 pub mod LineLemmas
 pub mod Numbers
 pub mod Pieces
-pub mod Records
 pub mod Submits
 pub mod ToldCalls
 pub mod ToldHistories

@@ -9,9 +9,14 @@ use Rattle.call_history.specs.declared.journal.Entry.{Entry}
 use Rattle.match_desk.specs.declared.call.Call.{Call}
 use Rattle.match_desk.specs.declared.call.Call.TheVariants.{Open, Next, Submit, Miss, Query, Abort}
 use Rattle.match_desk.specs.declared.call.Reply.{Reply}
+use Rattle.match_desk.specs.ManagerValue.{ManagerValue}
 use Rattle.desk_text.specs.Escapes.{escaped_name, escaped_text, unescaped, all_unescaped}
 use Rattle.desk_text.specs.Words.{pieces, words, spaced, max_in_32_bits, max_in_64_bits}
 use Rattle.desk_text.specs.ScriptLines.{call_of_words, names_in, reply_text}
+
+-- a desk of these games before any call
+abbrev pub no_matches : {G M : Type 0} → List G → ManagerValue G M
+no_matches games = record { games = games; matches = [] }
 
 -- ---- what is written
 

@@ -1,6 +1,5 @@
 pub mod Words
 pub mod ScriptLines
-pub mod Script
 pub mod Escapes
 pub mod Account
 pub mod Replaying

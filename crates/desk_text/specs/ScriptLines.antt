@@ -14,7 +14,7 @@ use Rattle.match_desk.specs.declared.call.Reply.{Reply}
 use Rattle.match_desk.specs.declared.call.Reply.TheVariants.{Opened, Due as IsDue, Taken, Status, Aborting, Refused}
 use Rattle.match_desk.specs.declared.call.Refusal.{Refusal}
 use Rattle.match_desk.specs.declared.call.Refusal.TheVariants.{BadId, IdUsed, NoGame, WrongPlayers, BadName, BadClock, BadStrikes, DeskFull, NoMatch, NoRole, Over as IsOver, Stale, Twice, Ended}
-use Rattle.match_record.specs.RecordTree.{phase_text}
+use Rattle.record_reading.specs.RecordTree.{phase_text}
 use Rattle.game_core.specs.Numerals.{plain_number}
 use Rattle.desk_text.specs.Words.{words, spaced, max_number, max_in_32_bits, max_in_64_bits}
 

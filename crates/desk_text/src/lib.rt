@@ -1,7 +1,6 @@
-//! The desk in text: a script's lines as calls, replies as lines, and the answers to a whole script.
+//! The desk in text: a script's lines as calls, replies as lines, and the account of a desk.
 //!
-//! A line has a call's keyword and its words, with one space between each two; a reply has one line. `answer_script` answers
-//! the lines of a script one by one on a manager of its own, and appends the records of the matches. `push_history` writes
+//! A line has a call's keyword and its words, with one space between each two; a reply has one line. `push_history` writes
 //! the history of a desk as an account, and `replay` makes the calls of an account again.
 //!
 //! Free functions take the allocator first.
@@ -13,13 +12,12 @@ pub mod laws;
 mod lines;
 mod replaying;
 mod reply_lines;
-mod script;
 mod script_lines;
 mod told_calls;
 mod words;
 
 pub use account::push_history;
+pub use lines::first_line;
 pub use replaying::{ReplayFault, Replayed, replay};
 pub use reply_lines::{push_reply, refusal_word};
-pub use script::{Answers, answer_script, push_records};
 pub use script_lines::call_of;

@@ -3,8 +3,7 @@ ghost use Rattle.std.specs.Prelude.{◌≡◌, ◌≢◌, IfErr, IfOk, OnOk};
 ghost use Rattle.std.specs.Str.Lines.{lines};
 ghost use Rattle.match_desk.specs.Steps.{reply, after};
 ghost use Rattle.call_history.specs.declared.journal.Entry.{Entry};
-ghost use Rattle.desk_text.specs.Script.{no_matches};
-ghost use Rattle.desk_text.specs.Account.{entry_text, IsAccount, IsRead};
+ghost use Rattle.desk_text.specs.Account.{entry_text, no_matches, IsAccount, IsRead};
 ghost use Rattle.desk_text.specs.Replaying.{IsFirstFault, RefusesLine, TellNoHistory};
 ghost use Rattle.desk_text.specs.declared.replaying.ReplayFault.TheVariants.{Memory};
 

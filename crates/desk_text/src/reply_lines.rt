@@ -8,7 +8,7 @@ use game_core::{Text, Texts};
 use itoa::Buffer;
 use match_book::{Due, Owed, Status};
 use match_desk::{Refusal, Reply};
-use match_record::phase_text;
+use record_reading::phase_text;
 use std::alloc::AllocError;
 
 pub(crate) fn push_number(out: &mut Vec<u8>, number: u64) -> Result<(), AllocError>

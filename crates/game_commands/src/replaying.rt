@@ -1,7 +1,8 @@
 //! An account is read, and its calls are made again.
 
 use crate::fault::Fault;
-use desk_text::{ReplayFault, Replayed, push_records, replay};
+use desk_scripts::push_records;
+use desk_text::{ReplayFault, Replayed, replay};
 use game_core::{Counted, Game};
 use std::alloc::{AllocError, Global};
 use std::io::{Read, Write};

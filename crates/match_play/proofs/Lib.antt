@@ -1,1 +1,2 @@
 mod EndedMatches
+mod HeldGames

@@ -1,5 +1,5 @@
 //! Scripts in which the reply stands behind each call, after an arrow.
-use desk_text::answer_script;
+use desk_scripts::answer_script;
 use game_core::{Countdown, Game};
 use ground_rules::load;
 use kif_text::read_all;

@@ -1,7 +1,7 @@
 use Rattle.std.proofs.Common.{rules, ◌≡◌, ◌≢◌, subst}
 use Rattle.std.specs.Str.Lines.{lines}
 use Rattle.match_desk.specs.Steps.{reply, after}
-use Rattle.desk_text.specs.Script.{no_matches}
+use Rattle.desk_text.specs.Account.{no_matches}
 use Rattle.desk_text.specs.Account.{IsAccount}
 use Rattle.desk_text.specs.Replaying.{IsFirstFault}
 use Rattle.desk_text.specs.declared.replaying.ReplayFault.TheVariants.{Memory}

@@ -4,7 +4,7 @@ use Rattle.match_book.specs.Phase.{is_last, is_over}
 use Rattle.match_book.specs.declared.phase.Status.{Status}
 use Rattle.match_record.specs.RecordTree.{record_text}
 use Rattle.match_record.specs.LawfulRecord.{IsLawfulRecord}
-use Rattle.desk_text.proofs.Records.{same_game}
+use Rattle.match_play.proofs.HeldGames.{same_game}
 use Rattle.match_play.proofs.playing.ended_record.Goals as goal
 
 pub returns-in_ok-record_json-in-Finished-clause-ended : goal.returns-in_ok-record_json-in-Finished-clause-ended

@@ -3,7 +3,7 @@ use Rattle.std.specs.Prelude.{option_copied, slice_get}
 use Rattle.match_book.specs.Phase.{is_last, is_over}
 use Rattle.match_book.specs.declared.phase.Status.{Status}
 use Rattle.match_play.specs.RoleTurns.{AreTurnsOf}
-use Rattle.desk_text.proofs.Records.{same_game}
+use Rattle.match_play.proofs.HeldGames.{same_game}
 use Rattle.match_play.proofs.role_turns.ended_turns.Goals as goal
 
 pub returns-in_ok-turns_of-in-Finished-clause-ended : goal.returns-in_ok-turns_of-in-Finished-clause-ended

@@ -10,6 +10,7 @@ use Rattle.match_desk.specs.declared.call.Call.{Call}
 use Rattle.match_record.specs.RecordTree.{record_text}
 use Rattle.match_desk.specs.declared.call.Reply.{Reply}
 use Rattle.desk_text.specs.ScriptLines.{call_of, reply_text}
+use Rattle.desk_text.specs.Account.{no_matches}
 
 -- the answer to a line: a bad line makes no call
 abbrev pub line_answer : {S : Type 0} → (S → Call → Reply) → S → Option Call → List ℕ
@@ -30,10 +31,6 @@ answer_lines reply after s (line ∷ more) = line_answer reply s (call_of line) 
 abbrev pub after_lines : {S : Type 0} → (S → Call → S) → S → List (List ℕ) → S
 after_lines after s [] = s
 after_lines after s (line ∷ more) = after_lines after (after_line after s (call_of line)) more
-
--- a desk of these games before any call
-abbrev pub no_matches : {G M : Type 0} → List G → ManagerValue G M
-no_matches games = record { games = games; matches = [] }
 
 -- the number of bad lines
 abbrev pub bad_lines : List (List ℕ) → ℕ

@@ -8,7 +8,7 @@ use Rattle.game_core.specs.Play.{Rules}
 use Rattle.match_book.specs.MatchValue.{GameMatch}
 use Rattle.match_desk.specs.ManagerValue.{ManagerValue, DeskMatch, game_of, game_match}
 use Rattle.match_record.specs.RecordTree.{record_text}
-use Rattle.desk_text.specs.Script.{record_line, records}
+use Rattle.desk_scripts.specs.Script.{record_line, records}
 
 -- the record of a match with its game, as a line: nothing if there is no such match
 abbrev pub line_of : {G S M : Type 0} → (G → Rules S M) → Option (GameMatch G M) → List ℕ
@@ -54,16 +54,3 @@ one_line written before text after out out' out'' so_far with_text with_feed who
     with_feed ∙ ap (λ z. z ++ line_feed ∷ []) (with_text ∙ ap (λ z. z ++ text) so_far)
     ∙ append_assoc (written ++ before) text (line_feed ∷ []) ∙ append_assoc written before (text ++ line_feed ∷ [])
     ∙ ap (λ z. written ++ z) (sym whole)
-
--- the game that the manager's functions return beside a match is that match's game
-pub same_game : {G M : Type 0} (d : ManagerValue G M) (found : Option (DeskMatch M)) (g : G) (held : GameMatch G M)
-    → option_and_then (game_of d) found ≡ Some g → option_and_then (game_match d) found ≡ Some held → g ≡ held.game
-same_game d None g held is_game is_held = absurd cc
-same_game {G} {M} d (Some m) g held is_game is_held = at (game_of d m) is_game is_held
-  where
-    at : (o : Option G) → o ≡ Some g → option_map (λ x. record { game = x; value = m.value }) o ≡ Some held → g ≡ held.game
-    at None is_game is_held = absurd cc
-    at (Some x) is_game is_held =
-        let same : x ≡ g = cc in
-        let whole : record { game = x; value = m.value } ≡ held = cc in
-        sym same ∙ ap (λ (h : GameMatch G M). h.game) whole

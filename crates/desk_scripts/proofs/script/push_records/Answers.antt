@@ -1,9 +1,9 @@
 use Rattle.std.proofs.Common.{◌+◌, ap, sym, ◌∙◌, take}
 use Rattle.std.specs.Prelude.{option_copied}
 use Rattle.match_record.specs.RecordTree.{record_text}
-use Rattle.desk_text.specs.Script.{records}
-use Rattle.desk_text.proofs.Records.{one_match, one_line}
-use Rattle.desk_text.proofs.script.push_records.Goals as goal
+use Rattle.desk_scripts.specs.Script.{records}
+use Rattle.desk_scripts.proofs.Records.{one_match, one_line}
+use Rattle.desk_scripts.proofs.script.push_records.Goals as goal
 
 pub loop-place-preserved : goal.loop-place-preserved
 loop-place-preserved g c =

@@ -3,12 +3,10 @@ ghost use Rattle.std.specs.Prelude.{◌≡◌, ◌++◌, ◌∷◌, [], IfOk, On
 ghost use Rattle.std.specs.Str.Lines.{lines};
 ghost use Rattle.game_core.specs.Bytes.{line_feed};
 ghost use Rattle.desk_text.specs.ScriptLines.{call_of};
-ghost use Rattle.desk_text.specs.Script.{line_answer, after_line, answer_lines, after_lines, bad_lines, records, script_output};
+ghost use Rattle.desk_scripts.specs.Script.{line_answer, after_line, answer_lines, after_lines, bad_lines, records, script_output};
 
-use crate::lines::first_line;
-use crate::reply_lines::push_reply;
-use crate::script_lines::call_of;
 use call_history::Object;
+use desk_text::{call_of, first_line, push_reply};
 use game_core::Game;
 use match_desk::{Call, Manager, Reply};
 use match_record::push_record;
