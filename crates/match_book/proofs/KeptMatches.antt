@@ -16,7 +16,7 @@ use Rattle.match_book.specs.LegalMoves.{AreLegalMoves}
 use Rattle.match_book.specs.Lawful.{IsLawfulTurn, IsLawfulMatch}
 use Rattle.match_book.specs.Internal.OpenAnswers.{AreMoves, kept_part}
 use Rattle.match_book.specs.Steps.{new_match, with_abort, with_start_mark, with_end_mark, with_open_answer, turn_of, part, parts, IsLastToStart}
-use Rattle.match_book.specs.Internal.RoleStrikes.{unstruck, is_retired_in, count_roles, AreStrikes, answered_at_first}
+use Rattle.match_book.specs.RoleStrikes.{unstruck, is_retired_in, count_roles, AreStrikes, answered_at_first}
 use Rattle.match_book.specs.Internal.Kept.{ArePast, IsKept}
 use Rattle.match_book.specs.declared.retirement.RoleStrikes.{RoleStrikes}
 use Rattle.match_book.specs.declared.judgement.Substitution.TheVariants.{Retired}

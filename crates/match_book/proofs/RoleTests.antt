@@ -5,7 +5,7 @@ use Rattle.std.proofs.lemmas.Bool.Decides.{nat_tests}
 use Rattle.std.specs.Prelude.{is_some, if◌then◌else◌}
 use Rattle.std.specs.Option.{option_or}
 use Rattle.match_book.specs.Roles.{every_role, lowest_role, of_each_role, at_role, is_there, blank}
-use Rattle.match_book.specs.Internal.RoleStrikes.{count_roles}
+use Rattle.match_book.specs.RoleStrikes.{count_roles}
 
 pub same_or_other : (k r : ℕ) → (k ≡ r) ⊎ (k ≢ r)
 same_or_other k r = step (eqb k r) refl

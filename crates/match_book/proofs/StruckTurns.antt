@@ -7,7 +7,7 @@ use Rattle.match_book.specs.MatchValue.{is_error}
 use Rattle.match_book.specs.Roles.{every_role}
 use Rattle.match_book.specs.Retirement.{is_struck, begin_struck, some_struck, retired_by}
 use Rattle.match_book.specs.Phase.{max_turns}
-use Rattle.match_book.specs.Internal.RoleStrikes.{all_struck, in_a_row, role_strikes, is_enough, after_turn, unstruck, is_retired_in, count_roles, AreStrikes}
+use Rattle.match_book.specs.RoleStrikes.{all_struck, in_a_row, role_strikes, is_enough, after_turn, unstruck, is_retired_in, count_roles, AreStrikes}
 use Rattle.match_book.specs.declared.retirement.RoleStrikes.{RoleStrikes}
 use Rattle.match_book.specs.declared.turn.Turn.{Turn}
 use Rattle.match_book.proofs.RoleTests.{count_roles-same, every_role-count, every_role-but}

@@ -4,7 +4,7 @@ use Rattle.std.proofs.lemmas.List.{map-append, get_or_default}
 use Rattle.std.specs.Prelude.{is_some, map, option_to_list, slice_get, if◌then◌else◌}
 use Rattle.match_book.specs.declared.judgement.Judgement.{Judgement}
 use Rattle.match_book.specs.Judgement.{substitute}
-use Rattle.match_book.specs.Internal.RoleStrikes.{is_retired_in}
+use Rattle.match_book.specs.RoleStrikes.{is_retired_in}
 use Rattle.match_book.specs.Internal.OpenAnswers.{kept_part}
 use Rattle.match_book.specs.declared.judgement.Substitution.TheVariants.{Retired}
 use Rattle.match_book.specs.declared.retirement.RoleStrikes.{RoleStrikes}

@@ -1,3 +1,2 @@
 pub mod OpenAnswers
-pub mod RoleStrikes
 pub mod Kept

@@ -4,6 +4,7 @@ pub mod AnswerReading
 pub mod Judgement
 pub mod MatchValue
 pub mod Retirement
+pub mod RoleStrikes
 pub mod Phase
 pub mod LegalMoves
 pub mod Due

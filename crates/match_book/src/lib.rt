@@ -28,7 +28,7 @@ pub use matches::Match;
 pub use names::{MAX_CLOCK, MAX_STRIKES, are_clocks, are_names, is_clock, is_name, is_strikes};
 pub use phase::{Cause, Phase, Stage, Status};
 pub use places::are_all_there;
-pub use retirement::{RoleStrikes, all_unstruck, count_retired, strikes_after};
+pub use retirement::{RoleStrikes, all_unstruck, count_retired, is_retired_at, strikes_after};
 pub use role_moves::{RoleMoves, legal_moves};
 pub use settlement::{MAX_TURNS, Settlement, settle};
 pub use setup::Setup;

@@ -2,7 +2,7 @@
 ghost use Rattle.std.specs.Prelude.{◌≡◌, ◌<◌, ◌≤◌, ℕ, All, IfOk, List, length, replicate, slice_index_or, []};
 ghost use Rattle.match_book.specs.MatchValue.{is_error};
 ghost use Rattle.match_book.specs.Phase.{max_turns};
-ghost use Rattle.match_book.specs.Internal.RoleStrikes.{after_turn, unstruck, is_retired_in, answered_at_first, count_roles};
+ghost use Rattle.match_book.specs.RoleStrikes.{after_turn, unstruck, is_retired_in, answered_at_first, count_roles};
 
 use crate::phase::Stage;
 use game_core::Text;

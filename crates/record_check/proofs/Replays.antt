@@ -6,7 +6,7 @@ use Rattle.std.proofs.lemmas.List.{length_push, length-map, length-take, map_pus
 use Rattle.std.proofs.lemmas.List.Elements.{All-head, All-tail}
 use Rattle.std.proofs.lemmas.Option.{slice_get_within, get_or_from_slice_get}
 use Rattle.game_core.specs.Play.{Rules, IsJoint, IsLawful}
-use Rattle.match_book.specs.Internal.RoleStrikes.{after_turn, is_retired_in, count_roles, AreStrikes, unstruck}
+use Rattle.match_book.specs.RoleStrikes.{after_turn, is_retired_in, count_roles, AreStrikes, unstruck}
 use Rattle.match_book.specs.Judgement.{IsPart}
 use Rattle.match_book.specs.Retirement.{retired_by}
 use Rattle.match_book.specs.declared.retirement.RoleStrikes.{RoleStrikes}

@@ -2,7 +2,7 @@
 ghost use Rattle.std.specs.Prelude.{◌≡◌, ◌≢◌, ◌<◌, ◌↔◌, All, AllPairs, IfOk, IsTrue, List, MatchOption, ℕ, length};
 ghost use Rattle.game_core.specs.Play.{IsJoint};
 ghost use Rattle.match_book.specs.LegalMoves.{AreLegalMoves};
-ghost use Rattle.match_book.specs.Internal.RoleStrikes.{is_retired_in};
+ghost use Rattle.match_book.specs.RoleStrikes.{is_retired_in};
 ghost use Rattle.match_book.specs.Judgement.{error_text};
 ghost use Rattle.match_book.specs.Roles.{every_role};
 ghost use Rattle.match_book.specs.declared.judgement.Substitution.TheVariants.{Illegal};
@@ -12,7 +12,8 @@ ghost use Rattle.record_check.specs.Internal.ReplaySteps.{IsRecorded, IsJointAns
 
 use game_core::{Game, Joint, Text};
 use match_book::{
-    ILLEGAL_PREFIX, RETIRED, RoleMoves, RoleStrikes, count_retired, legal_moves, place_of,
+    ILLEGAL_PREFIX, RETIRED, RoleMoves, RoleStrikes, count_retired, is_retired_at, legal_moves,
+    place_of,
 };
 use record_reading::VerifyFault;
 use std::alloc::{AllocError, Global};
@@ -85,13 +86,6 @@ fn are_all_retired(strikes: &[RoleStrikes]) -> bool
     ensures { result ≡ every_role (length strikes.now) (is_retired_in strikes.now) }
 {
     count_retired(strikes) == strikes.len()
-}
-
-fn is_retired_at(strikes: &[RoleStrikes], role: usize) -> bool
-    requires { role < length strikes.now }
-    ensures { result ≡ is_retired_in strikes.now role }
-{
-    strikes[role].is_retired
 }
 
 /// The legal moves of each role. `None` if the state is terminal, a role has no legal move, or all roles are retired.

@@ -19,13 +19,10 @@ use crate::json_values::{FromJson, bytes_in, into_object, members_in, whole_in};
 use crate::record_parts::{Goals, Key, Marks, RecordParts, TextLists, Version};
 use crate::record_words::{cause_in, mark_in, phase_in};
 use crate::verify_fault::VerifyFault;
-use game_core::{Game, Text, Texts};
+use game_core::{Game, MAX_GOAL, Text, Texts};
 use match_book::{MAX_CLOCK, MAX_STRIKES, MAX_TURNS, are_names, is_clock, is_name};
 use serde_json::Value;
 use std::alloc::{AllocError, Global};
-
-/// The highest goal.
-const MAX_GOAL: u64 = 100;
 
 /// A mark, or null, for each role.
 fn marks_in(alloc: Global, found: Option<&Value>, roles: usize) -> Result<Option<Marks>, AllocError>
@@ -51,7 +48,7 @@ fn goal_in(found: Option<&Value>) -> Option<u8>
     ensures { Shows whole_tree (λ goal. goal ≤ max_goal) (data_in found.entry) result }
 {
     let goal = whole_in(found)?;
-    if goal <= MAX_GOAL {
+    if goal <= u64::from(MAX_GOAL) {
         Some(goal as u8)
     } else {
         None

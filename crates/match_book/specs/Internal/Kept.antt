@@ -6,7 +6,7 @@ use Rattle.match_book.specs.MatchValue.{MatchValue, state_after, substitutions}
 use Rattle.match_book.specs.Phase.{stage, answered_in, goal_in}
 use Rattle.match_book.specs.LegalMoves.{AreLegalMoves}
 use Rattle.match_book.specs.Lawful.{IsLawfulMatch}
-use Rattle.match_book.specs.Internal.RoleStrikes.{AreStrikes, count_roles}
+use Rattle.match_book.specs.RoleStrikes.{AreStrikes, count_roles}
 use Rattle.match_book.specs.declared.retirement.RoleStrikes.{RoleStrikes}
 use Rattle.match_book.specs.declared.turn.Turn.{Turn}
 use Rattle.match_book.specs.declared.phase.Stage.{Stage}

@@ -3,7 +3,7 @@ use Rattle.std.specs.Prelude.{ℕ, if◌then◌else◌, List, [], Option, All, I
 use Rattle.game_core.specs.Play.{Rules}
 use Rattle.match_book.specs.Roles.{at_role}
 use Rattle.match_book.specs.Judgement.{substitute}
-use Rattle.match_book.specs.Internal.RoleStrikes.{is_retired_in}
+use Rattle.match_book.specs.RoleStrikes.{is_retired_in}
 use Rattle.match_book.specs.declared.judgement.Judgement.{Judgement}
 use Rattle.match_book.specs.declared.judgement.Substitution.TheVariants.{Retired}
 use Rattle.match_book.specs.declared.retirement.RoleStrikes.{RoleStrikes}

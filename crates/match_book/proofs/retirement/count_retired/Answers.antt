@@ -1,5 +1,5 @@
 use Rattle.std.proofs.Common.{arith}
-use Rattle.match_book.specs.Internal.RoleStrikes.{is_retired_in}
+use Rattle.match_book.specs.RoleStrikes.{is_retired_in}
 use Rattle.match_book.proofs.RoleTests.{count_roles-le}
 use Rattle.match_book.proofs.retirement.count_retired.Goals as goal
 

@@ -1,6 +1,6 @@
 use Rattle.std.proofs.Common.{◌≡◌, ◌<◌, ℕ, [], slice_index_or, vec_len}
 use Rattle.match_book.specs.MatchValue.{is_error}
-use Rattle.match_book.specs.Internal.RoleStrikes.{after_turn, unstruck}
+use Rattle.match_book.specs.RoleStrikes.{after_turn, unstruck}
 use Rattle.match_book.specs.declared.retirement.RoleStrikes.{RoleStrikes}
 use Rattle.match_book.proofs.retirement.strikes_after.Given as goal
 

@@ -1,5 +1,5 @@
 use Rattle.std.proofs.Common.{◌≡◌, ◌∙◌, true, false, rules, subst, sym, true≢false}
-use Rattle.match_book.specs.Internal.RoleStrikes.{is_retired_in}
+use Rattle.match_book.specs.RoleStrikes.{is_retired_in}
 use Rattle.match_book.specs.Roles.{every_role}
 use Rattle.record_check.proofs.recorded_turn.next_moves.Goals as goal
 

@@ -4,7 +4,7 @@ use Rattle.std.proofs.lemmas.List.{get_or_read}
 use Rattle.std.proofs.lemmas.Option.{MatchOption-at_some}
 use Rattle.record_reading.specs.RecordParts.{IsErrorText}
 use Rattle.match_book.specs.LegalMoves.{AreLegalMoves}
-use Rattle.match_book.specs.Internal.RoleStrikes.{is_retired_in}
+use Rattle.match_book.specs.RoleStrikes.{is_retired_in}
 use Rattle.match_book.specs.Judgement.{IsPart, NamesNone}
 use Rattle.record_check.specs.Replaying.{GoesOn, IsWrongError, IsWrongRetired, text_at}
 use Rattle.record_check.specs.Internal.ReplaySteps.{IsRecorded}

@@ -1,4 +1,4 @@
-use Rattle.match_book.specs.Internal.RoleStrikes.{is_retired_in}
+use Rattle.match_book.specs.RoleStrikes.{is_retired_in}
 use Rattle.record_check.proofs.RecordedMoves.{SoFar}
 use Rattle.record_check.proofs.recorded_turn.recorded_joint.Given as goal
 

@@ -1,6 +1,6 @@
 use Rattle.std.proofs.Common.{◌≡◌, ◌∙◌, ◌<◌, ◌≤◌, [], List, ℕ, ap, sym, subst, arith, length}
 use Rattle.std.specs.Prelude.{All, replicate, slice_index_or}
-use Rattle.match_book.specs.Internal.RoleStrikes.{after_turn, count_roles, is_retired_in, unstruck}
+use Rattle.match_book.specs.RoleStrikes.{after_turn, count_roles, is_retired_in, unstruck}
 use Rattle.match_book.specs.MatchValue.{is_error}
 use Rattle.match_book.specs.Phase.{max_turns}
 use Rattle.match_book.specs.declared.retirement.RoleStrikes.{RoleStrikes}

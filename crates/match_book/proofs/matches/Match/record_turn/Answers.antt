@@ -4,7 +4,7 @@ use Rattle.game_core.specs.Play.{IsJoint}
 use Rattle.match_book.specs.MatchValue.{is_error}
 use Rattle.match_book.specs.Phase.{settled, max_turns}
 use Rattle.match_book.specs.LegalMoves.{AreLegalMoves}
-use Rattle.match_book.specs.Internal.RoleStrikes.{is_retired_in, count_roles}
+use Rattle.match_book.specs.RoleStrikes.{is_retired_in, count_roles}
 use Rattle.match_book.specs.declared.retirement.RoleStrikes.{RoleStrikes}
 use Rattle.match_book.proofs.StruckTurns.{strikes-few, strikes-pushed}
 use Rattle.match_book.proofs.KeptMatches.{turn-joint, next-is_state, one-error, recorded_errors-few, kept-recorded, value-recorded, substituted-few}
