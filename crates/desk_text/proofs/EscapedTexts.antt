@@ -1,7 +1,8 @@
 -- What is written with escapes stands in a line, and is read again.
-use Rattle.std.proofs.Common.{◌≡◌, ℕ, ◌+◌, ◌*◌, ◌/◌, ◌%◌, ◌<◌, ◌≤◌, ◌==◌, Bool, true, false, List, [], ◌∷◌, ◌++◌, map, if◌then◌else◌, Option, Some, None, refl, ap, ◌∙◌, append_assoc, arith}
+use Rattle.std.proofs.Common.{◌≡◌, ℕ, ◌+◌, ◌*◌, ◌/◌, ◌%◌, ◌<◌, ◌≤◌, ◌==◌, Bool, true, false, List, [], ◌∷◌, ◌++◌, map, length, take, drop, if◌then◌else◌, Option, Some, None, refl, ap, sym, ◌∙◌, append_assoc, arith}
 use Rattle.std.specs.List.{AllByRecursion}
-use Rattle.std.specs.Prelude.{option_map}
+use Rattle.std.specs.Prelude.{option_map, slice_set}
+use Rattle.std.proofs.lemmas.List.{take_more_set, drop-set-lt, drop-drop}
 use Rattle.std.proofs.lemmas.Bool.Decides.{nat_tests}
 use Rattle.desk_text.specs.Account.{AreBytes}
 use Rattle.desk_text.specs.Escapes.{backslash, stands_from, hex_digit, escape, escaped_from, escaped_name, hex_value, escaped_byte, before_rest, unescaped, all_unescaped}
@@ -58,3 +59,18 @@ names_from (name ∷ more) = (escapes_from 33 name (omega arith), names_from mor
 pub byte_more : (bytes : List ℕ) (byte : ℕ) (rest : Option (List ℕ)) → option_map (λ behind. (bytes ++ byte ∷ []) ++ behind) rest ≡ option_map (λ behind. bytes ++ behind) (before_rest (Some byte) rest)
 byte_more bytes byte None = refl
 byte_more bytes byte (Some rest) = ap Some (append_assoc bytes (byte ∷ []) rest)
+
+-- before the first byte is read
+pub none_yet : (read : Option (List ℕ)) → option_map (λ behind. [] ++ behind) read ≡ read
+none_yet None = refl
+none_yet (Some bytes) = refl
+
+-- the byte that stands at a place takes the place behind those that are kept
+pub kept_in_place : (bytes : List ℕ) (kept place taken byte : ℕ) (whole : Option (List ℕ)) → kept ≤ place → 0 < taken → place + taken ≤ length bytes
+    → unescaped (drop place bytes) ≡ before_rest (Some byte) (unescaped (drop taken (drop place bytes)))
+    → option_map (λ behind. take kept bytes ++ behind) (unescaped (drop place bytes)) ≡ whole
+    → option_map (λ behind. take (kept + 1) (slice_set bytes kept byte) ++ behind) (unescaped (drop (place + taken) (slice_set bytes kept byte))) ≡ whole
+kept_in_place bytes kept place taken byte whole before some within read so_far =
+    let rest : Option (List ℕ) = unescaped (drop taken (drop place bytes)) in
+    rw (take_more_set bytes kept byte (omega (arith, before, some, within)), drop-set-lt (place + taken) bytes kept byte (omega (arith, before, some)), sym (drop-drop taken place bytes))
+    (byte_more (take kept bytes) byte rest ∙ (ap (option_map (λ behind. take kept bytes ++ behind)) (sym read) ∙ so_far))

@@ -1,5 +1,5 @@
 -- The texts of an account: visible ASCII and spaces, with an escape \xHH for each other byte and for the backslash.
-use Rattle.std.specs.Prelude.{◌==◌, ◌&&◌, ℕ, ◌+◌, ◌-◌, ◌*◌, ◌/◌, ◌%◌, nat_le, nat_lt, Bool, not, List, [], ◌∷◌, ◌++◌, Option, Some, None, option_and_then, option_map, if◌then◌else◌}
+use Rattle.std.specs.Prelude.{◌==◌, ◌&&◌, ℕ, ◌+◌, ◌-◌, ◌*◌, ◌/◌, ◌%◌, nat_le, nat_lt, Bool, true, false, not, List, [], ◌∷◌, ◌++◌, Option, Some, None, option_and_then, option_map, if◌then◌else◌}
 use Rattle.game_core.specs.Bytes.{space}
 
 abbrev pub backslash : ℕ
@@ -57,6 +57,16 @@ unescaped (byte ∷ (mark ∷ (high ∷ (low ∷ rest)))) =
     if byte == backslash then (if mark == letter_x then before_rest (escaped_byte high low) (unescaped rest) else None)
     else before_rest (Some byte) (unescaped (mark ∷ (high ∷ (low ∷ rest))))
 unescaped (byte ∷ rest) = if byte == backslash then None else before_rest (Some byte) (unescaped rest)
+
+-- what stands there now, if all could be read
+abbrev pub read_as : {A : Type 0} → Bool → A → Option A
+read_as true now = Some now
+read_as false now = None
+
+-- how many bytes the first one takes, with its escape
+abbrev pub bytes_taken : Option (ℕ × ℕ) → ℕ
+bytes_taken None = 0
+bytes_taken (Some read) = read.1
 
 -- the texts without their escapes, if each can be read so
 abbrev pub all_unescaped : List (List ℕ) → Option (List (List ℕ))

@@ -1,9 +1,9 @@
 //! The escapes of an account: a byte that can't stand as it is, and the backslash, are written `\xHH`.
-ghost use Rattle.std.specs.Prelude.{◌≡◌, ◌<◌, [], ◌++◌, IfOk, IfSome, OnOk, length, option_map, unwrap_or};
-ghost use Rattle.desk_text.specs.Escapes.{stands_from, hex_digit, escape, escaped_from, hex_value, escaped_byte, before_rest, unescaped, all_unescaped};
+ghost use Rattle.std.specs.Prelude.{◌≡◌, ◌<◌, ◌≤◌, ◌++◌, IfSome, OnOk, drop, length, option_map};
+ghost use Rattle.desk_text.specs.Escapes.{stands_from, hex_digit, escape, escaped_from, hex_value, escaped_byte, before_rest, bytes_taken, read_as, unescaped, all_unescaped};
 
-use game_core::{Text, Texts};
-use std::alloc::{AllocError, Global};
+use game_core::Text;
+use std::alloc::AllocError;
 
 /// Whether a byte from `least` on stands as it is.
 fn stands(least: u8, byte: u8) -> bool
@@ -67,49 +67,58 @@ fn escaped_byte(high: u8, low: u8) -> Option<u8>
     Some(high * 16 + low)
 }
 
-/// The first byte of a text without escapes, and the text behind it. `None` if a backslash is not followed by `xHH`.
-fn next_byte(text: &[u8]) -> Option<(u8, &[u8])>
+/// The byte that a text begins with, without escapes, and how many bytes of the text it takes. `None` if a backslash is not followed
+/// by `xHH`.
+fn first_byte(text: &[u8]) -> Option<(u8, usize)>
     requires { 0 < length text.now }
-    ensures read { unescaped text.now ≡ before_rest (option_map (λ r. r.0) result) (unescaped (unwrap_or (option_map (λ r. r.1.now) result) [])) }
-    ensures shorter { IfSome result (λ r. length r.1.now < length text.now) }
+    ensures read { unescaped text.now ≡ before_rest (option_map (λ r. r.0) result) (unescaped (drop (bytes_taken result) text.now)) }
+    ensures some { IfSome result (λ r. 0 < r.1) }
+    ensures within { IfSome result (λ r. r.1 ≤ length text.now) }
 {
     let byte = text[0];
     if byte != b'\\' {
-        return Some((byte, &text[1..]));
+        return Some((byte, 1));
     }
     if text.len() < 4 || text[1] != b'x' {
         return None;
     }
     let byte = escaped_byte(text[2], text[3])?;
-    Some((byte, &text[4..]))
+    Some((byte, 4))
 }
 
-/// The bytes without their escapes. `None` if a backslash is not followed by `xHH`.
-pub fn unescaped(alloc: Global, text: &[u8]) -> Result<Option<Vec<u8>>, AllocError>
-    ensures { IfOk result (λ o. option_map (λ v. v.items) o ≡ unescaped text.now) }
+/// Takes the escapes out of these bytes. Returns whether it could: not if a backslash is not followed by `xHH`.
+fn unescape_bytes(bytes: &mut Vec<u8>) -> bool
+    ensures { unescaped bytes.old.items ≡ read_as result bytes.new.items }
 {
-    let mut bytes = Vec::with_capacity(alloc, text.len())?;
-    let mut rest = text;
-    while !rest.is_empty() {
-        let Some((byte, more)) = next_byte(rest) else {
-            return Ok(None);
+    let mut kept = 0;
+    let mut place = 0;
+    while place < bytes.len() {
+        let Some((byte, taken)) = first_byte(&bytes[place..]) else {
+            return false;
         };
-        bytes.push(byte)?;
-        rest = more;
+        bytes[kept] = byte;
+        kept += 1;
+        place += taken;
     }
-    Ok(Some(bytes))
+    bytes.truncate(kept);
+    true
 }
 
-/// The texts without their escapes.
-pub fn all_unescaped(alloc: Global, texts: &[Text]) -> Result<Option<Texts>, AllocError>
-    ensures { IfOk result (λ o. o ≡ all_unescaped texts.now) }
+/// Takes the escapes out of a text. Returns whether it could.
+pub fn unescape(text: &mut Text) -> bool
+    ensures { unescaped text.old ≡ read_as result text.new }
 {
-    let mut items = Vec::with_capacity(alloc, texts.len())?;
-    for text in texts {
-        match unescaped(alloc, text.as_slice())? {
-            Some(bytes) => items.push(Text { bytes })?,
-            None => return Ok(None),
+    unescape_bytes(&mut text.bytes)
+}
+
+/// Takes the escapes out of these texts. Returns whether it could.
+pub fn unescape_all(texts: &mut Vec<Text>) -> bool
+    ensures { all_unescaped texts.old.items ≡ read_as result texts.new.items }
+{
+    for place in 0..texts.len() {
+        if !unescape(&mut texts[place]) {
+            return false;
         }
     }
-    Ok(Some(Texts { items }))
+    true
 }
