@@ -129,10 +129,10 @@ fn hosting_plan<'a>(found: &ArgMatches<'a>) -> Result<HostingPlan<'a>, WrongValu
 }
 
 fn record_order(found: &ArgMatches<'_>) -> RecordOrder {
-    if found.get_flag("as-they-end") {
-        RecordOrder::OfEnds
-    } else {
+    if found.get_flag("in-order") {
         RecordOrder::OfSchedule
+    } else {
+        RecordOrder::OfEnds
     }
 }
 
@@ -140,11 +140,13 @@ fn season_plan<'a>(found: &ArgMatches<'a>) -> Result<SeasonPlan<'a>, WrongValue<
     let hosting = hosting_plan(found)?;
     let strikes = strikes(found)?;
     let at_once = number(found, "at-once", 1, MAX_AT_ONCE as u64)? as usize;
+    let concurrent = number(found, "concurrent", 1, MAX_AT_ONCE as u64)? as usize;
     Ok(SeasonPlan {
         hosting,
         strikes,
         form: SeasonForm {
             at_once,
+            concurrent,
             order: record_order(found),
             has_history: found.get_flag("history"),
         },

@@ -140,7 +140,7 @@ const RUN: [Argument; 10] = [
     },
 ];
 
-const SEASON: [Argument; 9] = [
+const SEASON: [Argument; 11] = [
     COUNTDOWN,
     RULES,
     RULES_FILE,
@@ -152,15 +152,25 @@ const SEASON: [Argument; 9] = [
         help: "How many matches are played at once at most, 1 to 1024",
     },
     Argument {
+        name: "concurrent",
+        form: Form::Default("N", "1"),
+        help: "In how many matches a player sits at a time at most, 1 to 1024",
+    },
+    Argument {
+        name: "in-order",
+        form: Form::Flag,
+        help: "The records are printed in the order of the schedule",
+    },
+    Argument {
         name: "as-they-end",
         form: Form::Flag,
-        help: "The records are printed in the order in which the matches end",
+        help: "The records are printed in the order in which the matches end, as they are without it",
     },
     LOG,
     Argument {
         name: "history",
         form: Form::Flag,
-        help: "The accounts of the matches are printed behind the records",
+        help: "The account of each match is printed behind its record",
     },
 ];
 

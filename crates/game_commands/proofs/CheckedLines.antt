@@ -1,5 +1,5 @@
 -- Lines that were checked one after another.
-use Rattle.std.proofs.Common.{◌≡◌, ◌≢◌, ◌≤◌, ◌<◌, ◌+◌, ℕ, List, [], ◌∷◌, ◌++◌, length, Option, refl, sym, ap, subst, ◌∙◌, inl, inr, arith, ◌⊎◌, cond, is_some, zero-add}
+use Rattle.std.proofs.Common.{◌≡◌, ◌≢◌, ◌≤◌, ◌<◌, ◌+◌, ℕ, List, [], ◌∷◌, ◌++◌, length, Option, refl, sym, ap, subst, ◌∙◌, inl, inr, arith, ◌⊎◌, cond, zero-add}
 use Rattle.std.proofs.lemmas.List.Sums.{sum_by_push}
 use Rattle.std.proofs.lemmas.List.{append_assoc, flat_map_more}
 use Rattle.std.specs.Io.KnownBytes.{Appends}
@@ -7,7 +7,7 @@ use Rattle.std.proofs.KnownBytes.{Appends-trans}
 use Rattle.std.specs.Str.Lines.{lines}
 use Rattle.game_core.specs.Counting.{Counting, CallsMade, one_more, max_stream_calls}
 use Rattle.game_core.specs.Play.{Rules}
-use Rattle.record_reading.specs.declared.verify_fault.VerifyFault.{VerifyFault}
+use Rattle.game_commands.specs.declared.verdicts.Verdict.{Verdict}
 use Rattle.whole_streams.specs.Streams.{StopsReading, InputFails}
 use Rattle.whole_streams.specs.Lines.{HasNoLineFeed, BeginsWithLine}
 use Rattle.whole_streams.specs.declared.whole.InputFault.{InputFault}
@@ -16,7 +16,7 @@ use Rattle.whole_streams.proofs.LineLemmas.{lines_begin, lines_last}
 use Rattle.game_commands.specs.declared.fault.Fault.{Fault}
 use Rattle.game_commands.specs.declared.fault.Fault.TheVariants.{Memory as MemoryFault, WriteFault}
 use Rattle.game_commands.specs.Faults.{input_fault}
-use Rattle.game_commands.specs.Verdicts.{IsVerdict, AreVerdicts, verdict_line, verdict_lines, count_unlawful}
+use Rattle.game_commands.specs.Verdicts.{IsVerdict, AreVerdicts, verdict_line, verdict_lines, is_unlawful, count_unlawful}
 use Rattle.game_commands.specs.Checks.{BeginsWithLines, HasFirstLine, TellsVerdicts, TellsPart, LineFails, CheckStops, max_record}
 
 -- more of the input is at hand
@@ -36,20 +36,20 @@ pub begins_last : (text : List ℕ) (first : List (List ℕ)) (left given line :
 begins_last text first left given line begins some is feedless =
     begins given ∙ ap (λ l. first ++ l) (lines_last (left ++ given) some feedless ∙ ap (λ l. l ∷ []) (sym is))
 
-pub verdicts_push : {S M : Type 0} (g : Rules S M) (texts : List (List ℕ)) (verdicts : List (Option VerifyFault)) (text : List ℕ) (verdict : Option VerifyFault)
+pub verdicts_push : {S M : Type 0} (g : Rules S M) (texts : List (List ℕ)) (verdicts : List Verdict) (text : List ℕ) (verdict : Verdict)
     → AreVerdicts g texts verdicts → IsVerdict g text verdict → AreVerdicts g (texts ++ text ∷ []) (verdicts ++ verdict ∷ [])
 verdicts_push g [] [] text verdict before here = (here, tt)
 verdicts_push g [] (v ∷ vs) text verdict before here = absurd before
 verdicts_push g (t ∷ ts) [] text verdict before here = absurd before
 verdicts_push g (t ∷ ts) (v ∷ vs) text verdict before here = (before.0, verdicts_push g ts vs text verdict before.1 here)
 
-pub lines_push : (a b c : Option (List ℕ)) (verdicts : List (Option VerifyFault)) (verdict : Option VerifyFault) → Appends a b (verdict_lines verdicts) → Appends b c (verdict_line verdict)
+pub lines_push : (a b c : Option (List ℕ)) (verdicts : List Verdict) (verdict : Verdict) → Appends a b (verdict_lines verdicts) → Appends b c (verdict_line verdict)
     → Appends a c (verdict_lines (verdicts ++ verdict ∷ []))
 lines_push a b c verdicts verdict before here =
     subst (λ l. Appends a c l) (flat_map_more verdict_line [] verdicts verdict) (Appends-trans a b c _ _ before here)
 
-pub count_push : (verdicts : List (Option VerifyFault)) (verdict : Option VerifyFault) → count_unlawful (verdicts ++ verdict ∷ []) ≡ count_unlawful verdicts + count_unlawful (verdict ∷ [])
-count_push verdicts verdict = sum_by_push (λ v. cond (is_some v) 1 0) verdicts verdict ∙ ap (λ n. count_unlawful verdicts + n) (sym (zero-add (cond (is_some verdict) 1 0)))
+pub count_push : (verdicts : List Verdict) (verdict : Verdict) → count_unlawful (verdicts ++ verdict ∷ []) ≡ count_unlawful verdicts + count_unlawful (verdict ∷ [])
+count_push verdicts verdict = sum_by_push (λ v. cond (is_unlawful v) 1 0) verdicts verdict ∙ ap (λ n. count_unlawful verdicts + n) (sym (zero-add (cond (is_unlawful verdict) 1 0)))
 
 pub calls_on : (a b c : ℕ) → CallsMade 0 a b → CallsMade 0 b c → CallsMade 0 a c
 calls_on a b c before now below = omega (arith, now below, before)
@@ -61,7 +61,7 @@ stops_reading given reader mid reader' same calls (inr ended) =
     inr (made, ended.1, ended.2 ∙ same)
 
 -- what a fault of reading a line says
-pub read_stops : {S M R W : Type 0} (remaining : R → Option (List ℕ)) (contents : W → Option (List ℕ)) (g : Rules S M) (fault : InputFault) (verdicts : List (Option VerifyFault)) (bytes lost left : List ℕ)
+pub read_stops : {S M R W : Type 0} (remaining : R → Option (List ℕ)) (contents : W → Option (List ℕ)) (g : Rules S M) (fault : InputFault) (verdicts : List Verdict) (bytes lost left : List ℕ)
     (reader mid reader' : Counting R) (writer writer' : Counting W)
     → mid.faults ≡ reader.faults → CallsMade 0 reader.calls mid.calls → bytes ≡ lost ++ left → HasNoLineFeed lost → InputFails max_record fault lost mid reader' → TellsVerdicts contents verdicts writer writer'
     → CheckStops remaining contents g (input_fault fault) verdicts bytes reader reader' writer writer'
@@ -73,7 +73,7 @@ read_stops remaining contents g Memory verdicts bytes lost left reader mid reade
     (fails.1 ∙ same, tells)
 
 -- what a fault of telling a verdict says
-pub tell_stops : {S M R W : Type 0} (remaining : R → Option (List ℕ)) (contents : W → Option (List ℕ)) (g : Rules S M) (fault : Fault) (verdicts : List (Option VerifyFault)) (bytes line : List ℕ)
+pub tell_stops : {S M R W : Type 0} (remaining : R → Option (List ℕ)) (contents : W → Option (List ℕ)) (g : Rules S M) (fault : Fault) (verdicts : List Verdict) (bytes line : List ℕ)
     (reader reader' : Counting R) (writer mid writer' : Counting W)
     → reader'.faults ≡ reader.faults → HasFirstLine (remaining reader'.stream) bytes line → TellsVerdicts contents verdicts writer mid → LineFails contents g fault line mid writer'
     → CheckStops remaining contents g fault verdicts bytes reader reader' writer writer'

@@ -7,7 +7,7 @@ use Rattle.game_core.specs.Counting.{Counting, last_count, one_more}
 use Rattle.game_core.specs.Play.{Rules}
 use Rattle.match_record.specs.LawfulRecord.{IsLawfulRecord}
 use Rattle.record_check.specs.Verified.{FailsFirst}
-use Rattle.record_reading.specs.declared.verify_fault.VerifyFault.{VerifyFault}
+use Rattle.game_commands.specs.declared.verdicts.Verdict.{Verdict}
 use Rattle.whole_streams.specs.Streams.{StopsReading}
 use Rattle.whole_streams.specs.Lines.{HasNoLineFeed, BeginsWithLine}
 use Rattle.game_commands.specs.Verdicts.{IsVerdict, verdict_line, verdict_lines}
@@ -48,13 +48,13 @@ abbrev pub HasOpenLine : List ℕ → (ℕ → Type 0) → Type 0
 HasOpenLine bytes IsLength = (part rest : List ℕ) × (bytes ≡ part ++ rest) × HasNoLineFeed part × IsLength (length part)
 
 -- these verdicts, and nothing else, were written
-abbrev pub TellsVerdicts : {W : Type 0} → (W → Option (List ℕ)) → List (Option VerifyFault) → Counting W → Counting W → Type 0
+abbrev pub TellsVerdicts : {W : Type 0} → (W → Option (List ℕ)) → List Verdict → Counting W → Counting W → Type 0
 TellsVerdicts contents verdicts writer writer' = Appends (contents writer.stream) (contents writer'.stream) (verdict_lines verdicts) × (writer'.faults ≡ writer.faults)
 
 -- these verdicts were written, and a part of that on this line, and then a write failed
-abbrev pub TellsPart : {S M W : Type 0} → (W → Option (List ℕ)) → Rules S M → List (Option VerifyFault) → List ℕ → Counting W → Counting W → Type 0
+abbrev pub TellsPart : {S M W : Type 0} → (W → Option (List ℕ)) → Rules S M → List Verdict → List ℕ → Counting W → Counting W → Type 0
 TellsPart contents g verdicts line writer writer' = (writer'.faults ≡ one_more writer.faults)
-    × ((verdict : Option VerifyFault) × (taken : ℕ) × IsVerdict g line verdict × (taken ≤ length (verdict_line verdict))
+    × ((verdict : Verdict) × (taken : ℕ) × IsVerdict g line verdict × (taken ≤ length (verdict_line verdict))
     × Appends (contents writer.stream) (contents writer'.stream) (verdict_lines verdicts ++ take taken (verdict_line verdict)))
 
 -- what a fault says of telling the verdict on this line
@@ -63,7 +63,7 @@ LineFails contents g fault line writer writer' = ((fault ≡ Memory) × (writer'
 
 -- Of an input whose first lines have these verdicts, and of which these bytes are left: what the fault says of the streams before and
 -- after. A line that is too long is not read further; so is an input of 2^64 - 1 lines.
-abbrev pub CheckStops : {S M R W : Type 0} → (R → Option (List ℕ)) → (W → Option (List ℕ)) → Rules S M → Fault → List (Option VerifyFault) → List ℕ → Counting R → Counting R → Counting W → Counting W → Type 0
+abbrev pub CheckStops : {S M R W : Type 0} → (R → Option (List ℕ)) → (W → Option (List ℕ)) → Rules S M → Fault → List Verdict → List ℕ → Counting R → Counting R → Counting W → Counting W → Type 0
 CheckStops remaining contents g ReadFault verdicts left reader reader' writer writer' =
     HasOpenLine left (λ count. (count ≤ max_record) × StopsReading count reader reader') × TellsVerdicts contents verdicts writer writer'
 CheckStops remaining contents g InputTooLong verdicts left reader reader' writer writer' =

@@ -1,5 +1,5 @@
--- The verdicts on records, and what is written of them.
-use Rattle.std.specs.Prelude.{◌≡◌, ◌≢◌, ℕ, List, [], ◌∷◌, ◌++◌, Option, Some, None, codes, is_some, count_by, flat_map}
+-- The verdicts on lines of records, and what is written of them.
+use Rattle.std.specs.Prelude.{◌≡◌, ◌≢◌, ◌&&◌, ℕ, nat_le, Bool, true, false, List, [], ◌∷◌, ◌++◌, codes, count_by, flat_map}
 use Rattle.std.specs.Fmt.{decimal}
 use Rattle.game_core.specs.Bytes.{line_feed}
 use Rattle.game_core.specs.Play.{Rules}
@@ -8,14 +8,22 @@ use Rattle.match_record.specs.RecordTree.{key_text}
 use Rattle.record_check.specs.Verified.{FailsFirst}
 use Rattle.record_reading.specs.declared.verify_fault.VerifyFault.{VerifyFault}
 use Rattle.record_reading.specs.declared.verify_fault.VerifyFault.TheVariants.{NotJson, BadShape, Illegal, NotFirst, WrongRetired, WrongState, WrongGoals, WrongEnd, Memory}
+use Rattle.game_commands.specs.declared.verdicts.Verdict.{Verdict}
+use Rattle.game_commands.specs.declared.verdicts.Verdict.TheVariants.{Lawful, Unlawful, Account}
 
--- The verdict on a text: none where it is a lawful record, else the first test that it fails.
-abbrev pub IsVerdict : {S M : Type 0} → Rules S M → List ℕ → Option VerifyFault → Type 0
-IsVerdict g text None = IsLawfulRecord g text
-IsVerdict g text (Some fault) = (fault ≢ Memory) × (¬ IsLawfulRecord g text) × FailsFirst g text fault
+-- the line begins with a digit
+abbrev pub is_account_line : List ℕ → Bool
+is_account_line [] = false
+is_account_line (byte ∷ line) = nat_le 48 byte && nat_le byte 57
+
+-- The verdict on a line: by its first byte one of an account; else whether it is a lawful record, and the first test that it fails.
+abbrev pub IsVerdict : {S M : Type 0} → Rules S M → List ℕ → Verdict → Type 0
+IsVerdict g text Account = is_account_line text ≡ true
+IsVerdict g text Lawful = (is_account_line text ≡ false) × IsLawfulRecord g text
+IsVerdict g text (Unlawful fault) = (is_account_line text ≡ false) × (fault ≢ Memory) × (¬ IsLawfulRecord g text) × FailsFirst g text fault
 
 -- the verdicts on these texts, one for each
-abbrev pub AreVerdicts : {S M : Type 0} → Rules S M → List (List ℕ) → List (Option VerifyFault) → Type 0
+abbrev pub AreVerdicts : {S M : Type 0} → Rules S M → List (List ℕ) → List Verdict → Type 0
 AreVerdicts g [] [] = Unit {0}
 AreVerdicts g [] (verdict ∷ verdicts) = ⊥
 AreVerdicts g (text ∷ texts) [] = ⊥
@@ -36,14 +44,19 @@ fault_text WrongGoals = codes "goals"
 fault_text WrongEnd = codes "end"
 fault_text Memory = codes "want of memory"
 
--- what is written of a verdict
-abbrev pub verdict_line : Option VerifyFault → List ℕ
-verdict_line None = codes "lawful" ++ line_feed ∷ []
-verdict_line (Some fault) = codes "not lawful: " ++ fault_text fault ++ line_feed ∷ []
+-- what is written of a verdict: nothing of a line of an account
+abbrev pub verdict_line : Verdict → List ℕ
+verdict_line Lawful = codes "lawful" ++ line_feed ∷ []
+verdict_line (Unlawful fault) = codes "not lawful: " ++ fault_text fault ++ line_feed ∷ []
+verdict_line Account = []
 
-abbrev pub verdict_lines : List (Option VerifyFault) → List ℕ
+abbrev pub verdict_lines : List Verdict → List ℕ
 verdict_lines verdicts = flat_map verdict_line verdicts
 
--- how many of the records are not lawful
-abbrev pub count_unlawful : List (Option VerifyFault) → ℕ
-count_unlawful verdicts = count_by is_some verdicts
+abbrev pub is_unlawful : Verdict → Bool
+is_unlawful (Unlawful fault) = true
+is_unlawful verdict = false
+
+-- how many of the lines are no lawful records, beside those of accounts
+abbrev pub count_unlawful : List Verdict → ℕ
+count_unlawful verdicts = count_by is_unlawful verdicts

@@ -1,15 +1,15 @@
 //! The check of a record.
-ghost use Rattle.std.specs.Prelude.{◌≡◌, ◌∷◌, [], ℕ, List, Option, IfErr, IfOk, OnOk};
+ghost use Rattle.std.specs.Prelude.{◌≡◌, ◌∷◌, [], ℕ, List, IfErr, IfOk, OnOk};
 ghost use Rattle.std.specs.Io.KnownBytes.{Consumes, Appends, IsAtEnd};
 ghost use Rattle.std.specs.Str.Lines.{lines};
 ghost use Rattle.match_record.specs.LawfulRecord.{IsLawfulRecord};
-ghost use Rattle.record_reading.specs.declared.verify_fault.VerifyFault.{VerifyFault};
+ghost use Rattle.game_commands.specs.declared.verdicts.Verdict.{Verdict as LineVerdict};
 ghost use Rattle.game_commands.specs.Verdicts.{IsVerdict, AreVerdicts, verdict_line, verdict_lines, count_unlawful};
 ghost use Rattle.game_commands.specs.Checks.{lawful_line, CheckFails, BeginsWithLines, LineFails, CheckStops};
 
 use crate::fault::Fault;
 use crate::script_fault::ScriptFault;
-use crate::verdicts::{verdict_line, verdict_on};
+use crate::verdicts::{Verdict, verdict_line, verdict_on};
 use game_core::{Counted, Game};
 use match_record::VerifyFault;
 use record_check::verify;
@@ -67,14 +67,14 @@ pub fn check_record<G: Game, R: Read, W: Write>(
     Ok(write_all(writer, b"lawful\n")?)
 }
 
-/// Writes the verdict on a line, and counts it where it is no lawful record.
+/// Writes the verdict on a line, and counts it where it is no lawful record. A line of an account is skipped.
 fn check_line<G: Game, W: Write>(
     alloc: Global,
     game: &G,
     line: &[u8],
     writer: &mut Counted<W>,
 ) -> Result<u64, Fault>
-    ensures verdict { IfOk result (λ count. (verdict : Option VerifyFault) × IsVerdict (G.rules game.now) line.now verdict
+    ensures verdict { IfOk result (λ count. (verdict : LineVerdict) × IsVerdict (G.rules game.now) line.now verdict
         × (count ≡ count_unlawful (verdict ∷ []))
         × Appends (W.contents writer.old.stream) (W.contents writer.new.stream) (verdict_line verdict)) }
     ensures no_fault { OnOk result (writer.new.faults ≡ writer.old.faults) }
@@ -83,25 +83,28 @@ fn check_line<G: Game, W: Write>(
     let verdict = verdict_on(alloc, game, line)?;
     let told = verdict_line(alloc, verdict)?;
     write_all(writer, told.as_bytes())?;
-    Ok(if verdict.is_some() { 1 } else { 0 })
+    match verdict {
+        Verdict::Unlawful(_) => Ok(1),
+        Verdict::Lawful | Verdict::Account => Ok(0),
+    }
 }
 
-/// Tests each line of the input as a record of the game, one after another, and writes a line for each as soon as it is tested. How
-/// many are no lawful records is answered. One line is in memory at a time.
+/// Tests each line of the input as a record of the game, one after another, and writes a line for each as soon as it is tested; lines
+/// of accounts are skipped. Returns how many are no lawful records. One line is in memory at a time.
 pub fn check_records<G: Game, R: Read, W: Write>(
     alloc: Global,
     game: &G,
     reader: &mut Counted<R>,
     writer: &mut Counted<W>,
 ) -> Result<u64, Fault>
-    ensures verdicts { IfOk result (λ unlawful. (input : List ℕ) × (verdicts : List (Option VerifyFault))
+    ensures verdicts { IfOk result (λ unlawful. (input : List ℕ) × (verdicts : List LineVerdict)
         × Consumes (R.remaining reader.old.stream) (R.remaining reader.new.stream) input
         × IsAtEnd (R.remaining reader.new.stream)
         × AreVerdicts (G.rules game.now) (lines input) verdicts
         × Appends (W.contents writer.old.stream) (W.contents writer.new.stream) (verdict_lines verdicts)
         × (unlawful ≡ count_unlawful verdicts)) }
     ensures no_fault { OnOk result ((reader.new.faults ≡ reader.old.faults) × (writer.new.faults ≡ writer.old.faults)) }
-    ensures stops { IfErr result (λ fault. (given : List ℕ) × (first : List (List ℕ)) × (left : List ℕ) × (verdicts : List (Option VerifyFault))
+    ensures stops { IfErr result (λ fault. (given : List ℕ) × (first : List (List ℕ)) × (left : List ℕ) × (verdicts : List LineVerdict)
         × Consumes (R.remaining reader.old.stream) (R.remaining reader.new.stream) given
         × BeginsWithLines given first left
         × AreVerdicts (G.rules game.now) first verdicts

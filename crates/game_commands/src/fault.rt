@@ -4,7 +4,7 @@ use crate::rules::RulesFileFault;
 use crate::script_fault::ScriptFault;
 use desk_text::refusal_word;
 use match_desk::Refusal;
-use match_plans::{LineFault, ScheduleFault};
+use match_plans::{LineFault, ScheduleFault, Shortage};
 use match_record::VerifyFault;
 use std::alloc::{AllocError, AllocFailed};
 use std::fmt;
@@ -37,6 +37,8 @@ pub enum Fault {
     Refused(Refusal),
     /// The match has neither finished nor been aborted.
     MatchNotEnded,
+    /// The referee was short of this in the match, so some answer in it is no answer of the player's.
+    NoRecord(Shortage),
     /// The line of that number of a schedule is a bad one. No match was begun.
     BadSchedule(u64, LineFault),
     /// So many matches of a schedule have no record. The records of the others are output.
@@ -81,6 +83,7 @@ impl Fault {
             Fault::Refused(_) => "refused ",
             Fault::MatchNotEnded => "match not ended",
             Fault::BadSchedule(_, _) => "bad schedule: line ",
+            Fault::NoRecord(_) => "match without record: ",
             Fault::NoRecords(_) => "matches without record ",
             Fault::NotLawful(_) => "not lawful: ",
             Fault::UnlawfulRecords(_) => "records not lawful ",
@@ -97,6 +100,7 @@ impl fmt::Display for Fault {
         match *self {
             Fault::RulesFile(why) | Fault::ToldFile(why) => f.write_str(why.words()),
             Fault::Refused(refusal) => f.write_str(refusal_word(refusal)),
+            Fault::NoRecord(shortage) => write!(f, "{shortage}"),
             Fault::NotLawful(fault) => write!(f, "{fault}"),
             Fault::BadSchedule(number, why) => write!(f, "{number}: {why}"),
             Fault::NoEntry(number) => write!(f, "{number} is no entry"),

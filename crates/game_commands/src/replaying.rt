@@ -11,6 +11,28 @@ use whole_streams::{read_to_end, write_all};
 /// How many bytes an account has at most: 256 MiB.
 const MAX_ACCOUNT: usize = 268_435_456;
 
+/// Whether the line begins as a record does, and no line of an account.
+fn is_record_line(line: &[u8]) -> bool {
+    line.first() == Some(&b'{')
+}
+
+/// The lines of an account, without the records among them.
+fn without_records(alloc: Global, input: Vec<u8>) -> Result<Vec<u8>, AllocError> {
+    if !input
+        .split(|byte| *byte == b'\n')
+        .any(|line| is_record_line(line))
+    {
+        return Ok(input);
+    }
+    let mut account = Vec::new(alloc);
+    for line in input.split_inclusive(|byte| *byte == b'\n') {
+        if !is_record_line(line) {
+            account.extend_from_slice(line)?;
+        }
+    }
+    Ok(account)
+}
+
 /// Puts how many calls were made behind what is written, and the records of their matches.
 fn push_replayed<G: Game + Drop>(
     alloc: Global,
@@ -45,14 +67,15 @@ fn push_answer<G: Game + Drop>(
     }
 }
 
-/// Reads an account, makes its calls again on a manager of these games, and writes what comes of it.
+/// Reads an account, makes its calls again on a manager of these games, and writes what comes of it. Lines that begin as records do are
+/// skipped, and not counted.
 pub fn replay_account<R: Read, W: Write, G: Game + Drop>(
     alloc: Global,
     reader: &mut Counted<R>,
     writer: &mut Counted<W>,
     games: Vec<G>,
 ) -> Result<(), Fault> {
-    let account = read_to_end(alloc, reader, MAX_ACCOUNT)?;
+    let account = without_records(alloc, read_to_end(alloc, reader, MAX_ACCOUNT)?)?;
     let mut output = Vec::new(alloc);
     let fault = push_answer(alloc, games, &account, &mut output)?;
     write_all(writer, &output)?;

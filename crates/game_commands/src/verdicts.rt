@@ -1,7 +1,7 @@
-//! The verdicts on records, and the lines that tell them.
+//! The verdicts on lines of records, and the lines that tell them.
 ghost use Rattle.std.specs.Prelude.{◌≡◌, IfOk, OnErr, IfErr, string_bytes};
 ghost use Rattle.game_commands.specs.declared.fault.Fault.TheVariants.{Memory};
-ghost use Rattle.game_commands.specs.Verdicts.{IsVerdict, fault_text, verdict_line};
+ghost use Rattle.game_commands.specs.Verdicts.{IsVerdict, fault_text, is_account_line, verdict_line};
 
 use crate::fault::Fault;
 use game_core::Game;
@@ -9,19 +9,39 @@ use match_record::VerifyFault;
 use record_check::verify;
 use std::alloc::{AllocError, Global};
 
-/// The verdict on a text: none where it is a lawful record.
-pub fn verdict_on<G: Game>(
-    alloc: Global,
-    game: &G,
-    text: &[u8],
-) -> Result<Option<VerifyFault>, Fault>
+/// What a line is, where each is to be a record or a part of an account.
+#[derive(Clone, Copy)]
+pub enum Verdict {
+    /// A lawful record.
+    Lawful,
+    /// No lawful record: the first test that it fails.
+    Unlawful(VerifyFault),
+    /// A line of an account, by its first byte.
+    Account,
+}
+
+/// Whether the line begins with a digit, as those of an account do and no record does.
+fn is_account_line(line: &[u8]) -> bool
+    ensures { result ≡ is_account_line line.now }
+{
+    match line.first() {
+        Some(byte) => byte.is_ascii_digit(),
+        None => false,
+    }
+}
+
+/// The verdict on a line.
+pub fn verdict_on<G: Game>(alloc: Global, game: &G, text: &[u8]) -> Result<Verdict, Fault>
     ensures verdict { IfOk result (IsVerdict (G.rules game.now) text.now) }
     ensures memory { IfErr result (λ fault. fault ≡ Memory) }
 {
+    if is_account_line(text) {
+        return Ok(Verdict::Account);
+    }
     match verify(alloc, game, text) {
-        Ok(()) => Ok(None),
+        Ok(()) => Ok(Verdict::Lawful),
         Err(VerifyFault::Memory) => Err(Fault::Memory),
-        Err(fault) => Ok(Some(fault)),
+        Err(fault) => Ok(Verdict::Unlawful(fault)),
     }
 }
 
@@ -45,13 +65,14 @@ fn fault_text(alloc: Global, fault: VerifyFault) -> Result<String, AllocError>
     }
 }
 
-/// The line that tells a verdict.
-pub fn verdict_line(alloc: Global, verdict: Option<VerifyFault>) -> Result<String, AllocError>
+/// The line that tells a verdict: nothing of a line of an account.
+pub fn verdict_line(alloc: Global, verdict: Verdict) -> Result<String, AllocError>
     ensures { IfOk result (λ line. string_bytes line ≡ verdict_line verdict) }
 {
     match verdict {
-        None => String::from_str(alloc, "lawful\n"),
-        Some(fault) => {
+        Verdict::Lawful => String::from_str(alloc, "lawful\n"),
+        Verdict::Account => String::from_str(alloc, ""),
+        Verdict::Unlawful(fault) => {
             let text = fault_text(alloc, fault)?;
             format!(in alloc; "not lawful: {text}\n")
         }

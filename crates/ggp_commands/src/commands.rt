@@ -5,14 +5,13 @@ use crate::hosting::host;
 use command_line::{
     ArgumentFault, PlayerTrial, RunPlan, SeasonPlan, Task, has_own_word, read_arguments, refusal,
 };
-use desk_text::push_history;
 use game_commands::{Fault, Remarks, for_game};
 use game_core::{Counted, Game};
 use match_log::{LoggedPlayer, Logging, Progress, StatusStream, Telling};
 use match_messages::{Info, info_message, read_info};
-use match_plans::{PlayerAddress, Reach, read_schedule};
-use match_play::{Entrants, HostedGame, PlayedMatch, entrants_of, played_match};
-use match_season::{Fixture, fixtures, play_season};
+use match_plans::{PlayerAddress, Reach, TellsShortages, read_schedule};
+use match_play::{Entrants, HostedGame, ended_match, entrants_of};
+use match_season::play_season;
 use match_workers::Player;
 use network_players::{ContactFault, Explains, contact};
 use player_check::check_player;
@@ -81,7 +80,7 @@ pub fn command<H, P, S, R: Read, W: Write, E: Write + Send>(
 where
     H: Net + Clock + Files + Threads + Wait + Sync,
     P: Player + Explains + Drop + Send,
-    S: Reach<P>,
+    S: Reach<P> + TellsShortages + Sync,
 {
     let mut remarks = Remarks::new(alloc, is_terminal || has_own_word(words));
     let performed = perform::<H, P, S, R, W, E>(
@@ -149,7 +148,7 @@ fn perform<H, P, S, R: Read, W: Write, E: Write + Send>(
 where
     H: Net + Clock + Files + Threads + Wait + Sync,
     P: Player + Explains + Drop + Send,
-    S: Reach<P>,
+    S: Reach<P> + TellsShortages + Sync,
 {
     let words: Vec<&str> = words.iter().map(|word| word.as_str()).collect(alloc)?;
     let task = task_of(alloc, words.as_slice(), remarks)?;
@@ -178,7 +177,7 @@ fn perform_task<H, P, S, R: Read, W: Write, E: Write + Send>(
 where
     H: Net + Clock + Files + Threads + Wait + Sync,
     P: Player + Explains + Drop + Send,
-    S: Reach<P>,
+    S: Reach<P> + TellsShortages + Sync,
 {
     match task {
         Task::Show(text) => Ok(write_all(writer, text.as_bytes())?),
@@ -237,19 +236,14 @@ fn run<H, P, S, W: Write>(
 where
     H: Threads + Wait + Sync,
     P: Player + Drop + Send,
-    S: Reach<P>,
+    S: Reach<P> + TellsShortages,
 {
     let entrants: Entrants<P> = entrants_of(alloc, reach, 0, &run.plan)?;
-    let PlayedMatch { record, history } = match played_match(rt, alloc, entrants, game) {
-        Ok(played) => played,
+    let ended = match ended_match(rt, alloc, reach, entrants, game, run.has_history) {
+        Ok(ended) => ended,
         Err(fault) => return Err(match_fault(fault)),
     };
-    let mut output = record.bytes;
-    output.push(b'\n')?;
-    if run.has_history {
-        push_history(alloc, &mut output, &history)?;
-    }
-    Ok(write_all(writer, &output)?)
+    Ok(write_all(writer, ended.text.as_slice())?)
 }
 
 /// How many bytes a schedule has at most.
@@ -269,12 +263,14 @@ fn season<H, P, S, R: Read, W: Write, E: Write + Send>(
 where
     H: Threads + Wait + Sync,
     P: Player + Drop + Send,
-    S: Reach<P>,
+    S: Reach<P> + TellsShortages + Sync,
 {
     let input = read_to_end(alloc, reader, MAX_SCHEDULE)?;
     let plans = read_schedule(alloc, &input, game.game.roles(), plan.strikes)?;
-    let fixtures: Vec<Fixture<'_, P>> = fixtures(alloc, reach, &plans)?;
-    match play_season(rt, alloc, game, fixtures, plan.form, writer, errors) {
+    let played = play_season::<H, P, S, W, E>(
+        rt, alloc, reach, game, &plans, plan.form, writer, errors,
+    );
+    match played {
         Ok(0) => Ok(()),
         Ok(count) => Err(Fault::NoRecords(count)),
         Err(fault) => Err(season_fault(fault)),
@@ -293,7 +289,7 @@ fn check<H, P, S, W: Write>(
 where
     H: Clock + Threads + Wait + Sync,
     P: Player + Explains + Drop + Send,
-    S: Reach<P>,
+    S: Reach<P> + TellsShortages,
 {
     match check_player::<H, P, S, W>(rt, alloc, reach, &trial.plan, game, writer) {
         Ok(0) => Ok(()),

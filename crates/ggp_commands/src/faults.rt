@@ -1,9 +1,10 @@
 //! The program's fault where a part of its work fails.
 
 use game_commands::Fault;
+use match_plans::Shortage;
 use match_play::MatchFault;
 use match_season::SeasonFault;
-use network_players::{ContactFault, Shortage};
+use network_players::ContactFault;
 use player_check::CheckFault;
 
 /// The fault of the program where a match fails.
@@ -11,6 +12,7 @@ pub fn match_fault(fault: MatchFault) -> Fault {
     match fault {
         MatchFault::Refused(refusal) => Fault::Refused(refusal),
         MatchFault::NotEnded => Fault::MatchNotEnded,
+        MatchFault::Shortage(shortage) => Fault::NoRecord(shortage),
         MatchFault::Memory => Fault::Memory,
     }
 }

@@ -3,7 +3,7 @@
 
 use game_core::Counted;
 use ggp_commands::{Fault, command, report};
-use match_plans::MAX_AT_ONCE;
+use match_plans::MAX_MATCHES;
 use network_players::{Signal, SocketPlayer, Sockets};
 use std::io::{ErrorKind, IsTerminal};
 use std::process::ExitCode;
@@ -30,7 +30,7 @@ fn main(rt: HostRuntime) -> ExitCode {
     };
     let mut reader = Counted::new(rt.stdin());
     let mut writer = Counted::new(rt.stdout());
-    let Ok(signals) = Signal::many(rt.alloc(), MAX_AT_ONCE) else {
+    let Ok(signals) = Signal::many(rt.alloc(), MAX_MATCHES) else {
         report(&mut errors, Fault::Memory);
         return ExitCode::from(Fault::Memory.status());
     };

@@ -3,9 +3,9 @@
 
 use crate::status::{Progress, StatusStream};
 use match_book::Answer;
-use match_plans::{PlayerAddress, Reach, Seat};
+use match_plans::{PlayerAddress, Reach, Seat, Shortage, TellsShortages};
 use match_workers::Player;
-use network_players::{ContactFault, Explains, Shortage, TellsShortages, time_since};
+use network_players::{ContactFault, Explains, time_since};
 use std::alloc::{AllocError, Global};
 use std::fmt;
 use std::fmt::Write as _;
@@ -165,6 +165,8 @@ impl<H: Clock + Wait, P: Explains, E: Write> LoggedPlayer<'_, H, P, E> {
 }
 
 impl<H, S: TellsShortages, E> TellsShortages for Logging<'_, H, S, E> {
+    ghost is_clear = { λ l place. S.is_clear l.reach.now place };
+
     fn shortage(&self, place: usize) -> Option<Shortage> {
         self.reach.shortage(place)
     }

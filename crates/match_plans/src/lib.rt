@@ -1,5 +1,5 @@
 //! Matches as they are planned: the players at their addresses, where a game comes from, one match, the matches of a schedule, the
-//! check of a player; and where the players of a planned match are reached.
+//! check of a player; where the players of a planned match are reached, and what the referee was short of in it.
 //!
 //! Free functions take the allocator first.
 #![tactic(auto)]
@@ -12,6 +12,7 @@ mod plan_line;
 mod schedule;
 mod season_form;
 mod seats;
+mod shortages;
 
 pub use addresses::{PlayerAddress, player_address};
 pub use game_source::{GameCommand, GameSource, Rules};
@@ -20,3 +21,4 @@ pub use plan::{CheckPlan, MatchPlan};
 pub use schedule::{LineFault, MAX_AT_ONCE, MAX_MATCHES, ScheduleFault, read_schedule};
 pub use season_form::{RecordOrder, SeasonForm};
 pub use seats::{Reach, Seat};
+pub use shortages::{Shortage, TellsShortages};

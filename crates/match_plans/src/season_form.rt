@@ -9,12 +9,14 @@ pub enum RecordOrder {
     OfEnds,
 }
 
-/// How the matches of a season are played and told.
+/// How the matches of a season are played and written.
 #[derive(Clone, Copy)]
 pub struct SeasonForm {
     /// How many of them are played at once at most.
     pub at_once: usize,
+    /// In how many of them a player sits at a time at most.
+    pub concurrent: usize,
     pub order: RecordOrder,
-    /// Whether the account of each match is written behind the records.
+    /// Whether the account of each match is written behind its record.
     pub has_history: bool,
 }

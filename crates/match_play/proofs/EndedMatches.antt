@@ -1,25 +1,10 @@
--- What is left of a match that was played to its end.
-use Rattle.std.proofs.Common.{◌≡◌, ℕ, List, Option, IfSome}
-use Rattle.std.specs.Prelude.{Some, None}
-use Rattle.ground_rules.specs.LoadedGame.{loaded_game}
-use Rattle.packed_rules.specs.PackedGames.{tables_of}
-use Rattle.packed_rules.specs.declared.packed_game.PackedGame.{PackedGame}
-use Rattle.call_history.specs.History.{IsReplay}
+-- What is written of a match that was played to its end.
+use Rattle.std.proofs.Common.{◌≡◌, ℕ, Bool, List, subst}
 use Rattle.call_history.specs.declared.journal.Entry.{Entry}
-use Rattle.match_desk.specs.ManagerValue.{ManagerValue, opening}
-use Rattle.match_desk.specs.Steps.{reply, after}
 use Rattle.match_desk.specs.declared.call.Call.{Call}
 use Rattle.match_desk.specs.declared.call.Reply.{Reply}
-use Rattle.desk_text.specs.Account.{history_text}
-use Rattle.match_play.specs.Matches.{IsEndedRecord}
-use Rattle.match_play.specs.EndedMatches.{IsEndedMatch}
+use Rattle.match_play.specs.EndedMatches.{match_text}
 
--- the record of a desk's match, with the desk's account where there is one
-pub with-account : (d : ManagerValue PackedGame _) (text : List ℕ) (history : List (Entry Call Reply)) (account : Option (List ℕ))
-    → IsEndedRecord (λ g. loaded_game (tables_of g)) d text
-    → IsReplay (reply (λ g. loaded_game (tables_of g))) (after (λ g. loaded_game (tables_of g))) opening d history
-    → IfSome account (λ told. told ≡ history_text history)
-    → IsEndedMatch text account
-with-account d text history None ended replayed told = record { desk = d; ended = ended; told = tt }
-with-account d text history (Some account) ended replayed told =
-    record { desk = d; ended = ended; told = record { history = history; is_told = told; replayed = replayed } }
+-- the text of a history is that of one equal to it
+pub same-text : (text line : List ℕ) (h k : List (Entry Call Reply)) (has_account : Bool) → h ≡ k → text ≡ match_text line h has_account → text ≡ match_text line k has_account
+same-text text line h k has_account same told = subst (λ x. text ≡ match_text line x has_account) same told

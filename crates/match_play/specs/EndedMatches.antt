@@ -1,5 +1,6 @@
--- What is left of a match that was played to its end.
-use Rattle.std.specs.Prelude.{◌≡◌, ℕ, List, Option, IfSome}
+-- What is written of a match that was played to its end.
+use Rattle.std.specs.Prelude.{◌≡◌, ℕ, Bool, List, [], ◌∷◌, ◌++◌, if◌then◌else◌}
+use Rattle.game_core.specs.Bytes.{line_feed}
 use Rattle.ground_rules.specs.LoadedGame.{loaded_game}
 use Rattle.packed_rules.specs.PackedGames.{tables_of}
 use Rattle.packed_rules.specs.declared.packed_game.PackedGame.{PackedGame}
@@ -12,14 +13,17 @@ use Rattle.match_desk.specs.declared.call.Reply.{Reply}
 use Rattle.desk_text.specs.Account.{history_text}
 use Rattle.match_play.specs.Matches.{IsEndedRecord}
 
--- the text tells a legal history from the opening, and the desk is what that leaves
-pub record IsDeskAccount (desk : ManagerValue PackedGame _) (text : List ℕ) : Type 0 where
-  pub history : List (Entry Call Reply)
-  pub is_told : text ≡ history_text history
-  pub replayed : IsReplay (reply (λ g. loaded_game (tables_of g))) (after (λ g. loaded_game (tables_of g))) opening desk history
+-- a match's record as a line, and behind it its history as text where that is wanted
+abbrev pub match_text : List ℕ → List (Entry Call Reply) → Bool → List ℕ
+match_text line history has_account = line ++ line_feed ∷ (if has_account then history_text history else [])
 
--- the text is the record of the first match of some desk of described games, which is over, and an account is that of this desk
-pub record IsEndedMatch (text : List ℕ) (account : Option (List ℕ)) : Type 0 where
+-- The text is written of the first match of some desk of described games, which is over: its record is the line, and this legal history
+-- from the opening makes the desk.
+pub record IsEndedMatch (text : List ℕ) : Type 0 where
   pub desk : ManagerValue PackedGame _
-  pub ended : IsEndedRecord (λ g. loaded_game (tables_of g)) desk text
-  pub told : IfSome account (IsDeskAccount desk)
+  pub line : List ℕ
+  pub history : List (Entry Call Reply)
+  pub has_account : Bool
+  pub ended : IsEndedRecord (λ g. loaded_game (tables_of g)) desk line
+  pub replayed : IsReplay (reply (λ g. loaded_game (tables_of g))) (after (λ g. loaded_game (tables_of g))) opening desk history
+  pub is_text : text ≡ match_text line history has_account

@@ -3,4 +3,4 @@ use Rattle.std.specs.Prelude.{ℕ}
 
 -- how often a role may ask what is due to it
 abbrev pub max_tries : ℕ
-max_tries = 100000
+max_tries = 1000000000

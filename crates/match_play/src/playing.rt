@@ -1,12 +1,11 @@
 //! A match between players on the network, from its plan to its record.
-ghost use Rattle.std.specs.Prelude.{◌≡◌, ◌≢◌, List, IfOk, IfErr, IfSome, length, vec_len};
+ghost use Rattle.std.specs.Prelude.{◌≡◌, ◌≢◌, ℕ, List, IfOk, IfErr, length, vec_len};
 ghost use Rattle.call_history.specs.declared.journal.Entry.{Entry};
 ghost use Rattle.match_desk.specs.declared.call.Call.{Call as DeskCall};
 ghost use Rattle.match_desk.specs.declared.call.Reply.{Reply as DeskReply};
 ghost use Rattle.match_workers.specs.Refereeing.{IsRefereed};
-ghost use Rattle.desk_text.specs.Account.{history_text};
 ghost use Rattle.match_play.specs.Matches.{IsEndedRecord, HasNoEndedMatch};
-ghost use Rattle.match_play.specs.EndedMatches.{IsEndedMatch};
+ghost use Rattle.match_play.specs.EndedMatches.{IsEndedMatch, match_text};
 ghost use Rattle.match_play.specs.Limits.{max_tries};
 ghost use Rattle.match_play.specs.PlayedMatches.{IsSetupOf, IsPlayedMatch};
 
@@ -17,7 +16,7 @@ use game_core::{Game, Lent, Text, Texts};
 use match_book::{Phase, Setup};
 use match_desk::{Call, Manager, Refusal, Reply};
 use match_messages::StartRules;
-use match_plans::{MatchPlan, Reach, Seat};
+use match_plans::{MatchPlan, Reach, Seat, Shortage, TellsShortages};
 use match_record::record_json;
 use match_workers::{Player, RefereeFault, Refereed, referee_shared};
 use packed_rules::PackedGame;
@@ -26,9 +25,9 @@ use std::sync::Wait;
 use std::thread::Threads;
 use thiserror::Error;
 
-/// How often a role may ask what is due to it. To wait for a message of another takes the role of a player on the network 9 asks in ten
-/// seconds, 34 in a minute and 1,804 in an hour.
-const MAX_TRIES: u64 = 100_000;
+/// How often a role may ask what is due to it. To wait for a message of a day takes the role of a player on the network 43,204 asks, and
+/// a match has 10,002 rounds at most: all of them together are fewer asks than these.
+const MAX_TRIES: u64 = 1_000_000_000;
 
 /// Why a match has no record.
 #[derive(Clone, Copy, Debug, PartialEq, Eq, Error)]
@@ -39,6 +38,9 @@ pub enum MatchFault {
     /// The match has neither finished nor been aborted.
     #[error("match not ended")]
     NotEnded,
+    /// The referee was short of this in the match, so some answer in it is no answer of the player's.
+    #[error("{0}")]
+    Shortage(Shortage),
     #[error("want of memory")]
     Memory,
 }
@@ -112,9 +114,10 @@ fn players_of<P: Drop, S: Reach<P>>(
     Ok(players)
 }
 
-/// A match before it is played: its setup, and a player for each name in it.
+/// A match before it is played: its place in its season, its setup, and a player for each name in it.
 #[derive(Drop)]
 pub struct Entrants<P> {
+    pub place: usize,
     pub setup: Setup,
     pub players: Vec<P>,
     ghost one_each: { vec_len players ≡ length setup.players },
@@ -127,11 +130,16 @@ pub fn entrants_of<P: Drop, S: Reach<P>>(
     place: usize,
     plan: &MatchPlan<'_>,
 ) -> Result<Entrants<P>, AllocError>
-    ensures { IfOk result (λ e. IsSetupOf plan.now e.setup) }
+    ensures setup { IfOk result (λ e. IsSetupOf plan.now e.setup) }
+    ensures place { IfOk result (λ e. e.place ≡ place) }
 {
     let setup = setup_of(alloc, plan)?;
     let players = players_of(alloc, reach, place, plan)?;
-    Ok(Entrants { setup, players })
+    Ok(Entrants {
+        place,
+        setup,
+        players,
+    })
 }
 
 /// The record of the desk's match, where that has come to its end.
@@ -160,29 +168,34 @@ pub struct PlayedMatch {
     pub history: Vec<Entry<Call, Reply>>,
 }
 
-/// What is left of a match that was played to its end: its record, and the account of its desk where that is wanted.
+/// What is written of a match that was played to its end: its record as a line, and behind it the account of its desk where that is
+/// wanted.
 #[derive(Drop)]
 pub struct EndedMatch {
-    /// The record.
     pub text: Text,
-    pub account: Option<Text>,
-    ghost is_ended: { ∥ IsEndedMatch text account ∥₁ },
+    ghost is_ended: { ∥ IsEndedMatch text ∥₁ },
 }
 
-/// Referees a match of this game between its entrants: what its desk leaves.
-pub(crate) fn refereed_match<'g, R, P>(
+/// Referees a match of this game between its entrants: what its desk leaves, where the referee was short of nothing.
+pub(crate) fn refereed_match<'g, R, P, S: TellsShortages>(
     rt: &R,
     alloc: Global,
+    reach: &S,
     entrants: Entrants<P>,
     game: HostedGame<'g>,
 ) -> Result<Refereed<Lent<'g, PackedGame>>, MatchFault>
 where
     R: Threads + Wait + Sync,
     P: Player + Drop + Send,
-    ensures { IfOk result (λ r. (left : List _) × IsRefereed ⟦<PackedGame as Game>⟧.rules P.handed game.entry.game.now entrants.setup game.entry.rules.now.items max_tries entrants.players.items left
+    ensures clear { IfOk result (λ r. S.is_clear reach.now entrants.place) }
+    ensures refereed { IfOk result (λ r. (left : List _) × IsRefereed ⟦<PackedGame as Game>⟧.rules P.handed game.entry.game.now entrants.setup game.entry.rules.now.items max_tries entrants.players.items left
         r.closed.object r.closed.history.items r.closed.made_by_line.items r.ends.items) }
 {
-    let Entrants { setup, players } = entrants;
+    let Entrants {
+        place,
+        setup,
+        players,
+    } = entrants;
     let (refereed, _players) = referee_shared(
         rt,
         alloc,
@@ -192,22 +205,28 @@ where
         players,
         MAX_TRIES,
     )?;
-    Ok(refereed)
+    match reach.shortage(place) {
+        None => Ok(refereed),
+        Some(shortage) => Err(MatchFault::Shortage(shortage)),
+    }
 }
 
-/// Referees a match of this game between its entrants.
-pub fn played_match<R, P>(
+/// Referees a match of this game between its entrants, who are reached so. Where the referee was short of something in it there is no
+/// record.
+pub fn played_match<R, P, S: TellsShortages>(
     rt: &R,
     alloc: Global,
+    reach: &S,
     entrants: Entrants<P>,
     game: HostedGame<'_>,
 ) -> Result<PlayedMatch, MatchFault>
 where
     R: Threads + Wait + Sync,
     P: Player + Drop + Send,
-    ensures { IfOk result (λ played. IsPlayedMatch P.handed game.entry.game.now game.entry.rules.now.items max_tries entrants.setup entrants.players.items played.record played.history.items) }
+    ensures clear { IfOk result (λ played. S.is_clear reach.now entrants.place) }
+    ensures played { IfOk result (λ played. IsPlayedMatch P.handed game.entry.game.now game.entry.rules.now.items max_tries entrants.setup entrants.players.items played.record played.history.items) }
 {
-    let refereed = refereed_match(rt, alloc, entrants, game)?;
+    let refereed = refereed_match(rt, alloc, reach, entrants, game)?;
     let record = ended_record(alloc, &refereed.closed.object)?;
     Ok(PlayedMatch {
         record,
@@ -215,26 +234,28 @@ where
     })
 }
 
-/// The history as text, where that is wanted.
-fn account_of(
+/// The record as a line, and behind it the history as text where that is wanted.
+fn match_text(
     alloc: Global,
+    line: Text,
     history: &[Entry<Call, Reply>],
-    is_wanted: bool,
-) -> Result<Option<Text>, AllocError>
-    ensures { IfOk result (λ account. IfSome account (λ text. text ≡ history_text history.now)) }
+    has_account: bool,
+) -> Result<Text, AllocError>
+    ensures { IfOk result (λ text. text ≡ match_text line history.now has_account) }
 {
-    if !is_wanted {
-        return Ok(None);
+    let mut bytes = line.bytes;
+    bytes.push(b'\n')?;
+    if has_account {
+        push_history(alloc, &mut bytes, history)?;
     }
-    let mut bytes = Vec::new(alloc);
-    push_history(alloc, &mut bytes, history)?;
-    Ok(Some(Text { bytes }))
+    Ok(Text { bytes })
 }
 
-/// What is left of a match, played as `played_match` does.
-pub fn ended_match<R, P>(
+/// What is written of a match, played as `played_match` does.
+pub fn ended_match<R, P, S: TellsShortages>(
     rt: &R,
     alloc: Global,
+    reach: &S,
     entrants: Entrants<P>,
     game: HostedGame<'_>,
     has_account: bool,
@@ -242,12 +263,10 @@ pub fn ended_match<R, P>(
 where
     R: Threads + Wait + Sync,
     P: Player + Drop + Send,
-    ensures { IfOk result (λ e. (history : List (Entry DeskCall DeskReply)) × IsPlayedMatch P.handed game.entry.game.now game.entry.rules.now.items max_tries entrants.setup entrants.players.items e.text history × IfSome e.account (λ text. text ≡ history_text history)) }
+    ensures clear { IfOk result (λ e. S.is_clear reach.now entrants.place) }
+    ensures played { IfOk result (λ e. (line : List ℕ) × (history : List (Entry DeskCall DeskReply)) × IsPlayedMatch P.handed game.entry.game.now game.entry.rules.now.items max_tries entrants.setup entrants.players.items line history × (e.text ≡ match_text line history has_account)) }
 {
-    let PlayedMatch { record, history } = played_match(rt, alloc, entrants, game)?;
-    let account = account_of(alloc, &history, has_account)?;
-    Ok(EndedMatch {
-        text: record,
-        account,
-    })
+    let PlayedMatch { record, history } = played_match(rt, alloc, reach, entrants, game)?;
+    let text = match_text(alloc, record, &history, has_account)?;
+    Ok(EndedMatch { text })
 }

@@ -8,6 +8,7 @@ use crate::playing::{Entrants, MatchFault, refereed_match};
 use game_core::{Game, Text};
 use match_book::{Match, Phase};
 use match_desk::Manager;
+use match_plans::TellsShortages;
 use match_workers::Player;
 use packed_rules::PackedGame;
 use std::alloc::{AllocError, Global};
@@ -69,10 +70,11 @@ fn ended_turns<G: Game>(
     }
 }
 
-/// Referees a match of this game between its entrants: its turns, as this role had them.
-pub fn played_turns<R, P>(
+/// Referees a match of this game between its entrants, as `played_match` does: its turns, as this role had them.
+pub fn played_turns<R, P, S: TellsShortages>(
     rt: &R,
     alloc: Global,
+    reach: &S,
     entrants: Entrants<P>,
     game: HostedGame<'_>,
     role: usize,
@@ -80,9 +82,10 @@ pub fn played_turns<R, P>(
 where
     R: Threads + Wait + Sync,
     P: Player + Drop + Send,
+    ensures clear { IfOk result (λ told. S.is_clear reach.now entrants.place) }
     ensures ended { IfOk result (λ told. (d : ManagerValue _ _) × (d.games ≡ game.entry.game.now ∷ []) × AreEndedTurns ⟦<PackedGame as Game>⟧.rules d role told.items) }
 {
-    let refereed = refereed_match(rt, alloc, entrants, game)?;
+    let refereed = refereed_match(rt, alloc, reach, entrants, game)?;
     let turns = ended_turns(alloc, &refereed.closed.object, role)?;
     Ok(turns)
 }

@@ -1,1 +1,2 @@
+pub mod Lineups
 pub mod Seasons

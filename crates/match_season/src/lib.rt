@@ -1,12 +1,15 @@
 //! A season: the matches of a schedule, some of them at once.
 //!
-//! `fixtures` brings the players of each match together; `play_season` plays the matches and writes their records.
+//! `play_season` plays the matches and writes their records, each with its account behind it where that is wanted. No player sits in
+//! more of them at a time than it may.
 //!
 //! Free functions take the allocator first, behind a handle for threads and waiting.
 #![tactic(auto)]
 
+mod floor;
+mod lineup;
 mod season;
 mod season_output;
 
-pub use season::{Fixture, fixtures, play_season};
+pub use season::play_season;
 pub use season_output::SeasonFault;

@@ -3,92 +3,88 @@ ghost use denote.Param.Send.{IsSend, IsSync};
 ghost use Rattle.match_messages.specs.contracts.start_rules.PrintedRules.{the_row as rules_row};
 ghost use Rattle.packed_rules.specs.contracts.packed_game.PackedGame.{the_row as game_row};
 
-use crate::season_output::{Over, SeasonFault, write_season};
-use crossbeam_channel::{Sender, bounded};
+use crate::floor::{Floor, Next};
+use crate::lineup::Lineup;
+use crate::season_output::{Over, Reports, SeasonFault, Written, write_season};
+use crossbeam_channel::{Receiver, Sender, bounded};
 use game_core::Counted;
-use match_plans::{MatchPlan, Reach, SeasonForm};
-use match_play::{Entrants, HostedGame, MatchFault, ended_match, entrants_of};
+use match_plans::{MatchPlan, Reach, RecordOrder, SeasonForm, TellsShortages};
+use match_play::{EndedMatch, HostedGame, MatchFault, ended_match, entrants_of};
 use match_workers::Player;
-use std::alloc::{AllocError, Global};
+use std::alloc::Global;
 use std::io::Write;
-use std::sync::atomic::{AtomicU64, Ordering};
+use std::marker::PhantomData;
 use std::sync::{Mutex, Wait};
 use std::thread;
 use std::thread::Threads;
 
-/// A match of a season: its entrants until it begins, if there was memory for them.
-#[derive(Drop)]
-pub struct Fixture<'a, P> {
-    id: &'a str,
-    entrants: Mutex<Option<Result<Entrants<P>, AllocError>>>,
-}
-
-/// The matches of these plans, before any is played. One for whose entrants memory is wanting costs itself alone.
-pub fn fixtures<'a, P: Drop, S: Reach<P>>(
-    alloc: Global,
-    reach: &S,
-    plans: &[MatchPlan<'a>],
-) -> Result<Vec<Fixture<'a, P>>, AllocError> {
-    let mut fixtures = Vec::with_capacity(alloc, plans.len())?;
-    for (place, plan) in plans.iter().enumerate() {
-        fixtures.push(Fixture {
-            id: plan.id,
-            entrants: Mutex::new(Some(entrants_of(alloc, reach, place, plan))),
-        })?;
-    }
-    Ok(fixtures)
-}
-
 /// The matches of a season, as its threads see them.
 #[derive(Drop)]
-struct Season<'f, 'a, P> {
+struct Season<'f, 'a, P, S> {
     alloc: Global,
+    reach: &'f S,
     game: HostedGame<'f>,
-    fixtures: &'f [Fixture<'a, P>],
+    plans: &'f [MatchPlan<'a>],
     has_history: bool,
-    /// How many matches a thread has taken: the place of the next one.
-    taken: AtomicU64,
+    floor: Floor,
+    /// Who plays: players are made as their match begins.
+    players: PhantomData<Mutex<P>>,
 }
 
-impl<'a, P> Season<'_, 'a, P> {
-    /// Plays the match at this place, unless it was played: what it came to.
-    fn play<R>(&self, rt: &R, place: usize) -> Option<Over<'a>>
+impl<'a, P, S> Season<'_, 'a, P, S> {
+    /// The id of the match at this place.
+    fn id_of(&self, place: usize) -> &'a str {
+        match self.plans.get(place) {
+            Some(plan) => plan.id,
+            None => "",
+        }
+    }
+
+    /// Plays the match at this place.
+    fn play<R>(&self, rt: &R, place: usize) -> Result<EndedMatch, MatchFault>
     where
         R: Threads + Wait + Sync,
         P: Player + Drop + Send,
+        S: Reach<P> + TellsShortages,
     {
-        let fixture = self.fixtures.get(place)?;
-        let entrants = fixture.entrants.lock(rt).take()?;
-        let outcome = match entrants {
-            Ok(entrants) => ended_match(rt, self.alloc, entrants, self.game, self.has_history),
-            Err(_) => Err(MatchFault::Memory),
+        let Some(plan) = self.plans.get(place) else {
+            return Err(MatchFault::NotEnded);
         };
-        Some(Over {
-            id: fixture.id,
-            place,
-            outcome,
-        })
+        let entrants = entrants_of(self.alloc, self.reach, place, plan)?;
+        ended_match(
+            rt,
+            self.alloc,
+            self.reach,
+            entrants,
+            self.game,
+            self.has_history,
+        )
     }
 
-    /// Plays the matches that are left, one after another, and sends what each came to.
+    /// Plays matches, one after another, until none waits, and sends what each came to.
     fn play_matches<R>(&self, rt: &R, sender: &Sender<Over<'a>>)
     where
         R: Threads + Wait + Sync,
         P: Player + Drop + Send,
+        S: Reach<P> + TellsShortages,
     {
-        for _ in 0..self.fixtures.len() {
-            let place = self.taken.fetch_add(1, Ordering::SeqCst) as usize;
-            let Some(over) = self.play(rt, place) else {
+        self.floor.enter(rt);
+        for _ in rt.forever() {
+            let Some(begun) = self.floor.begin(rt) else {
                 return;
             };
-            let _ = sender.send(rt, over);
+            let place = begun.fixture.place;
+            let outcome = self.play(rt, place);
+            let is_short = matches!(outcome, Err(MatchFault::Memory));
+            match self.floor.end(rt, begun, is_short) {
+                Next::HandOn => {
+                    let id = self.id_of(place);
+                    let _ = sender.send(rt, Over { id, place, outcome });
+                }
+                Next::GoOn => {}
+                Next::End => return,
+            }
         }
-    }
-
-    /// Has no further match begin.
-    fn stop(&self) {
-        self.taken
-            .store(self.fixtures.len() as u64, Ordering::SeqCst);
     }
 }
 
@@ -97,12 +93,40 @@ fn is_shared<T: Sync>(_value: &T)
     ensures { IsSync T.row }
 {}
 
-/// Plays the matches of these fixtures.
-fn play_fixtures<R, P, W: Write, E: Write + Send>(
+/// Writes what the matches of a season came to. Where that fails no further match begins, and it is reported which have no record.
+/// Returns how many those are.
+fn write_played<R: Wait, P, S, W: Write, E: Write>(
     rt: &R,
     alloc: Global,
-    game: HostedGame<'_>,
-    fixtures: &[Fixture<'_, P>],
+    season: &Season<'_, '_, P, S>,
+    order: RecordOrder,
+    receiver: &Receiver<Over<'_>>,
+    writer: &mut Counted<W>,
+    errors: &Mutex<E>,
+) -> Result<u64, SeasonFault> {
+    let reports = Reports {
+        rt,
+        plans: season.plans,
+        errors,
+    };
+    let mut written = Written::nothing(alloc, season.plans.len())?;
+    match write_season(alloc, order, &reports, receiver, &mut written, writer) {
+        Ok(()) => Ok(written.missing()),
+        Err(fault) => {
+            season.floor.close(rt);
+            reports.report_rest(&written);
+            Err(fault)
+        }
+    }
+}
+
+/// Plays the matches of a season in threads, and writes what they came to.
+fn play_in_threads<'a, R, P, S, W: Write, E: Write + Send>(
+    rt: &R,
+    alloc: Global,
+    season: &Season<'_, 'a, P, S>,
+    sender: &Sender<Over<'a>>,
+    receiver: Receiver<Over<'a>>,
     form: SeasonForm,
     writer: &mut Counted<W>,
     errors: &Mutex<E>,
@@ -110,29 +134,18 @@ fn play_fixtures<R, P, W: Write, E: Write + Send>(
 where
     R: Threads + Wait + Sync,
     P: Player + Drop + Send,
+    S: Reach<P> + TellsShortages + Sync,
 {
-    if fixtures.is_empty() {
-        return Ok(0);
-    }
-    let (sender, receiver) = bounded(alloc, fixtures.len())?;
-    let season = Season {
-        alloc,
-        game,
-        fixtures,
-        has_history: form.has_history,
-        taken: AtomicU64::new(0),
-    };
-    let (season, sender) = (&season, &sender);
-    is_shared(game.game);
-    is_shared(game.rules);
+    is_shared(season.game.game);
+    is_shared(season.game.rules);
     thread::scope(
         thread::scope_env(),
         rt,
         move |scope| -> Result<u64, SeasonFault>
-            requires sent { IsSync R.row × IsSend P.row × IsSync game_row × IsSync rules_row }
+            requires sent { IsSync R.row × IsSync S.row × IsSync game_row × IsSync rules_row }
         {
             let mut has_thread = false;
-            for _ in 0..form.at_once.min(fixtures.len()) {
+            for _ in 0..form.at_once.min(season.plans.len()) {
                 let work = move || season.play_matches(rt, sender);
                 if scope.spawn(work).is_err() {
                     break;
@@ -142,32 +155,26 @@ where
             if !has_thread {
                 return Err(SeasonFault::Memory);
             }
-            let written = write_season(
-                rt,
-                alloc,
-                fixtures.len(),
-                form.order,
-                &receiver,
-                writer,
-                errors,
-            );
-            if written.is_err() {
-                season.stop();
-            }
-            written
+            write_played(rt, alloc, season, form.order, &receiver, writer, errors)
         },
     )
 }
 
-/// Plays the matches of a season, all of this game, each in threads of its own, and writes their records, each
-/// as soon as its turn has come, and then the accounts where they are wanted. How many matches have no record is answered.
+/// Plays the matches of a season, all of this game, each in threads of its own, and writes the record of each, with its account behind
+/// it where that is wanted. Returns how many matches have no record.
 ///
-/// Where no thread can be made that is want of memory, and no match was begun. After a failed write no further match begins.
-pub fn play_season<R, P, W: Write, E: Write + Send>(
+/// A match begins once all before it have begun, beside those with a player who sits in as many matches as it may. One for which there
+/// is no thread or no memory waits until another match is over, and one match less is played at once from then on; where no other one
+/// is under way it has no record.
+///
+/// Where no thread can be made at all that is want of memory, and no match was begun. After a failed write no further match begins, and
+/// it is reported which matches have no record.
+pub fn play_season<'f, 'a, R, P, S, W: Write, E: Write + Send>(
     rt: &R,
     alloc: Global,
-    game: HostedGame<'_>,
-    fixtures: Vec<Fixture<'_, P>>,
+    reach: &'f S,
+    game: HostedGame<'f>,
+    plans: &'f [MatchPlan<'a>],
     form: SeasonForm,
     writer: &mut Counted<W>,
     errors: &Mutex<E>,
@@ -175,6 +182,21 @@ pub fn play_season<R, P, W: Write, E: Write + Send>(
 where
     R: Threads + Wait + Sync,
     P: Player + Drop + Send,
+    S: Reach<P> + TellsShortages + Sync,
 {
-    play_fixtures(rt, alloc, game, &fixtures, form, writer, errors)
+    if plans.is_empty() {
+        return Ok(0);
+    }
+    let floor = Floor::of(Lineup::of(alloc, plans, form.concurrent)?);
+    let (sender, receiver) = bounded(alloc, plans.len())?;
+    let season: Season<'f, 'a, P, S> = Season {
+        alloc,
+        reach,
+        game,
+        plans,
+        has_history: form.has_history,
+        floor,
+        players: PhantomData,
+    };
+    play_in_threads(rt, alloc, &season, &sender, receiver, form, writer, errors)
 }

@@ -1,14 +1,13 @@
-//! What a season writes: the record of each match, and the accounts behind them.
-ghost use Rattle.std.specs.Prelude.{◌++◌, ◌∷◌, [], OnOk};
-ghost use Rattle.std.specs.Io.KnownBytes.{Appends};
-ghost use Rattle.game_core.specs.Bytes.{line_feed};
-ghost use Rattle.match_season.specs.Seasons.{IsAccountOfDesk, WritesRecords, WritesAccounts, WritesSeason};
+//! What a season writes: the record of each match, and its account behind it.
+ghost use Rattle.std.specs.Prelude.{OnOk};
+ghost use Rattle.match_season.specs.Seasons.{WritesMatches};
 
 use crossbeam_channel::Receiver;
-use game_core::{Counted, Text};
-use match_plans::RecordOrder;
+use game_core::Counted;
+use match_plans::{MatchPlan, RecordOrder};
 use match_play::{EndedMatch, MatchFault};
 use std::alloc::{AllocError, AllocFailed, Global};
+use std::fmt;
 use std::fmt::Write as _;
 use std::io::Write;
 use std::sync::{Mutex, Wait};
@@ -43,7 +42,7 @@ impl<T: Drop> From<AllocFailed<T>> for SeasonFault {
     }
 }
 
-/// A match of a season that is over: its id, its place in the schedule, and what is left of it or why it has no record.
+/// A match of a season that is over: its id, its place in the schedule, and what is written of it or why it has no record.
 #[derive(Drop)]
 pub struct Over<'a> {
     pub id: &'a str,
@@ -51,95 +50,114 @@ pub struct Over<'a> {
     pub outcome: Result<EndedMatch, MatchFault>,
 }
 
-/// The account of a desk, until it is written.
+/// Where it is reported of which matches there is no record.
 #[derive(Drop)]
-struct Account {
-    text: Text,
-    ghost is_told: { ∥ IsAccountOfDesk text ∥₁ },
+pub struct Reports<'r, 'p, 'a, 'e, R, E> {
+    pub rt: &'r R,
+    pub plans: &'p [MatchPlan<'a>],
+    pub errors: &'e Mutex<E>,
 }
 
-/// What a season has written: how many records, and the accounts of their matches, which are written last.
+impl<R: Wait, E: Write> Reports<'_, '_, '_, '_, R, E> {
+    /// Reports in a line why the match of this id has no record. A failed write of it is skipped.
+    fn report<F: fmt::Display>(&self, id: &str, why: &F) {
+        let mut stream = self.errors.lock(self.rt);
+        let mut pieces = Pieces {
+            stream: &mut *stream,
+        };
+        let _ = writeln!(pieces, "ggp_manager: {id}: {why}");
+    }
+
+    /// Reports of each match of which nothing is written and nothing was reported that it has no record.
+    pub fn report_rest(&self, written: &Written) {
+        for (plan, is_settled) in self.plans.iter().zip(written.is_settled.iter()) {
+            if !*is_settled {
+                self.report(plan.id, &"no record");
+            }
+        }
+    }
+}
+
+/// What a season has written.
 #[derive(Drop)]
-struct Written {
+pub struct Written {
     records: u64,
-    accounts: Vec<Account>,
+    /// By a match's place: whether its record is written, or it is reported why there is none.
+    is_settled: Vec<bool>,
 }
 
-/// Writes a record as a line.
-fn write_record<W: Write>(writer: &mut Counted<W>, ended: &EndedMatch) -> Result<(), WriteFault>
-    ensures { OnOk result (Appends (W.contents writer.old.stream) (W.contents writer.new.stream) (ended.now.text ++ line_feed ∷ [])) }
-{
-    write_all(writer, ended.text.as_slice())?;
-    write_all(writer, b"\n")
+impl Written {
+    /// Nothing of so many matches.
+    pub fn nothing(alloc: Global, count: usize) -> Result<Written, AllocError> {
+        Ok(Written {
+            records: 0,
+            is_settled: vec![in alloc; false; count]?,
+        })
+    }
+
+    /// How many of the matches have no record.
+    pub fn missing(&self) -> u64 {
+        (self.is_settled.len() as u64).saturating_sub(self.records)
+    }
+
+    fn settle(&mut self, place: usize) {
+        if let Some(is_settled) = self.is_settled.get_mut(place) {
+            *is_settled = true;
+        }
+    }
 }
 
-/// The account of a match, if it was wanted.
-fn account_of(ended: EndedMatch) -> Option<Account> {
-    let text = ended.account?;
-    Some(Account { text })
-}
-
-/// Says in a line why a match has no record. A failed write of it is passed by.
-fn tell_fault<R: Wait, E: Write>(rt: &R, errors: &Mutex<E>, id: &str, fault: MatchFault) {
-    let mut stream = errors.lock(rt);
-    let mut pieces = Pieces {
-        stream: &mut *stream,
-    };
-    let _ = writeln!(pieces, "ggp_manager: {id}: {fault}");
-}
-
-/// Writes the record of a match, and keeps its account.
+/// Writes the record of the match at this place, and its account behind it where that is wanted.
 fn write_ended<W: Write>(
-    ended: EndedMatch,
+    place: usize,
+    ended: &EndedMatch,
     written: &mut Written,
     writer: &mut Counted<W>,
 ) -> Result<(), SeasonFault>
-    ensures { OnOk result (WritesRecords (W.contents writer.old.stream) (W.contents writer.new.stream)) }
+    ensures { OnOk result (WritesMatches (W.contents writer.old.stream) (W.contents writer.new.stream)) }
 {
-    write_record(writer, &ended)?;
+    write_all(writer, ended.text.as_slice())?;
     written.records = written.records.saturating_add(1);
-    if let Some(account) = account_of(ended) {
-        written.accounts.push(account)?;
-    }
+    written.settle(place);
     Ok(())
 }
 
-/// Writes the record of a match, or tells why it has none.
+/// Writes the record of a match, or reports why it has none.
 fn write_outcome<R: Wait, W: Write, E: Write>(
-    rt: &R,
+    reports: &Reports<'_, '_, '_, '_, R, E>,
     over: Over<'_>,
     written: &mut Written,
     writer: &mut Counted<W>,
-    errors: &Mutex<E>,
 ) -> Result<(), SeasonFault>
-    ensures { OnOk result (WritesRecords (W.contents writer.old.stream) (W.contents writer.new.stream)) }
+    ensures { OnOk result (WritesMatches (W.contents writer.old.stream) (W.contents writer.new.stream)) }
 {
+    let place = over.place;
     match over.outcome {
-        Ok(ended) => write_ended(ended, written, writer),
+        Ok(ended) => write_ended(place, &ended, written, writer),
         Err(fault) => {
-            tell_fault(rt, errors, over.id, fault);
+            reports.report(over.id, &fault);
+            written.settle(place);
             Ok(())
         }
     }
 }
 
-/// Writes what waits from this place on, up to the first match that is not over. The place of that is answered.
+/// Writes what waits from this place on, up to the first match that is not over. Returns the place of that one.
 fn write_waiting<R: Wait, W: Write, E: Write>(
-    rt: &R,
+    reports: &Reports<'_, '_, '_, '_, R, E>,
     waiting: &mut [Option<Over<'_>>],
     next: usize,
     written: &mut Written,
     writer: &mut Counted<W>,
-    errors: &Mutex<E>,
 ) -> Result<usize, SeasonFault>
-    ensures { OnOk result (WritesRecords (W.contents writer.old.stream) (W.contents writer.new.stream)) }
+    ensures { OnOk result (WritesMatches (W.contents writer.old.stream) (W.contents writer.new.stream)) }
 {
     let count = waiting.len();
     for place in next..count {
         let Some(over) = waiting[place].take() else {
             return Ok(place);
         };
-        write_outcome(rt, over, written, writer, errors)?;
+        write_outcome(reports, over, written, writer)?;
     }
     Ok(count)
 }
@@ -153,91 +171,62 @@ fn none_waiting<'a>(alloc: Global, count: usize) -> Result<Vec<Option<Over<'a>>>
     Ok(waiting)
 }
 
-/// Writes the records of so many matches in the order of the schedule.
+/// Writes the records of the matches in the order of the schedule.
 fn write_by_schedule<R: Wait, W: Write, E: Write>(
-    rt: &R,
     alloc: Global,
-    count: usize,
+    reports: &Reports<'_, '_, '_, '_, R, E>,
     receiver: &Receiver<Over<'_>>,
     written: &mut Written,
     writer: &mut Counted<W>,
-    errors: &Mutex<E>,
 ) -> Result<(), SeasonFault>
-    ensures { OnOk result (WritesRecords (W.contents writer.old.stream) (W.contents writer.new.stream)) }
+    ensures { OnOk result (WritesMatches (W.contents writer.old.stream) (W.contents writer.new.stream)) }
 {
+    let count = reports.plans.len();
     let mut waiting = none_waiting(alloc, count)?;
     let mut next = 0;
     for _ in 0..count {
-        let Ok(over) = receiver.recv(rt) else {
+        let Ok(over) = receiver.recv(reports.rt) else {
             break;
         };
         if let Some(slot) = waiting.get_mut(over.place) {
             *slot = Some(over);
         }
-        next = write_waiting(rt, &mut waiting, next, written, writer, errors)?;
+        next = write_waiting(reports, &mut waiting, next, written, writer)?;
     }
     Ok(())
 }
 
-/// Writes the records of so many matches in the order of their ends.
+/// Writes the records of the matches in the order of their ends.
 fn write_by_ends<R: Wait, W: Write, E: Write>(
-    rt: &R,
-    count: usize,
+    reports: &Reports<'_, '_, '_, '_, R, E>,
     receiver: &Receiver<Over<'_>>,
     written: &mut Written,
     writer: &mut Counted<W>,
-    errors: &Mutex<E>,
 ) -> Result<(), SeasonFault>
-    ensures { OnOk result (WritesRecords (W.contents writer.old.stream) (W.contents writer.new.stream)) }
+    ensures { OnOk result (WritesMatches (W.contents writer.old.stream) (W.contents writer.new.stream)) }
 {
-    for _ in 0..count {
-        let Ok(over) = receiver.recv(rt) else {
+    for _ in 0..reports.plans.len() {
+        let Ok(over) = receiver.recv(reports.rt) else {
             break;
         };
-        write_outcome(rt, over, written, writer, errors)?;
+        write_outcome(reports, over, written, writer)?;
     }
     Ok(())
 }
 
-fn write_account<W: Write>(writer: &mut Counted<W>, account: &Account) -> Result<(), WriteFault>
-    ensures { OnOk result (Appends (W.contents writer.old.stream) (W.contents writer.new.stream) account.now.text) }
-{
-    write_all(writer, account.text.as_slice())
-}
-
-/// Writes the accounts, one behind the other.
-fn write_accounts<W: Write>(writer: &mut Counted<W>, accounts: &[Account]) -> Result<(), WriteFault>
-    ensures { OnOk result (WritesAccounts (W.contents writer.old.stream) (W.contents writer.new.stream)) }
-{
-    for account in accounts {
-        write_account(writer, account)?;
-    }
-    Ok(())
-}
-
-/// Writes the records of so many matches as they are over, in this order, and then the accounts that there are. How many have no
-/// record is answered.
+/// Writes the records of the matches as they are over, in this order, each with its account behind it where that is wanted.
 pub fn write_season<R: Wait, W: Write, E: Write>(
-    rt: &R,
     alloc: Global,
-    count: usize,
     order: RecordOrder,
+    reports: &Reports<'_, '_, '_, '_, R, E>,
     receiver: &Receiver<Over<'_>>,
+    written: &mut Written,
     writer: &mut Counted<W>,
-    errors: &Mutex<E>,
-) -> Result<u64, SeasonFault>
-    ensures { OnOk result (WritesSeason (W.contents writer.old.stream) (W.contents writer.new.stream)) }
+) -> Result<(), SeasonFault>
+    ensures { OnOk result (WritesMatches (W.contents writer.old.stream) (W.contents writer.new.stream)) }
 {
-    let mut written = Written {
-        records: 0,
-        accounts: Vec::new(alloc),
-    };
     match order {
-        RecordOrder::OfSchedule => {
-            write_by_schedule(rt, alloc, count, receiver, &mut written, writer, errors)?
-        }
-        RecordOrder::OfEnds => write_by_ends(rt, count, receiver, &mut written, writer, errors)?,
+        RecordOrder::OfSchedule => write_by_schedule(alloc, reports, receiver, written, writer),
+        RecordOrder::OfEnds => write_by_ends(reports, receiver, written, writer),
     }
-    write_accounts(writer, &written.accounts)?;
-    Ok((count as u64).saturating_sub(written.records))
 }

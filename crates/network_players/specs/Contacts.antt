@@ -6,8 +6,8 @@ use Rattle.match_book.specs.declared.answer.Answer.{Answer}
 use Rattle.match_book.specs.declared.answer.Answer.TheVariants.{Text, Silent, Broken}
 use Rattle.http_exchange.specs.declared.wire_fault.WireFault.{WireFault}
 use Rattle.http_exchange.specs.declared.wire_fault.WireFault.TheVariants as wire
-use Rattle.network_players.specs.declared.shortage.Shortage.{Shortage}
-use Rattle.network_players.specs.declared.shortage.Shortage.TheVariants.{Ports, Memory}
+use Rattle.match_plans.specs.declared.shortages.Shortage.{Shortage}
+use Rattle.match_plans.specs.declared.shortages.Shortage.TheVariants.{Ports, Memory}
 use Rattle.network_players.specs.declared.deadline.Halt.{Halt}
 use Rattle.network_players.specs.declared.deadline.Halt.TheVariants as halts
 use Rattle.network_players.specs.declared.contacting.ContactFault.{ContactFault}

@@ -2,8 +2,8 @@
 use Rattle.std.specs.Prelude.{ℕ, ℤ, unsigned_abs, ◌==◌, if◌then◌else◌, List, [], ◌∷◌, Option, Some, None}
 use Rattle.std.specs.declared.io.ErrorKind.{ErrorKind}
 use Rattle.std.specs.declared.io.ErrorKind.TheVariants.{WouldBlock, TimedOut, AddrNotAvailable, OutOfMemory}
-use Rattle.network_players.specs.declared.shortage.Shortage.{Shortage}
-use Rattle.network_players.specs.declared.shortage.Shortage.TheVariants.{Descriptors, Ports, Memory, Clock}
+use Rattle.match_plans.specs.declared.shortages.Shortage.{Shortage}
+use Rattle.match_plans.specs.declared.shortages.Shortage.TheVariants.{Descriptors, Ports, Memory, Clock}
 use Rattle.network_players.specs.declared.deadline.Halt.{Halt}
 use Rattle.network_players.specs.declared.deadline.Halt.TheVariants.{Late, Short}
 

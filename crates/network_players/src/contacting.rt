@@ -4,10 +4,10 @@ ghost use Rattle.network_players.specs.Contacts.{address_fault, fault_so_far, fa
 
 use crate::deadline::{Deadline, Halt, TimedStream};
 use crate::lookup::Lookup;
-use crate::shortage::{Shortage, shortage_of};
+use crate::shortage::shortage_of;
 use game_core::{Counted, Text};
 use http_exchange::{WireFault, exchange};
-use match_plans::PlayerAddress;
+use match_plans::{PlayerAddress, Shortage};
 use std::alloc::Global;
 use std::io::ErrorKind;
 use std::net::{Net, SocketAddr, TcpStream};

@@ -4,7 +4,8 @@ ghost use Rattle.std.specs.Duration.{as_nanos};
 ghost use Rattle.network_players.specs.Shortages.{failed_halt};
 
 use crate::reply_front::ReplyFront;
-use crate::shortage::{Shortage, shortage_of};
+use crate::shortage::shortage_of;
+use match_plans::Shortage;
 use std::io;
 use std::io::{ErrorKind, Read, Write};
 use std::net::OpenStream;

@@ -15,6 +15,6 @@ mod signal;
 mod socket_player;
 
 pub use contacting::{ContactFault, Explains, contact};
-pub use shortage::{Shortage, shortage_of};
+pub use shortage::shortage_of;
 pub use signal::{Pace, Signal, time_since};
-pub use socket_player::{SocketPlayer, Sockets, TellsShortages, answer_of};
+pub use socket_player::{SocketPlayer, Sockets, answer_of};

@@ -1,7 +1,7 @@
 //! Where a player's host is found.
 
-use crate::shortage::{Shortage, shortage_of};
-use match_plans::PlayerAddress;
+use crate::shortage::shortage_of;
+use match_plans::{PlayerAddress, Shortage};
 use std::alloc::Global;
 use std::net::{Ipv6Addr, Net, SocketAddr, ToSocketAddrs};
 

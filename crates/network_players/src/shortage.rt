@@ -1,27 +1,11 @@
-//! What the referee itself is short of, for which no player is to blame.
+//! Which errors of the system tell what the referee is short of.
 ghost use Rattle.std.specs.Prelude.{◌≡◌, Some};
 ghost use Rattle.std.specs.IoError.{error_kind, raw_os_error};
 ghost use Rattle.network_players.specs.Shortages.{coded_shortage, error_shortages, shortage_in, system_shortage};
 
+use match_plans::Shortage;
 use std::io;
 use std::io::ErrorKind;
-use thiserror::Error;
-
-/// What the referee is short of where a message can't be handed over, whoever it is for.
-#[derive(Clone, Copy, Debug, PartialEq, Eq, Error)]
-pub enum Shortage {
-    /// The process, or the system, has as many descriptors open as it may.
-    #[error("out of descriptors")]
-    Descriptors,
-    /// No port is free for the near end of a connection.
-    #[error("out of ports")]
-    Ports,
-    #[error("out of memory")]
-    Memory,
-    /// The clock can't be read.
-    #[error("no clock")]
-    Clock,
-}
 
 /// What the error of this number says that the system is short of, for the errors of Linux that have no kind of their own.
 fn error_shortage(number: u32) -> Option<Shortage>

@@ -2,7 +2,8 @@
 ghost use Rattle.std.specs.Prelude.{◌≡◌, ◌*◌, min, IfOk, length};
 ghost use Rattle.std.specs.Duration.{as_nanos};
 
-use crate::shortage::{Shortage, code_of, coded};
+use crate::shortage::{code_of, coded};
+use match_plans::Shortage;
 use std::alloc::{AllocError, Global};
 use std::sync::Wait;
 use std::sync::atomic::{AtomicU64, Ordering};

@@ -4,12 +4,11 @@ ghost use Rattle.network_players.specs.Contacts.{answer_of, contact_answer};
 
 use crate::contacting::{ContactFault, Explains, contact_found};
 use crate::lookup::Lookup;
-use crate::shortage::Shortage;
 use crate::signal::{Pace, Signal};
 use game_core::Text;
 use http_exchange::WireFault;
 use match_book::Answer;
-use match_plans::{PlayerAddress, Reach, Seat};
+use match_plans::{PlayerAddress, Reach, Seat, Shortage, TellsShortages};
 use match_workers::Player;
 use std::alloc::{AllocError, Global};
 use std::io::ErrorKind;
@@ -28,14 +27,6 @@ pub struct Sockets<'a, H> {
     ghost has_one: { 0 < length signals.now },
 }
 
-/// Who can say what the referee was short of in a match. Such a match has no record: some answer in it is no answer of the player's.
-pub trait TellsShortages {
-    /// What it was short of in the match at this place, if anything. This is known once the match is over.
-    fn shortage(&self, _place: usize) -> Option<Shortage> {
-        None
-    }
-}
-
 /// A player on the network. Each message goes over a connection of its own, to the addresses that its host had for the first one.
 #[derive(Drop)]
 pub struct SocketPlayer<'a, H> {
@@ -52,6 +43,9 @@ pub struct SocketPlayer<'a, H> {
 }
 
 impl<H> TellsShortages for Sockets<'_, H> {
+    // What a signal carries no contract can name.
+    ghost is_clear = { λ s place. Unit {0} };
+
     fn shortage(&self, place: usize) -> Option<Shortage> {
         self.signals[place % self.signals.len()].shortage()
     }

@@ -4,7 +4,7 @@ ghost use Rattle.std.specs.Prelude.{◌<◌};
 use crate::table::{HEADER, Row};
 use crate::watched::{Exchanges, Participant, Watching};
 use game_core::{Counted, Game};
-use match_plans::{CheckPlan, MatchPlan, PlayerAddress, Reach};
+use match_plans::{CheckPlan, MatchPlan, PlayerAddress, Reach, TellsShortages};
 use match_play::{Entrants, HostedGame, MatchFault, RoleTurn, entrants_of, played_turns};
 use match_workers::Player;
 use network_players::{Explains, Signal};
@@ -125,7 +125,7 @@ fn check_role<H, P, S>(
 where
     H: Clock + Threads + Wait + Sync,
     P: Player + Explains + Drop + Send,
-    S: Reach<P>,
+    S: Reach<P> + TellsShortages,
     requires { role < (⟦<PackedGame as Game>⟧.rules game.game.now).roles }
 {
     let id = format!(in alloc; "check-{role}")?;
@@ -140,7 +140,7 @@ where
     };
     let match_plan = match_plan(alloc, plan, id.as_str(), role, game.game.roles())?;
     let entrants: Entrants<Participant<'_, H, P>> = entrants_of(alloc, &watching, 0, &match_plan)?;
-    let turns = played_turns(rt, alloc, entrants, game, role)?;
+    let turns = played_turns(rt, alloc, &watching, entrants, game, role)?;
     let exchanges = exchanges.lock(rt);
     Ok(push_rows(alloc, table, game.game.role_name(role), &exchanges, &turns)?)
 }
@@ -158,7 +158,7 @@ pub fn check_player<H, P, S, W: Write>(
 where
     H: Clock + Threads + Wait + Sync,
     P: Player + Explains + Drop + Send,
-    S: Reach<P>,
+    S: Reach<P> + TellsShortages,
 {
     let mut table = Vec::new(alloc);
     table.extend_from_slice(HEADER)?;

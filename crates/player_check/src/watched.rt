@@ -2,7 +2,7 @@
 
 use match_book::Answer;
 use match_log::Shown;
-use match_plans::{PlayerAddress, Reach, Seat};
+use match_plans::{PlayerAddress, Reach, Seat, Shortage, TellsShortages};
 use match_workers::Player;
 use network_players::{ContactFault, Explains, Pace, Signal, time_since};
 use std::alloc::{AllocError, Global};
@@ -131,6 +131,14 @@ impl<'a, H, P, S: Reach<P>> Reach<Participant<'a, H, P>> for Watching<'a, H, S> 
             exchanges: self.exchanges,
             watched,
         })
+    }
+}
+
+impl<H, S: TellsShortages> TellsShortages for Watching<'_, H, S> {
+    ghost is_clear = { λ w place. S.is_clear w.reach.now place };
+
+    fn shortage(&self, place: usize) -> Option<Shortage> {
+        self.reach.shortage(place)
     }
 }
 

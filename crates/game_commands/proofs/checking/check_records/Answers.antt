@@ -1,10 +1,10 @@
-use Rattle.std.proofs.Common.{rules, refl, ◌≡◌, ◌≤◌, ◌<◌, ◌+◌, ◌++◌, ◌∷◌, [], ℕ, List, length, sym, ap, subst, ◌∙◌, inl, inr, arith, is_some}
+use Rattle.std.proofs.Common.{rules, refl, ◌≡◌, ◌≤◌, ◌<◌, ◌+◌, ◌++◌, ◌∷◌, [], ℕ, List, length, sym, ap, subst, ◌∙◌, inl, inr, arith}
 use Rattle.std.proofs.lemmas.List.{length_push}
 use Rattle.std.proofs.lemmas.List.Sums.{count_by-le-length}
 use Rattle.std.proofs.KnownBytes.{Consumes-nil, Consumes-trans, Appends-nil}
 use Rattle.std.specs.Str.Lines.{lines}
 use Rattle.whole_streams.specs.Lines.{BeginsWithLine, IsNextLine}
-use Rattle.game_commands.specs.Verdicts.{AreVerdicts, count_unlawful}
+use Rattle.game_commands.specs.Verdicts.{AreVerdicts, is_unlawful, count_unlawful}
 use Rattle.game_commands.specs.Checks.{CheckStops}
 use Rattle.game_commands.proofs.CheckedLines.{begins_more, begins_line, begins_last, verdicts_push, lines_push, count_push, calls_on, read_stops, tell_stops}
 use Rattle.game_commands.proofs.checking.check_records.Goals as goal
@@ -44,7 +44,7 @@ loop-place-preserved g c =
         count,
         size,
       );
-      few = omega (arith, count, size, count_by-le-length is_some all);
+      few = omega (arith, count, size, count_by-le-length is_unlawful all);
       calls = calls_on _ _ _ c.loop-place.invariant.calls c.in-Ok-Ended.ensures.called;
       read = c.in-Ok-Ended.ensures.no_fault ∙ c.loop-place.invariant.read;
       wrote = c.in-Ok.ensures.no_fault ∙ c.loop-place.invariant.wrote;

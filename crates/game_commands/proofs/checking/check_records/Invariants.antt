@@ -1,14 +1,14 @@
 use Rattle.std.proofs.Common.{◌≡◌, ◌≤◌, ℕ, List, Option, length}
 use Rattle.std.specs.Io.KnownBytes.{Consumes, Appends}
 use Rattle.game_core.specs.Counting.{CallsMade}
-use Rattle.record_reading.specs.declared.verify_fault.VerifyFault.{VerifyFault}
+use Rattle.game_commands.specs.declared.verdicts.Verdict.{Verdict}
 use Rattle.game_commands.specs.Verdicts.{AreVerdicts, verdict_lines, count_unlawful}
 use Rattle.game_commands.specs.Checks.{BeginsWithLines}
 use Rattle.game_commands.proofs.checking.check_records.Given as goal
 
 abbrev pub invariant-loop-place : goal.invariant-loop-place
 invariant-loop-place g l = record {
-  checked : (given : List ℕ) × (first : List (List ℕ)) × (verdicts : List (Option VerifyFault))
+  checked : (given : List ℕ) × (first : List (List ℕ)) × (verdicts : List Verdict)
       × Consumes (g.R.Read.remaining l.initial.reader.stream) (g.R.Read.remaining l.reader.stream) given
       × BeginsWithLines given first l.buffer
       × AreVerdicts (g.G.Game.rules l.game) first verdicts

@@ -1,8 +1,8 @@
 use Rattle.match_play.proofs.playing.played_match.Goals as goal
 
-pub returns : goal.returns
-returns g c =
-    let refereed = c.in_ok-refereed.ensures in
+pub returns-clause-played : goal.returns-clause-played
+returns-clause-played g c =
+    let refereed = c.in_ok-refereed.ensures.refereed in
     record {
       desk = c.in_ok-refereed.refereed.closed.object;
       ended = c.in_ok-record.ensures.ended;
