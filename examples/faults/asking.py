@@ -9,7 +9,7 @@ import tempfile
 import threading
 from typing import NamedTuple
 
-PATIENCE = 300
+PATIENCE = 900
 LINE_OFF = struct.pack("ii", 1, 0)
 
 
