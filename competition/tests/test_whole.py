@@ -19,8 +19,8 @@ wait = 1
 info = 5
 forfeit = true
 """
-# So many seconds it may take where the processors are free.
-SECONDS = 120
+# So many seconds it may take where the processors are free: three times what it takes there, since other work may come in between.
+SECONDS = 300
 
 
 def recount(records):
