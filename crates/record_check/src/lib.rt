@@ -2,7 +2,7 @@
 //!
 //! `verify` checks a text against a game. The text passes exactly if it is the record of some lawful match.
 //! Otherwise `verify` names the first test that fails. It replays the turns by the rules, and trusts no state of the
-//! record.
+//! record. `lawful_parts` returns what a lawful record says.
 //!
 //! Free functions take the allocator first.
 #![tactic(auto)]
@@ -12,4 +12,4 @@ mod recorded_turn;
 mod replaying;
 mod verifying;
 
-pub use verifying::verify;
+pub use verifying::{lawful_parts, verify};

@@ -1,13 +1,33 @@
 //! The check of a record: whether it can be the record of a match of the game.
-ghost use Rattle.std.specs.Prelude.{◌≢◌, IfErr, OnOk};
-ghost use Rattle.record_reading.specs.LawfulRecord.{IsLawfulRecord};
+ghost use Rattle.std.specs.Prelude.{◌≢◌, IfErr, IfOk, OnOk};
+ghost use Rattle.serde_json.specs.Data.{Data};
+ghost use Rattle.record_reading.specs.LawfulRecord.{IsJson, IsLawfulRecord};
+ghost use Rattle.record_reading.specs.RecordTree.{Holds};
 ghost use Rattle.record_check.specs.Verified.{FailsFirst};
 ghost use Rattle.record_reading.specs.declared.verify_fault.VerifyFault.TheVariants.{Memory};
 
 use crate::replaying::replay_record;
 use game_core::Game;
-use record_reading::{VerifyFault, read_record};
+use record_reading::{RecordParts, VerifyFault, read_record};
 use std::alloc::Global;
+
+/// What a record says, if it is a lawful record of the game, as `verify` checks it.
+pub fn lawful_parts<G: Game>(
+    alloc: Global,
+    game: &G,
+    text: &[u8],
+) -> Result<RecordParts, VerifyFault>
+    ensures lawful { OnOk result (IsLawfulRecord (G.rules game.now) text.now) }
+    ensures parts { IfOk result (λ p. (tree : Data) × IsJson text.now tree × Holds tree p) }
+    ensures refused { IfErr result (λ fault. fault ≢ Memory → ¬ IsLawfulRecord (G.rules game.now) text.now) }
+    ensures first { IfErr result (FailsFirst (G.rules game.now) text.now) }
+{
+    let parts = read_record(alloc, game, text)?;
+    match replay_record(alloc, game, &parts) {
+        Ok(()) => Ok(parts),
+        Err(fault) => Err(fault),
+    }
+}
 
 /// Checks a record against the game. `Ok` means that some lawful match of this game has this record: each
 /// recorded move was legal, each state is the one that the moves lead to, and the goals are the game's.
@@ -17,6 +37,8 @@ pub fn verify<G: Game>(alloc: Global, game: &G, text: &[u8]) -> Result<(), Verif
     ensures refused { IfErr result (λ fault. fault ≢ Memory → ¬ IsLawfulRecord (G.rules game.now) text.now) }
     ensures first { IfErr result (FailsFirst (G.rules game.now) text.now) }
 {
-    let parts = read_record(alloc, game, text)?;
-    replay_record(alloc, game, &parts)
+    match lawful_parts(alloc, game, text) {
+        Ok(_) => Ok(()),
+        Err(fault) => Err(fault),
+    }
 }
