@@ -1,1 +1,3 @@
+mod Sitting
+mod Waiting
 mod WrittenLines

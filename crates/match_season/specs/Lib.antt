@@ -1,2 +1,3 @@
+pub mod Floors
 pub mod Lineups
 pub mod Seasons

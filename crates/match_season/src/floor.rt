@@ -1,4 +1,7 @@
 //! The matches of a season that wait and those under way, as the threads that play them share them.
+ghost use Rattle.std.specs.Prelude.{◌≡◌, ◌+◌, ◌-◌, ◌^◌, ◌==◌, [], true, All, IfNone, IfSome, min};
+ghost use Rattle.match_season.specs.Lineups.{Begins, IsBusy, StandUp};
+ghost use Rattle.match_season.specs.Floors.{Ends};
 
 use crate::lineup::{Fixture, Lineup};
 use std::sync::{Condvar, Mutex, Wait};
@@ -22,16 +25,25 @@ pub enum Next {
     End,
 }
 
-/// The matches that wait, how many are under way, and how many threads play them.
+/// The matches that wait, how many are under way, how many threads play them, and whether no further one begins.
 #[derive(Drop)]
 struct Table {
     lineup: Lineup,
     under_way: usize,
     threads: usize,
+    is_closed: bool,
 }
 
 impl Table {
-    fn begin(&mut self) -> Option<Begun> {
+    /// Has a match begin, if one may, or else ends a thread.
+    fn begin(&mut self) -> Option<Begun>
+        ensures first { IfSome result (λ begun. Begins self.old.lineup self.new.lineup begun.fixture) }
+        ensures alone { IfSome result (λ begun. begun.is_alone ≡ (self.old.under_way == 0)) }
+        ensures under_way { IfSome result (λ begun. self.new.under_way ≡ min (self.old.under_way + 1) (2 ^ 64 - 1)) }
+        ensures same { IfSome result (λ begun. (self.new.threads ≡ self.old.threads) × (self.new.is_closed ≡ self.old.is_closed)) }
+        ensures none { IfNone result (All (IsBusy self.old.lineup) self.old.lineup.waiting.items) }
+        ensures ends { IfNone result (self.new ≡ record self.old { threads = self.old.threads - 1 }) }
+    {
         let Some(fixture) = self.lineup.take() else {
             self.threads = self.threads.saturating_sub(1);
             return None;
@@ -41,12 +53,21 @@ impl Table {
         Some(Begun { fixture, is_alone })
     }
 
-    /// Ends a match. One for which there was no thread or no memory waits again, unless it had all that there is to itself.
-    fn end(&mut self, begun: Begun, is_short: bool) -> Next {
+    /// Ends a match. One for which there was no thread or no memory waits again, unless it had all that there is to itself, or no further
+    /// one begins.
+    fn end(&mut self, begun: Begun, is_short: bool) -> Next
+        ensures stand { StandUp self.old.lineup.sitting.items self.new.lineup.sitting.items begun.fixture.players.items }
+        ensures under_way { self.new.under_way ≡ self.old.under_way - 1 }
+        ensures same { self.new.is_closed ≡ self.old.is_closed }
+        ensures next { Ends self.old self.new begun is_short result }
+    {
         let Begun { fixture, is_alone } = begun;
         self.lineup.leave(&fixture);
         self.under_way = self.under_way.saturating_sub(1);
-        if !is_short || is_alone && self.under_way == 0 || self.lineup.put_back(fixture).is_err() {
+        if !is_short || self.is_closed || is_alone && self.under_way == 0 {
+            return Next::HandOn;
+        }
+        if self.lineup.put_back(fixture).is_err() {
             return Next::HandOn;
         }
         if self.threads > 1 {
@@ -55,6 +76,15 @@ impl Table {
         } else {
             Next::GoOn
         }
+    }
+
+    /// None waits any more, and none will.
+    fn close(&mut self)
+        ensures none_waits { self.new.lineup.waiting.items ≡ [] }
+        ensures closed { self.new.is_closed ≡ true }
+    {
+        self.lineup.clear();
+        self.is_closed = true;
     }
 }
 
@@ -73,6 +103,7 @@ impl Floor {
                 lineup,
                 under_way: 0,
                 threads: 0,
+                is_closed: false,
             }),
             changed: Condvar::new(),
         }
@@ -110,7 +141,7 @@ impl Floor {
 
     /// Has no further match begin.
     pub fn close<R: Wait>(&self, rt: &R) {
-        self.table.lock(rt).lineup.close();
+        self.table.lock(rt).close();
         self.changed.notify_all();
     }
 }

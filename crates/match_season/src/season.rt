@@ -1,7 +1,12 @@
 //! A season: the matches of a schedule, some of them at once, each on a desk of its own.
+ghost use Rattle.std.specs.Prelude.{◌≡◌, IfOk, Some, length, slice_get};
 ghost use denote.Param.Send.{IsSend, IsSync};
 ghost use Rattle.match_messages.specs.contracts.start_rules.PrintedRules.{the_row as rules_row};
 ghost use Rattle.packed_rules.specs.contracts.packed_game.PackedGame.{the_row as game_row};
+ghost use Rattle.match_play.specs.EndedMatches.{match_text};
+ghost use Rattle.match_play.specs.Limits.{max_tries};
+ghost use Rattle.match_play.specs.PlayedMatches.{IsPlayedMatch, IsSetupOf};
+ghost use Rattle.match_season.specs.Seasons.{WritesAllBut};
 
 use crate::floor::{Floor, Next};
 use crate::lineup::Lineup;
@@ -31,38 +36,36 @@ struct Season<'f, 'a, P, S> {
     players: PhantomData<Mutex<P>>,
 }
 
-impl<'a, P, S> Season<'_, 'a, P, S> {
-    /// The id of the match at this place.
-    fn id_of(&self, place: usize) -> &'a str {
-        match self.plans.get(place) {
-            Some(plan) => plan.id,
-            None => "",
-        }
-    }
-
+impl<P, S> Season<'_, '_, P, S> {
     /// Plays the match at this place.
     fn play<R>(&self, rt: &R, place: usize) -> Result<EndedMatch, MatchFault>
     where
         R: Threads + Wait + Sync,
         P: Player + Drop + Send,
         S: Reach<P> + TellsShortages,
+        ensures clear { IfOk result (λ ended. S.is_clear self.now.reach.now place) }
+        ensures played { IfOk result (λ ended. (plan : _) × (slice_get self.now.plans.now place ≡ Some plan)
+            × (setup : _) × IsSetupOf plan setup × (players : _) × (line : _) × (history : _)
+            × IsPlayedMatch P.handed self.now.game.game.now self.now.game.rules.now.items max_tries setup players line history
+            × (ended.text ≡ match_text line history self.now.has_history)) }
     {
         let Some(plan) = self.plans.get(place) else {
             return Err(MatchFault::NotEnded);
         };
         let entrants = entrants_of(self.alloc, self.reach, place, plan)?;
-        ended_match(
+        let ended = ended_match(
             rt,
             self.alloc,
             self.reach,
             entrants,
             self.game,
             self.has_history,
-        )
+        )?;
+        Ok(ended)
     }
 
     /// Plays matches, one after another, until none waits, and sends what each came to.
-    fn play_matches<R>(&self, rt: &R, sender: &Sender<Over<'a>>)
+    fn play_matches<R>(&self, rt: &R, sender: &Sender<Over>)
     where
         R: Threads + Wait + Sync,
         P: Player + Drop + Send,
@@ -78,8 +81,7 @@ impl<'a, P, S> Season<'_, 'a, P, S> {
             let is_short = matches!(outcome, Err(MatchFault::Memory));
             match self.floor.end(rt, begun, is_short) {
                 Next::HandOn => {
-                    let id = self.id_of(place);
-                    let _ = sender.send(rt, Over { id, place, outcome });
+                    let _ = sender.send(rt, Over { place, outcome });
                 }
                 Next::GoOn => {}
                 Next::End => return,
@@ -93,17 +95,23 @@ fn is_shared<T: Sync>(_value: &T)
     ensures { IsSync T.row }
 {}
 
-/// Writes what the matches of a season came to. Where that fails no further match begins, and it is reported which have no record.
+/// Writes what the matches of a season came to, which has threads or not. Where that fails no further match begins, and it is reported which have no record.
 /// Returns how many those are.
 fn write_played<R: Wait, P, S, W: Write, E: Write>(
     rt: &R,
     alloc: Global,
     season: &Season<'_, '_, P, S>,
+    has_thread: bool,
     order: RecordOrder,
-    receiver: &Receiver<Over<'_>>,
+    receiver: &Receiver<Over>,
     writer: &mut Counted<W>,
     errors: &Mutex<E>,
-) -> Result<u64, SeasonFault> {
+) -> Result<u64, SeasonFault>
+    ensures { IfOk result (λ missing. WritesAllBut missing (length season.now.plans.now) (W.contents writer.old.stream) (W.contents writer.new.stream)) }
+{
+    if !has_thread {
+        return Err(SeasonFault::Memory);
+    }
     let reports = Reports {
         rt,
         plans: season.plans,
@@ -121,12 +129,12 @@ fn write_played<R: Wait, P, S, W: Write, E: Write>(
 }
 
 /// Plays the matches of a season in threads, and writes what they came to.
-fn play_in_threads<'a, R, P, S, W: Write, E: Write + Send>(
+fn play_in_threads<R, P, S, W: Write, E: Write + Send>(
     rt: &R,
     alloc: Global,
-    season: &Season<'_, 'a, P, S>,
-    sender: &Sender<Over<'a>>,
-    receiver: Receiver<Over<'a>>,
+    season: &Season<'_, '_, P, S>,
+    sender: &Sender<Over>,
+    receiver: Receiver<Over>,
     form: SeasonForm,
     writer: &mut Counted<W>,
     errors: &Mutex<E>,
@@ -135,14 +143,18 @@ where
     R: Threads + Wait + Sync,
     P: Player + Drop + Send,
     S: Reach<P> + TellsShortages + Sync,
+    ensures { IfOk result (λ missing. WritesAllBut missing (length season.now.plans.now) (W.contents writer.old.stream) (W.contents writer.new.stream)) }
 {
     is_shared(season.game.game);
     is_shared(season.game.rules);
-    thread::scope(
+    // The stream comes back, so that it is known what was written to it.
+    let (played, _stream) = thread::scope(
         thread::scope_env(),
         rt,
-        move |scope| -> Result<u64, SeasonFault>
+        move |scope| -> (Result<u64, SeasonFault>, &mut Counted<W>)
             requires sent { IsSync R.row × IsSync S.row × IsSync game_row × IsSync rules_row }
+            ensures stream { result.1.ghost_name ≡ writer.entry.ghost_name }
+            ensures written { IfOk result.0 (λ missing. WritesAllBut missing (length season.entry.now.plans.now) (W.contents writer.entry.now.stream) (W.contents result.1.now.stream)) }
         {
             let mut has_thread = false;
             for _ in 0..form.at_once.min(season.plans.len()) {
@@ -152,12 +164,13 @@ where
                 }
                 has_thread = true;
             }
-            if !has_thread {
-                return Err(SeasonFault::Memory);
-            }
-            write_played(rt, alloc, season, form.order, &receiver, writer, errors)
+            let played = write_played(
+                rt, alloc, season, has_thread, form.order, &receiver, writer, errors,
+            );
+            (played, writer)
         },
-    )
+    );
+    played
 }
 
 /// Plays the matches of a season, all of this game, each in threads of its own, and writes the record of each, with its account behind
@@ -183,6 +196,7 @@ where
     R: Threads + Wait + Sync,
     P: Player + Drop + Send,
     S: Reach<P> + TellsShortages + Sync,
+    ensures { IfOk result (λ missing. WritesAllBut missing (length plans.now) (W.contents writer.old.stream) (W.contents writer.new.stream)) }
 {
     if plans.is_empty() {
         return Ok(0);

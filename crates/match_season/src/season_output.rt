@@ -1,6 +1,6 @@
 //! What a season writes: the record of each match, and its account behind it.
-ghost use Rattle.std.specs.Prelude.{OnOk};
-ghost use Rattle.match_season.specs.Seasons.{WritesMatches};
+ghost use Rattle.std.specs.Prelude.{◌≡◌, ◌≤◌, ◌-◌, ℕ, false, true, IfOk, OnErr, OnOk, Some, length, replicate, slice_set, vec_len};
+ghost use Rattle.match_season.specs.Seasons.{Settles, WritesMatches, WritesUpTo, records_of};
 
 use crossbeam_channel::Receiver;
 use game_core::Counted;
@@ -42,10 +42,9 @@ impl<T: Drop> From<AllocFailed<T>> for SeasonFault {
     }
 }
 
-/// A match of a season that is over: its id, its place in the schedule, and what is written of it or why it has no record.
+/// A match of a season that is over: its place in the schedule, and what is written of it or why it has no record.
 #[derive(Drop)]
-pub struct Over<'a> {
-    pub id: &'a str,
+pub struct Over {
     pub place: usize,
     pub outcome: Result<EndedMatch, MatchFault>,
 }
@@ -59,8 +58,12 @@ pub struct Reports<'r, 'p, 'a, 'e, R, E> {
 }
 
 impl<R: Wait, E: Write> Reports<'_, '_, '_, '_, R, E> {
-    /// Reports in a line why the match of this id has no record. A failed write of it is skipped.
-    fn report<F: fmt::Display>(&self, id: &str, why: &F) {
+    /// Reports in a line why the match at this place has no record. A failed write of it is skipped.
+    fn report<F: fmt::Display>(&self, place: usize, why: &F) {
+        let Some(plan) = self.plans.get(place) else {
+            return;
+        };
+        let id = plan.id;
         let mut stream = self.errors.lock(self.rt);
         let mut pieces = Pieces {
             stream: &mut *stream,
@@ -70,9 +73,9 @@ impl<R: Wait, E: Write> Reports<'_, '_, '_, '_, R, E> {
 
     /// Reports of each match of which nothing is written and nothing was reported that it has no record.
     pub fn report_rest(&self, written: &Written) {
-        for (plan, is_settled) in self.plans.iter().zip(written.is_settled.iter()) {
+        for (place, is_settled) in written.is_settled.iter().enumerate() {
             if !*is_settled {
-                self.report(plan.id, &"no record");
+                self.report(place, &"no record");
             }
         }
     }
@@ -88,7 +91,9 @@ pub struct Written {
 
 impl Written {
     /// Nothing of so many matches.
-    pub fn nothing(alloc: Global, count: usize) -> Result<Written, AllocError> {
+    pub fn nothing(alloc: Global, count: usize) -> Result<Written, AllocError>
+        ensures { IfOk result (λ written. (written.records ≡ 0) × (written.is_settled.items ≡ replicate count false)) }
+    {
         Ok(Written {
             records: 0,
             is_settled: vec![in alloc; false; count]?,
@@ -96,13 +101,19 @@ impl Written {
     }
 
     /// How many of the matches have no record.
-    pub fn missing(&self) -> u64 {
+    pub fn missing(&self) -> u64
+        ensures { result ≡ vec_len self.now.is_settled - self.now.records }
+    {
         (self.is_settled.len() as u64).saturating_sub(self.records)
     }
 
-    fn settle(&mut self, place: usize) {
-        if let Some(is_settled) = self.is_settled.get_mut(place) {
-            *is_settled = true;
+    /// The match at this place is settled, and no other one.
+    fn settle(&mut self, place: usize)
+        ensures settled { self.new.is_settled.items ≡ slice_set self.old.is_settled.items place true }
+        ensures records { self.new.records ≡ self.old.records }
+    {
+        if place < self.is_settled.len() {
+            self.is_settled[place] = true;
         }
     }
 }
@@ -114,7 +125,9 @@ fn write_ended<W: Write>(
     written: &mut Written,
     writer: &mut Counted<W>,
 ) -> Result<(), SeasonFault>
-    ensures { OnOk result (WritesMatches (W.contents writer.old.stream) (W.contents writer.new.stream)) }
+    ensures written { OnOk result (WritesMatches 1 (W.contents writer.old.stream) (W.contents writer.new.stream)) }
+    ensures settled { OnOk result (Settles written.old written.new place 1) }
+    ensures err { OnErr result (written.new ≡ written.old) }
 {
     write_all(writer, ended.text.as_slice())?;
     written.records = written.records.saturating_add(1);
@@ -125,17 +138,19 @@ fn write_ended<W: Write>(
 /// Writes the record of a match, or reports why it has none.
 fn write_outcome<R: Wait, W: Write, E: Write>(
     reports: &Reports<'_, '_, '_, '_, R, E>,
-    over: Over<'_>,
+    over: Over,
     written: &mut Written,
     writer: &mut Counted<W>,
 ) -> Result<(), SeasonFault>
-    ensures { OnOk result (WritesMatches (W.contents writer.old.stream) (W.contents writer.new.stream)) }
+    ensures written { OnOk result (WritesMatches (records_of over.outcome) (W.contents writer.old.stream) (W.contents writer.new.stream)) }
+    ensures settled { OnOk result (Settles written.old written.new over.place (records_of over.outcome)) }
+    ensures err { OnErr result (written.new ≡ written.old) }
 {
     let place = over.place;
     match over.outcome {
         Ok(ended) => write_ended(place, &ended, written, writer),
         Err(fault) => {
-            reports.report(over.id, &fault);
+            reports.report(place, &fault);
             written.settle(place);
             Ok(())
         }
@@ -145,12 +160,13 @@ fn write_outcome<R: Wait, W: Write, E: Write>(
 /// Writes what waits from this place on, up to the first match that is not over. Returns the place of that one.
 fn write_waiting<R: Wait, W: Write, E: Write>(
     reports: &Reports<'_, '_, '_, '_, R, E>,
-    waiting: &mut [Option<Over<'_>>],
+    waiting: &mut [Option<Over>],
     next: usize,
     written: &mut Written,
     writer: &mut Counted<W>,
 ) -> Result<usize, SeasonFault>
-    ensures { OnOk result (WritesMatches (W.contents writer.old.stream) (W.contents writer.new.stream)) }
+    ensures written { IfOk result (λ place. WritesUpTo (place - next) written.old written.new (W.contents writer.old.stream) (W.contents writer.new.stream)) }
+    ensures place { IfOk result (λ place. (place ≤ length waiting.old) × (next ≤ length waiting.old → next ≤ place)) }
 {
     let count = waiting.len();
     for place in next..count {
@@ -162,10 +178,22 @@ fn write_waiting<R: Wait, W: Write, E: Write>(
     Ok(count)
 }
 
+/// Has a match that is over wait at its place.
+fn keep(waiting: &mut [Option<Over>], over: Over)
+    ensures { waiting.new ≡ slice_set waiting.old over.place (Some over) }
+{
+    let place = over.place;
+    if place < waiting.len() {
+        waiting[place] = Some(over);
+    }
+}
+
 /// So many places at which nothing waits.
-fn none_waiting<'a>(alloc: Global, count: usize) -> Result<Vec<Option<Over<'a>>>, AllocError> {
+fn none_waiting(alloc: Global, count: usize) -> Result<Vec<Option<Over>>, AllocError>
+    ensures { IfOk result (λ waiting. vec_len waiting ≡ count) }
+{
     let mut waiting = Vec::with_capacity(alloc, count)?;
-    for _ in 0..count {
+    for _place in 0..count {
         waiting.push(None)?;
     }
     Ok(waiting)
@@ -175,22 +203,20 @@ fn none_waiting<'a>(alloc: Global, count: usize) -> Result<Vec<Option<Over<'a>>>
 fn write_by_schedule<R: Wait, W: Write, E: Write>(
     alloc: Global,
     reports: &Reports<'_, '_, '_, '_, R, E>,
-    receiver: &Receiver<Over<'_>>,
+    receiver: &Receiver<Over>,
     written: &mut Written,
     writer: &mut Counted<W>,
 ) -> Result<(), SeasonFault>
-    ensures { OnOk result (WritesMatches (W.contents writer.old.stream) (W.contents writer.new.stream)) }
+    ensures { OnOk result (WritesUpTo (length reports.now.plans.now) written.old written.new (W.contents writer.old.stream) (W.contents writer.new.stream)) }
 {
     let count = reports.plans.len();
     let mut waiting = none_waiting(alloc, count)?;
     let mut next = 0;
-    for _ in 0..count {
+    for _number in 0..count {
         let Ok(over) = receiver.recv(reports.rt) else {
             break;
         };
-        if let Some(slot) = waiting.get_mut(over.place) {
-            *slot = Some(over);
-        }
+        keep(&mut waiting, over);
         next = write_waiting(reports, &mut waiting, next, written, writer)?;
     }
     Ok(())
@@ -199,13 +225,13 @@ fn write_by_schedule<R: Wait, W: Write, E: Write>(
 /// Writes the records of the matches in the order of their ends.
 fn write_by_ends<R: Wait, W: Write, E: Write>(
     reports: &Reports<'_, '_, '_, '_, R, E>,
-    receiver: &Receiver<Over<'_>>,
+    receiver: &Receiver<Over>,
     written: &mut Written,
     writer: &mut Counted<W>,
 ) -> Result<(), SeasonFault>
-    ensures { OnOk result (WritesMatches (W.contents writer.old.stream) (W.contents writer.new.stream)) }
+    ensures { OnOk result (WritesUpTo (length reports.now.plans.now) written.old written.new (W.contents writer.old.stream) (W.contents writer.new.stream)) }
 {
-    for _ in 0..reports.plans.len() {
+    for _number in 0..reports.plans.len() {
         let Ok(over) = receiver.recv(reports.rt) else {
             break;
         };
@@ -219,11 +245,11 @@ pub fn write_season<R: Wait, W: Write, E: Write>(
     alloc: Global,
     order: RecordOrder,
     reports: &Reports<'_, '_, '_, '_, R, E>,
-    receiver: &Receiver<Over<'_>>,
+    receiver: &Receiver<Over>,
     written: &mut Written,
     writer: &mut Counted<W>,
 ) -> Result<(), SeasonFault>
-    ensures { OnOk result (WritesMatches (W.contents writer.old.stream) (W.contents writer.new.stream)) }
+    ensures { OnOk result (WritesUpTo (length reports.now.plans.now) written.old written.new (W.contents writer.old.stream) (W.contents writer.new.stream)) }
 {
     match order {
         RecordOrder::OfSchedule => write_by_schedule(alloc, reports, receiver, written, writer),

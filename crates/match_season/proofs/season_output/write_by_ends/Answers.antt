@@ -1,14 +1,15 @@
-use Rattle.match_season.proofs.WrittenLines.{no-matches, matches-trans}
+use Rattle.std.proofs.Common.{arith}
+use Rattle.match_season.proofs.WrittenLines.{up-to-none, up-to-more, up-to-weaker}
 use Rattle.match_season.proofs.season_output.write_by_ends.Goals as goal
 
-pub loop-init : goal.loop-init
-loop-init g c = no-matches _
+pub loop-number-init : goal.loop-number-init
+loop-number-init g c = up-to-none _ _
 
-pub loop-preserved : goal.loop-preserved
-loop-preserved g c = matches-trans _ _ _ c.loop.invariant c.in_ok-write_outcome.ensures
+pub loop-number-preserved : goal.loop-number-preserved
+loop-number-preserved g c = up-to-more _ _ _ _ _ _ _ _ _ c.loop-number.invariant c.in_ok-write_outcome.ensures.written c.in_ok-write_outcome.ensures.settled
 
-pub returns-after-loop : goal.returns-after-loop
-returns-after-loop g c = c.loop.invariant
+pub returns-after-loop-number : goal.returns-after-loop-number
+returns-after-loop-number g c = up-to-weaker c.loop-number._number _ _ _ _ _ (omega arith) c.loop-number.invariant
 
 pub returns-in_default : goal.returns-in_default
-returns-in_default g c = c.loop.invariant
+returns-in_default g c = up-to-weaker c.loop-number._number _ _ _ _ _ (omega arith) c.loop-number.invariant

@@ -1,5 +1,5 @@
-use Rattle.match_season.specs.Seasons.{WritesMatches}
+use Rattle.match_season.specs.Seasons.{WritesUpTo}
 use Rattle.match_season.proofs.season_output.write_by_ends.Given as goal
 
-abbrev pub invariant-loop : goal.invariant-loop
-invariant-loop g l = WritesMatches (g.W.Write.contents l.initial.writer.stream) (g.W.Write.contents l.writer.stream)
+abbrev pub invariant-loop-number : goal.invariant-loop-number
+invariant-loop-number g l = WritesUpTo l._number l.initial.written l.written (g.W.Write.contents l.initial.writer.stream) (g.W.Write.contents l.writer.stream)

@@ -1,11 +1,20 @@
-use Rattle.match_season.proofs.WrittenLines.{no-matches, matches-trans}
+use Rattle.std.proofs.Common.{◌-◌, ◌+◌, arith}
+use Rattle.match_season.proofs.WrittenLines.{up-to-none, up-to-trans, up-to-weaker}
 use Rattle.match_season.proofs.season_output.write_by_schedule.Goals as goal
 
-pub loop-init : goal.loop-init
-loop-init g c = no-matches _
+pub loop-number-init : goal.loop-number-init
+loop-number-init g c = record { within = omega arith; places = c.in_ok-waiting.ensures; written = up-to-none _ _ }
 
-pub loop-preserved : goal.loop-preserved
-loop-preserved g c = matches-trans _ _ _ c.loop.invariant c.in_ok-next.ensures
+pub loop-number-preserved : goal.loop-number-preserved
+loop-number-preserved g c =
+    let next = c.loop-number.next in
+    let past = c.in_ok-next.ensures.place.0 in
+    let onward = c.in_ok-next.ensures.place.1 in
+    record {
+      within = omega (arith, past);
+      places = omega arith;
+      written = up-to-weaker (next + (c.in_ok-next.next - next)) _ _ _ _ _ (omega (arith, past, onward)) (up-to-trans _ _ _ _ _ _ _ _ c.loop-number.invariant.written c.in_ok-next.ensures.written);
+    }
 
 pub returns : goal.returns
-returns g c = c.loop.invariant
+returns g c = up-to-weaker c.loop-number.next _ _ _ _ _ (omega arith) c.loop-number.invariant.written

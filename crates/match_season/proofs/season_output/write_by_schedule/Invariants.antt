@@ -1,5 +1,10 @@
-use Rattle.match_season.specs.Seasons.{WritesMatches}
+use Rattle.std.proofs.Common.{◌≡◌, ◌≤◌, vec_len}
+use Rattle.match_season.specs.Seasons.{WritesUpTo}
 use Rattle.match_season.proofs.season_output.write_by_schedule.Given as goal
 
-abbrev pub invariant-loop : goal.invariant-loop
-invariant-loop g l = WritesMatches (g.W.Write.contents l.initial.writer.stream) (g.W.Write.contents l.writer.stream)
+abbrev pub invariant-loop-number : goal.invariant-loop-number
+invariant-loop-number g l = record {
+  within : l.next ≤ vec_len l.waiting;
+  places : vec_len l.waiting ≡ l.count;
+  written : WritesUpTo l.next l.initial.written l.written (g.W.Write.contents l.initial.writer.stream) (g.W.Write.contents l.writer.stream);
+}

@@ -1,7 +1,6 @@
 use Rattle.std.proofs.Common.{rules}
-use Rattle.std.specs.Io.KnownBytes.{Appends}
 use Rattle.match_season.proofs.WrittenLines.{one-match}
 use Rattle.match_season.proofs.season_output.write_ended.Goals as goal
 
-pub returns : goal.returns
-returns g c = one-match _ _ c.args.ended.now.text c.args.ended.now.is_ended (search rules)
+pub returns-clause-written : goal.returns-clause-written
+returns-clause-written g c = one-match _ _ c.args.ended.now.text c.args.ended.now.is_ended (search rules)

@@ -1,14 +1,18 @@
-use Rattle.match_season.proofs.WrittenLines.{no-matches, matches-trans}
+use Rattle.std.proofs.Common.{◌-◌, ◌+◌, arith}
+use Rattle.match_season.proofs.WrittenLines.{up-to-none, up-to-more, up-to-weaker}
 use Rattle.match_season.proofs.season_output.write_waiting.Goals as goal
 
 pub loop-place-init : goal.loop-place-init
-loop-place-init g c = no-matches _
+loop-place-init g c = record { bound = omega arith; written = up-to-weaker 0 _ _ _ _ _ (omega arith) (up-to-none _ _) }
 
 pub loop-place-preserved : goal.loop-place-preserved
-loop-place-preserved g c = matches-trans _ _ _ c.loop-place.invariant c.in_ok-write_outcome.ensures
+loop-place-preserved g c = record {
+  bound = omega arith;
+  written = up-to-weaker (c.loop-place.place - c.args.next + 1) _ _ _ _ _ (omega arith) (up-to-more _ _ _ _ _ _ _ _ _ c.loop-place.invariant.written c.in_ok-write_outcome.ensures.written c.in_ok-write_outcome.ensures.settled);
+}
 
 pub returns-in_default : goal.returns-in_default
-returns-in_default g c = c.loop-place.invariant
+returns-in_default g c = record { written = c.loop-place.invariant.written; place = (omega arith, λ within. omega (arith, within)) }
 
 pub returns : goal.returns
-returns g c = c.loop-place.invariant
+returns g c = record { written = up-to-weaker (c.loop-place.place - c.args.next) _ _ _ _ _ (omega arith) c.loop-place.invariant.written; place = (omega arith, λ within. omega (arith, within)) }

@@ -3,7 +3,6 @@ use Rattle.std.proofs.lemmas.List.{take_more, take_all}
 use Rattle.std.proofs.lemmas.List.Elements.{All-push}
 use Rattle.std.proofs.lemmas.Option.{slice_get-get_or}
 use Rattle.match_season.specs.Lineups.{IsBusy, are_free}
-use Rattle.match_season.specs.declared.lineup.Fixture.{Fixture}
 use Rattle.match_season.proofs.lineup.Lineup.first_free.Goals as goal
 
 pub returns-then-are_free-clause-some : goal.returns-then-are_free-clause-some
