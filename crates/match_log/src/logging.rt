@@ -1,7 +1,8 @@
 //! Matches that are told while they run: whoever reaches players through `Logging` reads each message with its answer, or how far the
 //! matches are.
 
-use crate::status::{Progress, StatusStream};
+use crate::notices::Notices;
+use crate::status::Progress;
 use match_book::Answer;
 use match_plans::{PlayerAddress, Reach, Seat, Shortage, TellsShortages};
 use match_workers::Player;
@@ -9,10 +10,8 @@ use network_players::{ContactFault, Explains, time_since};
 use std::alloc::{AllocError, Global};
 use std::fmt;
 use std::fmt::Write as _;
-use std::io::Write;
-use std::sync::{Mutex, Wait};
+use std::sync::Wait;
 use std::time::{Clock, Duration, Instant};
-use whole_streams::Pieces;
 
 /// How many bytes of a message or an answer a line shows.
 const SHOWN: usize = 200;
@@ -76,18 +75,18 @@ pub enum Telling<'a> {
     Progress(&'a Progress),
 }
 
-/// Reaches players as another does, and has their messages told on a stream.
+/// Reaches players as another does, and has their messages told among what is reported.
 #[derive(Drop)]
-pub struct Logging<'a, H, S, E> {
+pub struct Logging<'a, H, S> {
     pub rt: &'a H,
     pub reach: &'a S,
     pub telling: Telling<'a>,
-    pub stream: &'a Mutex<StatusStream<E>>,
+    pub notices: &'a Notices,
 }
 
-/// A player whose messages are told on a stream.
+/// A player whose messages are told among what is reported.
 #[derive(Drop)]
-pub struct LoggedPlayer<'a, H, P, E> {
+pub struct LoggedPlayer<'a, H, P> {
     rt: &'a H,
     player: P,
     alloc: Global,
@@ -98,16 +97,16 @@ pub struct LoggedPlayer<'a, H, P, E> {
     /// How many messages it was handed.
     messages: u64,
     telling: Telling<'a>,
-    stream: &'a Mutex<StatusStream<E>>,
+    notices: &'a Notices,
 }
 
-impl<'a, H, P, S: Reach<P>, E> Reach<LoggedPlayer<'a, H, P, E>> for Logging<'a, H, S, E> {
+impl<'a, H, P, S: Reach<P>> Reach<LoggedPlayer<'a, H, P>> for Logging<'a, H, S> {
     fn player(
         &self,
         alloc: Global,
         seat: Seat<'_>,
         address: &PlayerAddress<'_>,
-    ) -> Result<LoggedPlayer<'a, H, P, E>, AllocError> {
+    ) -> Result<LoggedPlayer<'a, H, P>, AllocError> {
         let id = String::from_str(alloc, seat.id)?;
         let name = String::from_str(alloc, address.name)?;
         Ok(LoggedPlayer {
@@ -119,22 +118,28 @@ impl<'a, H, P, S: Reach<P>, E> Reach<LoggedPlayer<'a, H, P, E>> for Logging<'a, 
             name,
             messages: 0,
             telling: self.telling,
-            stream: self.stream,
+            notices: self.notices,
         })
     }
 }
 
-impl<H: Clock + Wait, P: Explains, E: Write> LoggedPlayer<'_, H, P, E> {
+impl<H: Clock + Wait, P: Explains> LoggedPlayer<'_, H, P> {
+    /// Counts the beginning of a match, where the first of its roles is handed START.
+    fn begin(&self, body: &[u8]) {
+        if let Telling::Progress(progress) = self.telling {
+            progress.begin(self.role, body);
+            self.notices.move_on(self.rt);
+        }
+    }
+
     /// Tells what is wanted of a message that was handed over then.
     fn tell(&self, body: &[u8], answer: &Answer, began: Option<Instant>) {
         match self.telling {
             Telling::Nothing => {}
             Telling::Messages => self.tell_message(body, answer, time_since(self.rt, began)),
             Telling::Progress(progress) => {
-                if self.role == 0 {
-                    progress.count(body);
-                    self.stream.lock(self.rt).show(self.rt, progress);
-                }
+                progress.count(self.role, body);
+                self.notices.move_on(self.rt);
             }
         }
     }
@@ -156,15 +161,11 @@ impl<H: Clock + Wait, P: Explains, E: Write> LoggedPlayer<'_, H, P, E> {
         ) else {
             return;
         };
-        let mut stream = self.stream.lock(self.rt);
-        let _ = Pieces {
-            stream: &mut *stream,
-        }
-        .write_str(line.as_str());
+        self.notices.log(self.rt, line.as_bytes());
     }
 }
 
-impl<H, S: TellsShortages, E> TellsShortages for Logging<'_, H, S, E> {
+impl<H, S: TellsShortages> TellsShortages for Logging<'_, H, S> {
     ghost is_clear = { λ l place. S.is_clear l.reach.now place };
 
     fn shortage(&self, place: usize) -> Option<Shortage> {
@@ -172,17 +173,18 @@ impl<H, S: TellsShortages, E> TellsShortages for Logging<'_, H, S, E> {
     }
 }
 
-impl<H, P: Explains, E> Explains for LoggedPlayer<'_, H, P, E> {
+impl<H, P: Explains> Explains for LoggedPlayer<'_, H, P> {
     fn why(&self) -> Option<ContactFault> {
         self.player.why()
     }
 }
 
-impl<H: Clock + Wait, P: Player + Explains, E: Write> Player for LoggedPlayer<'_, H, P, E> {
+impl<H: Clock + Wait, P: Player + Explains> Player for LoggedPlayer<'_, H, P> {
     ghost handed = { λ p. P.handed p.player };
 
     fn ask(&mut self, seconds: u32, body: &[u8]) -> Answer {
         self.messages = self.messages.saturating_add(1);
+        self.begin(body);
         let began = Instant::now(self.rt).ok();
         let answer = self.player.ask(seconds, body);
         self.tell(body, &answer, began);

@@ -1,10 +1,12 @@
 //! One line of a terminal that tells how far matches are, and is written anew as they go on.
 
+use game_core::Counted;
 use network_players::time_since;
 use std::fmt::Write as _;
 use std::io;
 use std::io::Write;
 use std::sync::atomic::{AtomicU64, Ordering};
+use std::sync::{Mutex, Wait};
 use std::time::{Clock, Duration, Instant};
 use whole_streams::Pieces;
 
@@ -14,44 +16,56 @@ const PERIOD_MILLIS: u64 = 100;
 /// Takes the cursor to the beginning of its line, and the line's text away: ECMA-48's `EL`.
 const CLEAR: &str = "\r\x1b[K";
 
-/// How far matches are: told by what the players of their first roles were asked.
+/// How far matches are, by the messages of their players.
 #[derive(Drop)]
 pub struct Progress {
+    /// How many matches there are to play, 0 while that is not known.
+    planned: AtomicU64,
     begun: AtomicU64,
-    turns: AtomicU64,
     over: AtomicU64,
+    messages: AtomicU64,
 }
 
 impl Progress {
     /// None has begun.
     pub const fn new() -> Progress {
         Progress {
+            planned: AtomicU64::new(0),
             begun: AtomicU64::new(0),
-            turns: AtomicU64::new(0),
             over: AtomicU64::new(0),
+            messages: AtomicU64::new(0),
         }
     }
 
-    /// Counts a message that the first role of a match has answered.
-    pub(crate) fn count(&self, body: &[u8]) {
-        let counter = if body.starts_with(b"(START ") {
-            &self.begun
-        } else if body.starts_with(b"(PLAY ") {
-            &self.turns
-        } else {
-            &self.over
-        };
-        counter.fetch_add(1, Ordering::SeqCst);
+    /// So many matches are to be played.
+    pub fn plan(&self, count: usize) {
+        self.planned.store(count as u64, Ordering::SeqCst);
+    }
+
+    /// Counts a message that a role is handed, where a match begins with it.
+    pub(crate) fn begin(&self, role: usize, body: &[u8]) {
+        if role == 0 && body.starts_with(b"(START ") {
+            self.begun.fetch_add(1, Ordering::SeqCst);
+        }
+    }
+
+    /// Counts a message that a role has answered. STOP and ABORT end a match.
+    pub(crate) fn count(&self, role: usize, body: &[u8]) {
+        self.messages.fetch_add(1, Ordering::SeqCst);
+        if role == 0 && !body.starts_with(b"(START ") && !body.starts_with(b"(PLAY ") {
+            self.over.fetch_add(1, Ordering::SeqCst);
+        }
     }
 
     /// What the line says.
     fn push_line<F: std::fmt::Write>(&self, line: &mut F) -> std::fmt::Result {
         let over = self.over.load(Ordering::SeqCst);
         let open = self.begun.load(Ordering::SeqCst).saturating_sub(over);
-        let turns = self.turns.load(Ordering::SeqCst);
+        let planned = self.planned.load(Ordering::SeqCst);
+        let messages = self.messages.load(Ordering::SeqCst);
         write!(
             line,
-            "{CLEAR}matches open {open}, over {over}, turns {turns}"
+            "{CLEAR}matches open {open}, over {over} of {planned}, messages {messages}"
         )
     }
 }
@@ -115,5 +129,28 @@ impl<E: Write> Write for StatusStream<E> {
 
     fn flush(&mut self) -> io::Result<()> {
         self.stream.flush()
+    }
+}
+
+/// An output, before which the status line is taken away where both stand on the same terminal.
+#[derive(Drop)]
+pub struct ClearedOutput<'a, R, W, E> {
+    pub rt: &'a R,
+    pub output: &'a mut Counted<W>,
+    pub status: &'a Mutex<StatusStream<E>>,
+    /// Whether the output goes to a terminal.
+    pub is_terminal: bool,
+}
+
+impl<R: Wait, W: Write, E: Write> Write for ClearedOutput<'_, R, W, E> {
+    fn write(&mut self, bytes: &[u8]) -> io::Result<usize> {
+        if self.is_terminal {
+            self.status.lock(self.rt).clear();
+        }
+        self.output.write(bytes)
+    }
+
+    fn flush(&mut self) -> io::Result<()> {
+        Ok(())
     }
 }
