@@ -2,3 +2,4 @@ pub mod ScriptFaults
 pub mod Faults
 pub mod Verdicts
 pub mod Checks
+pub mod Done

@@ -1,8 +1,9 @@
-//! What is wrong with a line of a script that tells no call.
+//! What is wrong with a line of a script, or a call of an account, that tells no call.
 
 use desk_text::call_of;
-use game_core::numeral::plain_number;
+use match_plans::decimal;
 use std::alloc::{AllocError, Global};
+use std::str::from_utf8;
 
 /// The word with which a line's call begins.
 #[derive(Clone, Copy)]
@@ -50,6 +51,17 @@ impl Keyword {
         }
     }
 
+    /// How many words a line has at least, with the keyword.
+    fn least(self) -> usize {
+        match self {
+            Keyword::Open | Keyword::Miss => 5,
+            Keyword::Strict => 6,
+            Keyword::Next => 3,
+            Keyword::Submit => 4,
+            Keyword::Query | Keyword::Abort => 2,
+        }
+    }
+
     /// What the word at this place has to be, where the keyword is word 0; none where there may be no such word.
     fn kind(self, place: usize) -> Option<Kind> {
         match (self, place) {
@@ -75,18 +87,41 @@ enum Kind {
     Any,
 }
 
-/// The largest number that a line may name.
-const MAX_NUMBER: usize = 1_000_000_000;
+/// In which text a call stands.
+#[derive(Clone, Copy)]
+pub enum Place {
+    /// A line of a script. It has no empty names, and no numbers past the largest.
+    Script,
+    /// A line of an account, whose calls may have them.
+    Account,
+}
+
+/// The largest number that a line of a script may name.
+const MAX_NUMBER: u64 = 1_000_000_000;
+
+/// Whether the word is a number without leading zeros, at most this one.
+pub fn is_number(word: &[u8], most: u64) -> bool {
+    let has_leading_zero = word.len() > 1 && word.first() == Some(&b'0');
+    match from_utf8(word) {
+        Ok(text) => !has_leading_zero && decimal(text, most).is_some(),
+        Err(_) => false,
+    }
+}
 
 impl Kind {
     /// What is wrong with a word that has to be of this kind.
-    fn fault(self, word: &[u8]) -> Option<&'static str> {
-        match self {
-            Kind::Name if word.is_empty() => Some("an empty word, as two spaces together make"),
-            Kind::Number if plain_number(word, MAX_NUMBER).is_none() => Some(
+    fn fault(self, place: Place, word: &[u8]) -> Option<&'static str> {
+        match (self, place) {
+            (Kind::Name, Place::Script) if word.is_empty() => Some(
+                "an empty word, as two spaces together make",
+            ),
+            (Kind::Number, Place::Script) if !is_number(word, MAX_NUMBER) => Some(
                 "no number from 0 to 1000000000 without leading zeros",
             ),
-            Kind::Reason if word != b"silent".as_slice() && word != b"broken".as_slice() => {
+            (Kind::Number, Place::Account) if !is_number(word, u64::MAX) => Some(
+                "no number from 0 to 18446744073709551615 without leading zeros",
+            ),
+            (Kind::Reason, _) if word != b"silent".as_slice() && word != b"broken".as_slice() => {
                 Some("neither silent nor broken")
             }
             _ => None,
@@ -95,7 +130,7 @@ impl Kind {
 }
 
 /// The bytes before the first of these, and those behind it.
-fn cut(text: &[u8], mark: u8) -> (&[u8], Option<&[u8]>) {
+pub fn cut(text: &[u8], mark: u8) -> (&[u8], Option<&[u8]>) {
     for (at, byte) in text.iter().enumerate() {
         if *byte == mark {
             return (
@@ -109,19 +144,19 @@ fn cut(text: &[u8], mark: u8) -> (&[u8], Option<&[u8]>) {
 
 /// What is wrong with a bad line: where, by the byte, in which words, and of which form of a line these speak.
 #[derive(Clone, Copy)]
-struct LineFault {
-    at: usize,
-    words: &'static str,
-    form: &'static str,
+pub struct LineFault {
+    pub at: usize,
+    pub words: &'static str,
+    pub form: &'static str,
 }
 
 impl LineFault {
-    fn new(at: usize, words: &'static str, form: &'static str) -> LineFault {
+    pub fn new(at: usize, words: &'static str, form: &'static str) -> LineFault {
         LineFault { at, words, form }
     }
 
-    /// What is wrong with a bad line that has a byte.
-    fn of(line: &[u8]) -> LineFault {
+    /// What is wrong with a call in this place that has a byte and is none.
+    pub fn of(line: &[u8], stands_in: Place) -> LineFault {
         let (first, mut rest) = cut(line, b' ');
         let Some(keyword) = Keyword::of(first) else {
             return LineFault::new(0, "no call begins with this word", "");
@@ -129,13 +164,20 @@ impl LineFault {
         let mut at = first.len().saturating_add(1);
         for place in 1..=line.len() {
             let Some(words) = rest else {
+                if place >= keyword.least() {
+                    return LineFault::new(
+                        0,
+                        "a byte escaped in another way, or a number too large",
+                        "",
+                    );
+                }
                 break;
             };
             let (word, more) = cut(words, b' ');
             let Some(kind) = keyword.kind(place) else {
                 return LineFault::new(at, "more words than in ", keyword.form());
             };
-            if let Some(words) = kind.fault(word) {
+            if let Some(words) = kind.fault(stands_in, word) {
                 return LineFault::new(at, words, "");
             }
             at = at.saturating_add(word.len()).saturating_add(1);
@@ -166,7 +208,17 @@ fn push_line(out: &mut String, number: usize, line: &[u8]) -> Result<(), AllocEr
     if line.is_empty() {
         return write!(out, "ggp_manager: line {number}, column 1: an empty line\n");
     }
-    let LineFault { at, words, form } = LineFault::of(line);
+    push_fault(out, number as u64, line, LineFault::of(line, Place::Script))
+}
+
+/// Puts what is wrong with the line of this number, from 1 on, behind what is written, as a line of standard error.
+pub fn push_fault(
+    out: &mut String,
+    number: u64,
+    line: &[u8],
+    fault: LineFault,
+) -> Result<(), AllocError> {
+    let LineFault { at, words, form } = fault;
     let column = at.saturating_add(1);
     write!(
         out,

@@ -18,7 +18,7 @@ use std::io::{Read, Write};
 use whole_streams::{InputFault, LineBuffer, NextLine, read_to_end, write_all};
 
 /// How many bytes a record has at most: 16 MiB.
-const MAX_RECORD: usize = 16_777_216;
+pub const MAX_RECORD: usize = 16_777_216;
 
 impl From<InputFault> for Fault {
     ghost use Rattle.std.specs.Prelude.{◌≡◌};

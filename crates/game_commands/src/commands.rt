@@ -46,7 +46,9 @@ fn perform<G: Game + Drop, R: Read, W: Write>(
             let count = check_records(alloc, &game, reader, writer)?;
             unless_none(count, Fault::UnlawfulRecords(count))
         }
-        GameCommand::Replay => replay_account(alloc, reader, writer, alone(alloc, game)?),
+        GameCommand::Replay => {
+            replay_account(alloc, reader, writer, alone(alloc, game)?, remarks)
+        }
     }
 }
 

@@ -1,6 +1,6 @@
 //! Why a command ends with a fault.
 
-use crate::rules::RulesFileFault;
+use crate::rules::FileFault;
 use crate::script_fault::ScriptFault;
 use desk_text::refusal_word;
 use match_desk::Refusal;
@@ -20,11 +20,13 @@ pub enum Fault {
     /// The text of the rules is not KIF, or is no ground description.
     BadDescription,
     /// The file of the rules was not read.
-    RulesFile(RulesFileFault),
+    RulesFile(FileFault),
     /// The file of the rules that players are told was not read.
-    ToldFile(RulesFileFault),
+    ToldFile(FileFault),
     /// The file of the rules that players are told is not KIF.
     BadTold,
+    /// The file of records of matches that are not played again was not read.
+    DoneFile(FileFault),
     /// Standard input failed.
     ReadFault,
     /// The input has more bytes than it may have.
@@ -76,6 +78,7 @@ impl Fault {
             Fault::RulesFile(_) => "bad description: ",
             Fault::ToldFile(_) => "bad told description: ",
             Fault::BadTold => "bad told description",
+            Fault::DoneFile(_) => "bad file of records: ",
             Fault::ReadFault => "read fault",
             Fault::InputTooLong => "input too long",
             Fault::WriteFault => "write fault",
@@ -98,7 +101,9 @@ impl fmt::Display for Fault {
     fn fmt<F: fmt::Write>(&self, f: &mut fmt::Formatter<F>) -> fmt::Result {
         f.write_str(self.words())?;
         match *self {
-            Fault::RulesFile(why) | Fault::ToldFile(why) => f.write_str(why.words()),
+            Fault::RulesFile(why) | Fault::ToldFile(why) | Fault::DoneFile(why) => {
+                f.write_str(why.words())
+            }
             Fault::Refused(refusal) => f.write_str(refusal_word(refusal)),
             Fault::NoRecord(shortage) => write!(f, "{shortage}"),
             Fault::NotLawful(fault) => write!(f, "{fault}"),

@@ -1,14 +1,17 @@
 //! The commands over standard input and output that want one game and no players: a script on a desk, the check of a record or of each
 //! line as one, and the calls of an account made again.
 //!
-//! `for_game` does the work of one of them for the game that the command line gives; `Fault` is every fault of the program.
+//! `for_game` does the work of one of them for the game that the command line gives; `done_matches` reads of which matches a file has
+//! a lawful record; `Fault` is every fault of the program.
 //!
 //! Free functions take the allocator first, behind a handle for files.
 #![tactic(auto)]
 
+mod bad_entries;
 mod bad_lines;
 mod checking;
 mod commands;
+mod done;
 mod fault;
 mod remarks;
 mod replaying;
@@ -18,7 +21,8 @@ mod script_fault;
 mod verdicts;
 
 pub use commands::for_game;
+pub use done::{DoneMatches, done_matches};
 pub use fault::Fault;
 pub use remarks::Remarks;
-pub use rules::{RulesFileFault, file_text, game_of, rules_text, told_fault, told_rules};
+pub use rules::{FileFault, file_text, game_of, rules_text, told_fault, told_rules};
 pub use script_fault::ScriptFault;

@@ -1,5 +1,6 @@
 //! What is said of a fault before its own line.
 
+use crate::bad_entries::push_bad_entry;
 use crate::bad_lines::push_first_bad_line;
 use described_games::{DescriptionFault, push_explanation};
 use std::alloc::{AllocError, Global};
@@ -51,6 +52,13 @@ impl Remarks {
     /// Says what is wrong with the first of the lines of a script that tell no call.
     pub fn first_bad_line(&mut self, script: &[u8]) {
         if self.is_wanted && push_first_bad_line(self.alloc, script, &mut self.lines).is_err() {
+            self.lines.clear();
+        }
+    }
+
+    /// Says what is wrong with the line of this number of an account, from 1 on. Where it tells a call, the right line is known.
+    pub fn bad_entry(&mut self, account: &[u8], number: u64, right: Option<&[u8]>) {
+        if self.is_wanted && push_bad_entry(account, number, right, &mut self.lines).is_err() {
             self.lines.clear();
         }
     }

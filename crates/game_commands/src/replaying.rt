@@ -1,6 +1,7 @@
 //! An account is read, and its calls are made again.
 
 use crate::fault::Fault;
+use crate::remarks::Remarks;
 use desk_scripts::push_records;
 use desk_text::{ReplayFault, Replayed, replay};
 use game_core::{Counted, Game};
@@ -45,12 +46,14 @@ fn push_replayed<G: Game + Drop>(
 }
 
 /// Makes the calls of an account again on a manager of these games, and puts how many they are and the records of its matches behind
-/// what is written. Where a line is not right, the line that it should be is put there instead, and the fault is returned.
+/// what is written. Where a line is not right, the line that it should be is put there instead, the remarks say what is wrong with it, and the fault is
+/// returned.
 fn push_answer<G: Game + Drop>(
     alloc: Global,
     games: Vec<G>,
     account: &[u8],
     output: &mut Vec<u8>,
+    remarks: &mut Remarks,
 ) -> Result<Option<Fault>, AllocError> {
     match replay(alloc, games, account) {
         Ok(replayed) => {
@@ -58,8 +61,12 @@ fn push_answer<G: Game + Drop>(
             Ok(None)
         }
         Err(ReplayFault::Memory) => Err(AllocError),
-        Err(ReplayFault::NoEntry(place)) => Ok(Some(Fault::NoEntry(place))),
+        Err(ReplayFault::NoEntry(place)) => {
+            remarks.bad_entry(account, place, None);
+            Ok(Some(Fault::NoEntry(place)))
+        }
         Err(ReplayFault::Differs(place, wanted)) => {
+            remarks.bad_entry(account, place, Some(&wanted));
             output.extend_from_slice(&wanted)?;
             output.push(b'\n')?;
             Ok(Some(Fault::Differs(place)))
@@ -74,10 +81,11 @@ pub fn replay_account<R: Read, W: Write, G: Game + Drop>(
     reader: &mut Counted<R>,
     writer: &mut Counted<W>,
     games: Vec<G>,
+    remarks: &mut Remarks,
 ) -> Result<(), Fault> {
     let account = without_records(alloc, read_to_end(alloc, reader, MAX_ACCOUNT)?)?;
     let mut output = Vec::new(alloc);
-    let fault = push_answer(alloc, games, &account, &mut output)?;
+    let fault = push_answer(alloc, games, &account, &mut output, remarks)?;
     write_all(writer, &output)?;
     match fault {
         None => Ok(()),

@@ -19,38 +19,40 @@ use whole_streams::{InputFault, read_to_end};
 /// How many bytes a file of rules has at most: as many as a description may have.
 const MAX_RULES: usize = 1_048_576;
 
-/// Why a file of rules was not read.
+/// Why a file was not read.
 #[derive(Clone, Copy)]
-pub enum RulesFileFault {
+pub enum FileFault {
     NoFile,
     Unopened,
     Unread,
     TooLong,
 }
 
-impl RulesFileFault {
+impl FileFault {
     pub fn words(self) -> &'static str {
         match self {
-            RulesFileFault::NoFile => "no such file",
-            RulesFileFault::Unopened => "the file can't be opened",
-            RulesFileFault::Unread => "the file can't be read",
-            RulesFileFault::TooLong => "the file is too long",
+            FileFault::NoFile => "no such file",
+            FileFault::Unopened => "the file can't be opened",
+            FileFault::Unread => "the file can't be read",
+            FileFault::TooLong => "the file is too long",
         }
     }
 }
 
-fn opening_fault(error: io::Error) -> Fault {
+/// The fault where a file of rules can't be opened.
+pub fn opening_fault(error: io::Error) -> Fault {
     match error.kind() {
         ErrorKind::OutOfMemory => Fault::Memory,
-        ErrorKind::NotFound => Fault::RulesFile(RulesFileFault::NoFile),
-        _ => Fault::RulesFile(RulesFileFault::Unopened),
+        ErrorKind::NotFound => Fault::RulesFile(FileFault::NoFile),
+        _ => Fault::RulesFile(FileFault::Unopened),
     }
 }
 
-fn reading_fault(fault: InputFault) -> Fault {
+/// The fault where a file of rules can't be read.
+pub fn reading_fault(fault: InputFault) -> Fault {
     match fault {
-        InputFault::ReadFault => Fault::RulesFile(RulesFileFault::Unread),
-        InputFault::TooLong => Fault::RulesFile(RulesFileFault::TooLong),
+        InputFault::ReadFault => Fault::RulesFile(FileFault::Unread),
+        InputFault::TooLong => Fault::RulesFile(FileFault::TooLong),
         InputFault::Memory => Fault::Memory,
     }
 }
