@@ -2,7 +2,7 @@
 ghost use Rattle.std.specs.Prelude.{◌≤◌, IfOk};
 
 use crate::program::program;
-use crate::tasks::{HostingPlan, PlayerTrial, RunPlan, SeasonPlan, Task};
+use crate::tasks::{AbortPlan, HostedTask, HostingPlan, RunPlan, SeasonPlan, Task};
 use clap::ArgMatches;
 use clap::error::ErrorKind;
 use match_plans::{
@@ -137,12 +137,10 @@ fn record_order(found: &ArgMatches<'_>) -> RecordOrder {
 }
 
 fn season_plan<'a>(found: &ArgMatches<'a>) -> Result<SeasonPlan<'a>, WrongValue<'a>> {
-    let hosting = hosting_plan(found)?;
     let strikes = strikes(found)?;
     let at_once = number(found, "at-once", 1, MAX_AT_ONCE as u64)? as usize;
     let concurrent = number(found, "concurrent", 1, MAX_AT_ONCE as u64)? as usize;
     Ok(SeasonPlan {
-        hosting,
         strikes,
         form: SeasonForm {
             at_once,
@@ -150,48 +148,66 @@ fn season_plan<'a>(found: &ArgMatches<'a>) -> Result<SeasonPlan<'a>, WrongValue<
             order: record_order(found),
             has_history: found.get_flag("history"),
         },
+        done: found.get_str("done"),
     })
 }
 
-fn player_trial<'a>(found: &ArgMatches<'a>) -> Result<PlayerTrial<'a>, WrongValue<'a>> {
-    Ok(PlayerTrial {
-        hosting: hosting_plan(found)?,
-        plan: CheckPlan {
-            start: seconds(found, "start")?,
-            play: seconds(found, "play")?,
-            strikes: strikes(found)?,
-            player: only_player(found)?,
-        },
+fn check_plan<'a>(found: &ArgMatches<'a>) -> Result<CheckPlan<'a>, WrongValue<'a>> {
+    Ok(CheckPlan {
+        start: seconds(found, "start")?,
+        play: seconds(found, "play")?,
+        strikes: strikes(found)?,
+        player: only_player(found)?,
     })
 }
 
-fn match_plan<'a>(
+/// The players, where there are some.
+fn players<'a>(
     alloc: Global,
     found: &ArgMatches<'a>,
-) -> Result<MatchPlan<'a>, ArgumentFault<'a>> {
-    let start = seconds(found, "start")?;
-    let play = seconds(found, "play")?;
-    let strikes = strikes(found)?;
+) -> Result<Vec<PlayerAddress<'a>>, ArgumentFault<'a>> {
     let mut players = Vec::new(alloc);
     for word in found.get_strs("players").unwrap_or(&[]) {
         players.push(player(word)?)?;
     }
-    Ok(MatchPlan {
-        id: found.get_str("id").unwrap_or(""),
-        start,
-        play,
-        strikes,
-        players,
-    })
+    Ok(players)
 }
 
 fn run_plan<'a>(alloc: Global, found: &ArgMatches<'a>) -> Result<RunPlan<'a>, ArgumentFault<'a>> {
-    let hosting = hosting_plan(found)?;
     Ok(RunPlan {
-        hosting,
-        plan: match_plan(alloc, found)?,
+        plan: MatchPlan {
+            id: found.get_str("id").unwrap_or(""),
+            start: seconds(found, "start")?,
+            play: seconds(found, "play")?,
+            strikes: strikes(found)?,
+            players: players(alloc, found)?,
+        },
         has_history: found.get_flag("history"),
     })
+}
+
+fn abort_plan<'a>(
+    alloc: Global,
+    found: &ArgMatches<'a>,
+) -> Result<AbortPlan<'a>, ArgumentFault<'a>> {
+    Ok(AbortPlan {
+        id: found.get_str("id").unwrap_or(""),
+        players: players(alloc, found)?,
+    })
+}
+
+/// What is to be done with the game that matches are held of, where that is what the command of this name does.
+fn hosted_task<'a>(
+    alloc: Global,
+    name: &str,
+    found: &ArgMatches<'a>,
+) -> Result<HostedTask<'a>, ArgumentFault<'a>> {
+    match name {
+        "run" => Ok(HostedTask::Run(run_plan(alloc, found)?)),
+        "season" => Ok(HostedTask::Season(season_plan(found)?)),
+        "check" => Ok(HostedTask::Check(check_plan(found)?)),
+        _ => Err(ArgumentFault::Form),
+    }
 }
 
 /// What the command of this name asks for.
@@ -204,11 +220,12 @@ fn task<'a>(
         "desk" => Ok(game_task(GameCommand::Desk, found)?),
         "verify" => Ok(game_task(verify_command(found), found)?),
         "replay" => Ok(game_task(GameCommand::Replay, found)?),
-        "run" => Ok(Task::Run(run_plan(alloc, found)?)),
-        "season" => Ok(Task::Season(season_plan(found)?)),
         "info" => Ok(Task::Info(only_player(found)?)),
-        "check" => Ok(Task::Check(player_trial(found)?)),
-        _ => Err(ArgumentFault::Form),
+        "abort" => Ok(Task::Abort(abort_plan(alloc, found)?)),
+        _ => {
+            let hosting = hosting_plan(found)?;
+            Ok(Task::Host(hosting, hosted_task(alloc, name, found)?))
+        }
     }
 }
 

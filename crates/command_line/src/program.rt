@@ -19,6 +19,8 @@ enum Form {
     /// An option with a value of this name, and the value where it is not there.
     Default(&'static str, &'static str),
     Flag,
+    /// A word of this name.
+    Word(&'static str),
     Player,
     Players,
 }
@@ -49,6 +51,7 @@ impl Argument {
                 .action(ArgAction::Set)
                 .default_value(default),
             Form::Flag => arg.long(self.name).action(ArgAction::SetTrue),
+            Form::Word(word) => arg.value_name(word).required(true).action(ArgAction::Set),
             Form::Player => arg.value_name(place).required(true).action(ArgAction::Set),
             Form::Players => arg
                 .value_name(place)
@@ -140,7 +143,7 @@ const RUN: [Argument; 10] = [
     },
 ];
 
-const SEASON: [Argument; 11] = [
+const SEASON: [Argument; 12] = [
     COUNTDOWN,
     RULES,
     RULES_FILE,
@@ -166,6 +169,11 @@ const SEASON: [Argument; 11] = [
         form: Form::Flag,
         help: "The records are printed in the order in which the matches end, as they are without it",
     },
+    Argument {
+        name: "done",
+        form: Form::Value("FILE"),
+        help: "Matches of which the file has a lawful record are not played: a season that was stopped goes on",
+    },
     LOG,
     Argument {
         name: "history",
@@ -189,6 +197,19 @@ const REPLAY: [Argument; 3] = [COUNTDOWN, RULES, RULES_FILE];
 
 const INFO: [Argument; 1] = [PLAYER];
 
+const ABORT: [Argument; 2] = [
+    Argument {
+        name: "id",
+        form: Form::Word("ID"),
+        help: "The match's id",
+    },
+    Argument {
+        name: "players",
+        form: Form::Players,
+        help: "The players",
+    },
+];
+
 const CHECK: [Argument; 9] = [
     COUNTDOWN, RULES, RULES_FILE, TOLD, START, PLAY, STRIKES, LOG, PLAYER,
 ];
@@ -208,7 +229,9 @@ fn command_of<'a>(
 }
 
 /// The commands, by their names.
-pub const COMMANDS: [&str; 7] = ["desk", "run", "season", "verify", "replay", "info", "check"];
+pub const COMMANDS: [&str; 8] = [
+    "desk", "run", "season", "verify", "replay", "info", "check", "abort",
+];
 
 /// The command of this name.
 pub fn command_named<'a>(alloc: Global, name: &str) -> Result<Command<'a>, AllocError> {
@@ -244,6 +267,12 @@ pub fn command_named<'a>(alloc: Global, name: &str) -> Result<Command<'a>, Alloc
             &REPLAY,
         ),
         "info" => command_of(alloc, "info", "Asks a player whether it is free", &INFO),
+        "abort" => command_of(
+            alloc,
+            "abort",
+            "Sends players ABORT, for a match whose referee is gone",
+            &ABORT,
+        ),
         _ => command_of(
             alloc,
             "check",

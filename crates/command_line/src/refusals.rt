@@ -6,7 +6,7 @@ use clap::error::ErrorKind;
 use std::alloc::{AllocError, Global};
 
 /// The commands with which more than a fault's own line stands on standard error, whatever that is.
-const OWN_COMMANDS: [&str; 3] = ["season", "check", "replay"];
+const OWN_COMMANDS: [&str; 4] = ["season", "check", "replay", "abort"];
 
 /// The options with which it does so.
 const OWN_OPTIONS: [&str; 5] = ["--rules-file", "--told", "--lines", "--log", "--history"];

@@ -7,16 +7,25 @@ use match_plans::{CheckPlan, GameCommand, GameSource, MatchPlan, PlayerAddress, 
 pub enum Task<'a> {
     /// To do this with one game, over standard input and output.
     Game(GameCommand, GameSource<'a>),
+    /// To hold matches of a game.
+    Host(HostingPlan<'a>, HostedTask<'a>),
+    /// To ask a player whether it is free.
+    Info(PlayerAddress<'a>),
+    /// To send players ABORT.
+    Abort(AbortPlan<'a>),
+    /// To show this text: the help, or the version.
+    Show(String),
+}
+
+/// What is to be done with the game that matches are held of.
+#[derive(Drop)]
+pub enum HostedTask<'a> {
     /// To referee a match between players on the network.
     Run(RunPlan<'a>),
     /// To referee the matches of a schedule.
     Season(SeasonPlan<'a>),
-    /// To ask a player whether it is free.
-    Info(PlayerAddress<'a>),
     /// To check a player.
-    Check(PlayerTrial<'a>),
-    /// To show this text: the help, or the version.
-    Show(String),
+    Check(CheckPlan<'a>),
 }
 
 /// The game that matches are held of, the file of what its players are told in its place, and whether each message is told on standard
@@ -28,10 +37,9 @@ pub struct HostingPlan<'a> {
     pub is_logged: bool,
 }
 
-/// One match, of a described game, and whether the account of it is wanted.
+/// One match, and whether the account of it is wanted.
 #[derive(Drop)]
 pub struct RunPlan<'a> {
-    pub hosting: HostingPlan<'a>,
     pub plan: MatchPlan<'a>,
     pub has_history: bool,
 }
@@ -39,14 +47,15 @@ pub struct RunPlan<'a> {
 /// The matches of a schedule: the strikes of each, and how they are played and told.
 #[derive(Clone, Copy)]
 pub struct SeasonPlan<'a> {
-    pub hosting: HostingPlan<'a>,
     pub strikes: u8,
     pub form: SeasonForm,
+    /// The file of the records of matches that are not played again.
+    pub done: Option<&'a str>,
 }
 
-/// The check of a player.
-#[derive(Clone, Copy)]
-pub struct PlayerTrial<'a> {
-    pub hosting: HostingPlan<'a>,
-    pub plan: CheckPlan<'a>,
+/// The players that wait for the next message of a match, and the match's id.
+#[derive(Drop)]
+pub struct AbortPlan<'a> {
+    pub id: &'a str,
+    pub players: Vec<PlayerAddress<'a>>,
 }

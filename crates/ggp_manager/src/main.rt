@@ -2,7 +2,7 @@
 #![tactic(auto)]
 
 use game_core::Counted;
-use ggp_commands::{Fault, command, report};
+use ggp_commands::{Fault, Terminals, command, report};
 use match_plans::MAX_MATCHES;
 use network_players::{Signal, SocketPlayer, Sockets};
 use std::io::{ErrorKind, IsTerminal};
@@ -16,7 +16,11 @@ fn command_line(rt: &HostRuntime) -> io::Result<Vec<String>> {
 
 fn main(rt: HostRuntime) -> ExitCode {
     let mut errors = rt.stderr();
-    let is_terminal = errors.is_terminal();
+    let output = rt.stdout();
+    let terminals = Terminals {
+        errors: errors.is_terminal(),
+        output: output.is_terminal(),
+    };
     let words = match command_line(&rt) {
         Ok(words) => words,
         Err(error) => {
@@ -29,7 +33,7 @@ fn main(rt: HostRuntime) -> ExitCode {
         }
     };
     let mut reader = Counted::new(rt.stdin());
-    let mut writer = Counted::new(rt.stdout());
+    let mut writer = Counted::new(output);
     let Ok(signals) = Signal::many(rt.alloc(), MAX_MATCHES) else {
         report(&mut errors, Fault::Memory);
         return ExitCode::from(Fault::Memory.status());
@@ -46,7 +50,7 @@ fn main(rt: HostRuntime) -> ExitCode {
         &mut reader,
         &mut writer,
         &mut errors,
-        is_terminal,
+        terminals,
     );
     ExitCode::from(status)
 }
