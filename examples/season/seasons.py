@@ -1,0 +1,84 @@
+"""Seasons of Countdown that a script has a program play between players of its own, and what is looked at in their records."""
+import json
+import pathlib
+import subprocess
+import tempfile
+import time
+
+from players_inside import ROLES
+
+GAME = pathlib.Path(__file__).resolve().parent.parent / "games/countdown.kif"
+BEGUN = "ggp_manager: "
+PATIENCE = 600
+
+
+def schedule(pairs, clocks="20 20", name="m"):
+    """Returns the text of a schedule in which these players sit, red and blue of each match, and the ids of its matches."""
+    ids = [f"{name}{number}" for number in range(len(pairs))]
+    return "".join(f"{it} {clocks} {red.address()} {blue.address()}\n" for it, (red, blue) in zip(ids, pairs)), ids
+
+
+def run(program, words, text=""):
+    return subprocess.run([program, *words], input=text, capture_output=True, text=True, timeout=PATIENCE)
+
+
+def start(program, words, plan, records, **more):
+    """Starts a season of a schedule with this text, whose records are written to this file."""
+    with tempfile.TemporaryFile() as given:
+        given.write(plan.encode())
+        given.seek(0)
+        return subprocess.Popen([program, "season", *words], stdin=given, stdout=records, **more)
+
+
+def whole_lines(text):
+    """Returns the lines of a file of bytes that are whole, and what stands behind them: a line that was cut, or nothing."""
+    whole, feed, cut = text.rpartition(b"\n")
+    return (whole + feed).splitlines(keepends=True), cut
+
+
+def cut_off(path):
+    """Takes a file's last line away where it was cut, and has no line feed."""
+    with open(path, "rb+") as it:
+        it.truncate(sum(map(len, whole_lines(it.read())[0])))
+
+
+def records_in(lines):
+    """Returns the records among these lines; lines of accounts begin with a digit."""
+    return [json.loads(line) for line in lines if not line[:1].isdigit()]
+
+
+def wait_until(is_so, seconds, rest=0.01):
+    """Returns whether something is so before the seconds are over."""
+    ends = time.monotonic() + seconds
+    while not is_so():
+        if time.monotonic() > ends:
+            return False
+        time.sleep(rest)
+    return True
+
+
+def errors_of(record):
+    """Returns the errors of a record's moves, and of its answers to START, STOP and ABORT."""
+    return [error for turn in (*record["errors"], record["startMarks"], record["endMarks"]) for error in turn if error]
+
+
+def faults_of_records(program, game, text, ids, players):
+    """Gives what is not as it should be in the records of a season: of each match there is to be one, which is lawful, has no error,
+    and has the moves that its players sent."""
+    records = records_in(whole_lines(text)[0])
+    found = [it["matchId"] for it in records]
+    if sorted(found) != sorted(ids):
+        yield f"{len(ids)} matches: lost {sorted({*ids} - {*found})}, twice {sorted({it for it in found if found.count(it) > 1})}"
+    checked = run(program, ["verify", "--lines", *game], text.decode())
+    if checked.stdout != "lawful\n" * len(ids):
+        yield f"not every record is lawful: {checked.stderr.strip()}"
+    by_name = {it.name: it for it in players}
+    for record in records:
+        match = record["matchId"]
+        if errors := errors_of(record):
+            yield f"{match}: its players have errors: {errors}"
+        for place, (role, name) in enumerate(zip(ROLES, record["players"])):
+            seat = by_name[name].over.get(match)
+            moves = [turn[place] for turn in record["moves"]]
+            if seat is None or (seat.role, seat.sent) != (role, moves):
+                yield f"{match}: {name} sent {seat and seat.sent} as {seat and seat.role}, and {moves} was played"

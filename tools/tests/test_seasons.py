@@ -1,0 +1,71 @@
+"""The players inside the scripts of examples/season, and what these look at in a file of records."""
+import os
+import sys
+import tempfile
+import unittest
+
+TOP = os.path.dirname(os.path.dirname(os.path.dirname(os.path.realpath(__file__))))
+sys.path.insert(0, f"{TOP}/examples/season")
+from players_inside import Player, Seat
+from seasons import cut_off, errors_of, records_in, schedule, whole_lines
+
+
+class Players(unittest.TestCase):
+    def test_a_seat_takes_in_its_turn_what_is_there(self):
+        seat = Seat("blue", 3)
+        self.assertEqual(seat.move("(PLAY m NIL)", 2), "noop")
+        self.assertEqual(seat.move("(PLAY m ((take 2) noop))", 2), "(take 1)")
+        self.assertEqual(seat.sent, ["noop", "(take 1)"])
+
+    def test_a_strict_player_sits_in_one_match_until_it_is_over(self):
+        for last in ("(STOP m ((take 1) noop))", "(ABORT m)", "(abort m)"):
+            player = Player("ann", 1, is_strict=True)
+            self.assertEqual(player.answer("(INFO)"), "available")
+            self.assertEqual(player.answer("(START m red ((role red) (role blue)) 1 1)"), "ready")
+            self.assertEqual(player.answer("(START n red ((role red) (role blue)) 1 1)"), "busy")
+            self.assertEqual(player.answer("(PLAY n NIL)"), "busy")
+            self.assertEqual(player.answer("(PLAY m NIL)"), "(take 1)")
+            self.assertEqual(player.answer("(ABORT n)"), "done")
+            self.assertEqual(player.answer("(INFO)"), "busy")
+            player.answer(last)
+            self.assertEqual(player.answer("(INFO)"), "available")
+            self.assertEqual((player.begun, player.over["m"].sent), (["m"], ["(take 1)"]))
+
+    def test_another_player_sits_in_many(self):
+        player = Player("ann", 3)
+        for match in ("m", "n"):
+            self.assertEqual(player.answer(f"(START {match} red ((role red)) 1 1)"), "ready")
+        self.assertEqual(sorted(player.seats), ["m", "n"])
+
+
+class Records(unittest.TestCase):
+    def test_a_line_without_a_feed_was_cut(self):
+        self.assertEqual(whole_lines(b""), ([], b""))
+        self.assertEqual(whole_lines(b"{}\n{"), ([b"{}\n"], b"{"))
+        self.assertEqual(whole_lines(b"{}\n{}\n"), ([b"{}\n", b"{}\n"], b""))
+        self.assertEqual(whole_lines(b"{"), ([], b"{"))
+
+    def test_a_cut_line_is_taken_away(self):
+        for text, left in ((b"", b""), (b"{}\n{", b"{}\n"), (b"{}\n", b"{}\n"), (b"{", b"")):
+            with tempfile.NamedTemporaryFile() as file:
+                file.write(text)
+                file.flush()
+                cut_off(file.name)
+                self.assertEqual(file.seek(0) or file.read(), left)
+
+    def test_lines_of_accounts_are_no_records(self):
+        self.assertEqual(records_in([b'{"matchId":"m"}\n', b"0\topen m 0 1 1 a b\topened\n"]), [{"matchId": "m"}])
+
+    def test_errors_of_moves_and_of_other_answers(self):
+        record = {"errors": [["", "TO"], ["", ""]], "startMarks": ["CE", ""], "endMarks": [None, None]}
+        self.assertEqual(errors_of(record), ["TO", "CE"])
+
+    def test_a_schedule_has_a_line_for_each_match(self):
+        ann, bob = Player("ann", 3), Player("bob", 3)
+        ann.port, bob.port = 1, 2
+        lines = "m0 5 1 ann@127.0.0.1:1 bob@127.0.0.1:2\nm1 5 1 bob@127.0.0.1:2 ann@127.0.0.1:1\n"
+        self.assertEqual(schedule([(ann, bob), (bob, ann)], "5 1"), (lines, ["m0", "m1"]))
+
+
+if __name__ == "__main__":
+    unittest.main()
