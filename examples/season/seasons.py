@@ -30,6 +30,16 @@ def start(program, words, plan, records, **more):
         return subprocess.Popen([program, "season", *words], stdin=given, stdout=records, **more)
 
 
+def ended(child):
+    """Returns the status of a program, and what it told if that goes to a pipe. Where it does not end it is killed."""
+    try:
+        told = child.communicate(timeout=PATIENCE)[1]
+    except subprocess.TimeoutExpired:
+        child.kill()
+        told = child.communicate()[1]
+    return child.returncode, told
+
+
 def whole_lines(text):
     """Returns the lines of a file of bytes that are whole, and what stands behind them: a line that was cut, or nothing."""
     whole, feed, cut = text.rpartition(b"\n")
