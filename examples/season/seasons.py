@@ -9,6 +9,8 @@ from players_inside import ROLES
 
 GAME = pathlib.Path(__file__).resolve().parent.parent / "games/countdown.kif"
 BEGUN = "ggp_manager: "
+# README.md says so to its readers.
+CUT_OFF = """[ -z "$(tail -c 1 records)" ] || sed -i '$d' records"""
 PATIENCE = 600
 
 
@@ -46,10 +48,9 @@ def whole_lines(text):
     return (whole + feed).splitlines(keepends=True), cut
 
 
-def cut_off(path):
-    """Takes a file's last line away where it was cut, and has no line feed."""
-    with open(path, "rb+") as it:
-        it.truncate(sum(map(len, whole_lines(it.read())[0])))
+def cut_off(folder):
+    """Takes the last line of the file `records` in this folder away where it was cut."""
+    subprocess.run(["bash", "-c", CUT_OFF], cwd=folder, check=True)
 
 
 def records_in(lines):

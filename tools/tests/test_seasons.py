@@ -1,5 +1,6 @@
 """The players inside the scripts of examples/season, and what these look at in a file of records."""
 import os
+import pathlib
 import sys
 import tempfile
 import unittest
@@ -7,7 +8,7 @@ import unittest
 TOP = os.path.dirname(os.path.dirname(os.path.dirname(os.path.realpath(__file__))))
 sys.path.insert(0, f"{TOP}/examples/season")
 from players_inside import Player, Seat
-from seasons import cut_off, errors_of, records_in, schedule, whole_lines
+from seasons import CUT_OFF, cut_off, errors_of, records_in, schedule, whole_lines
 
 
 class Players(unittest.TestCase):
@@ -47,11 +48,12 @@ class Records(unittest.TestCase):
 
     def test_a_cut_line_is_taken_away(self):
         for text, left in ((b"", b""), (b"{}\n{", b"{}\n"), (b"{}\n", b"{}\n"), (b"{", b"")):
-            with tempfile.NamedTemporaryFile() as file:
-                file.write(text)
-                file.flush()
-                cut_off(file.name)
-                self.assertEqual(file.seek(0) or file.read(), left)
+            with tempfile.TemporaryDirectory() as folder:
+                records = pathlib.Path(folder) / "records"
+                records.write_bytes(text)
+                cut_off(folder)
+                self.assertEqual(records.read_bytes(), left)
+        self.assertIn(CUT_OFF, pathlib.Path(TOP, "examples/season/README.md").read_text(encoding="utf-8"))
 
     def test_lines_of_accounts_are_no_records(self):
         self.assertEqual(records_in([b'{"matchId":"m"}\n', b"0\topen m 0 1 1 a b\topened\n"]), [{"matchId": "m"}])
