@@ -76,7 +76,11 @@ def errors_of(record):
 def faults_of_records(program, game, text, ids, players):
     """Gives what is not as it should be in the records of a season: of each match there is to be one, which is lawful, has no error,
     and has the moves that its players sent."""
-    records = records_in(whole_lines(text)[0])
+    try:
+        records = records_in(whole_lines(text)[0])
+    except ValueError as fault:
+        yield f"a line is no record: {fault}"
+        return
     found = [it["matchId"] for it in records]
     if sorted(found) != sorted(ids):
         yield f"{len(ids)} matches: lost {sorted({*ids} - {*found})}, twice {sorted({it for it in found if found.count(it) > 1})}"
