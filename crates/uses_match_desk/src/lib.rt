@@ -1,7 +1,7 @@
 //! Uses of `match_desk`, as a caller writes them: by its public contracts alone.
 #![tactic(auto)]
 
-ghost use Rattle.std.specs.Prelude.{◌≡◌, ◌<◌, IfOk, IfSome, OnOk, OnErr};
+ghost use Rattle.std.specs.Prelude.{◌≡◌, ◌<◌, ◌∷◌, [], IfOk, IfSome, OnOk, OnErr};
 ghost use Rattle.call_history.specs.Lines.{numbers, HasAll};
 ghost use Rattle.game_core.specs.Countdown.{countdown};
 ghost use Rattle.match_desk.specs.Headline.{HasHeadline};
@@ -32,23 +32,22 @@ pub fn make<G: Game>(
 }
 
 /// Makes the calls on a desk of this one game. Returns the goal of a role in the match with this id, once its heap is empty: some
-/// legal turns of the game end with that goal, whatever the calls were.
+/// legal turns of the game end with that goal, whatever calls the desk was given.
 pub fn goal_after(
     alloc: Global,
-    game: Countdown,
+    game: &Countdown,
+    manager: &mut Manager<Countdown>,
     calls: &[Call],
     id: &[u8],
     role: usize,
 ) -> Result<Option<u8>, AllocError>
-    requires { role < 2 }
-    ensures { IfOk result (λ goal. IfSome goal (CanEndWith (countdown game.size) role)) }
+    requires game { manager.old.games ≡ game.now ∷ [] }
+    requires role { role < 2 }
+    ensures { IfOk result (λ goal. IfSome goal (CanEndWith (countdown game.now.size) role)) }
 {
-    recorded_moves_are_legal(&game);
-    let mut games = Vec::new(alloc);
-    games.push(game)?;
-    let mut manager = Manager::new(alloc, games)?;
+    recorded_moves_are_legal(game);
     for call in calls {
-        make(alloc, &mut manager, call)?;
+        let _reply = make(alloc, manager, call)?;
     }
     let Some(held) = manager.find(id) else {
         return Ok(None);

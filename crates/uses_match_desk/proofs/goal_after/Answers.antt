@@ -1,4 +1,4 @@
-use Rattle.std.proofs.Common.{◌≡◌, ℕ, zero, suc, Bool, true, false, List, [], ◌∷◌, ◌++◌, length, Option, Some, None, refl, sym, ap, subst, ◌∙◌}
+use Rattle.std.proofs.Common.{◌≡◌, ℕ, zero, suc, Bool, true, false, List, [], ◌∷◌, length, Option, Some, None, refl, sym, ap, subst, ◌∙◌}
 use Rattle.std.specs.Prelude.{if◌then◌else◌, IfSome, nat_le, slice_get, option_map}
 use Rattle.std.proofs.lemmas.Option.{option_and_then_some}
 use Rattle.game_core.specs.Countdown.{countdown}
@@ -58,9 +58,6 @@ can_end_with g m role (Some v) legal is =
     let given = given_at_the_end (stage g m) g (state_after g m.turns) role v (sym is) in
     record { turns = joint_moves m.turns; legal = legal; ended = stops_at_the_end g m given.0; is_goal = given.1 }
 
-games_of : {G M : Type 0} (d e : ManagerValue G M) → d ≡ e → d.games ≡ e.games
-games_of {G} {M} d e same = ap (λ (x : ManagerValue G M). x.games) same
-
 -- what a match on a desk of one game says of a goal
 goal_of_the_game : {G S M : Type 0} (rules : G → Rules S M) (d : ManagerValue G M) (game : G) (id : List ℕ) (held : GameMatch G M) (role : ℕ) (goal : Option ℕ)
     → RecordedMovesAreLegal (rules game) → d.games ≡ game ∷ [] → match_with_id d id ≡ Some held → IsLawfulMatch (rules held.game) held.value → goal ≡ goal_of (rules held.game) held.value role
@@ -72,6 +69,5 @@ goal_of_the_game rules d game id held role goal are_legal only found lawful is =
 
 pub returns : goal.returns
 returns c =
-    let only = c.loop-call.invariant ∙ games_of _ _ c.in_ok-manager.ensures ∙ c.in_ok-push.ensures.items ∙ ap (λ l. l ++ c.args.game ∷ []) c.new-games.ensures.items in
-    goal_of_the_game (λ (x : Countdown). countdown x.size) c.loop-call.manager c.args.game c.args.id.now c.in-Some.held.now c.args.role c.goal_of.result
-    c.recorded_moves_are_legal.ensures only (sym c.in-Some.ensures) c.state-state.ensures.lawful c.goal_of.ensures
+    goal_of_the_game (λ (x : Countdown). countdown x.size) c.loop-call.manager c.args.game.now c.args.id.now c.in-Some.held.now c.args.role c.goal_of.result
+    c.recorded_moves_are_legal.ensures (c.loop-call.invariant ∙ c.requires.game) (sym c.in-Some.ensures) c.state-state.ensures.lawful c.goal_of.ensures
