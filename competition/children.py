@@ -7,6 +7,8 @@ import subprocess
 import time
 
 END_WITH_PARENT = 1
+# What is known of a process that could say nothing.
+UNSAID = "it ended with status {} and no word, as where it is killed or the disk is full"
 LIBRARY = ctypes.CDLL(None)
 
 
@@ -38,7 +40,7 @@ class Child:
     def last_words(self):
         """Returns the last line on standard error, or how the process ended where there is none."""
         lines = self.said.read_bytes().decode("ascii", "replace").strip().splitlines()
-        return lines[-1] if lines else f"it ended with status {self.status()}"
+        return lines[-1] if lines else UNSAID.format(self.status())
 
     def end(self):
         """Ends the process, and what it has started."""

@@ -8,6 +8,7 @@ import shutil
 import signal
 import time
 
+from competition.children import UNSAID
 from competition.kept import look_at_records, set_aside, strangers
 from competition.messages import send_aborts
 from competition.open_match import OpenMatch
@@ -53,8 +54,8 @@ class Playing:
             self.tell.ends(it.result, it.seconds)
             self.ended(it.result)
         elif it.why:
-            # Where the disk is full the referee may be the first to see it.
-            self.is_full |= it.why.endswith("write fault")
+            # Where the disk is full the referee may be the first to see it. It says so with status 1, or can't write that either.
+            self.is_full |= it.why.endswith("write fault") or it.why == UNSAID.format(1)
             self.left[it.match.id] = it.why
             self.tell.line(f"no record {it.match.id}: {it.why}")
         else:

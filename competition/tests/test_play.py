@@ -231,7 +231,7 @@ class Play(InFolder):
             status, out, _ = run(small, "play", "--at-once", "2")
             kept = [it for it in (small / "records").glob("*.json") if not it.name.startswith(".")]
             self.assertEqual(status, 1, out)
-            self.assertIn("No space left on device", out)
+            self.assertRegex(out, "No space left on device|write fault|the disk is full")
             self.assertNotIn("begin ", out.partition("no record")[2])
             self.assertEqual([it.matches for it in self.players], [{}] * 4)
             shutil.rmtree(self.folder)
