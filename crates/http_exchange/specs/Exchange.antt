@@ -1,11 +1,13 @@
 -- What a call writes to a stream and reads from it.
-use Rattle.std.specs.Prelude.{◌≡◌, ℕ, ◌<◌, ◌≤◌, Bool, true, List, length, take, Option}
+use Rattle.std.specs.Prelude.{◌≡◌, ◌⊎◌, ℕ, ◌<◌, ◌≤◌, Bool, true, List, length, take, Option}
 use Rattle.std.specs.Io.KnownBytes.{Consumes, Appends, IsAtEnd}
 use Rattle.game_core.specs.Counting.{Counting}
 use Rattle.http_exchange.specs.Carried.{Carried}
 use Rattle.http_exchange.specs.WireFaults.{ReadStops, WriteStops}
 use Rattle.http_exchange.specs.declared.head.HttpKind.{HttpKind}
+use Rattle.http_exchange.specs.declared.head.HttpKind.TheVariants.{Reply}
 use Rattle.http_exchange.specs.declared.wire_fault.WireFault.{WireFault}
+use Rattle.http_exchange.specs.declared.wire_fault.WireFault.TheVariants.{Memory}
 
 -- The bytes that a stream gave, by the bytes left before and the bytes left now. A stream that has ended
 -- has none left.
@@ -34,3 +36,16 @@ abbrev pub TakesNone : {S : Type 0} → HttpKind → (S → Option (List ℕ)) �
 TakesNone kind remaining old new fault =
     (given : List ℕ) × (ended : Bool) × Gives (remaining old.stream) (remaining new.stream) given ended
     × ReadStops kind fault given ended old new
+
+-- the request was written, and the bytes that came back carry this body
+abbrev pub BringsReply : {S : Type 0} → (S → Option (List ℕ)) → (S → Option (List ℕ)) → Counting S → Counting S → List ℕ → List ℕ → Type 0
+BringsReply {S} contents remaining old new request reply =
+    (sent : Counting S) × WritesText contents old sent request × TakesBody Reply remaining sent new reply
+
+-- The exchange failed: there was no memory and nothing was done, or a part of the request was written, or all of it, and the bytes that came
+-- back explain the fault.
+abbrev pub BringsNone : {S : Type 0} → (S → Option (List ℕ)) → (S → Option (List ℕ)) → Counting S → Counting S → List ℕ → WireFault → Type 0
+BringsNone {S} contents remaining old new request fault =
+    ((fault ≡ Memory) × (new ≡ old))
+    ⊎ (BreaksOff contents old new request fault
+    ⊎ ((sent : Counting S) × WritesText contents old sent request × TakesNone Reply remaining sent new fault))

@@ -1,7 +1,6 @@
 //! An exchange with a player, and a player's side of it.
 ghost use Rattle.std.specs.Prelude.{◌≡◌, ◌⊎◌, IfOk, OnOk, IfErr};
-ghost use Rattle.game_core.specs.Counting.{Counting};
-ghost use Rattle.http_exchange.specs.Exchange.{BreaksOff, TakesBody, TakesNone, WritesText};
+ghost use Rattle.http_exchange.specs.Exchange.{BreaksOff, BringsNone, BringsReply, TakesBody, TakesNone, WritesText};
 ghost use Rattle.http_exchange.specs.HttpText.{reply_text, request_text};
 
 use crate::head::HttpKind;
@@ -10,33 +9,40 @@ use crate::receiving::receive;
 use crate::sending::send;
 use crate::wire_fault::WireFault;
 use game_core::{Counted, Text};
+use shared_text::SharedText;
 use std::alloc::Global;
 use std::io::{Read, Write};
 
 /// Sends a player a request with that body, and returns the body of the reply.
 ///
 /// The player's name goes into the head as it is, so it may hold no line end. The bytes after the body of
-/// the reply are ignored, but may have been read. The stream is not flushed.
+/// the reply are ignored, but may have been read. The stream is not flushed. A long part that the body shares with others is written
+/// from where it lies.
+pub fn exchange_shared<S: Read + Write>(
+    alloc: Global,
+    stream: &mut Counted<S>,
+    player: &[u8],
+    body: &SharedText<'_>,
+) -> Result<Text, WireFault>
+    ensures carries { IfOk result (BringsReply S.contents S.remaining stream.old stream.new (request_text player.now body.now)) }
+    ensures fails { IfErr result (BringsNone S.contents S.remaining stream.old stream.new (request_text player.now body.now)) }
+{
+    let text = request_text(alloc, player, body)?;
+    send(stream, &text)?;
+    receive(alloc, stream, HttpKind::Reply)
+}
+
+/// Sends a player a request with that body, as `exchange_shared` does, and returns the body of the reply.
 pub fn exchange<S: Read + Write>(
     alloc: Global,
     stream: &mut Counted<S>,
     player: &[u8],
     body: &[u8],
 ) -> Result<Text, WireFault>
-    // `sent` is the stream between writing and reading, when exactly the request was written.
-    ensures carries { IfOk result (λ reply. (sent : Counting S)
-        × WritesText S.contents stream.old sent (request_text player.now body.now)
-        × TakesBody HttpKind.Reply S.remaining sent stream.new reply) }
-    ensures fails { IfErr result (λ fault.
-        ((fault ≡ WireFault.Memory) × (stream.new ≡ stream.old))
-        ⊎ (BreaksOff S.contents stream.old stream.new (request_text player.now body.now) fault
-        ⊎ ((sent : Counting S)
-        × WritesText S.contents stream.old sent (request_text player.now body.now)
-        × TakesNone HttpKind.Reply S.remaining sent stream.new fault))) }
+    ensures carries { IfOk result (BringsReply S.contents S.remaining stream.old stream.new (request_text player.now body.now)) }
+    ensures fails { IfErr result (BringsNone S.contents S.remaining stream.old stream.new (request_text player.now body.now)) }
 {
-    let text = request_text(alloc, player, body)?;
-    send(stream, &text.first, text.second)?;
-    receive(alloc, stream, HttpKind::Reply)
+    exchange_shared(alloc, stream, player, &SharedText::lent(alloc, body))
 }
 
 /// Reads a request, and returns its body. The bytes after the body are ignored, but may have been read. It
@@ -59,6 +65,6 @@ pub fn give_reply<S: Write>(
         ((fault ≡ WireFault.Memory) × (stream.new ≡ stream.old))
         ⊎ BreaksOff S.contents stream.old stream.new (reply_text body.now) fault) }
 {
-    let text = reply_text(alloc, body)?;
-    send(stream, &text.first, text.second)
+    let text = reply_text(alloc, &SharedText::lent(alloc, body))?;
+    send(stream, &text)
 }

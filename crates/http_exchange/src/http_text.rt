@@ -2,6 +2,7 @@
 ghost use Rattle.std.specs.Prelude.{◌≡◌, ◌++◌, IfOk, OnOk};
 ghost use Rattle.http_exchange.specs.HttpText.{line, field, described_body, request_text, reply_text};
 
+use shared_text::SharedText;
 use std::alloc::{AllocError, Global};
 
 #[tactic(auto, unfolding(crate::specs::HttpText::line))]
@@ -21,19 +22,12 @@ fn push_field(text: &mut Vec<u8>, name: &[u8], value: &[u8]) -> Result<(), Alloc
     push_line(text, value)
 }
 
-/// The longest body that is copied behind its head, in bytes.
-const LONGEST_COPIED: usize = 65_536;
-
-/// A text that is written in two parts. A short body stands behind its head in the first, so that both go out in one write. A long
-/// one is the second, which is lent: no copy of it is made.
-#[derive(Drop)]
-pub(crate) struct PartedText<'a> {
-    pub(crate) first: Vec<u8>,
-    pub(crate) second: &'a [u8],
-}
-
 /// Adds the fields that describe a body, and the empty line.
-fn push_description(alloc: Global, text: &mut Vec<u8>, body: &[u8]) -> Result<(), AllocError>
+fn push_description(
+    alloc: Global,
+    text: &mut Vec<u8>,
+    body: &SharedText<'_>,
+) -> Result<(), AllocError>
     ensures { OnOk result (text.new.items ++ body.now ≡ text.old.items ++ described_body body.now) }
 {
     let length = body.len().to_string(alloc)?;
@@ -42,32 +36,26 @@ fn push_description(alloc: Global, text: &mut Vec<u8>, body: &[u8]) -> Result<()
     push_line(text, b"")
 }
 
-/// The text with a description of the body and the body.
-fn with_body<'a>(alloc: Global, head: Vec<u8>, body: &'a [u8]) -> Result<PartedText<'a>, AllocError>
-    ensures { IfOk result (λ text. text.first.items ++ text.second.now ≡ head.items ++ described_body body.now) }
+/// The text of this head with a description of the body, and the body.
+fn with_body<'a>(
+    alloc: Global,
+    head: Vec<u8>,
+    body: &SharedText<'a>,
+) -> Result<SharedText<'a>, AllocError>
+    ensures { IfOk result (λ text. text ≡ head.items ++ described_body body.now) }
 {
-    let mut first = head;
-    push_description(alloc, &mut first, body)?;
-    if body.len() > LONGEST_COPIED {
-        return Ok(PartedText {
-            first,
-            second: body,
-        });
-    }
-    first.extend_from_slice(body)?;
-    Ok(PartedText {
-        first,
-        second: b"".as_slice(),
-    })
+    let mut front = head;
+    push_description(alloc, &mut front, body)?;
+    body.behind(front)
 }
 
 /// The request with that body to the player of that name.
 pub(crate) fn request_text<'a>(
     alloc: Global,
     player: &[u8],
-    body: &'a [u8],
-) -> Result<PartedText<'a>, AllocError>
-    ensures { IfOk result (λ text. text.first.items ++ text.second.now ≡ request_text player.now body.now) }
+    body: &SharedText<'a>,
+) -> Result<SharedText<'a>, AllocError>
+    ensures { IfOk result (λ text. text ≡ request_text player.now body.now) }
 {
     let mut head = Vec::new(alloc);
     push_line(&mut head, b"POST / HTTP/1.0")?;
@@ -78,8 +66,11 @@ pub(crate) fn request_text<'a>(
 }
 
 /// The reply with that body.
-pub(crate) fn reply_text(alloc: Global, body: &[u8]) -> Result<PartedText<'_>, AllocError>
-    ensures { IfOk result (λ text. text.first.items ++ text.second.now ≡ reply_text body.now) }
+pub(crate) fn reply_text<'a>(
+    alloc: Global,
+    body: &SharedText<'a>,
+) -> Result<SharedText<'a>, AllocError>
+    ensures { IfOk result (λ text. text ≡ reply_text body.now) }
 {
     let mut head = Vec::new(alloc);
     push_line(&mut head, b"HTTP/1.0 200 OK")?;

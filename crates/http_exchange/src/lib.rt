@@ -18,5 +18,5 @@ mod receiving;
 mod sending;
 mod wire_fault;
 
-pub use exchanging::{exchange, give_reply, take_request};
+pub use exchanging::{exchange, exchange_shared, give_reply, take_request};
 pub use wire_fault::WireFault;

@@ -1,5 +1,5 @@
 //! How a message is written, by one write after another.
-ghost use Rattle.std.specs.Prelude.{◌≡◌, ◌<◌, ◌≤◌, ◌++◌, ℕ, List, length, take, drop, IfOk, OnOk, OnErr, IfErr, []};
+ghost use Rattle.std.specs.Prelude.{◌≡◌, ◌<◌, ◌≤◌, length, take, IfOk, OnOk, OnErr, IfErr, []};
 ghost use Rattle.std.specs.Io.KnownBytes.{Appends};
 ghost use Rattle.game_core.specs.Counting.{one_more};
 ghost use Rattle.http_exchange.specs.Exchange.{BreaksOff, WritesText};
@@ -7,6 +7,7 @@ ghost use Rattle.http_exchange.specs.WireFaults.{HasFailed};
 
 use crate::wire_fault::WireFault;
 use game_core::{Counted, MAX_STREAM_CALLS};
+use shared_text::SharedText;
 use std::io::{ErrorKind, Write};
 
 /// Calls `write` once. Returns how many bytes it took: 0 if it was interrupted.
@@ -32,35 +33,18 @@ fn write_once<S: Write>(stream: &mut Counted<S>, rest: &[u8]) -> Result<usize, W
     }
 }
 
-/// The bytes that one write offers once so many of both parts were taken: what is left of the first, or else of the second.
-fn rest_of<'a>(first: &'a [u8], second: &'a [u8], taken: usize) -> &'a [u8]
-    requires { taken ≤ length (first.now ++ second.now) }
-    ensures front { (more : List ℕ) × (result.now ++ more ≡ drop taken (first.now ++ second.now)) }
-    ensures some { taken < length (first.now ++ second.now) → 0 < length result.now }
+/// Writes all bytes of a text. A write that was interrupted is repeated.
+pub(crate) fn send<S: Write>(stream: &mut Counted<S>, text: &SharedText<'_>) -> Result<(), WireFault>
+    ensures whole { OnOk result (WritesText S.contents stream.old stream.new text.now) }
+    ensures breaks { IfErr result (λ fault. BreaksOff S.contents stream.old stream.new text.now fault) }
 {
-    if taken < first.len() {
-        &first[taken..]
-    } else {
-        &second[taken - first.len()..]
-    }
-}
-
-/// Writes all bytes of a text that lies in two parts. A write that was interrupted is repeated.
-pub(crate) fn send<S: Write>(
-    stream: &mut Counted<S>,
-    first: &[u8],
-    second: &[u8],
-) -> Result<(), WireFault>
-    ensures whole { OnOk result (WritesText S.contents stream.old stream.new (first.now ++ second.now)) }
-    ensures breaks { IfErr result (λ fault. BreaksOff S.contents stream.old stream.new (first.now ++ second.now) fault) }
-{
-    let length = first.len() + second.len();
+    let length = text.len();
     let mut taken = 0;
     for call in 0..MAX_STREAM_CALLS {
         if taken == length {
             return Ok(());
         }
-        taken += write_once(stream, rest_of(first, second, taken))?;
+        taken += write_once(stream, text.rest(taken))?;
     }
     if taken == length {
         return Ok(());

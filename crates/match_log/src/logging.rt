@@ -4,9 +4,11 @@
 use crate::notices::Notices;
 use crate::status::Progress;
 use match_book::Answer;
+use match_messages::MessageKind;
 use match_plans::{PlayerAddress, Reach, Seat, Shortage, TellsShortages};
 use match_workers::Player;
 use network_players::{ContactFault, Explains, time_since};
+use shared_text::SharedText;
 use std::alloc::{AllocError, Global};
 use std::fmt;
 use std::fmt::Write as _;
@@ -19,16 +21,33 @@ const SHOWN: usize = 200;
 /// The beginning of a text that any bytes may be in: `?` stands for each that is not seen, and dots for what follows.
 #[derive(Drop)]
 pub struct Shown<'a> {
-    pub text: &'a [u8],
+    /// The text lies in these, one after another.
+    parts: (&'a [u8], &'a [u8], &'a [u8]),
+}
+
+impl<'a> Shown<'a> {
+    pub fn text(text: &'a [u8]) -> Shown<'a> {
+        Shown {
+            parts: (text, b"".as_slice(), b"".as_slice()),
+        }
+    }
+
+    pub fn message(message: &'a SharedText<'_>) -> Shown<'a> {
+        Shown {
+            parts: message.parts(),
+        }
+    }
 }
 
 impl fmt::Display for Shown<'_> {
     fn fmt<F: fmt::Write>(&self, f: &mut fmt::Formatter<F>) -> fmt::Result {
-        for byte in self.text.iter().take(SHOWN) {
+        let (before, shared, after) = self.parts;
+        let mut bytes = before.iter().chain(shared).chain(after);
+        for byte in bytes.by_ref().take(SHOWN) {
             let is_seen = *byte == b' ' || byte.is_ascii_graphic();
             f.write_char(if is_seen { char::from(*byte) } else { '?' })?;
         }
-        if self.text.len() > SHOWN {
+        if bytes.next().is_some() {
             f.write_str("..")?;
         }
         Ok(())
@@ -50,10 +69,7 @@ impl fmt::Display for Brought<'_> {
         }
         match self.answer {
             Answer::Text(text) => {
-                return Shown {
-                    text: text.as_slice(),
-                }
-                .fmt(f);
+                return Shown::text(text.as_slice()).fmt(f);
             }
             Answer::Silent => f.write_str("TO")?,
             Answer::Broken => f.write_str("CE")?,
@@ -124,35 +140,37 @@ impl<'a, H, P, S: Reach<P>> Reach<LoggedPlayer<'a, H, P>> for Logging<'a, H, S> 
 }
 
 impl<H: Clock + Wait, P: Explains> LoggedPlayer<'_, H, P> {
-    /// Counts the beginning of a match, where the first of its roles is handed START.
-    fn begin(&self, body: &[u8]) {
+    /// Counts a message that is handed over. Returns when that was, where the clock says it.
+    fn begin(&mut self, message: &SharedText<'_>) -> Option<Instant> {
+        self.messages = self.messages.saturating_add(1);
         if let Telling::Progress(progress) = self.telling {
-            progress.begin(self.role, body);
+            progress.begin(self.role, MessageKind::of(message));
             self.notices.move_on(self.rt);
         }
+        Instant::now(self.rt).ok()
     }
 
     /// Tells what is wanted of a message that was handed over then.
-    fn tell(&self, body: &[u8], answer: &Answer, began: Option<Instant>) {
+    fn tell(&self, message: &SharedText<'_>, answer: &Answer, began: Option<Instant>) {
         match self.telling {
             Telling::Nothing => {}
-            Telling::Messages => self.tell_message(body, answer, time_since(self.rt, began)),
+            Telling::Messages => self.tell_message(message, answer, time_since(self.rt, began)),
             Telling::Progress(progress) => {
-                progress.count(self.role, body);
+                progress.count(self.role, MessageKind::of(message));
                 self.notices.move_on(self.rt);
             }
         }
     }
 
     /// Tells in one line what a message brought. Where there is no memory for the line it is left out.
-    fn tell_message(&self, body: &[u8], answer: &Answer, took: Duration) {
+    fn tell_message(&self, message: &SharedText<'_>, answer: &Answer, took: Duration) {
         let Ok(line) = format!(in self.alloc;
             "{} role {} {} message {} {}: {}, {} ms\n",
             self.id,
             self.role,
             self.name,
             self.messages,
-            Shown { text: body },
+            Shown::message(message),
             Brought {
                 answer,
                 why: self.player.why(),
@@ -183,12 +201,23 @@ impl<H: Clock + Wait, P: Player + Explains> Player for LoggedPlayer<'_, H, P> {
     ghost handed = { λ p. P.handed p.player };
 
     fn ask(&mut self, seconds: u32, body: &[u8]) -> Answer {
-        self.messages = self.messages.saturating_add(1);
-        self.begin(body);
-        let began = Instant::now(self.rt).ok();
+        let message = SharedText::lent(self.alloc, body);
+        let began = self.begin(&message);
         let answer = self.player.ask(seconds, body);
-        self.tell(body, &answer, began);
+        self.tell(&message, &answer, began);
         answer
+    }
+
+    fn ask_shared(
+        &mut self,
+        alloc: Global,
+        seconds: u32,
+        message: &SharedText<'_>,
+    ) -> Result<Answer, AllocError> {
+        let began = self.begin(message);
+        let answer = self.player.ask_shared(alloc, seconds, message)?;
+        self.tell(message, &answer, began);
+        Ok(answer)
     }
 
     fn rest(&mut self) {

@@ -1,6 +1,7 @@
 //! One line of a terminal that tells how far matches are, and is written anew as they go on.
 
 use game_core::Counted;
+use match_messages::MessageKind;
 use network_players::time_since;
 use std::fmt::Write as _;
 use std::io;
@@ -43,16 +44,16 @@ impl Progress {
     }
 
     /// Counts a message that a role is handed, where a match begins with it.
-    pub(crate) fn begin(&self, role: usize, body: &[u8]) {
-        if role == 0 && body.starts_with(b"(START ") {
+    pub(crate) fn begin(&self, role: usize, kind: Option<MessageKind>) {
+        if role == 0 && kind == Some(MessageKind::Start) {
             self.begun.fetch_add(1, Ordering::SeqCst);
         }
     }
 
     /// Counts a message that a role has answered. STOP and ABORT end a match.
-    pub(crate) fn count(&self, role: usize, body: &[u8]) {
+    pub(crate) fn count(&self, role: usize, kind: Option<MessageKind>) {
         self.messages.fetch_add(1, Ordering::SeqCst);
-        if role == 0 && !body.starts_with(b"(START ") && !body.starts_with(b"(PLAY ") {
+        if role == 0 && matches!(kind, Some(MessageKind::Stop | MessageKind::Abort)) {
             self.over.fetch_add(1, Ordering::SeqCst);
         }
     }

@@ -9,6 +9,7 @@
 mod brief;
 mod clock;
 mod info;
+mod kind;
 pub mod laws;
 mod messages;
 mod reading;
@@ -18,6 +19,7 @@ mod writing;
 
 pub use brief::Brief;
 pub use info::{Info, read_info};
+pub use kind::MessageKind;
 pub use messages::{Message, MessageFault};
 pub use reading::read_message;
 pub use shared_brief::SharedBrief;

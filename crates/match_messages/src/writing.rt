@@ -1,11 +1,11 @@
 //! The texts of messages.
-ghost use Rattle.std.specs.Prelude.{◌≡◌, ◌<◌, ◌∷◌, ◌++◌, codes, length, option_map, IfOk, OnOk};
+ghost use Rattle.std.specs.Prelude.{◌≡◌, ◌<◌, [], ◌∷◌, ◌++◌, codes, length, option_map, IfOk, OnOk};
 ghost use Rattle.std.specs.Fmt.{decimal};
-ghost use Rattle.game_core.specs.Bytes.{space};
+ghost use Rattle.game_core.specs.Bytes.{space, right_parenthesis};
 ghost use Rattle.game_core.specs.Canonical.{canonical};
-ghost use Rattle.game_core.specs.Expression.{list};
+ghost use Rattle.game_core.specs.Expression.{atom, list, more, none};
 ghost use Rattle.kif_text.specs.View.{views};
-ghost use Rattle.match_messages.specs.MessageValue.{info, message_form, moves_form};
+ghost use Rattle.match_messages.specs.MessageValue.{abort, info, message_form, moves_form};
 ghost use Rattle.match_messages.specs.MessageText.{as_printed, message_text};
 ghost use Rattle.match_messages.specs.StartRules.{sentences_of};
 
@@ -15,10 +15,8 @@ use crate::start_rules::StartRules;
 use game_core::{Text, Texts};
 use kif_text::{Expr, print};
 use match_book::Owed;
+use shared_text::SharedText;
 use std::alloc::{AllocError, Global};
-
-/// Bytes enough for what START has beside its rules and names: the keyword, the clocks, spaces and parentheses.
-const AROUND_RULES: usize = 64;
 
 /// Adds a space and the word.
 fn push_word(text: &mut Vec<u8>, word: &[u8]) -> Result<(), AllocError>
@@ -80,81 +78,100 @@ pub(crate) fn push_sentences(
     Ok(())
 }
 
-/// Adds a space and the rules in a list.
-fn push_rules(alloc: Global, text: &mut Vec<u8>, rules: &StartRules<'_>) -> Result<(), AllocError>
-    ensures { OnOk result (text.new.items ≡ text.old.items ++ space ∷ canonical (list (views (sentences_of rules.now).items))) }
+/// The beginning of START's text: what stands before its rules.
+fn start_front(alloc: Global, id: &Text, role: &Text) -> Result<Vec<u8>, AllocError>
+    ensures { IfOk result (λ front. front.items ≡ ((codes "(START" ++ space ∷ id.now) ++ space ∷ role.now) ++ space ∷ []) }
+{
+    let mut front = Vec::from_slice(alloc, b"(START")?;
+    push_word(&mut front, id.as_slice())?;
+    push_word(&mut front, role.as_slice())?;
+    front.push(b' ')?;
+    Ok(front)
+}
+
+/// The end of START's text: what stands behind its rules.
+fn start_end(alloc: Global, start: u32, play: u32) -> Result<Vec<u8>, AllocError>
+    ensures { IfOk result (λ end. end.items ≡ ((space ∷ decimal start) ++ space ∷ decimal play) ++ right_parenthesis ∷ []) }
+{
+    let mut end = Vec::new(alloc);
+    push_number(alloc, &mut end, start)?;
+    push_number(alloc, &mut end, play)?;
+    end.push(b')')?;
+    Ok(end)
+}
+
+/// The rules of START between these two texts. Where they are printed already they are shared.
+fn around_rules<'r>(
+    alloc: Global,
+    front: Vec<u8>,
+    rules: StartRules<'r>,
+    end: &[u8],
+) -> Result<SharedText<'r>, AllocError>
+    ensures { IfOk result (λ text. text ≡ front.items ++ canonical (list (views (sentences_of rules).items)) ++ end.now) }
 {
     match rules {
         StartRules::Sentences(sentences) => {
-            text.push(b' ')?;
-            push_sentences(alloc, text, sentences.as_slice())
+            let mut text = front;
+            push_sentences(alloc, &mut text, sentences.as_slice())?;
+            text.extend_from_slice(end)?;
+            Ok(SharedText::of(text))
         }
-        StartRules::Printed(printed) => push_word(text, printed.text()),
+        StartRules::Printed(printed) => SharedText::around(front, printed.text(), end),
     }
 }
 
-/// The bytes of START's text, where its rules are printed: nearly all that it takes.
-fn start_size(brief: &SharedBrief<'_>, role: &Text) -> usize {
-    match brief.rules {
-        StartRules::Sentences(_) => 0,
-        StartRules::Printed(printed) => AROUND_RULES
-            .saturating_add(printed.text().len())
-            .saturating_add(brief.id.as_slice().len())
-            .saturating_add(role.as_slice().len()),
-    }
-}
-
-/// The keyword of START, with room for the rest where the size of that is known.
-fn begun_start(alloc: Global, brief: &SharedBrief<'_>, role: &Text) -> Result<Vec<u8>, AllocError>
-    ensures { IfOk result (λ bytes. bytes.items ≡ codes "(START") }
-{
-    let mut bytes = Vec::with_capacity(alloc, start_size(brief, role))?;
-    bytes.extend_from_slice(b"(START")?;
-    Ok(bytes)
-}
-
-/// The text of START. It is written in one piece, since the rules may be long.
-fn start_text(alloc: Global, brief: &SharedBrief<'_>, role: usize) -> Result<Text, AllocError>
+/// The text of START.
+fn start_text<'r>(
+    alloc: Global,
+    brief: &SharedBrief<'r>,
+    role: usize,
+) -> Result<SharedText<'r>, AllocError>
     requires { role < length brief.now.roles }
     ensures { IfOk result (λ t. t ≡ message_text brief.now role Owed.Start) }
 {
-    let name = brief.roles.at(role);
-    let mut bytes = begun_start(alloc, brief, name)?;
-    push_word(&mut bytes, brief.id.as_slice())?;
-    push_word(&mut bytes, name.as_slice())?;
-    push_rules(alloc, &mut bytes, &brief.rules)?;
-    push_number(alloc, &mut bytes, brief.start)?;
-    push_number(alloc, &mut bytes, brief.play)?;
-    bytes.push(b')')?;
-    Ok(Text { bytes })
+    let front = start_front(alloc, brief.id, brief.roles.at(role))?;
+    let end = start_end(alloc, brief.start, brief.play)?;
+    around_rules(alloc, front, brief.rules, end.as_slice())
+}
+
+/// The text of a message that has the moves of the last turn.
+fn turn_text<'r>(
+    alloc: Global,
+    keyword: &[u8],
+    id: &Text,
+    moves: &Option<Texts>,
+) -> Result<SharedText<'r>, AllocError>
+    ensures { IfOk result (λ t. t ≡ canonical (list (more (atom keyword.now) (more (atom id.now) (more (moves_form (option_map as_printed moves.now)) none))))) }
+{
+    let keyword = Text::from_slice(alloc, keyword)?;
+    let text = list_text(alloc, &[keyword, id.copy(alloc)?, moves_text(alloc, moves)?])?;
+    Ok(SharedText::of(text.bytes))
+}
+
+/// The text of ABORT.
+fn abort_text<'r>(alloc: Global, id: &Text) -> Result<SharedText<'r>, AllocError>
+    ensures { IfOk result (λ t. t ≡ canonical (message_form (abort id.now))) }
+{
+    let keyword = Text::from_slice(alloc, b"ABORT")?;
+    let text = list_text(alloc, &[keyword, id.copy(alloc)?])?;
+    Ok(SharedText::of(text.bytes))
 }
 
 /// The text of the message that is owed to a role of the match whose data is lent.
-pub fn shared_message(
+pub fn shared_message<'r>(
     alloc: Global,
-    brief: &SharedBrief<'_>,
+    brief: &SharedBrief<'r>,
     role: usize,
     owed: &Owed,
-) -> Result<Text, AllocError>
+) -> Result<SharedText<'r>, AllocError>
     requires { role < length brief.now.roles }
     ensures { IfOk result (λ t. t ≡ message_text brief.now role owed.now) }
 {
     match owed {
         Owed::Start => start_text(alloc, brief, role),
-        Owed::Play(moves) => {
-            let keyword = Text::from_slice(alloc, b"PLAY")?;
-            let id = brief.id.copy(alloc)?;
-            list_text(alloc, &[keyword, id, moves_text(alloc, moves)?])
-        }
-        Owed::Stop(moves) => {
-            let keyword = Text::from_slice(alloc, b"STOP")?;
-            let id = brief.id.copy(alloc)?;
-            list_text(alloc, &[keyword, id, moves_text(alloc, moves)?])
-        }
-        Owed::Abort => {
-            let keyword = Text::from_slice(alloc, b"ABORT")?;
-            list_text(alloc, &[keyword, brief.id.copy(alloc)?])
-        }
+        Owed::Play(moves) => turn_text(alloc, b"PLAY", brief.id, moves),
+        Owed::Stop(moves) => turn_text(alloc, b"STOP", brief.id, moves),
+        Owed::Abort => abort_text(alloc, brief.id),
     }
 }
 
@@ -163,7 +180,8 @@ pub fn message(alloc: Global, brief: &Brief, role: usize, owed: &Owed) -> Result
     requires { role < length brief.now.roles }
     ensures { IfOk result (λ t. t ≡ message_text brief.now role owed.now) }
 {
-    shared_message(alloc, &brief.shared(), role, owed)
+    let bytes = shared_message(alloc, &brief.shared(), role, owed)?.into_vec(alloc)?;
+    Ok(Text { bytes })
 }
 
 /// The text of the message that asks a player for its status.

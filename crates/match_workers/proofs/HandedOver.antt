@@ -36,11 +36,11 @@ told_message : (message : Handed) (cs : Option (List Call)) (rs : Option (List R
     → ms' ≡ told_with ms (message ∷ []) → telling cs rs ms' ≡ telling_with (telling cs rs ms) (hands message ∷ [])
 told_message message cs rs ms ms' m = same_telling _ _ _ _ _ _ (sym (told_with-nil cs)) (sym (told_with-nil rs)) m
 
--- no memory for the message
-pub nothing_handed : (brief : Brief) (role round : ℕ) (owed : Owed) (fault : AttendFault) (before : Telling) → fault ≡ Memory
-    → (answer : Answer) × (reply : Reply) × (events : List Event) × StopsAmid (handing_over brief role round owed answer reply) (answer_fault reply) fault events × (before ≡ telling_with before events)
-nothing_handed brief role round owed fault before is =
-    (Silent, Taken, [], for_memory (hands (message_of brief role owed Silent)) (makes (answer_call brief.id role round Silent) ∷ takes Taken ∷ []) is refl, sym (telling_with-nil before))
+-- no memory for the message, or for it in one piece
+pub nothing_handed : (brief : Brief) (role round : ℕ) (owed : Owed) (fault : AttendFault) (before after : Telling) → fault ≡ Memory → after ≡ before
+    → (answer : Answer) × (reply : Reply) × (events : List Event) × StopsAmid (handing_over brief role round owed answer reply) (answer_fault reply) fault events × (after ≡ telling_with before events)
+nothing_handed brief role round owed fault before after is same =
+    (Silent, Taken, [], for_memory (hands (message_of brief role owed Silent)) (makes (answer_call brief.id role round Silent) ∷ takes Taken ∷ []) is refl, same ∙ sym (telling_with-nil before))
 
 -- the answer went back
 pub handed_over : {U : Type 0} (given : Result U AttendFault) (brief : Brief) (role round : ℕ) (owed : Owed) (answer : Answer) (cs cs' : Option (List Call)) (rs rs' : Option (List Reply)) (ms ms' : Option (List Handed))

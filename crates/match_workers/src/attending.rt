@@ -141,8 +141,8 @@ fn hand_over<W: Wire<Call = Call, Reply = Reply>, P: Player>(
         × (telling (W.calls wire.new) (W.replies wire.new) (P.handed player.new)
         ≡ telling_with (telling (W.calls wire.old) (W.replies wire.old) (P.handed player.old)) events)) }
 {
-    let body = shared_message(alloc, brief, role, &owed)?;
-    let answer = player.ask(seconds_for(brief, &owed), body.as_slice());
+    let message = shared_message(alloc, brief, role, &owed)?;
+    let answer = player.ask_shared(alloc, seconds_for(brief, &owed), &message)?;
     give_back(alloc, wire, brief, role, round, answer)
 }
 

@@ -1,9 +1,11 @@
 //! Players as a worker sees them.
-ghost use Rattle.std.specs.Prelude.{◌≡◌, [], ◌∷◌, List, Option};
+ghost use Rattle.std.specs.Prelude.{◌≡◌, [], ◌∷◌, List, Option, IfOk, OnErr};
 ghost use Rattle.call_history.specs.Told.{told_with};
 ghost use Rattle.match_workers.specs.Handing.{Handed};
 
 use match_book::Answer;
+use shared_text::SharedText;
+use std::alloc::{AllocError, Global};
 
 /// A player of a role: it is handed messages and answers them.
 ///
@@ -18,6 +20,21 @@ pub trait Player {
     /// seconds is silent.
     fn ask(&mut self, seconds: u32, body: &[u8]) -> Answer
         ensures { handed self.new ≡ told_with (handed self.old) (record { seconds = seconds; body = body.now; answer = result } ∷ []) };
+
+    /// Hands a message over, a part of which may be shared with other messages, as `ask` does with one in one piece. A player that
+    /// does not write the parts one after another joins them first, and for that it may be out of memory: then it was handed nothing.
+    fn ask_shared(
+        &mut self,
+        alloc: Global,
+        seconds: u32,
+        message: &SharedText<'_>,
+    ) -> Result<Answer, AllocError>
+        ensures told { IfOk result (λ answer. handed self.new ≡ told_with (handed self.old) (record { seconds = seconds; body = message.now; answer = answer } ∷ [])) }
+        ensures nothing { OnErr result (handed self.new ≡ handed self.old) }
+    {
+        let body = message.joined(alloc)?;
+        Ok(self.ask(seconds, body.as_slice()))
+    }
 
     /// Lets some time pass, if nothing is owed to the role.
     fn rest(&mut self)

@@ -6,8 +6,9 @@ use crate::deadline::{Deadline, Halt, TimedStream};
 use crate::lookup::Lookup;
 use crate::shortage::shortage_of;
 use game_core::{Counted, Text};
-use http_exchange::{WireFault, exchange};
+use http_exchange::{WireFault, exchange_shared};
 use match_plans::{PlayerAddress, Shortage};
+use shared_text::SharedText;
 use std::alloc::Global;
 use std::io::ErrorKind;
 use std::net::{Net, SocketAddr, TcpStream};
@@ -190,10 +191,10 @@ fn exchange_over<N: Net + Clock>(
     alloc: Global,
     errand: Errand<'_>,
     stream: N::Stream,
-    body: &[u8],
+    message: &SharedText<'_>,
 ) -> Result<Text, ContactFault> {
     let mut stream = Counted::new(TimedStream::new(net, errand.deadline, stream));
-    let exchanged = exchange(alloc, &mut stream, errand.player.name.as_bytes(), body);
+    let exchanged = exchange_shared(alloc, &mut stream, errand.player.name.as_bytes(), message);
     let stream = stream.end();
     outcome_of(stream.halt(), stream.status(), exchanged)
 }
@@ -206,7 +207,7 @@ pub fn contact_found<N: Net + Clock>(
     player: &PlayerAddress<'_>,
     lookup: &mut Lookup,
     seconds: u32,
-    body: &[u8],
+    message: &SharedText<'_>,
 ) -> Result<Text, ContactFault> {
     let deadline = match Deadline::within(net, seconds) {
         Ok(deadline) => deadline,
@@ -215,7 +216,7 @@ pub fn contact_found<N: Net + Clock>(
     let errand = Errand { player, deadline };
     let mut waited = None;
     let reached = match connect(net, alloc, errand, lookup, &mut waited) {
-        Ok(stream) => exchange_over(net, alloc, errand, stream, body),
+        Ok(stream) => exchange_over(net, alloc, errand, stream, message),
         Err(fault) => Err(fault),
     };
     match reached {
@@ -232,5 +233,6 @@ pub fn contact<N: Net + Clock>(
     seconds: u32,
     body: &[u8],
 ) -> Result<Text, ContactFault> {
-    contact_found(net, alloc, player, &mut Lookup::new(), seconds, body)
+    let message = SharedText::lent(alloc, body);
+    contact_found(net, alloc, player, &mut Lookup::new(), seconds, &message)
 }

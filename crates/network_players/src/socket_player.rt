@@ -10,6 +10,7 @@ use http_exchange::WireFault;
 use match_book::Answer;
 use match_plans::{PlayerAddress, Reach, Seat, Shortage, TellsShortages};
 use match_workers::Player;
+use shared_text::SharedText;
 use std::alloc::{AllocError, Global};
 use std::io::ErrorKind;
 use std::net::Net;
@@ -110,13 +111,9 @@ impl<H> Explains for SocketPlayer<'_, H> {
     }
 }
 
-impl<H: Net + Clock + Wait> Player for SocketPlayer<'_, H> {
-    ghost use Rattle.std.specs.Prelude.{None};
-
-    // What a socket carries no contract can name.
-    ghost handed = { λ p. None };
-
-    fn ask(&mut self, seconds: u32, body: &[u8]) -> Answer {
+impl<H: Net + Clock> SocketPlayer<'_, H> {
+    /// Hands the message over, and notes why it brought no answer.
+    fn hand_over(&mut self, seconds: u32, message: &SharedText<'_>) -> Answer {
         self.pace.begin();
         let address = PlayerAddress {
             name: self.name.as_str(),
@@ -129,7 +126,7 @@ impl<H: Net + Clock + Wait> Player for SocketPlayer<'_, H> {
             &address,
             &mut self.lookup,
             seconds,
-            body,
+            message,
         );
         self.pace.end();
         self.fault = reached.as_ref().err().copied();
@@ -137,6 +134,26 @@ impl<H: Net + Clock + Wait> Player for SocketPlayer<'_, H> {
             self.signal.note(shortage);
         }
         contact_answer(reached)
+    }
+}
+
+impl<H: Net + Clock + Wait> Player for SocketPlayer<'_, H> {
+    ghost use Rattle.std.specs.Prelude.{None};
+
+    // What a socket carries no contract can name.
+    ghost handed = { λ p. None };
+
+    fn ask(&mut self, seconds: u32, body: &[u8]) -> Answer {
+        self.hand_over(seconds, &SharedText::lent(self.alloc, body))
+    }
+
+    fn ask_shared(
+        &mut self,
+        _: Global,
+        seconds: u32,
+        message: &SharedText<'_>,
+    ) -> Result<Answer, AllocError> {
+        Ok(self.hand_over(seconds, message))
     }
 
     fn rest(&mut self) {

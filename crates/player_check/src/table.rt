@@ -100,7 +100,7 @@ impl fmt::Display for Row<'_> {
             Some(turn) => turn.played.as_slice(),
             None => &[],
         };
-        let (role, played) = (Shown { text: self.role }, Shown { text: played });
+        let (role, played) = (Shown::text(self.role), Shown::text(played));
         let verdict = self.verdict();
         write!(
             f,

@@ -2,9 +2,11 @@
 
 use match_book::Answer;
 use match_log::Shown;
+use match_messages::MessageKind;
 use match_plans::{PlayerAddress, Reach, Seat, Shortage, TellsShortages};
 use match_workers::Player;
 use network_players::{ContactFault, Explains, Pace, Signal, time_since};
+use shared_text::SharedText;
 use std::alloc::{AllocError, Global};
 use std::sync::{Mutex, Wait};
 use std::time::{Clock, Instant};
@@ -62,15 +64,10 @@ impl Exchanges {
     }
 }
 
-/// The beginning of a text, as far as it can be seen.
-fn shown(alloc: Global, text: &[u8]) -> Result<String, AllocError> {
-    format!(in alloc; "{}", Shown { text })
-}
-
 /// What the message brought, beside the time that it took and why there is no answer.
 fn exchange_of(
     alloc: Global,
-    body: &[u8],
+    message: &SharedText<'_>,
     answer: &Answer,
     fault: Option<ContactFault>,
     millis: u128,
@@ -81,9 +78,9 @@ fn exchange_of(
         Answer::Broken => (&[][..], Brought::Break),
     };
     Ok(Exchange {
-        message: shown(alloc, body)?,
-        is_play: body.starts_with(b"(PLAY "),
-        answer: shown(alloc, text)?,
+        message: format!(in alloc; "{}", Shown::message(message))?,
+        is_play: MessageKind::of(message) == Some(MessageKind::Play),
+        answer: format!(in alloc; "{}", Shown::text(text))?,
         brought,
         fault,
         millis,
@@ -142,6 +139,17 @@ impl<H, S: TellsShortages> TellsShortages for Watching<'_, H, S> {
     }
 }
 
+impl<H: Clock + Wait, P: Explains> Participant<'_, H, P> {
+    /// Keeps what a message brought that was handed over then, where the player is watched.
+    fn keep(&self, message: &SharedText<'_>, answer: &Answer, began: Option<Instant>) {
+        if let Some(player) = &self.watched {
+            let millis = time_since(self.rt, began).as_millis();
+            let exchange = exchange_of(self.alloc, message, answer, player.why(), millis);
+            self.exchanges.lock(self.rt).keep(exchange);
+        }
+    }
+}
+
 impl<H: Clock + Wait, P: Player + Explains> Player for Participant<'_, H, P> {
     ghost use Rattle.std.specs.Prelude.{None};
 
@@ -149,17 +157,32 @@ impl<H: Clock + Wait, P: Player + Explains> Player for Participant<'_, H, P> {
 
     fn ask(&mut self, seconds: u32, body: &[u8]) -> Answer {
         self.pace.begin();
-        let Some(player) = &mut self.watched else {
-            self.pace.end();
-            return Answer::Silent;
-        };
         let began = Instant::now(self.rt).ok();
-        let answer = player.ask(seconds, body);
-        let millis = time_since(self.rt, began).as_millis();
+        let answer = match &mut self.watched {
+            Some(player) => player.ask(seconds, body),
+            None => Answer::Silent,
+        };
         self.pace.end();
-        let exchange = exchange_of(self.alloc, body, &answer, player.why(), millis);
-        self.exchanges.lock(self.rt).keep(exchange);
+        self.keep(&SharedText::lent(self.alloc, body), &answer, began);
         answer
+    }
+
+    fn ask_shared(
+        &mut self,
+        alloc: Global,
+        seconds: u32,
+        message: &SharedText<'_>,
+    ) -> Result<Answer, AllocError> {
+        self.pace.begin();
+        let began = Instant::now(self.rt).ok();
+        let asked = match &mut self.watched {
+            Some(player) => player.ask_shared(alloc, seconds, message),
+            None => Ok(Answer::Silent),
+        };
+        self.pace.end();
+        let answer = asked?;
+        self.keep(message, &answer, began);
+        Ok(answer)
     }
 
     fn rest(&mut self) {

@@ -17,9 +17,9 @@ still_within text rest more t n is within before = omega (arith, ap length is, l
 
 pub loop-call-preserved : goal.loop-call-preserved
 loop-call-preserved g c =
-    let text = c.args.first.now ++ c.args.second.now in
-    let rest = c.rest_of.result.now in
-    let front = c.rest_of.ensures.front in
+    let text = c.args.text.now in
+    let rest = c.rest.result.now in
+    let front = c.rest.ensures.front in
     record {
       within = still_within text rest front.0 c.loop-call.taken c.in_ok-taken.field-0 front.1 c.in_ok-taken.ensures.bound c.loop-call.invariant.within;
       stands = Appends_more _ _ _ text rest front.0 c.loop-call.taken c.in_ok-taken.field-0 front.1 c.in_ok-taken.ensures.bound c.loop-call.invariant.stands c.in_ok-taken.ensures.bytes;
@@ -29,7 +29,7 @@ loop-call-preserved g c =
 
 pub overflow_add-taken : goal.overflow_add-taken
 overflow_add-taken g c =
-    let text = c.args.first.now ++ c.args.second.now in
-    let front = c.rest_of.ensures.front in
-    let within = still_within text c.rest_of.result.now front.0 c.loop-call.taken c.in_ok-taken.field-0 front.1 c.in_ok-taken.ensures.bound c.loop-call.invariant.within in
-    omega (arith, within, length-append c.args.first.now c.args.second.now)
+    let text = c.args.text.now in
+    let front = c.rest.ensures.front in
+    let within = still_within text c.rest.result.now front.0 c.loop-call.taken c.in_ok-taken.field-0 front.1 c.in_ok-taken.ensures.bound c.loop-call.invariant.within in
+    omega (arith, within)

@@ -12,6 +12,6 @@ use Rattle.match_messages.proofs.writing.start_text.Goals as goal
 pub returns : goal.returns
 returns c =
     let brief = c.brief.inside in
-    let name : slice_index_or brief.roles.now c.args.role [] ≡ c.at-name.result.now = get_or_from_slice_get brief.roles.now c.args.role c.at-name.result.now [] c.at-name.ensures in
+    let name : slice_index_or brief.roles.now c.args.role [] ≡ c.at.result.now = get_or_from_slice_get brief.roles.now c.args.role c.at.result.now [] c.at.ensures in
     let joined = start_joined (codes "(START") brief.id.now (slice_index_or brief.roles.now c.args.role []) (canonical (list (views (sentences_of brief.rules).items))) (decimal brief.start) (decimal brief.play) right_parenthesis in
-    rw (sym c.brief.view_is, c.in_ok-push.ensures.items, c.in_ok-push_number-2.ensures, c.in_ok-push_number.ensures, c.in_ok-push_rules.ensures, c.in_ok-push_word-2.ensures, c.in_ok-push_word.ensures, c.in_ok-bytes.ensures, c.as_slice.ensures, c.as_slice-2.ensures, sym name) joined
+    rw (sym c.brief.view_is, c.around_rules.ensures, c.in_ok-front.ensures, c.in_ok-end.ensures, c.as_slice.ensures, sym name) joined

@@ -1,0 +1,33 @@
+//! A text that lies in parts, from some place on.
+ghost use Rattle.std.specs.Prelude.{◌≡◌, ◌<◌, ◌≤◌, ◌++◌, ℕ, List, length, drop};
+
+/// What stands from the place on in one of two parts that follow each other: the rest of the first, or else that of the second.
+pub(crate) fn rest_of<'a>(first: &'a [u8], second: &'a [u8], place: usize) -> &'a [u8]
+    requires { place ≤ length (first.now ++ second.now) }
+    ensures front { (more : List ℕ) × (result.now ++ more ≡ drop place (first.now ++ second.now)) }
+    ensures some { place < length (first.now ++ second.now) → 0 < length result.now }
+{
+    if place < first.len() {
+        &first[place..]
+    } else {
+        &second[place - first.len()..]
+    }
+}
+
+/// The same of three parts.
+pub(crate) fn rest_of_three<'a>(
+    first: &'a [u8],
+    second: &'a [u8],
+    third: &'a [u8],
+    place: usize,
+) -> &'a [u8]
+    requires { place ≤ length (first.now ++ second.now ++ third.now) }
+    ensures front { (more : List ℕ) × (result.now ++ more ≡ drop place (first.now ++ second.now ++ third.now)) }
+    ensures some { place < length (first.now ++ second.now ++ third.now) → 0 < length result.now }
+{
+    if place < first.len() {
+        &first[place..]
+    } else {
+        rest_of(second, third, place - first.len())
+    }
+}
