@@ -202,6 +202,7 @@ where
         reach,
         telling: console.telling(),
         notices: &console.notices,
+        is_alone: matches!(task, HostedTask::Check(_)),
     };
     match task {
         HostedTask::Run(plan) => {

@@ -98,6 +98,9 @@ pub struct Logging<'a, H, S> {
     pub reach: &'a S,
     pub telling: Telling<'a>,
     pub notices: &'a Notices,
+    /// Whether only one player of each match is reached through this. It counts for the match then, whatever its role; otherwise the
+    /// player of the first role does.
+    pub is_alone: bool,
 }
 
 /// A player whose messages are told among what is reported.
@@ -110,6 +113,8 @@ pub struct LoggedPlayer<'a, H, P> {
     id: String,
     role: usize,
     name: String,
+    /// Whether it counts for its match.
+    counts: bool,
     /// How many messages it was handed.
     messages: u64,
     telling: Telling<'a>,
@@ -132,6 +137,7 @@ impl<'a, H, P, S: Reach<P>> Reach<LoggedPlayer<'a, H, P>> for Logging<'a, H, S> 
             id,
             role: seat.role,
             name,
+            counts: self.is_alone || seat.role == 0,
             messages: 0,
             telling: self.telling,
             notices: self.notices,
@@ -144,7 +150,7 @@ impl<H: Clock + Wait, P: Explains> LoggedPlayer<'_, H, P> {
     fn begin(&mut self, message: &SharedText<'_>) -> Option<Instant> {
         self.messages = self.messages.saturating_add(1);
         if let Telling::Progress(progress) = self.telling {
-            progress.begin(self.role, MessageKind::of(message));
+            progress.begin(self.counts, MessageKind::of(message));
             self.notices.move_on(self.rt);
         }
         Instant::now(self.rt).ok()
@@ -156,7 +162,7 @@ impl<H: Clock + Wait, P: Explains> LoggedPlayer<'_, H, P> {
             Telling::Nothing => {}
             Telling::Messages => self.tell_message(message, answer, time_since(self.rt, began)),
             Telling::Progress(progress) => {
-                progress.count(self.role, MessageKind::of(message));
+                progress.count(self.counts, MessageKind::of(message));
                 self.notices.move_on(self.rt);
             }
         }

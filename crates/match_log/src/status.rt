@@ -43,17 +43,17 @@ impl Progress {
         self.planned.store(count as u64, Ordering::SeqCst);
     }
 
-    /// Counts a message that a role is handed, where a match begins with it.
-    pub(crate) fn begin(&self, role: usize, kind: Option<MessageKind>) {
-        if role == 0 && kind == Some(MessageKind::Start) {
+    /// Counts the match that begins with a message, if the player that is handed it counts for its match.
+    pub(crate) fn begin(&self, counts: bool, kind: Option<MessageKind>) {
+        if counts && kind == Some(MessageKind::Start) {
             self.begun.fetch_add(1, Ordering::SeqCst);
         }
     }
 
-    /// Counts a message that a role has answered. STOP and ABORT end a match.
-    pub(crate) fn count(&self, role: usize, kind: Option<MessageKind>) {
+    /// Counts a message that a player has answered, and the match that STOP or ABORT ends if the player counts for its match.
+    pub(crate) fn count(&self, counts: bool, kind: Option<MessageKind>) {
         self.messages.fetch_add(1, Ordering::SeqCst);
-        if role == 0 && matches!(kind, Some(MessageKind::Stop | MessageKind::Abort)) {
+        if counts && matches!(kind, Some(MessageKind::Stop | MessageKind::Abort)) {
             self.over.fetch_add(1, Ordering::SeqCst);
         }
     }
