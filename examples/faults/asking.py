@@ -7,6 +7,7 @@ import struct
 import subprocess
 import tempfile
 import threading
+import time
 from typing import NamedTuple
 
 PATIENCE = 900
@@ -140,16 +141,17 @@ def reset(connection):
     connection.close()
 
 
-def answers(reply):
-    """Returns what serves each connection with these bytes, once the request is read."""
+def answers(reply, thinking=0):
+    """Returns what serves each connection with these bytes, so many seconds after the request is read."""
 
     def serve(connection):
         body_of(connection)
+        time.sleep(thinking)
         connection.sendall(reply)
 
     return serve
 
 
-def told(answer):
-    """Returns what serves each connection with this answer."""
-    return answers(f"HTTP/1.0 200 OK\r\nContent-Length: {len(answer)}\r\n\r\n{answer}".encode())
+def told(answer, thinking=0):
+    """Returns what serves each connection with this answer, after so many seconds."""
+    return answers(f"HTTP/1.0 200 OK\r\nContent-Length: {len(answer)}\r\n\r\n{answer}".encode(), thinking)

@@ -8,7 +8,7 @@ use Rattle.std.proofs.lemmas.List.{at_drop_more}
 use Rattle.http_exchange.specs.BodyLength.{Header, BodyLength, unsaid, said, wrong, has_name, transfer_encoding, content_length, writes_number, lengths, body_length}
 use Rattle.http_exchange.specs.Internal.Heads.{length_of, agrees}
 use Rattle.game_core.specs.Numerals.{are_digits}
-use Rattle.game_core.proofs.Numerals.{parts as both}
+use Rattle.std.proofs.lemmas.Bool.{and_parts as both}
 
 -- one more length
 abbrev agree : BodyLength → List ℕ → BodyLength

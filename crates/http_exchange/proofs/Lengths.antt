@@ -9,7 +9,7 @@ use Rattle.std.proofs.lemmas.Bool.Decides.{nat_tests, same_from_decides, Decides
 use Rattle.std.proofs.lemmas.Int.Digits.{digits_value_push}
 use Rattle.std.proofs.lemmas.List.{reverse-append, reverse-reverse}
 use Rattle.std.proofs.lemmas.Slice.Eq.{bytes_eq-Decides}
-use Rattle.game_core.proofs.Numerals.{parts as both}
+use Rattle.std.proofs.lemmas.Bool.{and_parts as both}
 
 digit_small : (b : ℕ) → is_ascii_digit b ≡ true → digit_value b < 10
 digit_small b e = grind (arith, nat_tests)

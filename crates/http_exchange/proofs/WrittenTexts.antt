@@ -22,7 +22,7 @@ use Rattle.http_exchange.specs.declared.head.HttpKind.{HttpKind}
 use Rattle.http_exchange.specs.declared.head.HttpKind.TheVariants.{Reply, Request}
 use Rattle.http_exchange.proofs.Lengths.{all_reverse}
 use Rattle.game_core.specs.Numerals.{are_digits}
-use Rattle.game_core.proofs.Numerals.{parts as both}
+use Rattle.std.proofs.lemmas.Bool.{and_parts as both}
 
 -- ---- the length
 
