@@ -16,7 +16,7 @@ SAID = re.compile(r"\b(out|want) of memory\b", re.IGNORECASE)
 ASKED = re.compile(r"is_(out_of_)?memory")
 STD_VARIANTS = ("OutOfMemory",)
 CLAUSES = ("requires", "ensures", "decreases", "where")
-RESERVES = ("with_capacity", "with_capacity_in", "reserve", "reserve_exact", "try_reserve", "try_reserve_exact", "resize", "resize_with")
+RESERVES = ("with_capacity", "with_capacity_in", "reserve", "reserve_exact", "try_reserve", "try_reserve_exact", "resize", "resize_with", "bounded")
 # Rings of the kit have as many slots as their second argument says.
 RING = "RingBuffer"
 # A constant up to this is no large size.

@@ -133,6 +133,7 @@ class Reserved(unittest.TestCase):
             "held.resize(role, 0)?;",
             "let ring = RingBuffer::new(alloc, role)?;",
             "held.reserve_exact(\n// a note\nrole)?;",
+            "let (sender, receiver) = bounded(alloc, 65_536)?;",
         ):
             self.is_found(code, code.split("\n")[0])
 
@@ -148,6 +149,7 @@ class Reserved(unittest.TestCase):
             "let held = Vec::with_capacity(alloc, FEW + (texts[0].len() + 3))?;",
             "let count = texts.len() as u64;\nlet held = Vec::with_capacity(alloc, count as usize)?;",
             "held.reserve(1)?;",
+            "let (sender, receiver) = bounded(alloc, plans.len())?;",
             "let held = vec![in alloc; 1, 2, 3];",
         ):
             self.assertEqual(found(code), [], code)
