@@ -6,8 +6,8 @@ use crate::tasks::{AbortPlan, HostedTask, HostingPlan, RunPlan, SeasonPlan, Task
 use clap::ArgMatches;
 use clap::error::ErrorKind;
 use match_plans::{
-    CheckPlan, GameCommand, GameSource, MAX_AT_ONCE, MatchPlan, PlayerAddress, RecordOrder, Rules,
-    SeasonForm, decimal, player_address,
+    CheckPlan, GameCommand, GameSource, MAX_AT_ONCE, MatchPlan, PlayerAddress, RecordOrder,
+    RulesSource, SeasonForm, decimal, player_address,
 };
 use std::alloc::{AllocError, AllocFailed, Global};
 
@@ -21,7 +21,7 @@ pub enum WrongValue<'a> {
         option: &'static str,
         value: &'a str,
         least: u64,
-        most: u64,
+        limit: u64,
     },
     /// The word names no player.
     Player(&'a str),
@@ -59,18 +59,18 @@ fn number<'a>(
     found: &ArgMatches<'a>,
     option: &'static str,
     least: u64,
-    most: u64,
+    limit: u64,
 ) -> Result<u64, WrongValue<'a>>
-    ensures { IfOk result (λ number. number ≤ most) }
+    ensures { IfOk result (λ number. number ≤ limit) }
 {
     let value = found.get_str(option).unwrap_or("");
-    match decimal(value, most) {
+    match decimal(value, limit) {
         Some(number) if number >= least => Ok(number),
         _ => Err(WrongValue::Number {
             option,
             value,
             least,
-            most,
+            limit,
         }),
     }
 }
@@ -93,8 +93,8 @@ fn game_source<'a>(found: &ArgMatches<'a>) -> Result<GameSource<'a>, WrongValue<
             let size = number(found, "countdown", 1, 100)?;
             Ok(GameSource::Countdown(size as u8))
         }
-        (None, Some(text), None) => Ok(GameSource::Described(Rules::Text(text))),
-        (None, None, Some(path)) => Ok(GameSource::Described(Rules::File(path))),
+        (None, Some(text), None) => Ok(GameSource::Described(RulesSource::Text(text))),
+        (None, None, Some(path)) => Ok(GameSource::Described(RulesSource::File(path))),
         _ => Err(WrongValue::Game),
     }
 }

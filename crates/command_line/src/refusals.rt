@@ -46,9 +46,9 @@ fn words_of(alloc: Global, command: &str, wrong: WrongValue<'_>) -> Result<Strin
             option,
             value,
             least,
-            most,
+            limit,
         } => format!(in alloc;
-            "invalid value '{value}' for '--{option}': digits are needed, for a number from {least} to {most}"
+            "invalid value '{value}' for '--{option}': digits are needed, for a number from {least} to {limit}"
         ),
         WrongValue::Player(word) => format!(in alloc;
             "invalid value '{word}' for a player: NAME@HOST:PORT is needed, with a lawful name and a port from 1 to 65535"

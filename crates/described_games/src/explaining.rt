@@ -11,7 +11,7 @@ use rule_sentences::sentence::Rule;
 use std::alloc::{AllocError, Global};
 
 /// How many sentences are shown, where several have a fault together.
-const MOST_SHOWN: usize = 4;
+const MAX_SHOWN: usize = 4;
 
 /// Where the sentence of this number begins.
 fn start_of(text: &[u8], number: usize) -> usize {
@@ -26,7 +26,7 @@ fn push_together(
     out: &mut String,
 ) -> Result<(), AllocError> {
     let mut words = Words::Plain(words);
-    for number in numbers.iter().take(MOST_SHOWN) {
+    for number in numbers.iter().take(MAX_SHOWN) {
         if let Words::Same = words {
             out.push_str("; ")?;
         }
@@ -39,8 +39,8 @@ fn push_together(
         .push(text, out)?;
         words = Words::Same;
     }
-    if numbers.len() > MOST_SHOWN {
-        let more = numbers.len() - MOST_SHOWN;
+    if numbers.len() > MAX_SHOWN {
+        let more = numbers.len() - MAX_SHOWN;
         write!(out, "; and {more} more")?;
     }
     Ok(())

@@ -7,7 +7,7 @@ use crate::remarks::Remarks;
 use described_games::{DescriptionFault, countdown_rules, described_game};
 use game_core::{Countdown, Counted};
 use kif_text::KifFault;
-use match_plans::{GameSource, Rules};
+use match_plans::{GameSource, RulesSource};
 use packed_rules::PackedGame;
 use std::alloc::Global;
 use std::borrow::CowSlice;
@@ -73,11 +73,11 @@ pub fn file_text<F: Files>(files: &F, alloc: Global, path: &str) -> Result<Vec<u
 pub fn rules_text<'a, F: Files>(
     files: &F,
     alloc: Global,
-    rules: Rules<'a>,
+    rules: RulesSource<'a>,
 ) -> Result<CowSlice<'a, u8>, Fault> {
     match rules {
-        Rules::Text(text) => Ok(CowSlice::Borrowed(text.as_bytes())),
-        Rules::File(path) => Ok(CowSlice::Owned(file_text(files, alloc, path)?)),
+        RulesSource::Text(text) => Ok(CowSlice::Borrowed(text.as_bytes())),
+        RulesSource::File(path) => Ok(CowSlice::Owned(file_text(files, alloc, path)?)),
     }
 }
 

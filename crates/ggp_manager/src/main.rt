@@ -3,7 +3,7 @@
 
 use game_core::Counted;
 use ggp_commands::{Fault, Terminals, command, report};
-use match_plans::MAX_MATCHES;
+use match_plans::MAX_SCHEDULED;
 use network_players::{Signal, SocketPlayer, Sockets};
 use std::io::{ErrorKind, IsTerminal};
 use std::process::ExitCode;
@@ -34,7 +34,7 @@ fn main(rt: HostRuntime) -> ExitCode {
     };
     let mut reader = Counted::new(rt.stdin());
     let mut writer = Counted::new(output);
-    let Ok(signals) = Signal::many(rt.alloc(), MAX_MATCHES) else {
+    let Ok(signals) = Signal::many(rt.alloc(), MAX_SCHEDULED) else {
         report(&mut errors, Fault::Memory);
         return ExitCode::from(Fault::Memory.status());
     };

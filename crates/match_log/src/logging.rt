@@ -5,7 +5,7 @@ use crate::notices::Notices;
 use crate::status::Progress;
 use match_book::Answer;
 use match_messages::MessageKind;
-use match_plans::{PlayerAddress, Reach, Seat, Shortage, TellsShortages};
+use match_plans::{PlayerAddress, Reach, RolePlace, Shortage, TellsShortages};
 use match_workers::Player;
 use network_players::{ContactFault, Explains, time_since};
 use shared_text::SharedText;
@@ -57,12 +57,12 @@ impl fmt::Display for Shown<'_> {
 /// What a message brought, as a line shows it: the answer, or `TO` or `CE` with the reason where one is known. What the referee was
 /// short of is none of these.
 #[derive(Drop)]
-struct Brought<'a> {
+struct AnswerShown<'a> {
     answer: &'a Answer,
     why: Option<ContactFault>,
 }
 
-impl fmt::Display for Brought<'_> {
+impl fmt::Display for AnswerShown<'_> {
     fn fmt<F: fmt::Write>(&self, f: &mut fmt::Formatter<F>) -> fmt::Result {
         if let Some(ContactFault::Shortage(shortage)) = self.why {
             return write!(f, "lost ({shortage})");
@@ -125,19 +125,19 @@ impl<'a, H, P, S: Reach<P>> Reach<LoggedPlayer<'a, H, P>> for Logging<'a, H, S> 
     fn player(
         &self,
         alloc: Global,
-        seat: Seat<'_>,
+        at: RolePlace<'_>,
         address: &PlayerAddress<'_>,
     ) -> Result<LoggedPlayer<'a, H, P>, AllocError> {
-        let id = String::from_str(alloc, seat.id)?;
+        let id = String::from_str(alloc, at.id)?;
         let name = String::from_str(alloc, address.name)?;
         Ok(LoggedPlayer {
             rt: self.rt,
-            player: self.reach.player(alloc, seat, address)?,
+            player: self.reach.player(alloc, at, address)?,
             alloc,
             id,
-            role: seat.role,
+            role: at.role,
             name,
-            counts: self.is_alone || seat.role == 0,
+            counts: self.is_alone || at.role == 0,
             messages: 0,
             telling: self.telling,
             notices: self.notices,
@@ -177,7 +177,7 @@ impl<H: Clock + Wait, P: Explains> LoggedPlayer<'_, H, P> {
             self.name,
             self.messages,
             Shown::message(message),
-            Brought {
+            AnswerShown {
                 answer,
                 why: self.player.why(),
             },

@@ -2,7 +2,7 @@
 
 /// A ground description: its text, or the file that holds it.
 #[derive(Clone, Copy)]
-pub enum Rules<'a> {
+pub enum RulesSource<'a> {
     Text(&'a str),
     /// The file's path, from the folder in which the program runs where it doesn't begin with a slash.
     File(&'a str),
@@ -13,7 +13,7 @@ pub enum Rules<'a> {
 pub enum GameSource<'a> {
     /// Countdown, with a heap of this size, in or out of its range.
     Countdown(u8),
-    Described(Rules<'a>),
+    Described(RulesSource<'a>),
 }
 
 /// What is done with one game, over standard input and output and without players.

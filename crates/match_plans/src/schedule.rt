@@ -10,7 +10,7 @@ use std::alloc::{AllocError, AllocFailed, Global};
 use thiserror::Error;
 
 /// How many matches a schedule has at most.
-pub const MAX_MATCHES: usize = 65_536;
+pub const MAX_SCHEDULED: usize = 65_536;
 
 /// How many matches of a schedule are played at once at most.
 pub const MAX_AT_ONCE: usize = 1_024;
@@ -100,7 +100,7 @@ pub fn read_schedule<'a>(
         if let Some(fault) = misplaced(&mut ids, &plan, roles)? {
             return Err(ScheduleFault::BadLine(number, fault));
         }
-        if plans.len() >= MAX_MATCHES {
+        if plans.len() >= MAX_SCHEDULED {
             return Err(ScheduleFault::BadLine(number, LineFault::TooMany));
         }
         plans.push(plan)?;

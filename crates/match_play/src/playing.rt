@@ -16,7 +16,7 @@ use game_core::{Game, Lent, Text, Texts};
 use match_book::{Phase, Setup};
 use match_desk::{Call, Manager, Refusal, Reply};
 use match_messages::StartRules;
-use match_plans::{MatchPlan, Reach, Seat, Shortage, TellsShortages};
+use match_plans::{MatchPlan, Reach, RolePlace, Shortage, TellsShortages};
 use match_record::record_json;
 use match_workers::{Player, RefereeFault, Refereed, referee_shared};
 use packed_rules::PackedGame;
@@ -104,12 +104,12 @@ fn players_of<P: Drop, S: Reach<P>>(
 {
     let mut players = Vec::with_capacity(alloc, plan.players.len())?;
     for (role, address) in plan.players.iter().enumerate() {
-        let seat = Seat {
+        let at = RolePlace {
             place,
             id: plan.id,
             role,
         };
-        players.push(reach.player(alloc, seat, address)?)?;
+        players.push(reach.player(alloc, at, address)?)?;
     }
     Ok(players)
 }

@@ -5,7 +5,7 @@ use Rattle.std.specs.declared.io.ErrorKind.TheVariants.{WouldBlock, TimedOut}
 use Rattle.match_book.specs.declared.answer.Answer.{Answer}
 use Rattle.match_book.specs.declared.answer.Answer.TheVariants.{Text, Silent, Broken}
 use Rattle.http_exchange.specs.declared.wire_fault.WireFault.{WireFault}
-use Rattle.http_exchange.specs.declared.wire_fault.WireFault.TheVariants as wire
+use Rattle.http_exchange.specs.declared.wire_fault.WireFault.TheVariants as exchange_faults
 use Rattle.match_plans.specs.declared.shortages.Shortage.{Shortage}
 use Rattle.match_plans.specs.declared.shortages.Shortage.TheVariants.{Ports, Memory}
 use Rattle.network_players.specs.declared.deadline.Halt.{Halt}
@@ -16,8 +16,8 @@ use Rattle.network_players.specs.declared.contacting.ContactFault.TheVariants as
 -- no answer in time is a silence, every other fault a broken answer
 abbrev pub answer_of : Result (List ℕ) WireFault → Answer
 answer_of (Ok text) = Text text
-answer_of (Err (wire.ReadFault WouldBlock)) = Silent
-answer_of (Err (wire.ReadFault TimedOut)) = Silent
+answer_of (Err (exchange_faults.ReadFault WouldBlock)) = Silent
+answer_of (Err (exchange_faults.ReadFault TimedOut)) = Silent
 answer_of (Err fault) = Broken
 
 -- Where the time was over there is a silence, and without a connection a broken answer. A shortage of the referee's counts as broken
@@ -56,8 +56,8 @@ fault_after (Some shortage) faults.Late = faults.Shortage shortage
 fault_after waited fault = fault
 
 abbrev pub exchange_fault : Option ℕ → WireFault → ContactFault
-exchange_fault status wire.Memory = faults.Shortage Memory
-exchange_fault (Some status) wire.BadStatus = faults.Status status
+exchange_fault status exchange_faults.Memory = faults.Shortage Memory
+exchange_fault (Some status) exchange_faults.BadStatus = faults.Status status
 exchange_fault status fault = faults.Exchange fault
 
 -- What an exchange came to: nothing where the last read or write does not count; else the body, or the exchange's own fault, with the

@@ -60,7 +60,7 @@ pub trait Explains {
 const PAUSE_MILLIS: u64 = 50;
 
 /// How often a player tries to connect for one message: with those pauses, for longer than a clock has.
-const MAX_TRIES: u32 = 2_000_000;
+const MAX_CONNECTS: u32 = 2_000_000;
 
 /// The fault of a step that has no time, or for which the referee is short of something.
 fn halt_fault(halt: Halt) -> ContactFault
@@ -168,7 +168,7 @@ fn connect<N: Net + Clock>(
     waited: &mut Option<Shortage>,
 ) -> Result<N::Stream, ContactFault> {
     let Errand { player, deadline } = errand;
-    for _ in 0..MAX_TRIES {
+    for _ in 0..MAX_CONNECTS {
         let connected = match lookup.addresses(net, alloc, player) {
             Ok(addresses) => connect_once(net, addresses, deadline),
             Err(shortage) => Err(ContactFault::Shortage(shortage)),

@@ -12,7 +12,7 @@ pub struct Lookup {
 }
 
 /// The host as the system looks it up: an IPv6 address with a zone has no brackets there.
-fn plain_host(host: &str) -> &str {
+fn zoned_host(host: &str) -> &str {
     let inner = host
         .strip_prefix('[')
         .and_then(|host| host.strip_suffix(']'));
@@ -31,7 +31,7 @@ fn addresses<N: Net>(
     alloc: Global,
     player: &PlayerAddress<'_>,
 ) -> Result<Vec<SocketAddr>, Shortage> {
-    let found = match (plain_host(player.host), player.port).to_socket_addrs(net) {
+    let found = match (zoned_host(player.host), player.port).to_socket_addrs(net) {
         Ok(found) => found,
         Err(error) => match shortage_of(&error) {
             Some(shortage) => return Err(shortage),

@@ -94,9 +94,9 @@ impl Signal {
     }
 
     /// Waits while the players were woken no more often than was seen, and at most for so long. It may return for no reason.
-    fn wait<R: Wait>(&self, rt: &R, seen: u64, most: Duration) {
+    fn wait<R: Wait>(&self, rt: &R, seen: u64, limit: Duration) {
         self.calls
-            .park_timeout(rt, (seen & 0xffff_ffff) as u32, most);
+            .park_timeout(rt, (seen & 0xffff_ffff) as u32, limit);
     }
 }
 

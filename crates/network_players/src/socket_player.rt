@@ -8,7 +8,7 @@ use crate::signal::{Pace, Signal};
 use game_core::Text;
 use http_exchange::WireFault;
 use match_book::Answer;
-use match_plans::{PlayerAddress, Reach, Seat, Shortage, TellsShortages};
+use match_plans::{PlayerAddress, Reach, RolePlace, Shortage, TellsShortages};
 use match_workers::Player;
 use shared_text::SharedText;
 use std::alloc::{AllocError, Global};
@@ -56,10 +56,10 @@ impl<'a, H: Net + Clock> Reach<SocketPlayer<'a, H>> for Sockets<'a, H> {
     fn player(
         &self,
         alloc: Global,
-        seat: Seat<'_>,
+        at: RolePlace<'_>,
         address: &PlayerAddress<'_>,
     ) -> Result<SocketPlayer<'a, H>, AllocError> {
-        let signal = &self.signals[seat.place % self.signals.len()];
+        let signal = &self.signals[at.place % self.signals.len()];
         let name = String::from_str(alloc, address.name)?;
         let host = String::from_str(alloc, address.host)?;
         Ok(SocketPlayer {

@@ -3,7 +3,7 @@
 use match_book::Answer;
 use match_log::Shown;
 use match_messages::MessageKind;
-use match_plans::{PlayerAddress, Reach, Seat, Shortage, TellsShortages};
+use match_plans::{PlayerAddress, Reach, RolePlace, Shortage, TellsShortages};
 use match_workers::Player;
 use network_players::{ContactFault, Explains, Pace, Signal, time_since};
 use shared_text::SharedText;
@@ -113,11 +113,11 @@ impl<'a, H, P, S: Reach<P>> Reach<Participant<'a, H, P>> for Watching<'a, H, S> 
     fn player(
         &self,
         alloc: Global,
-        seat: Seat<'_>,
+        at: RolePlace<'_>,
         address: &PlayerAddress<'_>,
     ) -> Result<Participant<'a, H, P>, AllocError> {
-        let watched = if seat.role == self.role {
-            Some(self.reach.player(alloc, seat, address)?)
+        let watched = if at.role == self.role {
+            Some(self.reach.player(alloc, at, address)?)
         } else {
             None
         };

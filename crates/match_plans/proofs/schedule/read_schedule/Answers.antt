@@ -43,7 +43,7 @@ loop-place-preserved c =
     let was = c.loop-place.invariant in
     let pushed = c.in_ok-push.ensures.items in
     record {
-      within = omega (arith, ap length pushed, c.if-len-ge-MAX_MATCHES.false);
+      within = omega (arith, ap length pushed, c.if-len-ge-MAX_SCHEDULED.false);
       planned = rw pushed (next c.args.strikes lines c.loop-place.place (record { ref_ptr = (0, 0); now = [] }) words c.loop-place.plans.items plan c.loop-place-test.true (search rules) (search rules) was.planned (search rules));
       roles = rw pushed (All-push (λ (p : MatchPlan). vec_len p.players ≡ c.args.roles) c.loop-place.plans.items plan was.roles (search rules));
     }

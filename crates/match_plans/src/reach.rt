@@ -5,7 +5,7 @@ use std::alloc::{AllocError, Global};
 
 /// Where a player sits.
 #[derive(Clone, Copy)]
-pub struct Seat<'a> {
+pub struct RolePlace<'a> {
     /// The match's place among those of its season, 0 where it is the only one.
     pub place: usize,
     /// The match's id.
@@ -19,7 +19,7 @@ pub trait Reach<P> {
     fn player(
         &self,
         alloc: Global,
-        seat: Seat<'_>,
+        at: RolePlace<'_>,
         address: &PlayerAddress<'_>,
     ) -> Result<P, AllocError>;
 }
