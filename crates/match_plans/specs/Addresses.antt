@@ -1,4 +1,4 @@
--- Players, as a word names them.
+-- The addresses of players in words.
 use Rattle.std.specs.Prelude.{◌==◌, ℕ, List}
 use Rattle.std.specs.List.{before_first}
 

@@ -1,4 +1,4 @@
--- The matches that a schedule tells.
+-- The matches of a schedule.
 use Rattle.std.specs.Prelude.{◌≡◌, ◌==◌, ◌||◌, ℕ, Bool, true, false, not, List, [], ◌∷◌, Option, Some, length, map, filter}
 use Rattle.std.specs.List.{slice_split}
 use Rattle.std.specs.Str.Lines.{strip_carriage_return}
@@ -24,23 +24,23 @@ abbrev pub is_comment : List ℕ → Bool
 is_comment [] = false
 is_comment (b ∷ more) = b == 35
 
--- a line without words, or whose first word begins with #, tells no match and is no bad one
+-- a line without words, or with a first word that begins with #, holds no match, and is not bad
 abbrev pub tells_nothing : List (List ℕ) → Bool
 tells_nothing [] = true
 tells_nothing (word ∷ words) = is_comment word
 
--- of those lines that tell a match the words, line by line
+-- the words of the lines that hold a match, line by line
 abbrev pub match_words : List (List ℕ) → List (List (List ℕ))
 match_words lines = filter (λ words. not (tells_nothing words)) (map (λ line. line_words (strip_carriage_return line)) lines)
 
 abbrev pub match_lines : List ℕ → List (List (List ℕ))
 match_lines text = match_words (cut_lines text)
 
--- the seconds that a word gives: a number in decimal digits, without leading zeros
+-- the number of seconds in a word: decimal digits, without leading zeros
 abbrev pub clock_of : List ℕ → Option ℕ
 clock_of word = plain_number word 4294967295
 
--- what is planned is what the words of a line say: the id, the seconds for START, those for every other message, and a player a word
+-- the plan has what the words of a line say: the id, the seconds for START, those for every other message, and a player for each word
 abbrev pub IsPlanned : ℕ → List (List ℕ) → MatchPlan → Type 0
 IsPlanned strikes (id ∷ start ∷ play ∷ players) plan =
     (plan.id.now ≡ id) × (clock_of start ≡ Some plan.start) × (clock_of play ≡ Some plan.play) × (plan.strikes ≡ strikes)

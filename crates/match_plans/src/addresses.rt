@@ -1,4 +1,4 @@
-//! Players, as a word names them.
+//! The address of a player, read from a word.
 ghost use Rattle.std.specs.Prelude.{◌≡◌, IfSome};
 ghost use Rattle.match_plans.specs.Addresses.{addressed_name};
 
@@ -6,8 +6,8 @@ use crate::numbers::decimal;
 use match_book::is_name;
 use std::net::Ipv6Addr;
 
-/// Where a player is reached, written `NAME@HOST:PORT`: the first `@` and the last `:` cut the word. An IPv6 address stands in
-/// brackets in the word, and without them here.
+/// The address of a player, written `NAME@HOST:PORT`. The first `@` and the last `:` after it cut the word. An IPv6 address has
+/// brackets in the word, and none here.
 #[derive(Clone, Copy, PartialEq, Eq)]
 pub struct PlayerAddress<'a> {
     pub name: &'a str,
@@ -15,7 +15,8 @@ pub struct PlayerAddress<'a> {
     pub port: u16,
 }
 
-/// The IPv6 address in brackets, or the host as it is written.
+/// The host without its brackets if it is an IPv6 address, and as it is written otherwise. An address with a zone keeps its
+/// brackets here; `network_players` drops them.
 fn plain_host(host: &str) -> &str {
     let inner = host
         .strip_prefix('[')
@@ -26,7 +27,8 @@ fn plain_host(host: &str) -> &str {
     }
 }
 
-/// The player that a word names: none where the name is no lawful one, or the port not 1 to 65,535.
+/// Reads a player's address from a word. `None` if there is no `@` or no `:` after it, if the name is not lawful, or if the port is no
+/// number from 1 to 65,535.
 pub fn player_address(word: &str) -> Option<PlayerAddress<'_>>
     ensures { IfSome result (λ p. p.name.now ≡ addressed_name word.now) }
 {

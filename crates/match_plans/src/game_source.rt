@@ -1,30 +1,32 @@
-//! Where a game comes from, and what is done with it where it needs no players.
+//! The source of a game, and the commands on a game that need no players.
 
-/// A ground description: its text, or the file that holds it.
+/// The source of a ground description.
 #[derive(Clone, Copy)]
 pub enum RulesSource<'a> {
+    /// The description itself.
     Text(&'a str),
-    /// The file's path, from the folder in which the program runs where it doesn't begin with a slash.
+    /// The path of its file. A path without a leading slash begins at the folder in which the program runs.
     File(&'a str),
 }
 
-/// Where a game comes from.
+/// The source of a game.
 #[derive(Clone, Copy)]
 pub enum GameSource<'a> {
-    /// Countdown, with a heap of this size, in or out of its range.
+    /// Countdown with a heap of this size. The size may be out of range.
     Countdown(u8),
+    /// The game of a ground description.
     Described(RulesSource<'a>),
 }
 
-/// What is done with one game, over standard input and output and without players.
+/// A command on one game. It uses standard input and output and no players.
 #[derive(Clone, Copy)]
 pub enum GameCommand {
-    /// To answer a script.
+    /// Answers a script.
     Desk,
-    /// To check a record.
+    /// Checks a record.
     Verify,
-    /// To check each line as a record.
+    /// Checks each line as a record.
     VerifyLines,
-    /// To make the calls of an account again.
+    /// Makes the calls of an account again.
     Replay,
 }

@@ -1,5 +1,5 @@
-//! Matches as they are planned: the players at their addresses, where a game comes from, one match, the matches of a schedule, the
-//! check of a player; where the players of a planned match are reached, and what the referee was short of in it.
+//! Plans of matches: the addresses of players, the source of a game, one match, the matches of a schedule, the check of a player. The
+//! trait `Reach` reaches the players of a planned match, and `TellsShortages` reports what the referee was short of in it.
 //!
 //! Free functions take the allocator first.
 #![tactic(auto)]

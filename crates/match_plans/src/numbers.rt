@@ -1,7 +1,7 @@
-//! Numbers, as the command line writes them.
+//! Numbers of the command line.
 ghost use Rattle.std.specs.Prelude.{◌≤◌, IfSome};
 
-/// The number that a text of digits is, if it is at most `limit`.
+/// Reads a number in decimal digits; leading zeros are taken. `None` if the text is empty, has another byte, or is above `limit`.
 pub fn decimal(text: &str, limit: u64) -> Option<u64>
     ensures { IfSome result (λ number. number ≤ limit) }
 {

@@ -1,9 +1,9 @@
-//! A match, and the check of a player, as they are planned.
+//! The plan of a match, and of the check of a player.
 
 use crate::addresses::PlayerAddress;
 
-/// A match between players on the network: its id, its clocks in seconds, after how many substituted moves in a row a role is
-/// retired (0: never), and its players in the order of the roles.
+/// A match between players on the network. The clocks are in seconds. After `strikes` substituted moves in a row a role is retired,
+/// and with 0 never. The players are in the order of the roles.
 #[derive(Drop)]
 pub struct MatchPlan<'a> {
     pub id: &'a str,
@@ -13,7 +13,7 @@ pub struct MatchPlan<'a> {
     pub players: Vec<PlayerAddress<'a>>,
 }
 
-/// The player that is checked, and the clocks and strikes of its matches.
+/// The player to check, with the clocks in seconds and the strikes of its matches.
 #[derive(Clone, Copy)]
 pub struct CheckPlan<'a> {
     pub player: PlayerAddress<'a>,

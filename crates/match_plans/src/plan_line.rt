@@ -1,4 +1,4 @@
-//! A line of a schedule: its words, and the match that they tell.
+//! A line of a schedule: its words, and the match that they hold.
 ghost use Rattle.std.specs.Prelude.{◌≡◌, ◌==◌, IfOk, IfSome, length, map, not};
 ghost use Rattle.std.specs.Str.Lines.{strip_carriage_return};
 ghost use Rattle.match_plans.specs.Addresses.{addressed_name};
@@ -10,7 +10,7 @@ use game_core::numeral::plain_number;
 use std::alloc::{AllocError, Global};
 use std::str;
 
-/// A line without the carriage return at its end.
+/// The line without a carriage return at its end.
 pub(crate) fn without_return(line: &[u8]) -> &[u8]
     ensures { result.now ≡ strip_carriage_return line.now }
 {
@@ -28,7 +28,7 @@ pub(crate) fn lines<'a>(alloc: Global, text: &'a [u8]) -> Result<Vec<&'a [u8]>, 
     text.split(|b| *b == b'\n').collect(alloc)
 }
 
-/// The words of a line: what stands between its spaces and tabs.
+/// The words of a line: the pieces between its spaces and tabs that are not empty.
 pub(crate) fn words<'a>(alloc: Global, line: &'a [u8]) -> Result<Vec<&'a [u8]>, AllocError>
     ensures { IfOk result (λ v. map (λ w. w.now) v.items ≡ line_words line.now) }
 {
@@ -41,7 +41,7 @@ pub(crate) fn words<'a>(alloc: Global, line: &'a [u8]) -> Result<Vec<&'a [u8]>, 
         .collect(alloc)
 }
 
-/// Whether the line of these words tells no match, and is no bad one.
+/// Whether a line with these words holds no match, and is not bad: it has no words, or the first one begins with `#`.
 pub(crate) fn tells_nothing(words: &[&[u8]]) -> bool
     ensures { result ≡ tells_nothing (map (λ w. w.now) words.now) }
 {
@@ -51,24 +51,24 @@ pub(crate) fn tells_nothing(words: &[&[u8]]) -> bool
     }
 }
 
-/// The largest number that a clock's word may write.
+/// The largest number in a clock's word.
 const MAX_CLOCK: usize = 4_294_967_295;
 
-/// The seconds that a word gives, in or out of a clock's range.
+/// The number of seconds in a word. It may be out of a clock's range.
 fn clock(word: &[u8]) -> Option<u32>
     ensures { result ≡ clock_of word.now }
 {
     Some(plain_number(word, MAX_CLOCK)? as u32)
 }
 
-/// The player whose address the word is.
+/// The player's address in a word.
 fn player(word: &[u8]) -> Option<PlayerAddress<'_>>
     ensures { IfSome result (λ p. p.name.now ≡ addressed_name word.now) }
 {
     player_address(str::from_utf8(word).ok()?)
 }
 
-/// The players whose addresses the words are.
+/// The players' addresses in the words. The value is `None` if one of the words is no address.
 fn players<'a>(
     alloc: Global,
     words: &[&'a [u8]],
@@ -85,7 +85,7 @@ fn players<'a>(
     Ok(Some(players))
 }
 
-/// The match that the words of a line tell.
+/// The match of a line's words. The value is `None` if they are not `ID START PLAY NAME@HOST:PORT ..`.
 pub(crate) fn planned_match<'a>(
     alloc: Global,
     words: &[&'a [u8]],

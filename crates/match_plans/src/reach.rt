@@ -1,21 +1,21 @@
-//! Where the players of a match are reached.
+//! Reaching the players of a match.
 
 use crate::addresses::PlayerAddress;
 use std::alloc::{AllocError, Global};
 
-/// Where a player sits.
+/// A role of a match of a season.
 #[derive(Clone, Copy)]
 pub struct RolePlace<'a> {
-    /// The match's place among those of its season, 0 where it is the only one.
+    /// The place of the match in its season. It is 0 for a match without a season.
     pub place: usize,
     /// The match's id.
     pub id: &'a str,
     pub role: usize,
 }
 
-/// Where players are reached.
+/// Reaches players.
 pub trait Reach<P> {
-    /// The player at this address, for this seat. Nothing is asked of it yet.
+    /// Makes the player at this address, for this role of a match. Nothing is asked of it yet. The error is out of memory.
     fn player(
         &self,
         alloc: Global,

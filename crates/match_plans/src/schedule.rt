@@ -1,4 +1,4 @@
-//! The schedule of a season: a match a line.
+//! The schedule of a season, with one match in a line.
 ghost use Rattle.std.specs.Prelude.{◌≡◌, ◌≤◌, All, IfNone, IfOk, length, vec_len};
 ghost use Rattle.std.specs.List.{AllZip};
 ghost use Rattle.match_plans.specs.Schedules.{match_lines, IsPlanned};
@@ -9,36 +9,36 @@ use indexmap::IndexSet;
 use std::alloc::{AllocError, AllocFailed, Global};
 use thiserror::Error;
 
-/// How many matches a schedule has at most.
+/// The limit of the matches in a schedule.
 pub const MAX_SCHEDULED: usize = 65_536;
 
-/// How many matches of a schedule are played at once at most.
+/// The limit of the matches of a schedule that are played at once.
 pub const MAX_AT_ONCE: usize = 1_024;
 
-/// Why a line of a schedule is a bad one.
+/// The fault of a bad line in a schedule.
 #[derive(Clone, Copy, Debug, PartialEq, Eq, Error)]
 pub enum LineFault {
-    /// It is not `ID START PLAY NAME@HOST:PORT ..`.
+    /// The line is not `ID START PLAY NAME@HOST:PORT ..`.
     #[error("no match")]
     NoMatch,
-    /// It has fewer players than the game has roles, or more.
+    /// The line has fewer or more players than the game has roles.
     #[error("not one player for each role")]
     WrongPlayers,
-    /// A match before it has the id.
+    /// An earlier match has the id.
     #[error("an id twice")]
     IdTwice,
-    /// There were as many matches before it as there may be.
+    /// `MAX_SCHEDULED` matches stand before it.
     #[error("too many matches")]
     TooMany,
 }
 
-/// Why a schedule is not taken.
+/// The fault of a schedule.
 #[derive(Clone, Copy, Debug, PartialEq, Eq, Error)]
 pub enum ScheduleFault {
-    /// The line of that number is a bad one.
+    /// The number of the first bad line, from 1 on, and its fault.
     #[error("line {0}: {1}")]
     BadLine(u64, LineFault),
-    #[error("want of memory")]
+    #[error("out of memory")]
     Memory,
 }
 
@@ -54,7 +54,7 @@ impl<T: Drop> From<AllocFailed<T>> for ScheduleFault {
     }
 }
 
-/// Why a match can't stand behind those with these ids, in a game of so many roles. Where it can, its id is added to them.
+/// Why a match can't follow those with these ids, in a game of `roles` roles. Adds its id if it can.
 fn misplaced<'a>(
     ids: &mut IndexSet<&'a [u8]>,
     plan: &MatchPlan<'a>,
@@ -73,8 +73,8 @@ fn misplaced<'a>(
     Ok(None)
 }
 
-/// The matches of a schedule for a game of so many roles, in the order of their lines; they share the number of strikes. A line
-/// without words, or whose first word begins with `#`, is skipped. The first bad line is the fault.
+/// Reads a schedule for a game of `roles` roles. Returns its matches in the order of their lines; all have the same strikes. A line
+/// without words, or with a first word that begins with `#`, is skipped. The error is the first bad line, or `Memory`.
 pub fn read_schedule<'a>(
     alloc: Global,
     input: &'a [u8],

@@ -1,22 +1,22 @@
-//! How the matches of a season are to be played and written.
+//! The form of a season: how its matches are played and written.
 
-/// In which order the records of a season are written.
+/// The order in which the records of a season are written.
 #[derive(Clone, Copy)]
 pub enum RecordOrder {
-    /// That of the schedule: each record as soon as it and those before it are there.
+    /// The order of the schedule. A record is written as soon as it and all records before it are there.
     OfSchedule,
-    /// That in which the matches end.
+    /// The order in which the matches end.
     OfEnds,
 }
 
 /// How the matches of a season are played and written.
 #[derive(Clone, Copy)]
 pub struct SeasonForm {
-    /// How many of them are played at once at most.
+    /// The limit of matches that are played at once.
     pub at_once: usize,
-    /// In how many of them a player sits at a time at most.
+    /// The limit of matches in which a player sits at a time.
     pub concurrent: usize,
     pub order: RecordOrder,
-    /// Whether the account of each match is written behind its record.
+    /// Whether the account of each match follows its record.
     pub has_history: bool,
 }

@@ -1,12 +1,12 @@
-//! What the referee itself is short of, for which no player is to blame.
+//! Shortages of the referee, for which no player is to blame.
 ghost use Rattle.std.specs.Prelude.{ℕ, IfNone};
 
 use thiserror::Error;
 
-/// What the referee is short of where a message can't be handed over, whoever it is for.
+/// A shortage of the referee. It keeps messages to any player from being handed over.
 #[derive(Clone, Copy, Debug, PartialEq, Eq, Error)]
 pub enum Shortage {
-    /// The process, or the system, has as many descriptors open as it may.
+    /// The process or the system has as many descriptors open as it may.
     #[error("out of descriptors")]
     Descriptors,
     /// No port is free for the near end of a connection.
@@ -19,12 +19,12 @@ pub enum Shortage {
     Clock,
 }
 
-/// Who can say what the referee was short of in a match. Such a match has no record: some answer in it is no answer of the player's.
+/// Reports what the referee was short of in a match. A match with a shortage has no record, since an answer in it is not the player's.
 pub trait TellsShortages {
-    /// It has said that the referee was short of nothing in the match at this place.
+    /// It has reported that the referee was short of nothing in the match at this place.
     ghost is_clear: { Self → ℕ → Type 0 };
 
-    /// What it was short of in the match at this place, if anything. This is known once the match is over.
+    /// The shortage in the match at this place, if there was one. It is known once the match is over.
     fn shortage(&self, place: usize) -> Option<Shortage>
         ensures { IfNone result (is_clear self.now place) };
 }

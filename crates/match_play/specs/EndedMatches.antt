@@ -1,4 +1,4 @@
--- What is written of a match that was played to its end.
+-- The output of a match that was played to its end.
 use Rattle.std.specs.Prelude.{◌≡◌, ℕ, Bool, List, [], ◌∷◌, ◌++◌, if◌then◌else◌}
 use Rattle.game_core.specs.Bytes.{line_feed}
 use Rattle.ground_rules.specs.LoadedGame.{loaded_game}
@@ -13,12 +13,12 @@ use Rattle.match_desk.specs.declared.call.Reply.{Reply}
 use Rattle.desk_text.specs.Account.{history_text}
 use Rattle.match_play.specs.Matches.{IsEndedRecord}
 
--- a match's record as a line, and behind it its history as text where that is wanted
+-- a match's record as a line, then its history as text if it is wanted
 abbrev pub match_text : List ℕ → List (Entry Call Reply) → Bool → List ℕ
 match_text line history has_account = line ++ line_feed ∷ (if has_account then history_text history else [])
 
--- The text is written of the first match of some desk of described games, which is over: its record is the line, and this legal history
--- from the opening makes the desk.
+-- The text is the output of the first match of some desk of described games. The match is over and its record is the line, and this
+-- legal history from the opening makes the desk.
 pub record IsEndedMatch (text : List ℕ) : Type 0 where
   pub desk : ManagerValue PackedGame _
   pub line : List ℕ

@@ -1,4 +1,4 @@
--- What a match between players comes to.
+-- The end of a match between players.
 use Rattle.std.specs.Prelude.{◌≡◌, ℕ, true, false, List, Some, IfSome, slice_get, option_and_then}
 use Rattle.game_core.specs.Play.{Rules}
 use Rattle.match_book.specs.MatchValue.{GameMatch}
@@ -23,7 +23,7 @@ pub record IsEndedRecord {G S M : Type 0} (rules : G → Rules S M) (d : Manager
 abbrev pub HasNoEndedMatch : {G S M : Type 0} → (G → Rules S M) → ManagerValue G M → Type 0
 HasNoEndedMatch rules d = IfSome (option_and_then (game_match d) (slice_get d.matches 0)) (λ held. is_over (rules held.game) held.value ≡ false)
 
--- why a match has no record, where its referee failed
+-- why a match has no record after a fault of its referee
 abbrev pub referee_fault : RefereeFault → MatchFault
 referee_fault (MatchRefused reason) = Refused reason
 referee_fault Unclosed = NotEnded

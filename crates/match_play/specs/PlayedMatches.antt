@@ -1,4 +1,4 @@
--- What a match between players leaves, with what its referee promises.
+-- The result of a match between players, with the promises of its referee.
 use Rattle.std.specs.Prelude.{◌≡◌, ℕ, List, map, Option, Result}
 use Rattle.ground_rules.specs.LoadedGame.{loaded_game}
 use Rattle.packed_rules.specs.PackedGames.{tables_of}
@@ -23,13 +23,13 @@ pub record IsSetupOf (plan : MatchPlan) (setup : Setup) : Type 0 where
   pub strikes : setup.strikes ≡ plan.strikes
   pub names : setup.players ≡ map (λ p. p.name.now) plan.players.items
 
--- A match of this game was opened with this setup and played by these players, who were told these rules. Its record is this text,
--- and its desk has this history.
+-- A match of this game was opened with this setup and played by these players, who got these rules. Its record is this text, and its
+-- desk has this history.
 pub record IsPlayedMatch {P : Type 0} (handed : P → Option (List Handed)) (game : PackedGame) (rules : List Expr) (tries : ℕ) (setup : Setup) (players : List P) (text : List ℕ) (history : List (Entry Call Reply)) : Type 0 where
   pub desk : ManagerValue PackedGame _
   pub ended : IsEndedRecord (λ g. loaded_game (tables_of g)) desk text
   pub made_by_line : List ℕ
-  -- how attending each of its players ended, and the players as they were left
+  -- how attending each of its players ended, and the players afterwards
   pub ends : List (Result ℕ AttendFault)
   pub left : List P
   pub refereed : IsRefereed (λ g. loaded_game (tables_of g)) handed game setup rules tries players left desk history made_by_line ends

@@ -1,4 +1,4 @@
--- The turns of a match, as one role had them.
+-- The turns of a match for one role.
 use Rattle.std.specs.Prelude.{◌≡◌, ℕ, true, List, Some, length, slice_get, option_and_then, option_map}
 use Rattle.game_core.specs.Play.{Rules}
 use Rattle.match_book.specs.MatchValue.{GameMatch, move_at, error_at}
@@ -7,12 +7,12 @@ use Rattle.match_book.specs.Phase.{is_over}
 use Rattle.match_desk.specs.ManagerValue.{ManagerValue, game_match}
 use Rattle.match_play.specs.declared.role_turns.RoleTurn.{RoleTurn}
 
--- what is told is the text of the role's move in this turn, and the error beside it
+-- a role's turn is the text of its move in this turn, and the error beside it
 pub record IsTurnOf {S M : Type 0} (g : Rules S M) (turns : List (Turn M)) (role : ℕ) (turn : ℕ) (told : RoleTurn) : Type 0 where
   pub played : option_map g.move_text (move_at turns turn role) ≡ Some told.played
   pub error : error_at turns turn role ≡ Some told.error
 
--- every turn is told, in order
+-- every turn, in order
 pub record AreTurnsOf {S M : Type 0} (g : Rules S M) (turns : List (Turn M)) (role : ℕ) (told : List RoleTurn) : Type 0 where
   pub count : length told ≡ length turns
   pub each : (turn : ℕ) (t : RoleTurn) → slice_get told turn ≡ Some t → IsTurnOf g turns role turn t

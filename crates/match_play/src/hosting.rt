@@ -1,4 +1,4 @@
-//! A game as matches are held of it.
+//! The game of a match, and the rules for its players.
 ghost use Rattle.std.specs.Prelude.{◌≡◌, map, IfOk};
 ghost use Rattle.game_core.specs.Expression.{Expressions, all_folded};
 ghost use Rattle.kif_text.specs.Spelling.{SpellsAll};
@@ -10,7 +10,7 @@ use match_messages::PrintedRules;
 use packed_rules::PackedGame;
 use std::alloc::{AllocError, Global};
 
-/// A game as matches are held of it: the game that the referee plays, and the rules that START carries to its players.
+/// The game that the referee plays, and the rules that START carries to the players.
 #[derive(Clone, Copy)]
 pub struct HostedGame<'g> {
     pub game: &'g PackedGame,
@@ -27,7 +27,7 @@ fn copies(alloc: Global, sentences: &[Expr]) -> Result<Vec<Expr>, AllocError>
     Ok(rules)
 }
 
-/// The sentences of the game's own description, printed.
+/// The sentences of the game's own description, printed. The error is out of memory.
 pub fn own_rules(alloc: Global, game: &PackedGame) -> Result<PrintedRules, AllocError>
     ensures { IfOk result (λ printed. map view printed.items ≡ sentences_of game.now) }
 {
@@ -36,7 +36,8 @@ pub fn own_rules(alloc: Global, game: &PackedGame) -> Result<PrintedRules, Alloc
     Ok(printed)
 }
 
-/// The sentences of a description in another form, without capitals, printed: the players are given it in place of the game's own.
+/// The sentences of another description, without capitals, printed. Players get it in place of the game's own. The error is the first
+/// fault of the text as KIF, or `Memory`.
 pub fn other_rules(alloc: Global, text: &[u8]) -> Result<PrintedRules, KifFault>
     ensures { IfOk result (λ printed. (sentences : Expressions) × SpellsAll text.now sentences × (views printed.items ≡ all_folded sentences)) }
 {

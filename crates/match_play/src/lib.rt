@@ -1,9 +1,9 @@
-//! One match between players that are reached at their addresses, from its plan to its record.
+//! One match between players at their addresses, from its plan to its record.
 //!
-//! `entrants_of` brings the players of a plan together; `HostedGame` is the game that matches are held of; `played_match` referees a
-//! match of it between them, and leaves its record and history; `ended_match` leaves the record and the account; `played_turns` the turns of a role.
+//! `entrants_of` makes the players of a plan, and `HostedGame` is the game to play. `played_match` referees a match and returns its
+//! record and history, `ended_match` its record and account as text, and `played_turns` the turns of a role.
 //!
-//! Free functions take the allocator first, behind a handle for threads and waiting.
+//! Free functions take the allocator first, after a handle for threads and waiting.
 #![tactic(auto)]
 
 mod hosting;

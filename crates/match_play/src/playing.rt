@@ -25,20 +25,20 @@ use std::sync::Wait;
 use std::thread::Threads;
 use thiserror::Error;
 
-/// How often a role may ask what is due to it. To wait for a message of a day takes the role of a player on the network 43,204 asks, and
-/// a match has 10,002 rounds at most: all of them together are fewer asks than these.
+/// The limit of a role's asks for what is due to it. It is above all asks that a whole match can need, however long its clocks are
+/// (`docs/PROFILE.md`, section 10).
 const MAX_TRIES: u64 = 1_000_000_000;
 
 /// Why a match has no record.
 #[derive(Clone, Copy, Debug, PartialEq, Eq, Error)]
 pub enum MatchFault {
-    /// The match was not opened.
+    /// The opening of the match was refused.
     #[error("refused {}", refusal_word(*.0))]
     Refused(Refusal),
-    /// The match has neither finished nor been aborted.
+    /// The match has neither finished nor been aborted, or its desk was full or did not close.
     #[error("match not ended")]
     NotEnded,
-    /// The referee was short of this in the match, so some answer in it is no answer of the player's.
+    /// The referee was short of this in the match, so an answer in it is not the player's.
     #[error("{0}")]
     Shortage(Shortage),
     #[error("want of memory")]
@@ -114,7 +114,7 @@ fn players_of<P: Drop, S: Reach<P>>(
     Ok(players)
 }
 
-/// A match before it is played: its place in its season, its setup, and a player for each name in it.
+/// A match before it is played: its place in its season, its setup, and a player for each name in the setup.
 #[derive(Drop)]
 pub struct Entrants<P> {
     pub place: usize,
@@ -123,7 +123,7 @@ pub struct Entrants<P> {
     ghost one_each: { vec_len players ≡ length setup.players },
 }
 
-/// The entrants of the match at this place of its season.
+/// Makes the entrants of the match at this place of its season. The error is out of memory.
 pub fn entrants_of<P: Drop, S: Reach<P>>(
     alloc: Global,
     reach: &S,
@@ -142,7 +142,7 @@ pub fn entrants_of<P: Drop, S: Reach<P>>(
     })
 }
 
-/// The record of the desk's match, where that has come to its end.
+/// The record of the desk's first match. The error is `NotEnded` if there is no match or it is not over, or out of memory.
 fn ended_record<G: Game>(alloc: Global, manager: &Manager<G>) -> Result<Text, MatchFault>
     ensures ended { IfOk result (IsEndedRecord G.rules manager.now) }
     ensures not_ended { IfErr result (λ fault. fault ≢ MatchFault.Memory → (fault ≡ MatchFault.NotEnded) × HasNoEndedMatch G.rules manager.now) }
@@ -168,15 +168,15 @@ pub struct PlayedMatch {
     pub history: Vec<Entry<Call, Reply>>,
 }
 
-/// What is written of a match that was played to its end: its record as a line, and behind it the account of its desk where that is
-/// wanted.
+/// The output of a match that was played to its end: its record as a line, then the account of its desk if it is wanted.
 #[derive(Drop)]
 pub struct EndedMatch {
     pub text: Text,
     ghost is_ended: { ∥ IsEndedMatch text ∥₁ },
 }
 
-/// Referees a match of this game between its entrants: what its desk leaves, where the referee was short of nothing.
+/// Referees a match of this game between its entrants. Returns the closed desk. The error is `Shortage` if the referee was short of
+/// something in the match.
 pub(crate) fn refereed_match<'g, R, P, S: TellsShortages>(
     rt: &R,
     alloc: Global,
@@ -211,8 +211,8 @@ where
     }
 }
 
-/// Referees a match of this game between its entrants, who are reached so. Where the referee was short of something in it there is no
-/// record.
+/// Referees a match of this game between its entrants. Returns its record and history. There is no record if the opening is refused, if
+/// the match does not end, or if `reach` reports a shortage.
 pub fn played_match<R, P, S: TellsShortages>(
     rt: &R,
     alloc: Global,
@@ -234,7 +234,7 @@ where
     })
 }
 
-/// The record as a line, and behind it the history as text where that is wanted.
+/// The record as a line, then the history as text if it is wanted.
 fn match_text(
     alloc: Global,
     line: Text,
@@ -251,7 +251,7 @@ fn match_text(
     Ok(Text { bytes })
 }
 
-/// What is written of a match, played as `played_match` does.
+/// Referees a match as `played_match` does, with the same errors. Returns its output.
 pub fn ended_match<R, P, S: TellsShortages>(
     rt: &R,
     alloc: Global,

@@ -1,4 +1,4 @@
-//! A match, as one of its roles had it.
+//! The turns of a match for one of its roles.
 ghost use Rattle.std.specs.Prelude.{◌≡◌, ◌≢◌, ◌<◌, ◌∷◌, [], IfOk, IfErr, length};
 ghost use Rattle.match_desk.specs.ManagerValue.{ManagerValue};
 ghost use Rattle.match_play.specs.RoleTurns.{AreTurnsOf, AreEndedTurns};
@@ -15,12 +15,12 @@ use std::alloc::{AllocError, Global};
 use std::sync::Wait;
 use std::thread::Threads;
 
-/// A turn of a match, as one role had it.
+/// A turn of a match for one role.
 #[derive(Drop)]
 pub struct RoleTurn {
     /// The text of the role's recorded move.
     pub played: Text,
-    /// The error beside it: empty where the role's answer named the move.
+    /// The error beside it. It is empty if the role's answer named the move.
     pub error: Text,
 }
 
@@ -45,7 +45,7 @@ fn turns_of<G: Game>(
     Ok(turns)
 }
 
-/// The turns of a role in the desk's match, where that has come to its end and has such a role.
+/// The turns of a role in the desk's first match. The error is `NotEnded` if there is no match, if it is not over or has no such role.
 fn ended_turns<G: Game>(
     alloc: Global,
     manager: &Manager<G>,
@@ -70,7 +70,8 @@ fn ended_turns<G: Game>(
     }
 }
 
-/// Referees a match of this game between its entrants, as `played_match` does: its turns, as this role had them.
+/// Referees a match as `played_match` does, with the same errors. Returns its turns for this role. The error is also `NotEnded` if there
+/// is no such role.
 pub fn played_turns<R, P, S: TellsShortages>(
     rt: &R,
     alloc: Global,
