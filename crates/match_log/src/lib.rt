@@ -1,7 +1,7 @@
-//! What is told of matches on a stream while they run: each message with its answer, or how far the matches are.
+//! Reports on running matches: each message with its answer, or the progress of the matches.
 //!
-//! `Logging` reaches players as another `Reach` does, and tells what they are asked; `Notices` holds what is told until a thread writes
-//! it, so that no match waits for its reader; `StatusStream` is a stream of messages below which one line may stand.
+//! `Logging` wraps another `Reach` and logs what its players are asked. `Notices` holds the reports until a thread writes them, so no
+//! match waits for a reader. `StatusStream` is a stream of messages with a status line below them.
 #![tactic(auto)]
 
 mod logging;

@@ -1,5 +1,4 @@
-//! Matches that are told while they run: whoever reaches players through `Logging` reads each message with its answer, or how far the
-//! matches are.
+//! Logs matches while they run: `Logging` wraps players and reports each message with its answer, or the progress of the matches.
 
 use crate::notices::Notices;
 use crate::status::Progress;
@@ -15,23 +14,25 @@ use std::fmt::Write as _;
 use std::sync::Wait;
 use std::time::{Clock, Duration, Instant};
 
-/// How many bytes of a message or an answer a line shows.
+/// The number of bytes of a message or an answer that a line shows.
 const SHOWN: usize = 200;
 
-/// The beginning of a text that any bytes may be in: `?` stands for each that is not seen, and dots for what follows.
+/// The first 200 bytes of a text of any bytes. `?` stands for a byte outside 0x20 to 0x7E, and two dots for further bytes.
 #[derive(Drop)]
 pub struct Shown<'a> {
-    /// The text lies in these, one after another.
+    /// The parts of the text, one after the other.
     parts: (&'a [u8], &'a [u8], &'a [u8]),
 }
 
 impl<'a> Shown<'a> {
+    /// Shows a text.
     pub fn text(text: &'a [u8]) -> Shown<'a> {
         Shown {
             parts: (text, b"".as_slice(), b"".as_slice()),
         }
     }
 
+    /// Shows a message.
     pub fn message(message: &'a SharedText<'_>) -> Shown<'a> {
         Shown {
             parts: message.parts(),
@@ -54,8 +55,8 @@ impl fmt::Display for Shown<'_> {
     }
 }
 
-/// What a message brought, as a line shows it: the answer, or `TO` or `CE` with the reason where one is known. What the referee was
-/// short of is none of these.
+/// An answer as a line shows it: its text, or `TO` or `CE` with the reason if one is known. After a shortage of the referee it is
+/// `lost`, with the shortage.
 #[derive(Drop)]
 struct AnswerShown<'a> {
     answer: &'a Answer,
@@ -81,29 +82,29 @@ impl fmt::Display for AnswerShown<'_> {
     }
 }
 
-/// What is told of the messages to players.
+/// What is reported of messages.
 #[derive(Clone, Copy)]
 pub enum Telling<'a> {
     Nothing,
-    /// Each message with its answer, in a line, as it is answered.
+    /// One line for each message, once its answer is there.
     Messages,
-    /// How far the matches are, in one line that is written anew.
+    /// The progress of the matches, in one line that is rewritten.
     Progress(&'a Progress),
 }
 
-/// Reaches players as another does, and has their messages told among what is reported.
+/// Reaches players as another `Reach` does, and logs their messages.
 #[derive(Drop)]
 pub struct Logging<'a, H, S> {
     pub rt: &'a H,
     pub reach: &'a S,
     pub telling: Telling<'a>,
     pub notices: &'a Notices,
-    /// Whether only one player of each match is reached through this. It counts for the match then, whatever its role; otherwise the
-    /// player of the first role does.
+    /// Whether only one player of each match is reached through this. Then this player counts for the match, whatever its role.
+    /// Otherwise the player of the first role counts.
     pub is_alone: bool,
 }
 
-/// A player whose messages are told among what is reported.
+/// A player with logged messages.
 #[derive(Drop)]
 pub struct LoggedPlayer<'a, H, P> {
     rt: &'a H,
@@ -113,9 +114,9 @@ pub struct LoggedPlayer<'a, H, P> {
     id: String,
     role: usize,
     name: String,
-    /// Whether it counts for its match.
+    /// Whether the player counts for its match.
     counts: bool,
-    /// How many messages it was handed.
+    /// The number of messages that the player got.
     messages: u64,
     telling: Telling<'a>,
     notices: &'a Notices,
@@ -146,7 +147,7 @@ impl<'a, H, P, S: Reach<P>> Reach<LoggedPlayer<'a, H, P>> for Logging<'a, H, S> 
 }
 
 impl<H: Clock + Wait, P: Explains> LoggedPlayer<'_, H, P> {
-    /// Counts a message that is handed over. Returns when that was, where the clock says it.
+    /// Counts a message that is handed over. Returns the present time, if the clock can be read.
     fn begin(&mut self, message: &SharedText<'_>) -> Option<Instant> {
         self.messages = self.messages.saturating_add(1);
         if let Telling::Progress(progress) = self.telling {
@@ -156,7 +157,7 @@ impl<H: Clock + Wait, P: Explains> LoggedPlayer<'_, H, P> {
         Instant::now(self.rt).ok()
     }
 
-    /// Tells what is wanted of a message that was handed over then.
+    /// Reports a message that was handed over at the time `began`.
     fn tell(&self, message: &SharedText<'_>, answer: &Answer, began: Option<Instant>) {
         match self.telling {
             Telling::Nothing => {}
@@ -168,7 +169,7 @@ impl<H: Clock + Wait, P: Explains> LoggedPlayer<'_, H, P> {
         }
     }
 
-    /// Tells in one line what a message brought. Where there is no memory for the line it is left out.
+    /// Logs a message with its answer in one line. Skips the line when out of memory.
     fn tell_message(&self, message: &SharedText<'_>, answer: &Answer, took: Duration) {
         let Ok(line) = format!(in self.alloc;
             "{} role {} {} message {} {}: {}, {} ms\n",

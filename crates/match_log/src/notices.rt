@@ -1,4 +1,4 @@
-//! What is reported while matches run, and waits to be written: no match waits for whoever reads it.
+//! Reports that wait to be written. No match waits for their reader.
 
 use crate::status::{Progress, StatusStream};
 use game_core::Counted;
@@ -10,14 +10,14 @@ use std::time::Clock;
 use std::{io, mem};
 use whole_streams::{Pieces, write_all};
 
-/// How many bytes wait at most, where a line of the log is put behind them: 1 MiB.
+/// The limit of the bytes that wait, with a new line of the log: 1 MiB.
 const MAX_WAITING: usize = 1_048_576;
 
-/// What waits to be written.
+/// The reports that wait to be written.
 #[derive(Drop)]
 struct Waiting {
     lines: Vec<u8>,
-    /// How many lines of the log are left out behind those.
+    /// The number of lines of the log that are left out after those.
     left_out: u64,
     /// Whether the matches have gone on since the status line was written.
     has_moved: bool,
@@ -39,7 +39,7 @@ impl Waiting {
         self.lines.is_empty() && self.left_out == 0 && !self.has_moved && !self.is_closed
     }
 
-    /// Puts a line of the log behind what waits, or counts it where there is no room or no memory for it.
+    /// Appends a line of the log, or counts it as left out if there is no room or no memory for it.
     fn log(&mut self, line: &[u8]) {
         let size = self.lines.len().saturating_add(line.len());
         if size > MAX_WAITING || self.lines.extend_from_slice(line).is_err() {
@@ -47,7 +47,7 @@ impl Waiting {
         }
     }
 
-    /// Writes the lines that wait, and how many were left out. A failed write is skipped.
+    /// Writes the waiting lines, and the number of those that were left out. A failed write is skipped.
     fn write_to<E: Write>(&self, stream: &mut E) {
         let _ = write_all(&mut Counted::new(&mut *stream), &self.lines);
         if self.left_out > 0 {
@@ -61,7 +61,7 @@ impl Waiting {
     }
 }
 
-/// What is reported while matches run. It waits here until a thread of its own writes it, so that a reader who stops reading stops no
+/// The reports of running matches. They wait here until a thread of their own writes them, so a reader that stops reading stops no
 /// match.
 #[derive(Drop)]
 pub struct Notices {
@@ -71,7 +71,7 @@ pub struct Notices {
 }
 
 impl Notices {
-    /// Nothing is reported yet.
+    /// No reports yet.
     pub fn new(alloc: Global) -> Notices {
         Notices {
             alloc,
@@ -80,25 +80,25 @@ impl Notices {
         }
     }
 
-    /// Has a line of the log written. Where too much waits already it is left out, and counted.
+    /// Reports a line of the log. It is left out, and counted, if too much waits already.
     pub(crate) fn log<R: Wait>(&self, rt: &R, line: &[u8]) {
         self.waiting.lock(rt).log(line);
         self.changed.notify_one();
     }
 
-    /// Has the status line written anew.
+    /// Reports that the matches have gone on, so that the status line is rewritten.
     pub fn move_on<R: Wait>(&self, rt: &R) {
         self.waiting.lock(rt).has_moved = true;
         self.changed.notify_one();
     }
 
-    /// Nothing more is reported: the thread that writes ends once all is written.
+    /// Ends the reports. The thread that writes them ends once all is written.
     pub fn close<R: Wait>(&self, rt: &R) {
         self.waiting.lock(rt).is_closed = true;
         self.changed.notify_one();
     }
 
-    /// What waits, as soon as anything does.
+    /// Waits for reports, and takes them.
     fn take<R: Wait>(&self, rt: &R) -> Waiting {
         let mut waiting = self
             .changed
@@ -107,7 +107,7 @@ impl Notices {
         mem::replace(&mut *waiting, nothing)
     }
 
-    /// Writes what is reported, and the status line anew where the matches have gone on, until nothing more is reported.
+    /// Writes the reports until they end. Rewrites the status line whenever the matches have gone on.
     pub fn write_until_closed<H: Clock + Wait, E: Write>(
         &self,
         rt: &H,
@@ -128,12 +128,12 @@ impl Notices {
     }
 }
 
-/// A stream for reports, whose lines wait among what is reported, however many they are.
+/// A stream for reports. Its lines wait among the notices, however many they are.
 #[derive(Drop)]
 pub struct ReportStream<'a, R> {
     rt: &'a R,
     notices: &'a Notices,
-    /// A line that has not ended.
+    /// The line that has not ended yet.
     line: Vec<u8>,
 }
 
@@ -146,7 +146,7 @@ impl<'a, R: Wait> ReportStream<'a, R> {
         }
     }
 
-    /// Puts the line behind what waits.
+    /// Appends the line to what waits. Returns whether there was memory for it.
     fn end_line(&mut self) -> bool {
         let is_taken = self
             .notices

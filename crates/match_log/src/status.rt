@@ -1,4 +1,4 @@
-//! One line of a terminal that tells how far matches are, and is written anew as they go on.
+//! The status line: one line of a terminal with the progress of matches, which is rewritten as they go on.
 
 use game_core::Counted;
 use match_messages::MessageKind;
@@ -11,16 +11,16 @@ use std::sync::{Mutex, Wait};
 use std::time::{Clock, Duration, Instant};
 use whole_streams::Pieces;
 
-/// How often the line is written anew at most, in milliseconds.
+/// The least time between two writes of the line, in milliseconds.
 const PERIOD_MILLIS: u64 = 100;
 
-/// Takes the cursor to the beginning of its line, and the line's text away: ECMA-48's `EL`.
+/// Moves the cursor to the beginning of its line, and erases the line: `EL` of ECMA-48.
 const CLEAR: &str = "\r\x1b[K";
 
-/// How far matches are, by the messages of their players.
+/// The progress of matches, by the messages of their players.
 #[derive(Drop)]
 pub struct Progress {
-    /// How many matches there are to play, 0 while that is not known.
+    /// The number of matches to play. It is 0 while that is not known.
     planned: AtomicU64,
     begun: AtomicU64,
     over: AtomicU64,
@@ -28,7 +28,7 @@ pub struct Progress {
 }
 
 impl Progress {
-    /// None has begun.
+    /// No match has begun.
     pub const fn new() -> Progress {
         Progress {
             planned: AtomicU64::new(0),
@@ -38,12 +38,12 @@ impl Progress {
         }
     }
 
-    /// So many matches are to be played.
+    /// Notes that `count` matches are to be played.
     pub fn plan(&self, count: usize) {
         self.planned.store(count as u64, Ordering::SeqCst);
     }
 
-    /// Counts the match that begins with a message, if the player that is handed it counts for its match.
+    /// Counts the match that begins with a message, if the player that gets the message counts for its match.
     pub(crate) fn begin(&self, counts: bool, kind: Option<MessageKind>) {
         if counts && kind == Some(MessageKind::Start) {
             self.begun.fetch_add(1, Ordering::SeqCst);
@@ -58,7 +58,7 @@ impl Progress {
         }
     }
 
-    /// What the line says.
+    /// Writes the line's text.
     fn push_line<F: std::fmt::Write>(&self, line: &mut F) -> std::fmt::Result {
         let over = self.over.load(Ordering::SeqCst);
         let open = self.begun.load(Ordering::SeqCst).saturating_sub(over);
@@ -71,29 +71,29 @@ impl Progress {
     }
 }
 
-/// Writes the text. A failed write is passed by.
+/// Writes the text, and skips a failed write.
 fn write_text<E: Write>(stream: &mut E, text: &str) {
     let mut pieces = Pieces { stream };
     let _ = pieces.write_str(text);
 }
 
-/// Writes the line anew. A failed write is passed by.
+/// Rewrites the line, and skips a failed write.
 fn show_progress<E: Write>(stream: &mut E, progress: &Progress) {
     let mut pieces = Pieces { stream };
     let _ = progress.push_line(&mut pieces);
 }
 
-/// A stream of messages, below which one line may stand: it is taken away before a message.
+/// A stream of messages with a status line below them. The line is erased before a message.
 #[derive(Drop)]
 pub struct StatusStream<E> {
     stream: E,
     is_shown: bool,
-    /// When the line was written last.
+    /// The time of the line's last write.
     shown_at: Option<Instant>,
 }
 
 impl<E: Write> StatusStream<E> {
-    /// Without such a line.
+    /// A stream without a status line yet.
     pub fn new(stream: E) -> StatusStream<E> {
         StatusStream {
             stream,
@@ -102,7 +102,7 @@ impl<E: Write> StatusStream<E> {
         }
     }
 
-    /// Writes the line anew, unless that was done a moment ago.
+    /// Rewrites the line, unless that was done a moment ago.
     pub(crate) fn show(&mut self, clock: &impl Clock, progress: &Progress) {
         let period = Duration::from_millis(PERIOD_MILLIS);
         if self.shown_at.is_some() && time_since(clock, self.shown_at) < period {
@@ -113,7 +113,7 @@ impl<E: Write> StatusStream<E> {
         show_progress(&mut self.stream, progress);
     }
 
-    /// Takes the line away.
+    /// Erases the line.
     pub fn clear(&mut self) {
         if self.is_shown {
             self.is_shown = false;
@@ -133,7 +133,7 @@ impl<E: Write> Write for StatusStream<E> {
     }
 }
 
-/// An output, before which the status line is taken away where both stand on the same terminal.
+/// An output. Before each write to a terminal the status line is erased, since both may stand on the same one.
 #[derive(Drop)]
 pub struct ClearedOutput<'a, R, W, E> {
     pub rt: &'a R,

@@ -20,15 +20,15 @@ answer_of (Err (exchange_faults.ReadFault WouldBlock)) = Silent
 answer_of (Err (exchange_faults.ReadFault TimedOut)) = Silent
 answer_of (Err fault) = Broken
 
--- Where the time was over there is a silence, and without a connection a broken answer. A shortage of the referee's counts as broken
--- too; a match that has one has no record.
+-- It is a silence if the time was over, and a broken answer without a connection. A shortage of the referee counts as broken too, and
+-- its match has no record.
 abbrev pub contact_answer : Result (List ℕ) ContactFault → Answer
 contact_answer (Ok text) = answer_of (Ok text)
 contact_answer (Err (faults.Exchange fault)) = answer_of (Err fault)
 contact_answer (Err faults.Late) = Silent
 contact_answer (Err fault) = Broken
 
--- a step without time is late, and one for which the referee is short of something has that shortage
+-- a step without time is late, and a step for which the referee is short of something has that shortage
 abbrev pub halt_fault : Halt → ContactFault
 halt_fault halts.Late = faults.Late
 halt_fault (halts.Short shortage) = faults.Shortage shortage
@@ -37,12 +37,13 @@ abbrev pub short_fault : Option Shortage → ContactFault
 short_fault (Some shortage) = faults.Shortage shortage
 short_fault None = faults.NoConnection
 
--- the fault of an address to which no connection was made, by the kind of the system's error and the shortage that it tells
+-- the fault of an address to which no connection was made, by the kind of the system's error and the shortage that it reports
 abbrev pub address_fault : ErrorKind → Option Shortage → ContactFault
 address_fault TimedOut shortage = faults.Late
 address_fault kind shortage = short_fault shortage
 
--- the fault of an address behind others, of which each but those that no port reaches had the fault before
+-- the fault of all addresses so far, by the fault of those before and of the last one; a lack of ports counts only where no other was
+-- tried
 abbrev pub fault_so_far : ContactFault → ContactFault → ContactFault
 fault_so_far (faults.Shortage Ports) last = last
 fault_so_far (faults.Shortage shortage) last = faults.Shortage shortage
@@ -60,8 +61,8 @@ exchange_fault status exchange_faults.Memory = faults.Shortage Memory
 exchange_fault (Some status) exchange_faults.BadStatus = faults.Status status
 exchange_fault status fault = faults.Exchange fault
 
--- What an exchange came to: nothing where the last read or write does not count; else the body, or the exchange's own fault, with the
--- status that the reply told.
+-- The outcome of an exchange: the halt of the last read or write, if it does not count; otherwise the body, or the exchange's own fault
+-- with the status that the reply has.
 abbrev pub outcome_of : Option Halt → Option ℕ → Result (List ℕ) WireFault → Result (List ℕ) ContactFault
 outcome_of (Some halt) status exchanged = Err (halt_fault halt)
 outcome_of None status (Ok text) = Ok text

@@ -1,4 +1,4 @@
--- What the referee itself is short of.
+-- Shortages of the referee.
 use Rattle.std.specs.Prelude.{ℕ, ℤ, unsigned_abs, ◌==◌, if◌then◌else◌, List, [], ◌∷◌, Option, Some, None}
 use Rattle.std.specs.declared.io.ErrorKind.{ErrorKind}
 use Rattle.std.specs.declared.io.ErrorKind.TheVariants.{WouldBlock, TimedOut, AddrNotAvailable, OutOfMemory}
@@ -20,7 +20,7 @@ abbrev pub number_shortage : Option ℤ → Option Shortage
 number_shortage (Some number) = shortage_in error_shortages (unsigned_abs number)
 number_shortage None = None
 
--- what an error of the system, by its kind and its number, says that the referee is short of; every other error is the player's
+-- the shortage that an error of the system reports, by its kind and its number; every other error is the player's
 abbrev pub system_shortage : ErrorKind → Option ℤ → Option Shortage
 system_shortage OutOfMemory number = Some Memory
 system_shortage AddrNotAvailable number = Some Ports
@@ -31,13 +31,13 @@ abbrev pub short_halt : Option Shortage → Option Halt
 short_halt (Some shortage) = Some (Short shortage)
 short_halt None = None
 
--- a read or a write that ran out of time is late, and one that failed by a shortage is short of it; else the player was the cause
+-- a read or a write that ran out of time is late, and one that failed by a shortage is short of it; otherwise the player was the cause
 abbrev pub failed_halt : ErrorKind → Option Shortage → Option Halt
 failed_halt TimedOut shortage = Some Late
 failed_halt WouldBlock shortage = Some Late
 failed_halt kind shortage = short_halt shortage
 
--- the numbers that stand for shortages where threads share one
+-- the codes of shortages, by which threads share one
 abbrev pub shortage_codes : List (ℕ × Shortage)
 shortage_codes = (1, Descriptors) ∷ (2, Ports) ∷ (3, Memory) ∷ (4, Clock) ∷ []
 

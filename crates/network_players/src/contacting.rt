@@ -28,18 +28,18 @@ pub enum ContactFault {
     /// The seconds were over before the connection was made, the request written or the reply read.
     #[error("no answer in time")]
     Late,
-    /// The referee was short of this. The message was not sent for it, or too late to be answered in time, or its answer was lost.
+    /// The referee was short of this. The message was not sent, or it was sent too late for an answer in time, or its answer was lost.
     #[error("{0}")]
     Shortage(Shortage),
-    /// The reply has this status.
+    /// The reply has this status, which is not 200.
     #[error("the status is {0}{note}", note = status_note(*.0))]
     Status(u16),
-    /// The exchange on the connection failed.
+    /// The exchange on the connection failed with this fault.
     #[error("{0}")]
     Exchange(WireFault),
 }
 
-/// What is wrong with a status other than 200.
+/// The words about a status other than 200.
 fn status_note(status: u16) -> &'static str {
     if status < 200 {
         ", which announces an answer and is none"
@@ -48,21 +48,21 @@ fn status_note(status: u16) -> &'static str {
     }
 }
 
-/// Who can say why the last message brought no answer.
+/// Explains why the last message brought no answer.
 pub trait Explains {
-    /// None where it brought one, or where nothing more is known.
+    /// The reason. `None` if there was an answer, or if no reason is known.
     fn why(&self) -> Option<ContactFault> {
         None
     }
 }
 
-/// For how many milliseconds a player waits, at most, before it tries again what the referee was short of something for.
+/// The pause before another try after a shortage, in milliseconds.
 const PAUSE_MILLIS: u64 = 50;
 
-/// How often a player tries to connect for one message: with those pauses, for longer than a clock has.
+/// The limit of tries to connect for one message. With their pauses these take longer than any clock.
 const MAX_CONNECTS: u32 = 2_000_000;
 
-/// The fault of a step that has no time, or for which the referee is short of something.
+/// The fault of a step that has no time left, or for which the referee is short of something.
 fn halt_fault(halt: Halt) -> ContactFault
     ensures { result ≡ halt_fault halt }
 {
@@ -72,7 +72,7 @@ fn halt_fault(halt: Halt) -> ContactFault
     }
 }
 
-/// The fault of an address to which no connection was made, by the kind of the error and the shortage that it tells, if it does.
+/// The fault of an address to which no connection was made, by the error's kind and by the shortage that it reports, if it does.
 fn address_fault(kind: ErrorKind, shortage: Option<Shortage>) -> ContactFault
     ensures { result ≡ address_fault kind shortage }
 {
@@ -85,8 +85,8 @@ fn address_fault(kind: ErrorKind, shortage: Option<Shortage>) -> ContactFault
     }
 }
 
-/// The fault of all addresses so far, by that of those before the last one and that of the last. An address that no port reaches says
-/// nothing where another one was tried.
+/// The fault of all addresses so far. `before` is that of the earlier ones, `last` that of the last one. A lack of ports counts only if
+/// no other address was tried.
 fn fault_so_far(before: ContactFault, last: ContactFault) -> ContactFault
     ensures { result ≡ fault_so_far before last }
 {
@@ -99,8 +99,7 @@ fn fault_so_far(before: ContactFault, last: ContactFault) -> ContactFault
     }
 }
 
-/// The fault of a message that had to wait for what the referee was short of, if it had to: where it then had no time the shortage is
-/// to blame.
+/// The fault of a message. If it had to wait for a shortage, `waited`, and then had no time left, the shortage is its fault.
 fn fault_after(waited: Option<Shortage>, fault: ContactFault) -> ContactFault
     ensures { result ≡ fault_after waited fault }
 {
@@ -110,7 +109,7 @@ fn fault_after(waited: Option<Shortage>, fault: ContactFault) -> ContactFault
     }
 }
 
-/// What an exchange came to, by the halt of the last read or write, if there was one, and by the reply's status, if it told one.
+/// The outcome of an exchange, by the halt of the last read or write, if there was one, and the reply's status, if there is one.
 fn outcome_of(
     halt: Option<Halt>,
     status: Option<u16>,
@@ -129,7 +128,7 @@ fn outcome_of(
     }
 }
 
-/// A connection to the first of the addresses that takes one, made within what is left.
+/// Connects to the first of the addresses that takes a connection, within the time left.
 fn connect_once<N: Net + Clock>(
     net: &N,
     addresses: &[SocketAddr],
@@ -152,14 +151,14 @@ fn connect_once<N: Net + Clock>(
     Err(fault)
 }
 
-/// Whom a message is for, and by when it has to be answered.
+/// The player that a message is for, and the message's deadline.
 #[derive(Clone, Copy)]
 struct Errand<'a> {
     player: &'a PlayerAddress<'a>,
     deadline: Deadline,
 }
 
-/// A connection to the player, made within what is left. While the referee is short of something it is tried again, which is noted.
+/// Connects to the player within the time left. Tries again while the referee is short of something, and notes this in `waited`.
 fn connect<N: Net + Clock>(
     net: &N,
     alloc: Global,
@@ -185,7 +184,7 @@ fn connect<N: Net + Clock>(
     Err(ContactFault::Late)
 }
 
-/// Sends the player the message and reads its answer, over that connection.
+/// Sends the player the message and reads its answer, over the connection.
 fn exchange_over<N: Net + Clock>(
     net: &N,
     alloc: Global,
@@ -199,8 +198,8 @@ fn exchange_over<N: Net + Clock>(
     outcome_of(stream.halt(), stream.status(), exchanged)
 }
 
-/// The body of the player's answer to a message. Looking up the host, connecting, writing and reading take so many seconds at most
-/// together; only the lookup is not cut off.
+/// Hands a player a message and returns the body of its answer. Looking up the host, connecting, writing and reading have `seconds`
+/// seconds together; only the lookup is not cut off. The error says why there is no answer.
 pub fn contact_found<N: Net + Clock>(
     net: &N,
     alloc: Global,
@@ -225,7 +224,8 @@ pub fn contact_found<N: Net + Clock>(
     }
 }
 
-/// The body of the player's answer to one message, whose host is looked up for it.
+/// Hands a player one message and returns the body of its answer. The host is looked up for this message. All of it has `seconds`
+/// seconds; only the lookup is not cut off. The error says why there is no answer.
 pub fn contact<N: Net + Clock>(
     net: &N,
     alloc: Global,

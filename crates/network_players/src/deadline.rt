@@ -1,4 +1,4 @@
-//! One deadline for all that a message takes.
+//! One deadline for all steps of a message.
 ghost use Rattle.std.specs.Prelude.{◌≡◌, ◌+◌, ◌*◌, ◌<◌, ◌≤◌, ◌↔◌, IsSome, IfSome, IfOk};
 ghost use Rattle.std.specs.Duration.{as_nanos};
 ghost use Rattle.network_players.specs.Shortages.{failed_halt};
@@ -11,7 +11,7 @@ use std::io::{ErrorKind, Read, Write};
 use std::net::OpenStream;
 use std::time::{Clock, Duration, Instant};
 
-/// What is left of a limit once so much of it has passed: none where that is nothing.
+/// The rest of a limit after the time `passed`. `None` if nothing is left.
 fn left_of(limit: Duration, passed: Duration) -> Option<Duration>
     ensures variant { IsSome result ↔ (as_nanos passed < as_nanos limit) }
     ensures left { IfSome result (λ left. as_nanos left + as_nanos passed ≡ as_nanos limit) }
@@ -22,15 +22,16 @@ fn left_of(limit: Duration, passed: Duration) -> Option<Duration>
     }
 }
 
-/// Why a step of a message counts for nothing, whatever it brought.
+/// Why a step of a message does not count, whatever its result is.
 #[derive(Clone, Copy, PartialEq, Eq)]
 pub enum Halt {
     /// The message's seconds are over.
     Late,
+    /// The referee is short of this.
     Short(Shortage),
 }
 
-/// When a message was begun, and how long it may take.
+/// The beginning of a message, and the time that it may take.
 #[derive(Clone, Copy)]
 pub struct Deadline {
     start: Instant,
@@ -38,7 +39,7 @@ pub struct Deadline {
 }
 
 impl Deadline {
-    /// So many seconds from now on.
+    /// A deadline `seconds` from now. The error is `Clock` if the clock can't be read.
     pub fn within(clock: &impl Clock, seconds: u32) -> Result<Deadline, Shortage>
         ensures { IfOk result (λ deadline. as_nanos deadline.limit ≡ seconds * 1_000_000_000) }
     {
@@ -51,7 +52,7 @@ impl Deadline {
         }
     }
 
-    /// What is left.
+    /// The time left, which is above 0. The error is `Late` if none is left, and `Short` if the clock can't be read.
     pub fn left(&self, clock: &impl Clock) -> Result<Duration, Halt>
         ensures some { IfOk result (λ left. 0 < as_nanos left) }
         ensures within { IfOk result (λ left. as_nanos left ≤ as_nanos self.now.limit) }
@@ -67,8 +68,8 @@ impl Deadline {
     }
 }
 
-/// Why a read or a write that failed with an error of this kind, and by this shortage, if there is one, came to nothing, where that was
-/// not the player's doing.
+/// The halt of a failed read or write, by the error's kind and by the shortage that it reports, if it does. `None` if the player caused
+/// the failure.
 fn failed_halt(kind: ErrorKind, shortage: Option<Shortage>) -> Option<Halt>
     ensures { result ≡ failed_halt kind shortage }
 {
@@ -81,8 +82,8 @@ fn failed_halt(kind: ErrorKind, shortage: Option<Shortage>) -> Option<Halt>
     }
 }
 
-/// A stream whose reads and writes all end by one deadline: before each, what is left becomes its limit. What a read gave counts only
-/// where the deadline was still to come when the read ended.
+/// A stream with one deadline for all its reads and writes. The limit of each read and write is the time left. The bytes of a read count
+/// only if it ended before the deadline.
 #[derive(Drop)]
 pub struct TimedStream<'a, C, S> {
     clock: &'a C,
@@ -103,12 +104,12 @@ impl<'a, C: Clock, S: OpenStream> TimedStream<'a, C, S> {
         }
     }
 
-    /// Why the last read or write does not count: none where it does, or failed by the player's doing.
+    /// The halt of the last read or write. `None` if it counts, or if the player made it fail.
     pub fn halt(&self) -> Option<Halt> {
         self.halt
     }
 
-    /// The status of the reply, as far as what was read begins with one.
+    /// The status of the reply. `None` if the bytes so far do not begin with one.
     pub fn status(&self) -> Option<u16> {
         self.front.status()
     }

@@ -1,9 +1,8 @@
-//! Players that are reached over the network: a message on a connection of its own with one deadline, and the rest between two
-//! messages.
+//! Players over the network. Each message has a connection of its own with one deadline, and a player rests between two messages.
 //!
 //! `Sockets` reaches players over HTTP.
 //!
-//! Free functions take the allocator first, behind a handle for waiting or the network.
+//! Free functions take the allocator first, after a handle for waiting or the network.
 #![tactic(auto)]
 
 mod contacting;

@@ -1,17 +1,17 @@
-//! Where a player's host is found.
+//! The addresses of a player's host.
 
 use crate::shortage::shortage_of;
 use match_plans::{PlayerAddress, Shortage};
 use std::alloc::Global;
 use std::net::{Ipv6Addr, Net, SocketAddr, ToSocketAddrs};
 
-/// The addresses of a player's host, once they were looked up. A host that has none is looked up no more either.
+/// The addresses of a player's host, once they are looked up. A host without an address is not looked up again.
 #[derive(Drop)]
 pub struct Lookup {
     found: Option<Vec<SocketAddr>>,
 }
 
-/// The host as the system looks it up: an IPv6 address with a zone has no brackets there.
+/// The host in the form for a lookup: an IPv6 address with a zone loses its brackets.
 fn zoned_host(host: &str) -> &str {
     let inner = host
         .strip_prefix('[')
@@ -25,7 +25,7 @@ fn zoned_host(host: &str) -> &str {
     }
 }
 
-/// The addresses that the system knows of the host: none where it finds none.
+/// Looks up the addresses of the player's host. The list is empty if the system finds none. The error is a shortage of the referee.
 fn addresses<N: Net>(
     net: &N,
     alloc: Global,
@@ -45,12 +45,12 @@ fn addresses<N: Net>(
 }
 
 impl Lookup {
-    /// That of a host which was not looked up yet.
+    /// A host that is not looked up yet.
     pub const fn new() -> Lookup {
         Lookup { found: None }
     }
 
-    /// The addresses of the player's host, which is always the same. Only a shortage has it looked up again.
+    /// The addresses of the player's host, which is the same at each call. Only after a shortage is it looked up again.
     pub fn addresses<N: Net>(
         &mut self,
         net: &N,

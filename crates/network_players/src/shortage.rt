@@ -1,4 +1,4 @@
-//! Which errors of the system tell what the referee is short of.
+//! The errors of the system that are shortages of the referee.
 ghost use Rattle.std.specs.Prelude.{◌≡◌, Some};
 ghost use Rattle.std.specs.IoError.{error_kind, raw_os_error};
 ghost use Rattle.network_players.specs.Shortages.{coded_shortage, error_shortages, shortage_in, system_shortage};
@@ -7,7 +7,7 @@ use match_plans::Shortage;
 use std::io;
 use std::io::ErrorKind;
 
-/// What the error of this number says that the system is short of, for the errors of Linux that have no kind of their own.
+/// The shortage of the error with this number, for the errors of Linux that have no kind of their own.
 fn error_shortage(number: u32) -> Option<Shortage>
     ensures { result ≡ shortage_in error_shortages number }
 {
@@ -20,7 +20,7 @@ fn error_shortage(number: u32) -> Option<Shortage>
     }
 }
 
-/// What an error of this kind and this number, if it has one, says that the system is short of.
+/// The shortage of an error with this kind, and with this number if it has one.
 fn system_shortage(kind: ErrorKind, number: Option<i32>) -> Option<Shortage>
     ensures { result ≡ system_shortage kind number }
 {
@@ -34,14 +34,14 @@ fn system_shortage(kind: ErrorKind, number: Option<i32>) -> Option<Shortage>
     }
 }
 
-/// What an error of the system on the way to a player says that the referee is short of. Every other error is the player's.
+/// The shortage of the referee that an error of the system on the way to a player reports. `None` if the player caused the error.
 pub fn shortage_of(error: &io::Error) -> Option<Shortage>
     ensures { result ≡ system_shortage (error_kind error.now) (raw_os_error error.now) }
 {
     system_shortage(error.kind(), error.raw_os_error())
 }
 
-/// The number that stands for a shortage where threads share it.
+/// The code of a shortage, by which threads share it.
 pub(crate) fn code_of(shortage: Shortage) -> u64
     ensures { coded_shortage result ≡ Some shortage }
 {
@@ -53,7 +53,7 @@ pub(crate) fn code_of(shortage: Shortage) -> u64
     }
 }
 
-/// The shortage that a number stands for. 0 stands for none.
+/// The shortage with this code. 0 is the code of none.
 pub(crate) fn coded(code: u64) -> Option<Shortage>
     ensures { result ≡ coded_shortage code }
 {

@@ -1,4 +1,4 @@
-//! How the players of a match rest between their messages, what wakes them, and what the referee was short of in it.
+//! The rests of a match's players between their messages, and the signal that wakes them and keeps the match's shortage.
 ghost use Rattle.std.specs.Prelude.{◌≡◌, ◌*◌, min, IfOk, length};
 ghost use Rattle.std.specs.Duration.{as_nanos};
 
@@ -9,31 +9,31 @@ use std::sync::Wait;
 use std::sync::atomic::{AtomicU64, Ordering};
 use std::time::{Clock, Duration, Instant};
 
-/// For how many milliseconds a player with nothing to do rests at first.
+/// The limit of a player's first rest after a message, in milliseconds.
 const FIRST_REST_MILLIS: u64 = 100;
 
-/// For how many milliseconds it rests at most.
+/// The limit of any rest, in milliseconds.
 const LONGEST_REST_MILLIS: u64 = 2_000;
 
-/// What the players of a match share: whether a round has begun, and what the referee was short of.
+/// The signal that the players of a match share: it says when a round begins, and what the referee was short of.
 ///
-/// A round has begun where a player is handed its next message, since each role gets one message a round. Nothing that is promised of a
-/// match rests on when a player is woken: one that is not goes on when its rest is over.
+/// A round begins when a player gets its next message, since each role gets one message in a round. No promise depends on when a player
+/// is woken: a player that is not woken goes on when its rest is over.
 #[derive(Drop)]
 pub struct Signal {
-    /// The highest number of a message that one of the players was handed.
+    /// The highest number of a message that one of the players got.
     latest: AtomicU64,
-    /// How often the players that rest were woken.
+    /// The number of times that the resting players were woken.
     calls: AtomicU64,
-    /// How many players there are, and how many of them rest.
+    /// The number of players, and of those that rest.
     players: AtomicU64,
     resting: AtomicU64,
-    /// The number of the shortage that was noted last.
+    /// The code of the shortage that was noted last.
     shortage: AtomicU64,
 }
 
 impl Signal {
-    /// That of a match whose players were handed nothing.
+    /// The signal of a new match.
     pub const fn new() -> Signal {
         Signal {
             latest: AtomicU64::new(0),
@@ -44,7 +44,7 @@ impl Signal {
         }
     }
 
-    /// Those of so many matches whose players were handed nothing.
+    /// The signals of `count` new matches. The error is out of memory.
     pub fn many(alloc: Global, count: usize) -> Result<Vec<Signal>, AllocError>
         ensures { IfOk result (λ signals. length signals.items ≡ count) }
     {
@@ -55,12 +55,12 @@ impl Signal {
         Ok(signals)
     }
 
-    /// Notes that the referee was short of this in the match, which has no record then.
+    /// Notes that the referee was short of this in the match. The match then has no record.
     pub(crate) fn note(&self, shortage: Shortage) {
         self.shortage.store(code_of(shortage), Ordering::SeqCst);
     }
 
-    /// What the referee was short of in the match, if anything: what was noted last.
+    /// The shortage in the match that was noted last, if there was one.
     pub fn shortage(&self) -> Option<Shortage> {
         coded(self.shortage.load(Ordering::SeqCst))
     }
@@ -69,21 +69,21 @@ impl Signal {
         self.calls.load(Ordering::SeqCst)
     }
 
-    /// Wakes all players that rest. Returns how often they had been woken before.
+    /// Wakes all resting players. Returns the number of times that they had been woken before.
     fn call(&self) -> u64 {
         let calls = self.calls.fetch_add(1, Ordering::SeqCst);
         self.calls.wake_all();
         calls
     }
 
-    /// Says that a message of this number is handed over. Where it is the highest so far, all players that rest are woken.
+    /// Notes that a message with this number is handed over. If the number is the highest so far, all resting players are woken.
     fn raise(&self, number: u64) {
         if self.latest.fetch_max(number, Ordering::SeqCst) < number {
             self.call();
         }
     }
 
-    /// Begins a rest. Whether all players rest now.
+    /// Begins a rest. Returns whether all players rest now.
     fn begin_rest(&self) -> bool {
         let resting = self.resting.fetch_add(1, Ordering::SeqCst);
         resting.saturating_add(1) >= self.players.load(Ordering::SeqCst)
@@ -93,14 +93,14 @@ impl Signal {
         self.resting.fetch_sub(1, Ordering::SeqCst);
     }
 
-    /// Waits while the players were woken no more often than was seen, and at most for so long. It may return for no reason.
+    /// Waits until the players are woken again after `seen`, for the time `limit` at most. It may return for no reason.
     fn wait<R: Wait>(&self, rt: &R, seen: u64, limit: Duration) {
         self.calls
             .park_timeout(rt, (seen & 0xffff_ffff) as u32, limit);
     }
 }
 
-/// How long ago that was: no time where the clock can't be read.
+/// The time since `moment`. It is 0 if there is no moment or the clock can't be read.
 pub fn time_since(clock: &impl Clock, moment: Option<Instant>) -> Duration {
     match moment {
         Some(moment) => moment.elapsed(clock).unwrap_or(Duration::ZERO),
@@ -108,14 +108,14 @@ pub fn time_since(clock: &impl Clock, moment: Option<Instant>) -> Duration {
     }
 }
 
-/// How long the first rest of a wait takes at most.
+/// The limit of the first rest of a wait.
 fn first_rest() -> Duration
     ensures { as_nanos result ≡ 100_000_000 }
 {
     Duration::from_millis(FIRST_REST_MILLIS)
 }
 
-/// How long a rest takes at most behind one that took so long.
+/// The limit of the rest after one with the limit `rest`.
 fn rest_after(rest: Duration) -> Duration
     ensures { as_nanos result ≡ min 2_000_000_000 (as_nanos rest * 2) }
 {
@@ -124,21 +124,21 @@ fn rest_after(rest: Duration) -> Duration
     if doubled < longest { doubled } else { longest }
 }
 
-/// How a player of a match rests between its messages: until a round begins, the first time for a tenth of a second at most, and then
-/// for twice as long each time, up to two seconds.
+/// The rests of a player between its messages. Each ends when a round begins. The first one after a message takes a tenth of a second at
+/// most, and each further one twice as long, up to two seconds.
 pub struct Pace<'a> {
     signal: &'a Signal,
-    /// How many messages the player was handed.
+    /// The number of messages that the player got.
     messages: u64,
-    /// How often the players had been woken before the role last asked what is due.
+    /// The number of times that the players had been woken before the role last asked what is due.
     seen: u64,
-    /// How long the next rest takes at most.
+    /// The limit of the next rest.
     rest: Duration,
     /// Whether the player has rested since its last message.
     has_rested: bool,
 }
 
-/// A player that goes is attended no longer, since the match is over as a rule: so the others are woken.
+/// When a player is dropped its match is usually over, so the others are woken.
 impl Drop for Pace<'_> {
     fn drop(self) {
         let Pace {
@@ -154,7 +154,7 @@ impl Drop for Pace<'_> {
 }
 
 impl<'a> Pace<'a> {
-    /// That of a player which was handed nothing, in the match of this signal.
+    /// The pace of a new player, in the match of this signal.
     pub fn new(signal: &'a Signal) -> Pace<'a> {
         signal.players.fetch_add(1, Ordering::SeqCst);
         Pace {
@@ -166,31 +166,31 @@ impl<'a> Pace<'a> {
         }
     }
 
-    /// A message is handed to the player: a round has begun.
+    /// Notes that the player gets a message, with which a round has begun.
     pub fn begin(&mut self) {
         self.messages = self.messages.saturating_add(1);
         self.signal.raise(self.messages);
     }
 
-    /// The player has answered it.
+    /// Notes that the player has answered the message.
     pub fn end(&mut self) {
         self.seen = self.signal.calls();
         self.rest = first_rest();
         self.has_rested = false;
     }
 
-    /// Rests. Where the others rest already they are woken, once after each message: the round may have begun without a message to
-    /// this player, which its answer has retired.
+    /// Rests. If the others rest already they are woken, once after each message: the player's answer may have retired it, and the
+    /// round may have begun without a message to it.
     pub fn rest<R: Wait>(&mut self, rt: &R) {
         if self.signal.begin_rest() && !self.has_rested && self.signal.call() == self.seen {
-            // Its own call is not to end its rest.
+            // Its own call must not end its rest.
             self.seen = self.seen.wrapping_add(1);
         }
         self.has_rested = true;
         self.signal.wait(rt, self.seen, self.rest);
         self.signal.end_rest();
         self.rest = rest_after(self.rest);
-        // Read before the role asks again: whatever is raised after that ends the next rest.
+        // This is read before the role asks again, so whatever is raised after that ends the next rest.
         self.seen = self.signal.calls();
     }
 }

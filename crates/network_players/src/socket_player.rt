@@ -17,18 +17,18 @@ use std::net::Net;
 use std::sync::Wait;
 use std::time::Clock;
 
-/// The network, as a runtime reaches it. It is made where it is known which runtime that is, as in `main`: a player goes to another
-/// thread, and a function for any runtime can't tell that its players may.
+/// The network of a runtime. It is made where the type of the runtime is known, as in `main`: a player goes to another thread, and a
+/// function over any runtime can't show that its players may.
 #[derive(Drop)]
 pub struct Sockets<'a, H> {
     pub rt: &'a H,
-    /// One for each place that a match may have. Where there are fewer the matches share them: their players may rest for longer, and
-    /// what the referee was short of in one counts for all of these.
+    /// A signal for each place of a match. With fewer signals some matches share one: their players may rest longer, and a shortage in
+    /// one of these matches counts for all of them.
     pub signals: &'a [Signal],
     ghost has_one: { 0 < length signals.now },
 }
 
-/// A player on the network. Each message goes over a connection of its own, to the addresses that its host had for the first one.
+/// A player on the network. Each message goes over a connection of its own, to the addresses that its host had at the first message.
 #[derive(Drop)]
 pub struct SocketPlayer<'a, H> {
     rt: &'a H,
@@ -39,12 +39,12 @@ pub struct SocketPlayer<'a, H> {
     host: String,
     port: u16,
     lookup: Lookup,
-    /// Why the last message brought no answer: none where it brought one.
+    /// Why the last message brought no answer. `None` if it brought one.
     fault: Option<ContactFault>,
 }
 
 impl<H> TellsShortages for Sockets<'_, H> {
-    // What a signal carries no contract can name.
+    // No contract can name what a signal carries.
     ghost is_clear = { λ s place. Unit {0} };
 
     fn shortage(&self, place: usize) -> Option<Shortage> {
@@ -76,7 +76,7 @@ impl<'a, H: Net + Clock> Reach<SocketPlayer<'a, H>> for Sockets<'a, H> {
     }
 }
 
-/// What an exchange with a player came to: no answer in time is a silence, every other fault a broken answer.
+/// The answer that an exchange with a player counts as. No answer in time is a silence, and every other fault a broken answer.
 pub fn answer_of(exchanged: Result<Text, WireFault>) -> Answer
     ensures { result ≡ answer_of exchanged }
 {
@@ -87,8 +87,8 @@ pub fn answer_of(exchanged: Result<Text, WireFault>) -> Answer
     }
 }
 
-/// What handing a message over came to: where the time was over a silence, without a connection a broken answer. A shortage of the
-/// referee's counts as a broken answer too, in a match that has no record for it.
+/// The answer that handing over a message counts as. It is a silence if the time was over, and a broken answer without a connection. A
+/// shortage of the referee counts as a broken answer too, and its match has no record.
 fn contact_answer(reached: Result<Text, ContactFault>) -> Answer
     ensures { result ≡ contact_answer reached }
 {
@@ -140,7 +140,7 @@ impl<H: Net + Clock> SocketPlayer<'_, H> {
 impl<H: Net + Clock + Wait> Player for SocketPlayer<'_, H> {
     ghost use Rattle.std.specs.Prelude.{None};
 
-    // What a socket carries no contract can name.
+    // No contract can name what a socket carries.
     ghost handed = { λ p. None };
 
     fn ask(&mut self, seconds: u32, body: &[u8]) -> Answer {

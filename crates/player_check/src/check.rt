@@ -1,4 +1,4 @@
-//! A match for each role of a game, in which the same player is watched.
+//! The check of a player: a match for each role of a game, in which the player is watched.
 ghost use Rattle.std.specs.Prelude.{◌<◌};
 
 use crate::table::{HEADER, Row};
@@ -17,16 +17,16 @@ use std::time::Clock;
 use thiserror::Error;
 use whole_streams::{WriteFault, write_all};
 
-/// Why a check came to no end. The table has the rows of the matches before.
+/// Why a check did not end. The table has the rows of the earlier matches.
 #[derive(Clone, Copy, Debug, PartialEq, Eq, Error)]
 pub enum CheckFault {
-    /// A match has no turns to tell.
+    /// A match has no turns to show, for this reason.
     #[error("{0}")]
     Match(MatchFault),
     /// The table can't be written.
     #[error("write fault")]
     WriteFault,
-    #[error("want of memory")]
+    #[error("out of memory")]
     Memory,
 }
 
@@ -57,7 +57,7 @@ impl From<WriteFault> for CheckFault {
 /// The name of the players that answer nothing.
 const NOBODY: &str = "nobody";
 
-/// The match in which the player has this role, among so many.
+/// The plan of the match in which the player has this role, of `roles` roles.
 fn match_plan<'a>(
     alloc: Global,
     plan: &CheckPlan<'a>,
@@ -83,8 +83,8 @@ fn match_plan<'a>(
     })
 }
 
-/// Puts a row for each exchange behind the table: the turns belong to those that asked for a move, in their order. How many answers
-/// are not good is answered.
+/// Appends a row for each exchange to the table. The turns belong to the exchanges that asked for a move, in their order. Returns the
+/// number of bad answers.
 fn push_rows(
     alloc: Global,
     table: &mut Vec<u8>,
@@ -112,7 +112,7 @@ fn push_rows(
     Ok(bad)
 }
 
-/// Plays the match in which the player has this role, and puts its rows behind the table.
+/// Plays the match in which the player has this role, and appends its rows to the table. Returns the number of bad answers.
 fn check_role<H, P, S>(
     rt: &H,
     alloc: Global,
@@ -145,8 +145,8 @@ where
     Ok(push_rows(alloc, table, game.game.role_name(role), &exchanges, &turns)?)
 }
 
-/// Plays a match for each role of the game, one after another, and writes a row for each message to the
-/// player, once its match is over. How many of its answers were not good is answered.
+/// Plays a match for each role of the game, one after another. Writes a row for each message to the player once its match is over.
+/// Returns the number of its bad answers.
 pub fn check_player<H, P, S, W: Write>(
     rt: &H,
     alloc: Global,

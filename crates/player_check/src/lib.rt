@@ -1,9 +1,9 @@
-//! The check of a player: a match for each role of a game, in which the player plays this role, and a table of what it was handed,
-//! what it answered and what that counted as.
+//! The check of a player: a match for each role of a game, in which the player plays this role, and a table of its messages, its answers
+//! and what these counted as.
 //!
-//! The roles beside it answer nothing, so that their first legal moves are played.
+//! The other roles answer nothing, so their first legal moves are played.
 //!
-//! Free functions take the allocator first, behind a handle for threads and waiting.
+//! Free functions take the allocator first, after a handle for threads and waiting.
 #![tactic(auto)]
 
 mod check;

@@ -1,4 +1,4 @@
-//! The table of what a player was handed, and what its answers counted as.
+//! The table of the messages to a player, with its answers and what these counted as.
 ghost use Rattle.std.specs.Prelude.{◌≡◌, option_copied};
 ghost use Rattle.player_check.specs.Verdicts.{verdict_of};
 
@@ -8,7 +8,7 @@ use match_log::Shown;
 use match_play::RoleTurn;
 use std::fmt;
 
-/// What stands above the columns.
+/// The names of the columns, as the table's first line.
 pub const HEADER: &[u8] = b"role\tmessage\tanswer\tverdict\tplayed\tms\tfault\n";
 
 /// What an answer counted as.
@@ -18,15 +18,15 @@ pub enum Verdict {
     Taken,
     /// A legal move.
     Legal,
-    /// A move, and no legal one.
+    /// A move that is not legal.
     Illegal,
     /// A text that is no move.
     NoMove,
-    /// None in time.
+    /// No answer in time.
     Late,
-    /// None that can be taken.
+    /// A broken answer.
     Broken,
-    /// One for a turn that was not recorded, since the match was aborted.
+    /// An answer for a turn that was not recorded, since the match was aborted.
     Dropped,
 }
 
@@ -55,7 +55,7 @@ impl fmt::Display for Verdict {
     }
 }
 
-/// What an answer counted as, by the error that its turn has, where it was given for a turn that was recorded.
+/// What an answer counted as. `error` is the error of its turn, if that was recorded.
 pub fn verdict_of(is_play: bool, brought: Brought, error: Option<&[u8]>) -> Verdict
     ensures { result ≡ verdict_of is_play brought (option_copied error.entry) }
 {
@@ -75,11 +75,12 @@ pub fn verdict_of(is_play: bool, brought: Brought, error: Option<&[u8]>) -> Verd
 pub struct Row<'a> {
     pub role: &'a [u8],
     pub exchange: &'a Exchange,
-    /// The turn for which the answer was given, where one was recorded.
+    /// The turn for which the answer was given, if that was recorded.
     pub turn: Option<&'a RoleTurn>,
 }
 
 impl Row<'_> {
+    /// What the row's answer counted as.
     pub fn verdict(&self) -> Verdict {
         let error = self.turn.map(|turn| turn.error.as_slice());
         verdict_of(self.exchange.is_play, self.exchange.brought, error)

@@ -1,4 +1,4 @@
-//! A player that is watched, among players that answer nothing.
+//! A watched player, among players that answer nothing.
 
 use match_book::Answer;
 use match_log::Shown;
@@ -21,18 +21,19 @@ pub enum Brought {
     Break,
 }
 
-/// A message that the watched player was handed, and what it brought.
+/// A message to the watched player, and what it brought.
 #[derive(Drop)]
 pub struct Exchange {
-    /// The beginning of the message, as far as it can be seen.
+    /// The beginning of the message, as `Shown` writes it.
     pub message: String,
     /// Whether it asks for a move.
     pub is_play: bool,
-    /// The beginning of the answer's text: empty where there is none.
+    /// The beginning of the answer's text. It is empty without an answer.
     pub answer: String,
     pub brought: Brought,
-    /// Why there is none, where that is known.
+    /// Why there is no answer, if that is known.
     pub fault: Option<ContactFault>,
+    /// The time that the message took, in milliseconds.
     pub millis: u128,
 }
 
@@ -40,12 +41,12 @@ pub struct Exchange {
 #[derive(Drop)]
 pub struct Exchanges {
     pub items: Vec<Exchange>,
-    /// Whether one is left out for want of memory.
+    /// Whether memory ran out, and an exchange is missing.
     pub is_cut: bool,
 }
 
 impl Exchanges {
-    /// None yet.
+    /// No exchanges yet.
     pub fn new(alloc: Global) -> Exchanges {
         Exchanges {
             items: Vec::new(alloc),
@@ -64,7 +65,7 @@ impl Exchanges {
     }
 }
 
-/// What the message brought, beside the time that it took and why there is no answer.
+/// The exchange of a message, with the time that it took and the reason if there is no answer.
 fn exchange_of(
     alloc: Global,
     message: &SharedText<'_>,
@@ -87,7 +88,7 @@ fn exchange_of(
     })
 }
 
-/// Reaches the watched player for its role, as another does, and players that answer nothing for the others.
+/// Reaches the watched player for its role as `reach` does, and players that answer nothing for the other roles.
 #[derive(Drop)]
 pub struct Watching<'a, H, S> {
     pub rt: &'a H,
@@ -98,14 +99,14 @@ pub struct Watching<'a, H, S> {
     pub exchanges: &'a Mutex<Exchanges>,
 }
 
-/// A player of a match in which one is watched.
+/// A player of a match in which one player is watched.
 #[derive(Drop)]
 pub struct Participant<'a, H, P> {
     rt: &'a H,
     alloc: Global,
     pace: Pace<'a>,
     exchanges: &'a Mutex<Exchanges>,
-    /// The watched player: none where this one answers nothing.
+    /// The watched player. `None` for a player that answers nothing.
     watched: Option<P>,
 }
 
@@ -140,7 +141,7 @@ impl<H, S: TellsShortages> TellsShortages for Watching<'_, H, S> {
 }
 
 impl<H: Clock + Wait, P: Explains> Participant<'_, H, P> {
-    /// Keeps what a message brought that was handed over then, where the player is watched.
+    /// Keeps the exchange of a message that was handed over at the time `began`, if the player is watched.
     fn keep(&self, message: &SharedText<'_>, answer: &Answer, began: Option<Instant>) {
         if let Some(player) = &self.watched {
             let millis = time_since(self.rt, began).as_millis();
