@@ -11,28 +11,30 @@ use match_plans::{
 };
 use std::alloc::{AllocError, AllocFailed, Global};
 
-/// What is wrong with a command line that has the form of one.
+/// A wrong value in a command line of the right form.
 #[derive(Clone, Copy)]
 pub enum WrongValue<'a> {
-    /// Not exactly one option says which game it is.
+    /// Not exactly one option names the game.
     Game,
-    /// The value of the option is no number from the least to the most.
+    /// The value of the option is no number from `least` to `limit`.
     Number {
         option: &'static str,
         value: &'a str,
         least: u64,
         limit: u64,
     },
-    /// The word names no player.
+    /// The word is not `NAME@HOST:PORT` with a lawful name and port.
     Player(&'a str),
 }
 
 /// Why a command line is refused.
 #[derive(Clone, Copy)]
 pub enum ArgumentFault<'a> {
-    /// It has not the form of one.
+    /// The words have not the form of a command line.
     Form,
+    /// A value is wrong.
     Value(WrongValue<'a>),
+    /// Out of memory.
     Memory,
 }
 
@@ -54,7 +56,7 @@ impl<'a> From<WrongValue<'a>> for ArgumentFault<'a> {
     }
 }
 
-/// The number that an option gives, from the least to the most.
+/// The number of an option, from `least` to `limit`.
 fn number<'a>(
     found: &ArgMatches<'a>,
     option: &'static str,
@@ -75,17 +77,17 @@ fn number<'a>(
     }
 }
 
-/// The seconds that an option gives, in or out of a clock's range.
+/// The seconds of an option. They may be out of a clock's range.
 fn seconds<'a>(found: &ArgMatches<'a>, option: &'static str) -> Result<u32, WrongValue<'a>> {
     Ok(number(found, option, 0, 4_294_967_295)? as u32)
 }
 
-/// After how many substituted moves in a row a role is retired.
+/// The number of substituted moves in a row after which a role is retired.
 fn strikes<'a>(found: &ArgMatches<'a>) -> Result<u8, WrongValue<'a>> {
     Ok(number(found, "strikes", 0, 255)? as u8)
 }
 
-/// Exactly one of the options has to be there that say which game it is.
+/// The game's source. Exactly one of its options must be there.
 fn game_source<'a>(found: &ArgMatches<'a>) -> Result<GameSource<'a>, WrongValue<'a>> {
     let size = found.get_str("countdown");
     match (size, found.get_str("rules"), found.get_str("rules-file")) {
@@ -103,7 +105,7 @@ fn player(word: &str) -> Result<PlayerAddress<'_>, WrongValue<'_>> {
     player_address(word).ok_or(WrongValue::Player(word))
 }
 
-/// The player, where there is one.
+/// The player of a command that has one.
 fn only_player<'a>(found: &ArgMatches<'a>) -> Result<PlayerAddress<'a>, WrongValue<'a>> {
     player(found.get_str("player").unwrap_or(""))
 }
@@ -161,7 +163,7 @@ fn check_plan<'a>(found: &ArgMatches<'a>) -> Result<CheckPlan<'a>, WrongValue<'a
     })
 }
 
-/// The players, where there are some.
+/// The players of a command that has several.
 fn players<'a>(
     alloc: Global,
     found: &ArgMatches<'a>,
@@ -196,7 +198,7 @@ fn abort_plan<'a>(
     })
 }
 
-/// What is to be done with the game that matches are held of, where that is what the command of this name does.
+/// The task with matches of a game, for the command with this name. The error is `Form` if the command has no such task.
 fn hosted_task<'a>(
     alloc: Global,
     name: &str,
@@ -210,7 +212,7 @@ fn hosted_task<'a>(
     }
 }
 
-/// What the command of this name asks for.
+/// The task of the command with this name.
 fn task<'a>(
     alloc: Global,
     name: &str,
@@ -229,7 +231,7 @@ fn task<'a>(
     }
 }
 
-/// What the library's error comes to: the help and the version are among its errors.
+/// The task or the fault of an error of `clap`. The help and the version are among its errors.
 fn shown<'a>(alloc: Global, error: clap::Error) -> Result<Task<'a>, ArgumentFault<'a>> {
     if !error.use_stderr() {
         return Ok(Task::Show(error.to_string(alloc)?));
@@ -240,7 +242,7 @@ fn shown<'a>(alloc: Global, error: clap::Error) -> Result<Task<'a>, ArgumentFaul
     }
 }
 
-/// What the words after the program's name ask for.
+/// Reads the words after the program's name as a task. The error says what is wrong with them, or is `Memory`.
 pub fn read_arguments<'a>(
     alloc: Global,
     words: &'a [&'a str],

@@ -1,6 +1,6 @@
-//! The command line of `ggp_manager`: what its words ask for, and in words why they are refused.
+//! The command line of `ggp_manager`: the task of its words, and the words about a refusal.
 //!
-//! `read_arguments` reads the words behind the program's name into a `Task`; `refusal` says what is wrong with words that are refused.
+//! `read_arguments` reads the words after the program's name as a `Task`. `refusal` explains why words are refused.
 //!
 //! Free functions take the allocator first.
 #![tactic(auto)]

@@ -9,14 +9,14 @@ const VERSION: &str = "0.1.0";
 /// The program's name in its usage.
 pub const PROGRAM: &str = "ggp_manager";
 
-/// How an argument of a command is written.
+/// The form of an argument.
 #[derive(Clone, Copy)]
 enum Form {
     /// An option with a value of this name.
     Value(&'static str),
-    /// An option with a value of this name, which has to be there.
+    /// A required option with a value of this name.
     Required(&'static str),
-    /// An option with a value of this name, and the value where it is not there.
+    /// An option with a value of this name, and its default.
     Default(&'static str, &'static str),
     Flag,
     /// A word of this name.
@@ -25,7 +25,7 @@ enum Form {
     Players,
 }
 
-/// An argument of a command.
+/// An argument of a command, with its help.
 #[derive(Clone, Copy)]
 struct Argument {
     name: &'static str,
@@ -34,7 +34,7 @@ struct Argument {
 }
 
 impl Argument {
-    /// The argument as the library reads it.
+    /// The argument in the form of `clap`.
     fn arg<'a>(self, alloc: Global) -> Arg<'a> {
         let arg = Arg::new(alloc, self.name).help(self.help);
         let place = "NAME@HOST:PORT";
@@ -107,7 +107,7 @@ const PLAY: Argument = Argument {
 const LOG: Argument = Argument {
     name: "log",
     form: Form::Flag,
-    help: "Each message and its answer is told on standard error",
+    help: "Each message and its answer is logged on standard error",
 };
 
 const PLAYER: Argument = Argument {
@@ -189,7 +189,7 @@ const VERIFY: [Argument; 4] = [
     Argument {
         name: "lines",
         form: Form::Flag,
-        help: "Each line of standard input is a record, and is told by a line",
+        help: "Each line of standard input is a record, and gets a line of output",
     },
 ];
 
@@ -228,12 +228,12 @@ fn command_of<'a>(
     Ok(command)
 }
 
-/// The commands, by their names.
+/// The names of the commands.
 pub const COMMANDS: [&str; 8] = [
     "desk", "run", "season", "verify", "replay", "info", "check", "abort",
 ];
 
-/// The command of this name.
+/// The command with this name.
 pub fn command_named<'a>(alloc: Global, name: &str) -> Result<Command<'a>, AllocError> {
     match name {
         "desk" => command_of(

@@ -1,14 +1,14 @@
-//! Why a command line is refused, in words.
+//! The words about a refused command line.
 
 use crate::arguments::{ArgumentFault, WrongValue};
 use crate::program::{PROGRAM, command_named, program};
 use clap::error::ErrorKind;
 use std::alloc::{AllocError, Global};
 
-/// The commands with which more than a fault's own line stands on standard error, whatever that is.
+/// The commands that explain a fault on standard error before its own line, whatever standard error is.
 const OWN_COMMANDS: [&str; 4] = ["season", "check", "replay", "abort"];
 
-/// The options with which it does so.
+/// The options that do so.
 const OWN_OPTIONS: [&str; 5] = ["--rules-file", "--told", "--lines", "--log", "--history"];
 
 /// Whether the word is this option, by itself or with its value.
@@ -19,8 +19,8 @@ fn is_option(word: &str, option: &str) -> bool {
     }
 }
 
-/// Whether a command line has one of the commands or options with which more than a fault's own line stands on standard error, though
-/// that is no terminal.
+/// Whether a command line has one of the commands or options that explain a fault before its own line, even where standard error is no
+/// terminal.
 pub fn has_own_word(words: &[String]) -> bool {
     let is_own = |word: &String| OWN_OPTIONS
         .iter()
@@ -31,7 +31,7 @@ pub fn has_own_word(words: &[String]) -> bool {
     }
 }
 
-/// What is wrong with a value of this command, in words.
+/// The words about a wrong value of this command.
 fn words_of(alloc: Global, command: &str, wrong: WrongValue<'_>) -> Result<String, AllocError> {
     match wrong {
         WrongValue::Game if command == "run" => String::from_str(
@@ -56,7 +56,7 @@ fn words_of(alloc: Global, command: &str, wrong: WrongValue<'_>) -> Result<Strin
     }
 }
 
-/// What is wrong with a value of a command, and the command's usage.
+/// The words about a wrong value of a command, and the command's usage.
 fn wrong_value(alloc: Global, command: &str, wrong: WrongValue<'_>) -> Result<String, AllocError> {
     let what = words_of(alloc, command, wrong)?;
     let title = format!(in alloc; "{PROGRAM} {command}")?;
@@ -65,7 +65,7 @@ fn wrong_value(alloc: Global, command: &str, wrong: WrongValue<'_>) -> Result<St
     error.to_string(alloc)
 }
 
-/// What is wrong with words that have not the form of a command line, and the usage.
+/// The words about a command line of a wrong form, and the usage.
 fn wrong_form<'a>(alloc: Global, words: &'a [&'a str]) -> Result<String, AllocError> {
     let program = program(alloc)?.bin_name(PROGRAM)?;
     match program.try_get_matches_from(words) {
@@ -74,7 +74,8 @@ fn wrong_form<'a>(alloc: Global, words: &'a [&'a str]) -> Result<String, AllocEr
     }
 }
 
-/// What is wrong with the words of a command line that is refused, in lines, and the usage.
+/// Explains in lines why the words of a command line are refused, and gives the usage. `fault` is what `read_arguments` returned for
+/// them. The error is out of memory.
 pub fn refusal<'a>(
     alloc: Global,
     words: &'a [&'a str],

@@ -1,35 +1,34 @@
-//! What a command line asks for.
+//! The tasks of a command line.
 
 use match_plans::{CheckPlan, GameCommand, GameSource, MatchPlan, PlayerAddress, SeasonForm};
 
-/// What the command line asks for. Its texts are the words that it was read from.
+/// The task of a command line. Its texts are words of the command line.
 #[derive(Drop)]
 pub enum Task<'a> {
-    /// To do this with one game, over standard input and output.
+    /// Runs a command on one game, over standard input and output.
     Game(GameCommand, GameSource<'a>),
-    /// To hold matches of a game.
+    /// Plays matches of a game.
     Host(HostingPlan<'a>, HostedTask<'a>),
-    /// To ask a player whether it is free.
+    /// Asks a player whether it is free.
     Info(PlayerAddress<'a>),
-    /// To send players ABORT.
+    /// Sends players ABORT.
     Abort(AbortPlan<'a>),
-    /// To show this text: the help, or the version.
+    /// Shows this text: the help or the version.
     Show(String),
 }
 
-/// What is to be done with the game that matches are held of.
+/// A task with matches of a game.
 #[derive(Drop)]
 pub enum HostedTask<'a> {
-    /// To referee a match between players on the network.
+    /// Referees a match between players on the network.
     Run(RunPlan<'a>),
-    /// To referee the matches of a schedule.
+    /// Referees the matches of a schedule.
     Season(SeasonPlan<'a>),
-    /// To check a player.
+    /// Checks a player.
     Check(CheckPlan<'a>),
 }
 
-/// The game that matches are held of, the file of what its players are told in its place, and whether each message is told on standard
-/// error.
+/// The game to play, the file of the rules that players get instead of the game's own, and whether messages are logged.
 #[derive(Clone, Copy)]
 pub struct HostingPlan<'a> {
     pub game: GameSource<'a>,
@@ -37,14 +36,14 @@ pub struct HostingPlan<'a> {
     pub is_logged: bool,
 }
 
-/// One match, and whether the account of it is wanted.
+/// One match, and whether its account is wanted.
 #[derive(Drop)]
 pub struct RunPlan<'a> {
     pub plan: MatchPlan<'a>,
     pub has_history: bool,
 }
 
-/// The matches of a schedule: the strikes of each, and how they are played and told.
+/// The matches of a schedule: the strikes of each, and how they are played and written.
 #[derive(Clone, Copy)]
 pub struct SeasonPlan<'a> {
     pub strikes: u8,

@@ -1,10 +1,10 @@
-//! The rules of Countdown in text, as players are told them.
+//! The rules of Countdown as text, for players.
 
 use std::alloc::Global;
 use std::fmt;
 use std::fmt::Write as _;
 
-/// The rules but for what is left of the heap.
+/// The rules that are the same for every heap.
 const TURNS: &str = "(role red) (role blue) (init (turn red))
 (<= busy (not (true (heap 0))))
 (<= (legal red (take 1)) (true (turn red)) busy)
@@ -24,7 +24,7 @@ const TURNS: &str = "(role red) (role blue) (init (turn red))
 (<= (goal blue 0) (true (heap 0)) (true (turn blue)))
 ";
 
-/// Puts the rules of what is left of the heap behind what is written.
+/// Appends the rules of what is left of the heap to `rules`.
 fn push_steps(rules: &mut String, size: u8) -> fmt::Result {
     for left in 0..size {
         let one_more = u16::from(left) + 1;
@@ -43,7 +43,7 @@ fn push_steps(rules: &mut String, size: u8) -> fmt::Result {
     Ok(())
 }
 
-/// The rules of Countdown with a heap of this size.
+/// The rules of Countdown with a heap of `size`, as a ground description. The error is out of memory.
 pub fn countdown_rules(alloc: Global, size: u8) -> Result<String, fmt::Error> {
     let mut rules = String::new(alloc);
     write!(rules, "{TURNS}(init (heap {size}))\n")?;

@@ -1,9 +1,9 @@
-//! Expressions as they are shown.
+//! Excerpts of expressions.
 
 use crate::scan::Scan;
 use std::alloc::AllocError;
 
-/// How many bytes of an expression are shown.
+/// The number of bytes of an expression that are shown.
 const SHOWN: usize = 80;
 
 fn shown_byte(byte: u8) -> char {
@@ -14,8 +14,8 @@ fn shown_byte(byte: u8) -> char {
     }
 }
 
-/// Puts the expression with which a text begins behind what is written, in one line: without comments, with one space for white space,
-/// and `?` for a byte that is not seen. Of a long one the first 80 bytes stand there, with two dots behind.
+/// Appends to `out` the expression with which a text begins, in one line: without comments, with one space for white space, and `?` for
+/// a byte outside 0x21 to 0x7E. Of a longer expression the first 80 bytes are shown, followed by two dots.
 pub fn push_excerpt(out: &mut String, text: &[u8]) -> Result<(), AllocError> {
     let mut shown: usize = 0;
     let mut scan = Scan::new();

@@ -1,4 +1,4 @@
-//! What is wrong with a text that describes no game, and where, in words.
+//! Explains in words what is wrong with a text that describes no game, and where.
 
 use crate::games::DescriptionFault;
 use crate::links::{Way, sentences_of_way};
@@ -10,15 +10,15 @@ use rule_sentences::LoadFault;
 use rule_sentences::sentence::Rule;
 use std::alloc::{AllocError, Global};
 
-/// How many sentences are shown, where several have a fault together.
+/// The limit of the sentences that are shown for a fault that several have together.
 const MAX_SHOWN: usize = 4;
 
-/// Where the sentence of this number begins.
+/// The byte at which the sentence of this number begins.
 fn start_of(text: &[u8], number: usize) -> usize {
     sentence_start(text, number).unwrap_or(0)
 }
 
-/// Puts a fault of these sentences together behind what is written. Where they are many, the last are left out.
+/// Appends to `out` a fault that these sentences have together. Of many sentences the last are left out.
 fn push_together(
     text: &[u8],
     words: &'static str,
@@ -46,7 +46,7 @@ fn push_together(
     Ok(())
 }
 
-/// What is wrong with a part that has not its form, whatever that is.
+/// The words about a part that has not its form, if its first word names no form.
 fn form_words(part: Part) -> &'static str {
     match part {
         Part::Fact | Part::Rule => "neither a fact nor a rule",
@@ -55,7 +55,7 @@ fn form_words(part: Part) -> &'static str {
     }
 }
 
-/// What is wrong with a part in which an atomic sentence stands where it may not.
+/// The words about a part with an atomic sentence at a place where it may not stand.
 fn place_words(part: Part) -> &'static str {
     match part {
         Part::Fact | Part::Head => "true or does as a head, but they are for conditions",
@@ -64,7 +64,7 @@ fn place_words(part: Part) -> &'static str {
     }
 }
 
-/// What is wrong with a part, for the fault that it has.
+/// The words about a part with this fault.
 fn words_of(folded: &[u8], faulty: FaultyPart, fault: LoadFault) -> Words {
     match (fault, faulty.form(folded)) {
         (LoadFault::Misplaced(_), _) => Words::Plain(place_words(faulty.part)),
@@ -73,7 +73,7 @@ fn words_of(folded: &[u8], faulty: FaultyPart, fault: LoadFault) -> Words {
     }
 }
 
-/// The sentences that have a fault together, and what is wrong with them.
+/// The words about a fault that sentences have together, and these sentences' numbers.
 fn shared_fault(
     alloc: Global,
     rules: &[Rule],
@@ -96,7 +96,7 @@ fn shared_fault(
     }
 }
 
-/// Puts a fault of the description as a whole behind what is written.
+/// Appends to `out` a fault of the description as a whole.
 fn push_whole(
     alloc: Global,
     text: &[u8],
@@ -117,7 +117,7 @@ fn push_whole(
     }
 }
 
-/// The part of the sentence of this number that has this fault, which names a first sentence.
+/// The spot of the part that has this fault, in the sentence of this number. The fault is one that names a first sentence.
 fn part_spot(
     alloc: Global,
     folded: &[u8],
@@ -133,7 +133,7 @@ fn part_spot(
     })
 }
 
-/// Puts a fault of the sentences behind what is written. The text without capitals stands beside the text.
+/// Appends to `out` a fault of the sentences. `folded` is the text without capitals.
 fn push_unfit(
     alloc: Global,
     text: &[u8],
@@ -155,8 +155,8 @@ fn push_unfit(
     Ok(spot.push(text, out)?)
 }
 
-/// Puts what is wrong with a text that describes no game behind what is written, for the fault that it has: in one line, with the place
-/// where it is at one. An error comes only where memory was refused.
+/// Appends to `out` what is wrong with a text that describes no game and has this fault: in one line, with the place of the fault if it
+/// has one. The error means that memory was refused.
 pub fn push_explanation(
     alloc: Global,
     text: &[u8],
@@ -172,7 +172,7 @@ pub fn push_explanation(
             let folded = text.to_ascii_lowercase(alloc)?;
             push_unfit(alloc, text, &folded, fault, out)?;
         }
-        DescriptionFault::Memory => out.push_str("want of memory")?,
+        DescriptionFault::Memory => out.push_str("out of memory")?,
     }
     Ok(())
 }

@@ -1,4 +1,4 @@
-//! Games that are given as text.
+//! Games from their texts.
 ghost use Rattle.std.specs.Prelude.{◌≡◌, ◌≢◌, IfOk, IfErr};
 ghost use Rattle.described_games.specs.Games.{IsLoadedFrom, IsDescribed, DescribesNone, IsRefusedAs};
 
@@ -7,10 +7,10 @@ use kif_text::{KifFault, read_all};
 use packed_rules::{PackedGame, pack};
 use std::alloc::{AllocError, Global};
 
-/// Why a text gives no game.
+/// Why a text describes no game.
 #[derive(Clone, Copy)]
 pub enum DescriptionFault {
-    /// It is not KIF.
+    /// The text is not KIF.
     Unread(KifFault),
     /// Its sentences are no ground description.
     Unfit(LoadFault),
@@ -19,7 +19,7 @@ pub enum DescriptionFault {
 }
 
 impl DescriptionFault {
-    /// What helps against the fault, in words, where something does.
+    /// What helps against the fault, in words, if something does.
     pub fn remedy(self) -> Option<&'static str> {
         match self {
             DescriptionFault::Unfit(LoadFault::Variable(_)) => {
@@ -69,7 +69,7 @@ impl From<LoadFault> for DescriptionFault {
     }
 }
 
-/// The game that a ground description is of, as it is loaded.
+/// The game of a ground description, in the form in which it is loaded.
 fn loaded(alloc: Global, rules: &[u8]) -> Result<GroundGame, DescriptionFault>
     ensures loaded { IfOk result (IsLoadedFrom rules.now) }
     ensures refused { IfErr result (λ fault. fault ≢ DescriptionFault.Memory → DescribesNone rules.now) }
@@ -79,7 +79,7 @@ fn loaded(alloc: Global, rules: &[u8]) -> Result<GroundGame, DescriptionFault>
     Ok(load(alloc, sentences.as_slice())?)
 }
 
-/// The game that a ground description is of, in the form that is fast to play.
+/// The game of a ground description, in the form that is fast to play. The error is the first fault of the text, or `Memory`.
 pub fn described_game(alloc: Global, rules: &[u8]) -> Result<PackedGame, DescriptionFault>
     ensures described { IfOk result (IsDescribed rules.now) }
     ensures refused { IfErr result (λ fault. fault ≢ DescriptionFault.Memory → DescribesNone rules.now) }

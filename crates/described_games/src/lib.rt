@@ -1,7 +1,7 @@
-//! Games that are given as text.
+//! Games from their texts.
 //!
-//! `described_game` makes a game of its ground description, or says which fault its text has, and `push_explanation` says in words where that
-//! is; `countdown_rules` writes the description of Countdown.
+//! `described_game` makes the game of a ground description, or returns the fault of the text. `push_explanation` explains the fault in
+//! words, with its place. `countdown_rules` writes the description of Countdown.
 //!
 //! Free functions take the allocator first.
 #![tactic(auto)]

@@ -1,4 +1,4 @@
-//! Ways along which the derived atoms of a description speak of each other.
+//! Ways from one derived atom of a description to another, along the sentences that mention them.
 
 use indexmap::IndexSet;
 use rule_sentences::sentence::{Atomic, Derived, Literal, Rule};
@@ -7,7 +7,7 @@ use std::alloc::{AllocError, Global};
 /// The heads of a description, each once.
 pub type Heads<'r> = IndexSet<&'r Derived>;
 
-/// What ways are looked for.
+/// The kind of way to look for.
 #[derive(Clone, Copy, PartialEq, Eq)]
 pub enum Way {
     /// From an atom back to itself.
@@ -28,7 +28,7 @@ impl Way {
         }
     }
 
-    /// Whether such a way ends where a sentence speaks of this.
+    /// Whether such a way ends with a sentence that mentions this.
     fn ends_with(self, atomic: &Atomic) -> bool {
         match atomic {
             Atomic::Does(_, _) => self != Way::Cycle,
@@ -38,14 +38,14 @@ impl Way {
     }
 }
 
-/// That a sentence speaks of a derived atom.
+/// A mention of a derived atom in a sentence.
 #[derive(Clone, Copy)]
 struct Link {
     atom: usize,
     sentence: usize,
 }
 
-/// How far a search has come with an atom.
+/// The state of an atom in a search.
 #[derive(Clone, Copy)]
 enum Mark {
     New,
@@ -53,18 +53,18 @@ enum Mark {
     Done,
 }
 
-/// A derived atom: the atoms of which its rules speak, and the sentence with which a way ends, if one does.
+/// A derived atom: the atoms that its rules mention, and the sentence that ends a way, if there is one.
 #[derive(Drop)]
 struct Atom {
     links: Vec<Link>,
     end: Option<usize>,
     mark: Mark,
-    /// How many of the links were followed.
+    /// The number of links that were followed.
     followed: usize,
 }
 
 impl Atom {
-    /// Takes up that a sentence speaks of this.
+    /// Adds a mention.
     fn add(
         &mut self,
         heads: &Heads<'_>,
@@ -123,7 +123,7 @@ pub fn heads_of<'r>(alloc: Global, rules: &'r [Rule]) -> Result<Heads<'r>, Alloc
     Ok(heads)
 }
 
-/// The atoms of these heads, with the links that the rules have.
+/// The atoms of these heads, with the links of the rules.
 fn atoms_of<'r>(
     alloc: Global,
     heads: &Heads<'r>,
@@ -148,16 +148,16 @@ fn atoms_of<'r>(
     Ok(atoms)
 }
 
-/// A search along links, in depth.
+/// A depth-first search along links.
 #[derive(Drop)]
 struct Search {
     atoms: Vec<Atom>,
-    /// The atoms on the way, and by which sentence it goes on from each.
+    /// The atoms on the path, each with the sentence by which the path goes on.
     path: Vec<Link>,
 }
 
 impl Search {
-    /// Where on the path this atom is.
+    /// The place of this atom on the path.
     fn place_of(&self, atom: usize) -> Option<usize> {
         for (place, link) in self.path.iter().enumerate() {
             if link.atom == atom {
@@ -167,7 +167,7 @@ impl Search {
         None
     }
 
-    /// Meets this atom, and returns with which of its atoms a way begins that is found by it.
+    /// Visits an atom. Returns the place on the path where a way begins, if this finds one.
     fn meet(&mut self, number: usize) -> Result<Option<usize>, AllocError> {
         let Some(atom) = self.atoms.get_mut(number) else {
             return Ok(None);
@@ -187,7 +187,7 @@ impl Search {
         }
     }
 
-    /// Follows a link from the end of the way, and returns to which atom. The last atom is left where it has no further link.
+    /// Follows the next link of the path's last atom and returns its target. Removes the last atom if it has no further link.
     fn follow(&mut self) -> Option<usize> {
         let last = self.path.last_mut()?;
         let atom = self.atoms.get_mut(last.atom)?;
@@ -201,7 +201,7 @@ impl Search {
         Some(link.atom)
     }
 
-    /// Searches from this atom on, and returns with which atom of the path the way begins that was found.
+    /// Searches from this atom on. Returns the place on the path where a way begins, if one was found.
     fn way_from(&mut self, atom: usize) -> Result<Option<usize>, AllocError> {
         let mut found = self.meet(atom)?;
         for _ in 0..u64::MAX {
@@ -215,7 +215,7 @@ impl Search {
         Ok(found)
     }
 
-    /// Looks for a way from each head with which one may begin, and returns with which atom of the path the first begins that is found.
+    /// Searches from each head with which a way may begin. Returns the place on the path where the first way begins, if one was found.
     fn find(&mut self, heads: &Heads<'_>, way: Way) -> Result<Option<usize>, AllocError> {
         for (atom, head) in heads.iter().enumerate() {
             if way.begins_with(*head) {
@@ -228,7 +228,7 @@ impl Search {
         Ok(None)
     }
 
-    /// The sentences by which the path goes on, from the atom at this place.
+    /// The sentences by which the path goes on, from this place.
     fn sentences(&self, alloc: Global, start: usize) -> Result<Vec<usize>, AllocError> {
         let mut sentences = Vec::new(alloc);
         for link in self.path.iter().skip(start) {
@@ -238,8 +238,8 @@ impl Search {
     }
 }
 
-/// The sentences of the first such way that is found: each speaks of the head of the next, and the last of what the way ends with. None
-/// where there is no such way.
+/// The sentences of the first such way that is found. Each mentions the head of the next one, and the last mentions what the way ends
+/// with. The list is empty if there is no such way.
 pub fn sentences_of_way(alloc: Global, rules: &[Rule], way: Way) -> Result<Vec<usize>, AllocError> {
     let heads = heads_of(alloc, rules)?;
     let mut search = Search {

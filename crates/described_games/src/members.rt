@@ -1,4 +1,4 @@
-//! Which part of a sentence is at fault.
+//! The faulty part of a sentence.
 
 use crate::games::DescriptionFault;
 use crate::places::{atom_at, end_of, next_start};
@@ -7,16 +7,16 @@ use rule_sentences::sentence::Rule;
 use rule_sentences::{LoadFault, read_rules};
 use std::alloc::Global;
 
-/// The rules that a text without capitals spells, or its first fault.
+/// The rules that a text without capitals spells. The error is its first fault, or `Memory`.
 pub fn rules_in(alloc: Global, folded: &[u8]) -> Result<Vec<Rule>, DescriptionFault> {
     let sentences = read_all(alloc, folded)?;
     Ok(read_rules(alloc, sentences.as_slice())?)
 }
 
-/// What of a sentence has a fault.
+/// The part of a sentence that has a fault.
 #[derive(Clone, Copy)]
 pub enum Part {
-    /// The sentence, which is a fact or nothing.
+    /// The whole sentence, which is no rule.
     Fact,
     /// The rule as a whole.
     Rule,
@@ -26,15 +26,15 @@ pub enum Part {
     Condition,
 }
 
-/// What of a sentence has a fault, and at which byte that begins.
+/// The part of a sentence that has a fault, and the byte at which it begins.
 #[derive(Clone, Copy)]
 pub struct FaultyPart {
     pub part: Part,
     pub at: usize,
 }
 
-/// A word that GDL keeps, whether it is kept for conditions alone, and the form of an expression with the word at its head, or of the
-/// word alone.
+/// A reserved word of GDL, whether only conditions may begin with it, and the form of an expression that begins with it, or of the word
+/// alone.
 const FORMS: [(&[u8], bool, &str); 11] = [
     (b"role", false, "(role NAME)"),
     (b"init", false, "(init TERM)"),
@@ -53,7 +53,7 @@ const FORMS: [(&[u8], bool, &str); 11] = [
     (b"distinct", true, "(distinct TERM TERM)"),
 ];
 
-/// The form of an expression with this word at its head, or of the word alone, if GDL keeps the word.
+/// The form of an expression that begins with this word, or of the word alone. `None` if GDL does not reserve the word.
 fn form_of(word: &[u8], is_condition: bool) -> Option<&'static str> {
     for (name, is_of_conditions, form) in FORMS {
         if word == name && (is_condition || !is_of_conditions) {
@@ -63,7 +63,7 @@ fn form_of(word: &[u8], is_condition: bool) -> Option<&'static str> {
     None
 }
 
-/// The word at the head of the list at this byte, or the atom there; empty where a list stands at the head, or nothing.
+/// The first word of the list at this byte, or the atom there. It is empty if the list is empty or begins with a list.
 fn first_word(folded: &[u8], at: usize) -> &[u8] {
     match folded.get(at) {
         Some(b'(') => match next_start(folded, at.saturating_add(1)) {
@@ -75,7 +75,7 @@ fn first_word(folded: &[u8], at: usize) -> &[u8] {
 }
 
 impl FaultyPart {
-    /// The form that the part has to have, if its first word says so.
+    /// The form that the part must have, if its first word names one.
     pub fn form(self, folded: &[u8]) -> Option<&'static str> {
         let word = first_word(folded, self.at);
         match self.part {
@@ -86,7 +86,7 @@ impl FaultyPart {
     }
 }
 
-/// Whether the text of a part has this fault by itself; a condition is that of a rule without other faults.
+/// Whether the text of a part has this fault by itself. A condition is tried in a rule without other faults.
 fn has_fault(
     alloc: Global,
     part: Part,
@@ -111,7 +111,7 @@ fn has_fault(
     }
 }
 
-/// What of the sentence at this byte has this fault, which names a first sentence.
+/// The part of the sentence at this byte that has this fault. The fault is one that names a first sentence.
 pub fn faulty_part(
     alloc: Global,
     folded: &[u8],

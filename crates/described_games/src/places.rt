@@ -4,7 +4,7 @@ ghost use Rattle.described_games.specs.Places.{line_after, column_after};
 
 use crate::scan::{Scan, is_atom_byte};
 
-/// A place in a text: its line and its column, both from 1 on. Columns count bytes.
+/// A place in a text: its line and its column, both counted from 1. Columns count bytes.
 #[derive(Clone, Copy)]
 pub struct Place {
     pub line: usize,
@@ -12,7 +12,7 @@ pub struct Place {
 }
 
 impl Place {
-    /// The place of the byte with this number, from 0 on.
+    /// The place of the byte with the number `at`, counted from 0.
     pub fn of(text: &[u8], at: usize) -> Place
         ensures line { result.line ≡ line_after 1 (take at text.now) }
         ensures column { result.column ≡ column_after 1 (take at text.now) }
@@ -32,7 +32,7 @@ impl Place {
     }
 }
 
-/// The atom at this byte; empty where there is none.
+/// The atom at this byte. It is empty if there is none.
 pub fn atom_at(text: &[u8], at: usize) -> &[u8] {
     let rest = text.get(at..).unwrap_or(b"");
     for (end, byte) in rest.iter().enumerate() {
@@ -43,7 +43,7 @@ pub fn atom_at(text: &[u8], at: usize) -> &[u8] {
     rest
 }
 
-/// Where the next expression begins from this byte on, unless a list ends before it.
+/// The byte at which the next expression begins, from this byte on. `None` if a list or the text ends before it.
 pub fn next_start(text: &[u8], from: usize) -> Option<usize> {
     let mut scan = Scan::new();
     for (at, byte) in text.iter().enumerate().skip(from) {
@@ -58,7 +58,7 @@ pub fn next_start(text: &[u8], from: usize) -> Option<usize> {
     None
 }
 
-/// The byte behind the expression that begins at this one.
+/// The byte after the expression that begins at this one.
 pub fn end_of(text: &[u8], start: usize) -> usize {
     if text.get(start) != Some(&b'(') {
         return start.saturating_add(atom_at(text, start).len());
@@ -73,7 +73,7 @@ pub fn end_of(text: &[u8], start: usize) -> usize {
     text.len()
 }
 
-/// Where the sentence of this number begins, from 0 on.
+/// The byte at which the sentence of this number begins. Numbers count from 0.
 pub fn sentence_start(text: &[u8], number: usize) -> Option<usize> {
     let mut at = next_start(text, 0)?;
     for _ in 0..number {
@@ -82,7 +82,7 @@ pub fn sentence_start(text: &[u8], number: usize) -> Option<usize> {
     Some(at)
 }
 
-/// Where the last sentence that begins before this byte begins, and whether it goes on there.
+/// The byte at which the last sentence before `end` begins, and whether it is still open at `end`.
 pub fn sentence_before(text: &[u8], end: usize) -> Option<(usize, bool)> {
     let mut scan = Scan::new();
     let mut last = None;
@@ -95,7 +95,7 @@ pub fn sentence_before(text: &[u8], end: usize) -> Option<(usize, bool)> {
     Some((last?, scan.depth > 0))
 }
 
-/// Where the first variable from this byte on begins.
+/// The byte at which the first variable begins, from this byte on.
 pub fn variable_start(text: &[u8], start: usize) -> Option<usize> {
     let mut scan = Scan::new();
     for (at, byte) in text.iter().enumerate().skip(start) {

@@ -1,6 +1,6 @@
-//! How expressions begin and end in a text, byte by byte.
+//! The beginnings and ends of expressions in a text, byte by byte.
 
-/// What goes on at a place of a text: how many lists are open, and whether a comment or an atom is.
+/// The state at a place of a text: the number of open lists, and whether a comment or an atom is open.
 #[derive(Clone, Copy)]
 pub struct Scan {
     pub depth: usize,
@@ -8,11 +8,13 @@ pub struct Scan {
     in_atom: bool,
 }
 
+/// Whether a byte may stand in an atom.
 pub fn is_atom_byte(byte: u8) -> bool {
     byte.is_ascii_graphic() && !matches!(byte, b'(' | b')' | b';')
 }
 
 impl Scan {
+    /// The state at the beginning of a text.
     pub fn new() -> Scan {
         Scan {
             depth: 0,
@@ -21,12 +23,12 @@ impl Scan {
         }
     }
 
-    /// Whether the next byte is of a comment, or white space.
+    /// Whether the next byte belongs to a comment, or is white space.
     pub fn is_hidden(&self, byte: u8) -> bool {
         self.in_comment || matches!(byte, b';' | b' ' | b'\t' | b'\r' | b'\n')
     }
 
-    /// Goes past the next byte, and returns whether an expression begins with it.
+    /// Passes the next byte. Returns whether an expression begins with it.
     pub fn pass(&mut self, byte: u8) -> bool {
         if self.in_comment {
             self.in_comment = byte != b'\n';

@@ -1,4 +1,4 @@
-//! What is wrong with a description as a whole.
+//! The faults of a description as a whole.
 
 use crate::links::{Heads, heads_of};
 use game_core::{MAX_ROLES, Text};
@@ -9,7 +9,7 @@ use rule_sentences::sizes::{
 };
 use std::alloc::{AllocError, Global};
 
-/// The first sentence that names a role which another before it names, and that one.
+/// The first sentence that names a role again, and the earlier sentence that names it. The list is empty if no role is named twice.
 pub fn second_role(alloc: Global, rules: &[Rule]) -> Result<Vec<usize>, AllocError> {
     let mut named = IndexMap::new(alloc);
     for (number, rule) in rules.iter().enumerate() {
@@ -22,7 +22,7 @@ pub fn second_role(alloc: Global, rules: &[Rule]) -> Result<Vec<usize>, AllocErr
     Ok(Vec::new(alloc))
 }
 
-/// What a description has too many of.
+/// A kind of thing of which a description has too many.
 #[derive(Clone, Copy)]
 pub struct Excess {
     pub count: usize,
@@ -30,7 +30,7 @@ pub struct Excess {
     pub of: &'static str,
 }
 
-/// How many of the heads are moves of this role.
+/// The number of heads that are moves of this role.
 fn count_moves(heads: &Heads<'_>, name: &Text) -> usize {
     let mut count: usize = 0;
     for head in heads.iter() {
@@ -43,7 +43,7 @@ fn count_moves(heads: &Heads<'_>, name: &Text) -> usize {
     count
 }
 
-/// The most moves that the heads have for one role.
+/// The largest number of moves that the heads have for one role.
 fn most_moves(heads: &Heads<'_>) -> usize {
     let mut most = 0;
     for head in heads.iter() {
@@ -64,7 +64,7 @@ fn count_roles(rules: &[Rule]) -> usize {
     count
 }
 
-/// What the rules are too many of, or have too many of. No role is named twice.
+/// The first limit that the rules exceed. They name no role twice.
 pub fn excess_of(alloc: Global, rules: &[Rule]) -> Result<Excess, AllocError> {
     let atomic = count_atomic_sentences(alloc, rules)?;
     let roles = count_roles(rules);

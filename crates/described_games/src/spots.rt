@@ -1,4 +1,4 @@
-//! What is told of one place in a text.
+//! The explanation of one place in a text.
 
 use crate::excerpts::push_excerpt;
 use crate::places::{Place, sentence_before, variable_start};
@@ -8,16 +8,16 @@ use std::alloc::AllocError;
 /// What is wrong at a place.
 #[derive(Clone, Copy)]
 pub enum Words {
-    /// That was said at the place before.
+    /// The same as at the place before.
     Same,
     Plain(&'static str),
-    /// What stands there has not this form.
+    /// The expression there has not this form.
     NoForm(&'static str),
-    /// This byte is not of KIF text.
+    /// This byte does not belong to KIF text.
     BadByte(u8),
 }
 
-/// A place in a text with what is wrong there, and where the expression begins that is shown.
+/// A place in a text, what is wrong there, and the byte at which the shown expression begins.
 #[derive(Clone, Copy)]
 pub struct Spot {
     pub at: usize,
@@ -26,7 +26,7 @@ pub struct Spot {
 }
 
 impl Spot {
-    /// A fault of the text at a byte, with the sentence that goes on there.
+    /// A fault of the text at a byte, with the sentence that is open there.
     fn inside(text: &[u8], at: usize, words: Words) -> Spot {
         let start = match sentence_before(text, at) {
             Some((start, true)) => start,
@@ -48,7 +48,7 @@ impl Spot {
         }
     }
 
-    /// A fault of the text, if it is at one place.
+    /// The spot of a fault of the text, if the fault is at one place.
     pub fn of(text: &[u8], fault: KifFault) -> Option<Spot> {
         let (at, words) = match fault {
             KifFault::Unopened(at) => return Some(Spot::unopened(text, at)),
@@ -72,7 +72,7 @@ impl Spot {
         }
     }
 
-    /// Puts what is told of the place behind what is written.
+    /// Appends the explanation of the place to `out`.
     pub fn push(self, text: &[u8], out: &mut String) -> Result<(), AllocError> {
         let Place { line, column } = Place::of(text, self.at);
         write!(out, "line {line}, column {column}: ")?;
