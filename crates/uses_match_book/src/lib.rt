@@ -12,7 +12,7 @@ use match_book::laws::{recorded_moves_are_legal, taken_for_the_round};
 use match_book::{LentAnswer, Match};
 use std::alloc::{AllocError, Global};
 
-/// Where a match stands: the state to which its recorded joint moves lead. Each of these was legal.
+/// The present state of a match: the state to which its recorded joint moves lead. Each of these was legal.
 pub fn reached<'a, G: Game>(game: &G, held: &'a Match<G>) -> &'a G::State
     requires { held.now.game ≡ game.now }
     ensures { IsAt (G.rules game.now) (joint_moves held.now.value.turns) result.now }
@@ -33,8 +33,8 @@ pub fn final_goal<G: Game>(game: &G, held: &Match<G>, role: usize) -> Option<u8>
     held.goal_of(role)
 }
 
-/// Hands in what a role said for a round. Returns whether it counts: only an answer for the present round does, and any other changes
-/// nothing.
+/// Hands in a role's answer for a round. Returns whether it counts: only an answer for the present round does, and any other changes
+/// nothing. The error is out of memory.
 pub fn hand_in<G: Game>(
     alloc: Global,
     game: &G,
@@ -54,7 +54,7 @@ pub fn hand_in<G: Game>(
     Ok(refusal.is_none())
 }
 
-/// Has the match come to its end, and keeps the recorded turns. No further one is played.
+/// Ends the match and keeps the recorded turns. No further turn is played.
 pub fn call_off<G: Game>(held: &mut Match<G>)
     ensures game { held.new.game ≡ held.old.game }
     ensures ended { is_live (stage (G.rules held.new.game) held.new.value) ≡ false }

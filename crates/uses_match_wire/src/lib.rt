@@ -12,7 +12,7 @@ use match_wire::laws::owed_messages_read_back;
 use match_wire::{Brief, Message, MessageFault, message, read_message};
 use std::alloc::{AllocError, Global};
 
-/// What a player reads in the message that is owed to its role: what the message says to it, without capitals.
+/// Writes and reads the message that is owed to a role. Returns what its player reads: what the message says to it, without capitals.
 pub fn heard(alloc: Global, brief: &Brief, role: usize, owed: &Owed) -> Result<Message, AllocError>
     requires role { role < length brief.now.roles }
     requires sayable { (said : MessageValue) × Says brief.now role owed.now said × IsSayable said }
@@ -27,7 +27,7 @@ pub fn heard(alloc: Global, brief: &Brief, role: usize, owed: &Owed) -> Result<M
     }
 }
 
-/// The id of the match that a player is told to abort: the match's own.
+/// The id in an ABORT message: the match's own.
 pub fn aborted(alloc: Global, brief: &Brief, role: usize) -> Result<Text, AllocError>
     requires role { role < length brief.now.roles }
     requires name { is_name brief.now.id ≡ true }

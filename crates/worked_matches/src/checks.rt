@@ -1,4 +1,4 @@
-//! Records that are checked, each with one change to it.
+//! Checks of records, each with one change to the record.
 use crate::holding::holds;
 use crate::scripts::FINISHED_RECORD;
 use crate::strikes::RETIRED_RECORD;
@@ -8,7 +8,7 @@ use record_check::verify;
 use std::alloc::Global;
 use std::test::Fail;
 
-/// A text that stands in a record, what is put in its place, and what the check says then.
+/// A text in a record, the text that replaces it, and what the check then returns.
 type Change = (&'static str, &'static str, Result<(), VerifyFault>);
 
 /// The record with the first such text replaced.
@@ -20,14 +20,14 @@ fn changed(alloc: Global, record: &str, change: Change) -> Result<String, Fail> 
     Ok(text)
 }
 
-/// Whether the check says so of the record with this change.
+/// Whether the check of the record with this change returns what the change says.
 fn is_checked(alloc: Global, heap: u8, record: &str, change: Change) -> Result<bool, Fail> {
     let game = Countdown::new(heap).ok_or("no such game")?;
     let text = changed(alloc, record, change)?;
     Ok(verify(alloc, &game, text.as_bytes()) == change.2)
 }
 
-/// The changes to a record of a whole match, whatever its version.
+/// Changes to the record of a whole match, in both versions.
 const CHANGES: [Change; 7] = [
     ("", "", Ok(())),
     (
@@ -78,7 +78,7 @@ fn what_is_no_record_is_named(rt: HostRuntime) -> Result<(), Fail> {
     Ok(())
 }
 
-/// The changes to the record of a match in which roles were retired.
+/// Changes to the record of a match in which roles were retired.
 const STRUCK_CHANGES: [Change; 7] = [
     ("", "", Ok(())),
     (

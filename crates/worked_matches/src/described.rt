@@ -94,10 +94,10 @@ fn games_end_or_are_aborted(rt: HostRuntime) -> Result<(), Fail> {
     Ok(())
 }
 
-/// The most turns of a match.
+/// The limit of a match's turns.
 const MOST_TURNS: u32 = 10_000;
 
-/// A match in which the only role goes on for so many turns, and then what is due to it.
+/// A match in which the only role plays `MOST_TURNS` turns, and then asks what is due to it.
 fn long_script(alloc: Global) -> Result<String, AllocError> {
     let mut script = "open m 0 1 1 ann -> opened\nsubmit m 0 0 x -> taken\n".to_string(alloc)?;
     for round in 1..=MOST_TURNS {
@@ -122,7 +122,7 @@ fn long_record(alloc: Global) -> Result<String, AllocError> {
     Ok(record)
 }
 
-/// Writes a text so many times, with commas between.
+/// Writes a text `count` times, with commas between.
 fn push_repeated(record: &mut String, text: &str, count: u32) -> Result<(), AllocError> {
     for place in 0..count {
         if place > 0 {

@@ -1,5 +1,5 @@
 //! Worked examples of matches: scripts with the reply to each call and the records that they end in, and records that are checked.
-//! Tests alone.
+//! There are tests alone here.
 #![tactic(auto)]
 
 #[cfg(test)]

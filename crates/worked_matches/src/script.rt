@@ -1,4 +1,4 @@
-//! Scripts in which the reply stands behind each call, after an arrow.
+//! Scripts in which an arrow and the reply follow each call.
 use desk_scripts::answer_script;
 use game_core::{Countdown, Game};
 use ground_rules::load;
@@ -7,7 +7,7 @@ use packed_rules::{PackedGame, pack};
 use std::alloc::{AllocError, Global};
 use std::test::Fail;
 
-/// What is asked of a desk, and what it has to answer.
+/// The calls on a desk, and the replies that it must give.
 #[derive(Drop)]
 struct Script {
     calls: Vec<u8>,
@@ -20,7 +20,7 @@ fn push_line(text: &mut Vec<u8>, line: &str) -> Result<(), AllocError> {
     Ok(())
 }
 
-/// Reads a script, each of whose lines has an arrow.
+/// Reads a script with an arrow in each line.
 fn read_script(alloc: Global, text: &str) -> Result<Script, AllocError> {
     let mut calls = Vec::new(alloc);
     let mut replies = Vec::new(alloc);
@@ -48,7 +48,7 @@ pub fn is_played<G: Game + Drop>(
     Ok(answers.text.as_slice() == replies.as_slice())
 }
 
-/// Whether this is so in Countdown with a heap of this size.
+/// Whether a desk of Countdown with a heap of this size does so.
 pub fn is_counted_down(alloc: Global, heap: u8, text: &str, records: &str) -> Result<bool, Fail> {
     let game = Countdown::new(heap).ok_or("no such game")?;
     Ok(is_played(alloc, game, text, records)?)

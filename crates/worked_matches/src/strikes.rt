@@ -56,7 +56,7 @@ const NOT_IN_A_ROW_RECORD: &str =
     r#"{"cause":null,"endMarks":[null,null],"errors":[["TO",""],["",""],["TO",""]],"goalValues":[],"matchId":"m","moves":[["(take 1)","noop"],["noop","(take 1)"],["(take 1)","noop"]],"phase":"playing","playClock":1,"players":["ann","bob"],"roles":["red","blue"],"startClock":1,"startMarks":["",""],"states":[["(heap 10)","(turn red)"],["(heap 9)","(turn blue)"],["(heap 8)","(turn red)"],["(heap 7)","(turn blue)"]],"strikes":2,"version":2}
 "#;
 
-/// More strikes than there can be are refused behind a clock that can't be, with a heap of three.
+/// Too many strikes are refused only after a bad clock, with a heap of three.
 const TOO_MANY: &str = "strict m 0 0 1 256 ann bob -> refused badclock
 strict m 0 1 1 256 ann bob -> refused badstrikes
 strict m 0 1 1 255 ann bob -> opened

@@ -68,7 +68,7 @@ fn exchanged(alloc: Global, input: Vec<u8>) -> Result<Text, WireFault> {
     exchange(alloc, &mut stream, b"ann", b"(PLAY m1 NIL)")
 }
 
-/// Whether an exchange in which a player replies with these bytes gives this body, or this fault.
+/// Whether an exchange returns this body or this fault, if the player replies with these bytes.
 fn gives(alloc: Global, input: Vec<u8>, wanted: Result<&str, WireFault>) -> bool {
     match (exchanged(alloc, input), wanted) {
         (Ok(body), Ok(text)) => body.as_slice() == text.as_bytes(),

@@ -53,7 +53,7 @@ fn first_fault_is_named(rt: HostRuntime) {
     }
 }
 
-/// So many empty lists in one another.
+/// Empty lists inside each other, `depth` of them.
 fn nested(alloc: Global, depth: usize) -> Result<Vec<u8>, AllocError> {
     let mut text = vec![in alloc; b'('; depth]?;
     for _ in 0..depth {

@@ -1,4 +1,5 @@
-//! Worked examples of texts, with what they must give: expressions, descriptions, messages, HTTP exchanges, lists of turns. Tests alone.
+//! Worked examples of texts, with what they must give: expressions, descriptions, messages, HTTP exchanges, lists of turns. There are
+//! tests alone here.
 #![tactic(auto)]
 
 #[cfg(test)]

@@ -33,7 +33,7 @@ fn brief(alloc: Global, id: &[u8], role: &str, rules: &[u8]) -> Result<Brief, Fa
     })
 }
 
-/// Whether what is owed to the only role of a match, whose id, role and rules these are, has this text.
+/// Whether the message that is owed to the only role of a match has this text. `told` is the id, the role and the rules of the match.
 fn is_written(
     alloc: Global,
     told: (&[u8], &str, &[u8]),
@@ -47,7 +47,7 @@ fn is_written(
     Ok(message(alloc, &brief, 0, &owed)?.as_slice() == wanted)
 }
 
-/// PLAY behind a turn.
+/// PLAY after a turn.
 fn play_of_turn(alloc: Global) -> Result<Owed, AllocError> {
     Ok(Owed::Play(Some(texts(alloc, &["(take 1)", "noop"])?)))
 }
@@ -68,7 +68,7 @@ fn messages_have_their_texts(rt: HostRuntime) -> Result<(), Fail> {
     Ok(())
 }
 
-/// Whether these are printed so, one behind the other.
+/// Whether the expressions print as these texts, one after the other.
 fn are_printed(alloc: Global, exprs: &[Expr], wanted: &[&str]) -> Result<bool, AllocError> {
     let mut is_so = exprs.len() == wanted.len();
     for (expr, text) in exprs.iter().zip(wanted) {
@@ -77,7 +77,7 @@ fn are_printed(alloc: Global, exprs: &[Expr], wanted: &[&str]) -> Result<bool, A
     Ok(is_so)
 }
 
-/// Whether START has the parts that it was written of.
+/// Whether START has the parts from which it was written.
 fn is_start(alloc: Global, found: &Message) -> Result<bool, AllocError> {
     let Message::Start {
         id,

@@ -13,7 +13,7 @@ fn joints(alloc: Global, turns: &[&[Take]]) -> Result<Vec<Joint<Take>>, AllocErr
     Ok(all)
 }
 
-/// Whether the turns lead from a heap of three to this.
+/// Whether the turns lead from a heap of three to this position, or to this fault.
 fn leads_to(
     alloc: Global,
     game: &Countdown,

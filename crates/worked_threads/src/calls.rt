@@ -7,7 +7,7 @@ use match_desk::{Call, Manager, Reply};
 use std::alloc::{AllocError, Global};
 use std::process::Abort;
 
-/// How many calls each line makes.
+/// The number of calls that each line makes.
 pub const CALLS: u32 = 10;
 
 /// A manager of Countdown with a heap of three, without a match.
@@ -57,7 +57,7 @@ fn query(alloc: Global, id: &str) -> Result<Call, AllocError> {
     Ok(Call::Query { id })
 }
 
-/// Whether a line opens a match at a turn, or else queries it, and the match's id.
+/// Whether a line opens a match at a turn, and the match's id. A line that opens none queries the match.
 fn step_of(line: u32, turn: u32) -> (bool, &'static str) {
     match (line, turn) {
         (0, 0) => (true, "m1"),

@@ -13,10 +13,10 @@ use std::process::Abort;
 use std::sync::Wait;
 use std::sync::ledger::{Blank, Ledger};
 
-/// The most matches of a desk.
+/// The limit of a desk's matches.
 const MATCHES: u32 = 1_024;
 
-/// The reply to a call that opens a match with this id, which is made.
+/// Makes a call that opens a match with this id. Returns the reply.
 fn reply_to_open(
     alloc: Global,
     manager: &mut Manager<Countdown>,

@@ -1,5 +1,5 @@
 //! Worked examples of desks that many threads share: lines behind a lock and over rings, full desks, and whole matches between players
-//! in memory. Tests alone.
+//! in memory. There are tests alone here.
 #![tactic(auto)]
 
 #[cfg(test)]

@@ -13,13 +13,13 @@ use std::thread;
 use std::thread::Threads;
 use std::time::{Clock, Duration};
 
-/// How often a player looks for another.
+/// The number of times that a player looks for another one.
 const LOOKS: u32 = 2_000;
 
-/// How often an attended role may ask what is due to it.
+/// The limit of an attended role's asks for what is due to it.
 const TRIES: u64 = 100_000;
 
-/// What a player does when it is asked for an answer.
+/// The act of a player that is asked for an answer.
 #[derive(Clone, Copy)]
 enum Act {
     Say(&'static str),
@@ -27,8 +27,8 @@ enum Act {
     Wait,
 }
 
-/// A player that answers PLAY so, and START and STOP as it should. It counts its messages where others can see it, and is silent at
-/// START where it never sees that another player has been handed a message.
+/// A player that answers PLAY with `play`, and START and STOP as it should. It counts its messages where others can see the count, and is
+/// silent at START if it never sees that another player got a message.
 #[derive(Drop)]
 struct ReadyPlayer<'a, C> {
     clock: &'a C,
@@ -84,7 +84,7 @@ fn answer(alloc: Global, act: Act) -> Answer {
     }
 }
 
-/// The players of red, who waits for blue, and of blue, who waits for nobody: it has itself been handed a message.
+/// The players of red and blue. Red waits for blue. Blue waits for nobody, since it waits for its own first message.
 fn red_and_blue<'a, C>(
     clock: &'a C,
     alloc: Global,
@@ -115,7 +115,7 @@ fn setup(alloc: Global) -> Result<Setup, AllocError> {
     })
 }
 
-/// A match of Countdown with a heap of one, in which red and blue answer PLAY so.
+/// A match of Countdown with a heap of one, in which red and blue answer PLAY with these acts.
 fn refereed<R: Threads + Wait + Clock + Abort + Sync>(
     rt: &R,
     alloc: Global,

@@ -18,10 +18,10 @@ type Desk = RingDesk<Manager<Countdown>>;
 
 type Line = RingLine<Manager<Countdown>>;
 
-/// How many calls, and how many replies, of a line may wait.
+/// The number of calls of a line that may wait, and of replies.
 const ROOM: u64 = 2;
 
-/// How often a line tries to post a call, or to take its reply.
+/// The limit of a line's tries to post a call, or to take its reply.
 const TRIES: u64 = 1_000_000_000;
 
 /// A desk of Countdown with a heap of three, and its lines.
@@ -78,7 +78,7 @@ fn check_first_round<R: Abort>(
     holds(rt, is_twice, "the second answer");
 }
 
-/// That the first role gave no answer in the first round.
+/// The call that the first role gave no answer in the first round.
 fn late(alloc: Global) -> Result<Call, AllocError> {
     Ok(Call::Miss {
         id: text(alloc, "m1")?,
@@ -97,7 +97,7 @@ fn the_lower_line_answers_first(rt: HostRuntime) {
     check_first_round(&rt, rt.alloc(), &mut desk, &mut first, &mut second);
 }
 
-/// Serves the lines until that is told to be over.
+/// Serves the lines until they are done.
 fn serve(desk: Desk, is_over: &AtomicU64) -> Desk {
     let mut desk = desk;
     for _ in 0..u64::MAX {

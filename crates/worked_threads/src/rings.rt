@@ -32,7 +32,7 @@ fn open_lines(alloc: Global, most: u64) -> Result<(Desk, Vec<Line>), AllocError>
     }
 }
 
-/// The same, with each line by itself.
+/// The same desk, with each line by itself.
 fn open_two<R: Abort>(rt: &R, alloc: Global, most: u64) -> Result<(Desk, Line, Line), AllocError>
     requires { (1 ≤ most) × (most ≤ max_entries) }
     ensures first { IfOk result (λ opened. IsLineOf opened.0.ports opened.1) }
@@ -45,7 +45,7 @@ fn open_two<R: Abort>(rt: &R, alloc: Global, most: u64) -> Result<(Desk, Line, L
     Ok((desk, first, second))
 }
 
-/// The end of a line, beside others.
+/// The ends of lines, with the end of one more.
 fn beside<R: Abort>(rt: &R, desk: &Desk, ends: Vec<End>, end: End) -> Vec<End>
     requires ends { AreEndsOf desk.now.ports ends.items }
     requires end { IsLineOf desk.now.ports end.line }
