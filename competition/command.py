@@ -172,7 +172,7 @@ def main():
         print("ggp_competition: interrupted", file=sys.stderr)
         return 1
     except BrokenPipeError:
-        # Whoever read what is printed wants no more of it.
+        # The reader of the output wants no more of it.
         os.dup2(os.open(os.devnull, os.O_WRONLY), sys.stdout.fileno())
         return 1
     except OSError as why:

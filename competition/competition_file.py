@@ -1,4 +1,4 @@
-"""Reads competition.toml: what is played, by whom, and in which form. Each mistake is told with its line and key."""
+"""Reads competition.toml: what is played, by whom, and in which form. Each mistake is reported with its line and key."""
 
 import re
 from dataclasses import dataclass
@@ -37,8 +37,8 @@ class Mistaken(Exception):
 
 @dataclass(frozen=True)
 class Game:
-    """A game that is played: its name, the file of its description, its clocks in seconds, and what its players are told of its rules,
-    with the line that says so."""
+    """A game that is played: its name, the file of its description, its clocks in seconds, and which rules its players get, with the line
+    that says so."""
 
     name: str
     file: str
@@ -49,7 +49,7 @@ class Game:
     line: int
 
     def tells_variables(self):
-        """Returns whether players are told the description with variables."""
+        """Returns whether players get the description with variables."""
         return self.told == TOLD[1]
 
 
@@ -68,7 +68,7 @@ class Player:
 
 @dataclass(frozen=True)
 class Form:
-    """Who meets whom: round robin, gauntlet of one against all, or the lines of a schedule, each with its line in the file."""
+    """The pairing: round robin, gauntlet of one against all, or the lines of a schedule, each with its line in the file."""
 
     kind: str
     rounds: int

@@ -27,7 +27,7 @@ class NoDescription(Exception):
 @dataclass(frozen=True)
 class Rules:
     """The ground description of a game: its bytes, their sum, and the names of its roles; and the bytes of the description with
-    variables that players are told, or none where they are told the rules themselves."""
+    variables that players get, or none if they get the rules themselves."""
 
     text: bytes
     sum: str
@@ -120,14 +120,14 @@ def instantiated(path, tells_variables):
 
 
 def rules_of(text, referee, told=None):
-    """Returns the rules that a ground description says, as the referee reads it, or none; with what players are told."""
+    """Returns the rules that a ground description says, as the referee reads it, or none; with the text that players get."""
     roles = referee.roles(text)
     return Rules(text, sum_of(text), roles, told) if roles else None
 
 
 def load_description(path, referee, tells_variables):
-    """Returns the rules of the game that a file describes, with what its players are told. That is nothing beside the rules where the
-    file has no variables, whatever is asked for."""
+    """Returns the rules of the game that a file describes, with the text that its players get. If the file has no variables that is
+    nothing beside the rules, whatever is asked for."""
     try:
         with open(path, "rb") as it:
             text = it.read(MOST_BYTES + 1)

@@ -6,6 +6,8 @@ from competition.messages import reached
 
 # An ssh ends with the parallel that started it, and what it runs on the host then ends too.
 SSH = "setpriv --pdeathsig KILL ssh -o BatchMode=yes -o ConnectTimeout=5 -o ServerAliveInterval=2 -o ServerAliveCountMax=3"
+# There is one parallel for each open match, with all hosts to choose from. Fed through a pipe, one for all matches would see that a match
+# is over only when it reads the next line, which waits for just that.
 # A player of a match whose referee is lost waits for it, so each try begins with an ABORT, which may take so many seconds.
 ABORT_SECONDS = 5
 ABORT = (

@@ -1,4 +1,4 @@
-"""A match from INFO to its files. It goes on in steps, and between them gives back the hand to whoever plays many at once."""
+"""A match from INFO to its files. It goes on in steps, and returns between them, so that many are played at once."""
 
 import datetime
 import shutil

@@ -1,4 +1,4 @@
-"""What is told while matches are played: a line as each begins and ends, and on a terminal how far all of them are."""
+"""Reports while matches are played: a line when each begins and ends, and on a terminal the progress of all of them."""
 
 import sys
 import time
@@ -13,7 +13,7 @@ def spell(seconds):
 
 
 class Teller:
-    """Writes lines to standard output and, where standard error is a terminal, one line there that is written anew."""
+    """Writes lines to standard output and, if standard error is a terminal, one line there that is rewritten."""
 
     def __init__(self):
         self.is_shown = sys.stderr.isatty()

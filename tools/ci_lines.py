@@ -16,7 +16,7 @@ def library_of(line):
 
 
 def follow(lines, progress, tell):
-    """Goes through what `rt ci` prints, and tells of each crate that ends. Returns the last lines of what failed first."""
+    """Goes through what `rt ci` prints, and reports each crate that ends. Returns the last lines of what failed first."""
     block, said, wrong = collections.deque(maxlen=LAST_LINES), "", []
     for line in lines:
         block.append(line)

@@ -182,7 +182,7 @@ class Reader:
         return any(name in meant and (of is None or of & {enum} or NAMED.search(name)) for enum, name in self.names.variants)
 
     def is_refusal(self, pattern, owner):
-        """Returns whether an arm is taken for want of memory alone: each of its alternatives names it, or its condition asks for it."""
+        """Returns whether an arm matches only out of memory: each of its alternatives names it, or its condition asks for it."""
         at = next((it for it in range(len(pattern)) if is_word(pattern[it], "if")), len(pattern))
         asked = [*flat(pattern[at:])]
         if any(is_word(it) and ASKED.fullmatch(it.text) for it in asked) and not any(is_mark(it, "||") or is_mark(it, "!") for it in asked):
@@ -348,7 +348,7 @@ class Reader:
         return found
 
     def read_let(self, nodes, at, sizes, owner):
-        """Passes the pattern and the type. Where the pattern of an `if let` names want of memory alone, its block hands that on."""
+        """Passes the pattern and the type. If the pattern of an `if let` names only out of memory, its block returns it."""
         equals = until(nodes, at, "=", ";")
         is_condition = at > 0 and (is_word(nodes[at - 1], "if", "while") or is_mark(nodes[at - 1], "&&"))
         if is_condition and self.is_refusal(nodes[at + 1 : equals], owner):

@@ -31,8 +31,8 @@ def part_of(process, top):
 
 
 class Meter(threading.Thread):
-    """Looks once a second what each process of the prover has taken; what it takes in its last second is not seen. `begins` is told
-    each crate's proof as it is first seen."""
+    """Looks once a second what each process of the prover has taken; what it takes in its last second is not seen. Calls `begins`
+    with each crate's proof when it is first seen."""
 
     def __init__(self, top, begins=lambda name: None):
         super().__init__(daemon=True)

@@ -1,5 +1,5 @@
 """What the tools need beside the repository: a Python that is new enough, and the Rattle kit in a version with which the gate passes.
-What is not there is told in a sentence, before anything else is done. This file is read by any Python 3, so that an old one can say it."""
+A missing thing is reported in a sentence, before anything else is done. This file is read by any Python 3, so that an old one can say it."""
 import shutil
 import subprocess
 import sys

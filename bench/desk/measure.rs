@@ -1,5 +1,5 @@
 //! Runs a command and writes to standard error, behind what it wrote there, the microseconds of a processor that it took and the
-//! most KiB that it had. Whoever starts a process hands its own peak on, so this is done by a program that has little itself.
+//! most KiB that it had. A process hands its own peak on to those that it starts, so this is done by a program that has little itself.
 use std::os::raw::{c_int, c_long};
 use std::os::unix::process::ExitStatusExt;
 use std::process::{Command, ExitCode, ExitStatus};

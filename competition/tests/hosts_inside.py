@@ -35,7 +35,7 @@ exec {ssh} -F /dev/null -i {room}/key -o StrictHostKeyChecking=no -o UserKnownHo
 """
 
 
-# What runs on holds no pipe of whoever waits for the end of this.
+# What runs on holds no pipe of a program that waits for the end of this.
 QUIET = {"stdin": subprocess.DEVNULL, "stdout": subprocess.DEVNULL, "stderr": subprocess.DEVNULL}
 
 

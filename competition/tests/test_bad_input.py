@@ -1,4 +1,4 @@
-"""Bad input, through the program: it is told with its place, and nothing is written."""
+"""Bad input, through the program: it is reported with its place, and nothing is written."""
 
 import os
 import shutil

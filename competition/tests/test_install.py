@@ -22,7 +22,7 @@ class Install(unittest.TestCase):
             nim = [("nim", GAMES / "general/nim.kif", 'told = "variables"')] if shutil.which("gringo") else []
             games = [("countdown", GAMES / "countdown.kif"), *nim]
             (cup / "competition.toml").write_text(toml([("ann", "h:1"), ("bob", "h:2")], games))
-            # Found by the path of the shell, as whoever has installed it calls it.
+            # Found by the path of the shell, as after an installation.
             environment = {**os.environ, "PATH": f"{prefix}/bin:{os.environ['PATH']}"}
             done = subprocess.run(["ggp_competition", "plan"], cwd=cup, env=environment, capture_output=True, text=True)
             self.assertEqual((done.returncode, done.stderr), (0, ""))

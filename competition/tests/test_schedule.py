@@ -1,4 +1,4 @@
-"""Who meets whom: each pair as often as was asked, each player in each seat equally often, the same for the same competition."""
+"""The pairing: each pair as often as was asked, each player in each seat equally often, the same for the same competition."""
 
 import unittest
 from collections import Counter

@@ -1,4 +1,4 @@
-"""The reader of TOML: what it takes is what Python's own reader takes, and what it refuses is told with line and key."""
+"""The reader of TOML: what it takes is what Python's own reader takes, and what it refuses is reported with line and key."""
 
 import random
 import unittest

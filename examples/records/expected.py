@@ -27,7 +27,7 @@ MOST_TURNS = 10000
 
 
 class Countdown:
-    """In turn one or two are taken from a heap; whoever is on turn at an empty heap has lost."""
+    """In turn one or two are taken from a heap; the player on turn at an empty heap has lost."""
 
     def __init__(self, heap, turn=0):
         self.heap, self.turn = heap, turn

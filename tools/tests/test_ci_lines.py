@@ -26,7 +26,7 @@ rt: FAILED: middle high
 
 
 class Told:
-    """Keeps what a progress is told."""
+    """Keeps what is reported to a progress."""
 
     def __init__(self):
         self.ended = []

@@ -80,7 +80,7 @@ class Said(unittest.TestCase):
         self.is_found("const LATE: VerifyFault = VerifyFault::Memory;")
         self.is_found('write!(out, "want of memory")?')
 
-    def test_an_arm_that_takes_more_than_want_of_memory(self):
+    def test_an_arm_that_takes_more_than_out_of_memory(self):
         for pattern in (
             "Err(_)",
             "Err(VerifyFault::Memory | VerifyFault::TooLong(_))",
