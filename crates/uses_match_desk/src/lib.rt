@@ -57,7 +57,7 @@ pub fn goal_after(
     Ok(held.goal_of(role))
 }
 
-/// Closes a desk whose lines have all come back. Nothing is refused then.
+/// Closes a desk that has all its lines back. Nothing is refused then.
 pub fn close_whole<G: Game + Drop, L: Ledger>(
     desk: LockDesk<Manager<G>, L>,
     lines: Vec<LockLine<L>>,
