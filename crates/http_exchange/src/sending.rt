@@ -34,7 +34,10 @@ fn write_once<S: Write>(stream: &mut Counted<S>, rest: &[u8]) -> Result<usize, W
 }
 
 /// Writes all bytes of a text. A write that was interrupted is repeated.
-pub(crate) fn send<S: Write>(stream: &mut Counted<S>, text: &SharedText<'_>) -> Result<(), WireFault>
+pub(crate) fn send<S: Write>(
+    stream: &mut Counted<S>,
+    text: &SharedText<'_>,
+) -> Result<(), WireFault>
     ensures whole { OnOk result (WritesText S.contents stream.old stream.new text.now) }
     ensures breaks { IfErr result (λ fault. BreaksOff S.contents stream.old stream.new text.now fault) }
 {

@@ -2,7 +2,7 @@
 use Rattle.std.proofs.Common.{◌≡◌, ℕ, List, [], ◌∷◌, ◌++◌, append_assoc, append-nil}
 use Rattle.game_core.specs.Bytes.{space}
 
-regrouped : (word a b d s p e : List ℕ) → (((word ++ a) ++ b) ++ space ∷ []) ++ (d ++ ((s ++ p) ++ e)) ≡ (word ++ (a ++ (b ++ (space ∷ d ++ (s ++ (p ++ [])))))) ++ e
+regrouped : (word a b d s p e : List ℕ) → (((word ++ a) ++ b) ++ space ∷ []) ++ (d ++ ((s ++ p) ++ e)) ≡ (word ++ (a ++ (b ++ ((space ∷ d) ++ (s ++ (p ++ [])))))) ++ e
 regrouped word a b d s p e = simp (append_assoc, append-nil)
 
 pub start_joined : (word id role rules s p : List ℕ) (e : ℕ)

@@ -107,7 +107,7 @@ fn around_rules<'r>(
     rules: StartRules<'r>,
     end: &[u8],
 ) -> Result<SharedText<'r>, AllocError>
-    ensures { IfOk result (λ text. text ≡ front.items ++ canonical (list (views (sentences_of rules).items)) ++ end.now) }
+    ensures { IfOk result (λ text. text ≡ front.items ++ (canonical (list (views (sentences_of rules).items)) ++ end.now)) }
 {
     match rules {
         StartRules::Sentences(sentences) => {
@@ -144,7 +144,10 @@ fn turn_text<'r>(
     ensures { IfOk result (λ t. t ≡ canonical (list (more (atom keyword.now) (more (atom id.now) (more (moves_form (option_map as_printed moves.now)) none))))) }
 {
     let keyword = Text::from_slice(alloc, keyword)?;
-    let text = list_text(alloc, &[keyword, id.copy(alloc)?, moves_text(alloc, moves)?])?;
+    let text = list_text(
+        alloc,
+        &[keyword, id.copy(alloc)?, moves_text(alloc, moves)?],
+    )?;
     Ok(SharedText::of(text.bytes))
 }
 

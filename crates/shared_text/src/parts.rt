@@ -21,9 +21,9 @@ pub(crate) fn rest_of_three<'a>(
     third: &'a [u8],
     place: usize,
 ) -> &'a [u8]
-    requires { place ≤ length (first.now ++ second.now ++ third.now) }
-    ensures front { (more : List ℕ) × (result.now ++ more ≡ drop place (first.now ++ second.now ++ third.now)) }
-    ensures some { place < length (first.now ++ second.now ++ third.now) → 0 < length result.now }
+    requires { place ≤ length (first.now ++ (second.now ++ third.now)) }
+    ensures front { (more : List ℕ) × (result.now ++ more ≡ drop place (first.now ++ (second.now ++ third.now))) }
+    ensures some { place < length (first.now ++ (second.now ++ third.now)) → 0 < length result.now }
 {
     if place < first.len() {
         &first[place..]

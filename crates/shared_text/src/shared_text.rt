@@ -23,7 +23,7 @@ impl<'a> Model for SharedText<'a> {
 
     ghost Value = { List ℕ };
 
-    ghost view = { λ t. take t.place t.own.items ++ t.shared.now ++ drop t.place t.own.items };
+    ghost view = { λ t. take t.place t.own.items ++ (t.shared.now ++ drop t.place t.own.items) };
 
     ghost invariant = { λ t. t.place ≤ length t.own.items };
 }
@@ -57,7 +57,7 @@ impl<'a> SharedText<'a> {
         shared: &'a [u8],
         after: &[u8],
     ) -> Result<SharedText<'a>, AllocError>
-        ensures { IfOk result (λ text. text ≡ before.items ++ shared.now ++ after.now) }
+        ensures { IfOk result (λ text. text ≡ before.items ++ (shared.now ++ after.now)) }
     {
         let place = before.len();
         let mut own = before;
@@ -67,7 +67,7 @@ impl<'a> SharedText<'a> {
 
     /// The parts of the text, in their order: its own, the shared one, its own again.
     pub fn parts(&self) -> (&[u8], &[u8], &[u8])
-        ensures { result.0.now ++ result.1.now ++ result.2.now ≡ self.now }
+        ensures { result.0.now ++ (result.1.now ++ result.2.now) ≡ self.now }
     {
         let (before, after) = self.own.as_slice().split_at(self.place);
         (before, self.shared, after)
@@ -119,7 +119,7 @@ impl<'a> SharedText<'a> {
 
     /// The text in one piece. Where it shares nothing no byte is copied.
     pub fn into_vec(self, alloc: Global) -> Result<Vec<u8>, AllocError>
-        ensures { IfOk result (λ text. text.items ≡ self) }
+        ensures { IfOk result (λ text. text.items ≡ self.entry) }
     {
         if self.shared.is_empty() {
             return Ok(self.own);
