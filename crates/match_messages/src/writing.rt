@@ -107,7 +107,7 @@ fn around_rules<'r>(
     rules: StartRules<'r>,
     end: &[u8],
 ) -> Result<SharedText<'r>, AllocError>
-    ensures { IfOk result (λ text. text ≡ front.items ++ (canonical (list (views (sentences_of rules).items)) ++ end.now)) }
+    ensures { IfOk result (λ text. text ≡ front.items ++ (canonical (list (views (sentences_of rules.entry).items)) ++ end.now)) }
 {
     match rules {
         StartRules::Sentences(sentences) => {
