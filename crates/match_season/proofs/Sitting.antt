@@ -1,4 +1,4 @@
--- Who sits in how many matches, as one player after another sits down or stands up.
+-- The counts of the players, as one player after another sits down or stands up.
 use Rattle.std.proofs.Common.{◌≡◌, ℕ, ◌+◌, ◌-◌, ◌<◌, ◌≤◌, ◌^◌, min, Bool, true, false, cond, List, [], ◌∷◌, ◌++◌, set, take, length, get_or, All, ◌⊎◌, refl, sym, ◌∙◌, ap, subst, arith, inl, inr, length-set}
 use Rattle.std.specs.Prelude.{◌==◌}
 use Rattle.std.specs.List.{list_any}
@@ -70,7 +70,7 @@ stand-more old now players at player within is before =
           ],
     )
 
--- who is not among the players is there no time
+-- a player that is not among these is there 0 times
 times-none : (players : List ℕ) (player : ℕ) → list_any (λ it. it == player) players ≡ false → times players player ≡ 0
 times-none [] player none = refl
 times-none (it ∷ rest) player none =
@@ -80,7 +80,7 @@ times-none (it ∷ rest) player none =
     let more = times-none rest player parts.1 in
     omega (arith, step, term, more)
 
--- one more that was not among them
+-- one more player, that was not among them
 pub times-push : (players : List ℕ) (new : ℕ) → list_any (λ it. it == new) players ≡ false → ((player : ℕ) → times players player ≤ 1) → (player : ℕ) → times (players ++ new ∷ []) player ≤ 1
 times-push players new none once player =
     let step = sum_by_push (λ (who : ℕ). cond (who == player) 1 0) players new in

@@ -1,4 +1,4 @@
--- What a season has written, and more behind it.
+-- The output of a season, and what is appended to it.
 use Rattle.std.proofs.Common.{◌≡◌, ◌++◌, [], ◌∷◌, ℕ, ◌+◌, ◌-◌, ◌<◌, ◌≤◌, ◌^◌, true, List, Option, Result, Ok, Err, length, refl, sym, ◌∙◌, ap, subst, arith, length-set}
 use Rattle.std.specs.List.{concat}
 use Rattle.std.specs.Io.KnownBytes.{Appends}
@@ -61,7 +61,7 @@ few-records : {T E : Type 0} (outcome : Result T E) → records_of outcome ≤ 1
 few-records (Ok _) = omega arith
 few-records (Err _) = omega arith
 
--- One match more is settled, and its record written where it has one.
+-- One more match is settled, and its record is written if it has one.
 pub up-to-more : {T E : Type 0} (m : ℕ) (u v w : Written) (a b c : Option (List ℕ)) (outcome : Result T E) (place : ℕ) → WritesUpTo m u v a b → WritesMatches (records_of outcome) b c → Settles v w place (records_of outcome) → WritesUpTo (m + 1) u w a c
 up-to-more m u v w a b c outcome place before now settles =
     up-to-trans m 1 u v w a b c before (record {
@@ -72,7 +72,7 @@ up-to-more m u v w a b c outcome place before now settles =
       same_places = ap length settles.settled ∙ length-set v.is_settled.items place true;
     })
 
--- Where nothing had been written of any match, each one that is not counted is missing.
+-- If nothing was written before, each match that is not counted is missing.
 pub all-but : (all missing : ℕ) (before after : Written) (a b : Option (List ℕ)) → before.records ≡ 0 → length before.is_settled.items ≡ all → all < 2 ^ 64 → missing ≡ length after.is_settled.items - after.records → WritesUpTo all before after a b → WritesAllBut missing all a b
 all-but all missing before after a b none places few is some = record {
   count = some.count;

@@ -1,10 +1,10 @@
--- Who plays at once.
+-- The waiting matches of a season, and the players of the running ones.
 use Rattle.std.specs.Prelude.{◌≡◌, ◌≤◌, ◌<◌, ◌+◌, ◌-◌, ◌^◌, ◌==◌, ℕ, Bool, true, false, List, Some, All, count_by, get_or, insert, length, nat_lt, remove, replicate, slice_get, take}
 use Rattle.std.specs.List.{list_all, position_or_len}
 use Rattle.match_season.specs.declared.lineup.Fixture.{Fixture}
 use Rattle.match_season.specs.declared.lineup.Lineup.{Lineup}
 
--- Each of these players sits in fewer matches under way than it may. A player's number is its place in the list of their counts.
+-- Each of these players sits in fewer running matches than it may. A player's number is its index in the list of their counts.
 abbrev pub are_free : List ℕ → ℕ → List ℕ → Bool
 are_free sitting concurrent players = list_all (λ player. nat_lt (get_or sitting player 0) concurrent) players
 
@@ -16,17 +16,17 @@ IsBusy lineup fixture = are_free lineup.sitting.items lineup.concurrent fixture.
 abbrev pub times : List ℕ → ℕ → ℕ
 times players player = count_by (λ it. it == player) players
 
--- Each of these players sits in one match more, as far as its count goes. Nobody else does.
+-- Each of these players sits in one match more, up to the limit of its count. No other player does.
 abbrev pub SitDown : List ℕ → List ℕ → List ℕ → Type 0
 SitDown old new players =
     (length new ≡ length old)
     × ((player : ℕ) → player < length old → get_or old player 0 + times players player < 2 ^ 64 → get_or new player 0 ≡ get_or old player 0 + times players player)
 
--- Each of these players sits in one match less, if it sat in one. Nobody else does.
+-- Each of these players sits in one match less, if it sat in one. No other player does.
 abbrev pub StandUp : List ℕ → List ℕ → List ℕ → Type 0
 StandUp old new players = (length new ≡ length old) × ((player : ℕ) → get_or new player 0 ≡ get_or old player 0 - times players player)
 
--- All matches of a schedule wait, in its order, none has a player twice, and each of its players has a count, which is 0.
+-- All matches of a schedule wait, in its order. None has a player twice, and each of its players has a count, which is 0.
 pub record AllWait (lineup : Lineup) (matches : ℕ) : Type 0 where
   pub each : length lineup.waiting.items ≡ matches
   pub in_order : (place : ℕ) (d : Fixture) → place < matches → (get_or lineup.waiting.items place d).place ≡ place
@@ -34,7 +34,7 @@ pub record AllWait (lineup : Lineup) (matches : ℕ) : Type 0 where
   pub counted : All (λ fixture. All (λ player. player < length lineup.sitting.items) fixture.players.items) lineup.waiting.items
   pub nobody_sits : lineup.sitting.items ≡ replicate (length lineup.sitting.items) 0
 
--- The first match that waits whose players are free begins. The others wait on, in their order, and its players sit in one match more.
+-- The first waiting match with free players begins. The others wait on, in their order, and its players sit in one match more.
 pub record Begins (old new : Lineup) (first : Fixture) : Type 0 where
   pub at : ℕ
   pub waited : slice_get old.waiting.items at ≡ Some first
@@ -44,10 +44,10 @@ pub record Begins (old new : Lineup) (first : Fixture) : Type 0 where
   pub sit : SitDown old.sitting.items new.sitting.items first.players.items
   pub same : new.concurrent ≡ old.concurrent
 
--- how many matches stand before the first one that comes after this place in the schedule
+-- the number of waiting matches before the first one that comes after this place in the schedule
 abbrev pub turn_of : List Fixture → ℕ → ℕ
 turn_of waiting place = position_or_len (λ it. nat_lt place it.place) waiting
 
--- those that wait, with this match among them, in the schedule's order
+-- the waiting matches, with this match among them, in the schedule's order
 abbrev pub with_match : List Fixture → Fixture → List Fixture
 with_match waiting fixture = insert waiting (turn_of waiting fixture.place) fixture

@@ -1,32 +1,35 @@
--- What a season writes.
-use Rattle.std.specs.Prelude.{◌≡◌, ◌≤◌, ◌<◌, ◌+◌, ◌^◌, ℕ, true, List, Option, Result, All, if◌then◌else◌, is_ok, length, slice_set}
+-- The output of a season.
+use Rattle.std.specs.Prelude.{◌≡◌, ◌≤◌, ◌<◌, ◌+◌, ◌^◌, ℕ, true, List, Option, Result, Ok, Err, All, if◌then◌else◌, is_ok, length, slice_set}
 use Rattle.std.specs.List.{concat}
 use Rattle.std.specs.Io.KnownBytes.{Appends}
+use Rattle.game_core.specs.Counting.{one_more}
 use Rattle.match_play.specs.EndedMatches.{IsEndedMatch}
+use Rattle.match_season.specs.declared.season_output.SeasonFault.{SeasonFault}
+use Rattle.match_season.specs.declared.season_output.SeasonFault.TheVariants.{WriteFault, Memory}
 use Rattle.match_season.specs.declared.season_output.Written.{Written}
 
--- From one content of a stream to the other so many matches were written, one behind the other: the record of each as a line, and its
--- account behind it where that is wanted.
+-- Between the two contents of a stream this number of matches was written, one after another: the record of each as a line, followed by
+-- its account if that is asked for.
 pub record WritesMatches (count : ℕ) (old new : Option (List ℕ)) : Type 0 where
   pub texts : List (List ℕ)
   pub so_many : length texts ≡ count
   pub are_ended : All (λ text. ∥ IsEndedMatch text ∥₁) texts
   pub appended : Appends old new (concat texts)
 
--- how many records there are of a match that came to this
+-- the number of records of a match with this result
 abbrev pub records_of : {T E : Type 0} → Result T E → ℕ
 records_of outcome = if is_ok outcome then 1 else 0
 
--- So many records more are counted, as far as the count goes.
+-- This number of further records is counted, up to the limit of the count.
 abbrev pub Counts : Written → Written → ℕ → Type 0
 Counts old new more = old.records + more < 2 ^ 64 → new.records ≡ old.records + more
 
--- The match at this place is settled, and no other one, and so many records more are counted.
+-- The match at this place is settled, and no other one, and this number of further records is counted.
 pub record Settles (old new : Written) (place more : ℕ) : Type 0 where
   pub settled : new.is_settled.items ≡ slice_set old.is_settled.items place true
   pub counted : Counts old new more
 
--- Matches were written, so many at most, and as many records more are counted.
+-- At most this number of matches was written, and as many further records are counted.
 pub record WritesUpTo (most : ℕ) (before after : Written) (old new : Option (List ℕ)) : Type 0 where
   pub count : ℕ
   pub at_most : count ≤ most
@@ -34,8 +37,18 @@ pub record WritesUpTo (most : ℕ) (before after : Written) (old new : Option (L
   pub counted : Counts before after count
   pub same_places : length after.is_settled.items ≡ length before.is_settled.items
 
--- So many of all matches have no record, and each other one was written.
+-- Of all matches the missing ones have no record, and each other one was written.
 pub record WritesAllBut (missing all : ℕ) (old new : Option (List ℕ)) : Type 0 where
   pub count : ℕ
   pub others : count + missing ≡ all
   pub written : WritesMatches count old new
+
+-- the failed writes of a stream, after this fault: a write fault comes from one more failed write, out of memory from none
+abbrev pub faults_by : SeasonFault → ℕ → ℕ
+faults_by WriteFault faults = one_more faults
+faults_by Memory faults = faults
+
+-- the failed writes of a stream, after this result
+abbrev pub faults_after : {T : Type 0} → Result T SeasonFault → ℕ → ℕ
+faults_after (Ok x) faults = faults
+faults_after (Err fault) faults = faults_by fault faults

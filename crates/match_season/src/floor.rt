@@ -1,5 +1,5 @@
-//! The matches of a season that wait and those under way, as the threads that play them share them.
-ghost use Rattle.std.specs.Prelude.{◌≡◌, ◌+◌, ◌-◌, ◌^◌, ◌==◌, [], true, All, IfNone, IfSome, min};
+//! The waiting and the running matches of a season, as its threads share them.
+ghost use Rattle.std.specs.Prelude.{◌≡◌, ◌+◌, ◌-◌, ◌^◌, ◌==◌, [], false, true, All, IfNone, IfSome, min};
 ghost use Rattle.match_season.specs.Lineups.{Begins, IsBusy, StandUp};
 ghost use Rattle.match_season.specs.Floors.{Ends};
 
@@ -10,22 +10,22 @@ use std::sync::{Condvar, Mutex, Wait};
 #[derive(Drop)]
 pub struct Begun {
     pub fixture: Fixture,
-    /// Whether no other one was under way then.
+    /// Whether no other match was running then.
     is_alone: bool,
 }
 
-/// What a thread does once a match of its own is over.
+/// What a thread does once its match is over.
 #[derive(Clone, Copy)]
 pub enum Next {
-    /// It hands on what the match came to, and begins another one.
+    /// It sends the result, and begins another match.
     HandOn,
-    /// It begins another one: the match waits again.
+    /// It begins another match. Its own one waits again.
     GoOn,
-    /// It ends: the match waits again, and one match less is played at once.
+    /// It ends, so one match less is played at once. Its own one waits again.
     End,
 }
 
-/// The matches that wait, how many are under way, how many threads play them, and whether no further one begins.
+/// The waiting matches, the number of running ones, the number of threads, and whether no further match begins.
 #[derive(Drop)]
 struct Table {
     lineup: Lineup,
@@ -35,7 +35,28 @@ struct Table {
 }
 
 impl Table {
-    /// Has a match begin, if one may, or else ends a thread.
+    /// The table at the beginning: no match runs, and there is no thread yet.
+    fn of(lineup: Lineup) -> Table
+        ensures lineup { result.lineup ≡ lineup }
+        ensures none_yet { (result.under_way ≡ 0) × (result.threads ≡ 0) }
+        ensures open { result.is_closed ≡ false }
+    {
+        Table {
+            lineup,
+            under_way: 0,
+            threads: 0,
+            is_closed: false,
+        }
+    }
+
+    /// Counts one more thread.
+    fn enter(&mut self)
+        ensures { self.new ≡ record self.old { threads = min (self.old.threads + 1) (2 ^ 64 - 1) } }
+    {
+        self.threads = self.threads.saturating_add(1);
+    }
+
+    /// Begins a match if one may begin, and otherwise counts one thread less.
     fn begin(&mut self) -> Option<Begun>
         ensures first { IfSome result (λ begun. Begins self.old.lineup self.new.lineup begun.fixture) }
         ensures alone { IfSome result (λ begun. begun.is_alone ≡ (self.old.under_way == 0)) }
@@ -53,8 +74,7 @@ impl Table {
         Some(Begun { fixture, is_alone })
     }
 
-    /// Ends a match. One for which there was no thread or no memory waits again, unless it had all that there is to itself, or no further
-    /// one begins.
+    /// Ends a match. One without a thread or without memory waits again, unless it was the only running one or no further match begins.
     fn end(&mut self, begun: Begun, is_short: bool) -> Next
         ensures stand { StandUp self.old.lineup.sitting.items self.new.lineup.sitting.items begun.fixture.players.items }
         ensures under_way { self.new.under_way ≡ self.old.under_way - 1 }
@@ -78,7 +98,7 @@ impl Table {
         }
     }
 
-    /// None waits any more, and none will.
+    /// Removes all waiting matches, and lets none wait again.
     fn close(&mut self)
         ensures none_waits { self.new.lineup.waiting.items ≡ [] }
         ensures closed { self.new.is_closed ≡ true }
@@ -96,26 +116,20 @@ pub struct Floor {
 }
 
 impl Floor {
-    /// All matches of this lineup wait.
+    /// The floor at the beginning, without threads.
     pub fn of(lineup: Lineup) -> Floor {
         Floor {
-            table: Mutex::new(Table {
-                lineup,
-                under_way: 0,
-                threads: 0,
-                is_closed: false,
-            }),
+            table: Mutex::new(Table::of(lineup)),
             changed: Condvar::new(),
         }
     }
 
-    /// A thread more plays matches.
+    /// Adds a thread.
     pub fn enter<R: Wait>(&self, rt: &R) {
-        let mut table = self.table.lock(rt);
-        table.threads = table.threads.saturating_add(1);
+        self.table.lock(rt).enter();
     }
 
-    /// Has the first match begin whose players are free, as soon as there is one. None: none waits, and the thread ends.
+    /// Begins the first waiting match with free players, as soon as there is one. `None` means that no match waits; then the thread ends.
     pub fn begin<R: Wait>(&self, rt: &R) -> Option<Begun> {
         let mut table = self.changed.wait_while(
             rt,
@@ -123,7 +137,7 @@ impl Floor {
             |table| table.lineup.has_to_wait(),
         );
         let begun = table.begin();
-        // Another match may be able to begin as well. Where none waits, all threads go on.
+        // Another match may be able to begin as well. If none waits, all threads go on.
         if table.lineup.is_empty() {
             self.changed.notify_all();
         } else {
@@ -132,14 +146,14 @@ impl Floor {
         begun
     }
 
-    /// Ends a match for which there was a thread and memory, or not. A thread that waits may begin one now.
+    /// Ends a match. `is_short` says that there was no thread or no memory for it. A thread that waits may begin one now.
     pub fn end<R: Wait>(&self, rt: &R, begun: Begun, is_short: bool) -> Next {
         let next = self.table.lock(rt).end(begun, is_short);
         self.changed.notify_one();
         next
     }
 
-    /// Has no further match begin.
+    /// Lets no further match begin.
     pub fn close<R: Wait>(&self, rt: &R) {
         self.table.lock(rt).close();
         self.changed.notify_all();

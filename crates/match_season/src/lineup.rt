@@ -1,12 +1,14 @@
-//! Who plays at once: the matches of a season that wait, and in how many of those under way each player sits.
-ghost use Rattle.std.specs.Prelude.{◌≡◌, ◌≤◌, ◌<◌, ◌+◌, ◌-◌, ◌^◌, ◌==◌, ◌↔◌, ◌++◌, ◌∷◌, ◌⊎◌, ℕ, [], false, true, All, IfErr, IfNone, IfOk, IfSome, IsTrue, OnErr, OnOk, Some, get_or, length, min, slice_get, slice_set, take, vec_capacity, vec_len};
+//! The waiting matches of a season, and in how many running matches each player sits.
+ghost use Rattle.std.specs.Prelude.{◌≡◌, ◌≤◌, ◌<◌, ◌+◌, ◌-◌, ◌^◌, ◌==◌, ◌↔◌, ◌++◌, ◌∷◌, ◌⊎◌, ℕ, [], false, true, All, IfNone, IfOk, IfSome, IsTrue, OnErr, OnOk, Some, get_or, length, min, slice_get, slice_set, take};
 ghost use Rattle.std.specs.List.{list_any};
+ghost use Rattle.std.specs.VecDeque.{deque_capacity, deque_len};
 ghost use Rattle.indexmap.specs.IndexSet.{index_set_len};
 ghost use Rattle.match_season.specs.Lineups.{AllWait, Begins, IsBusy, SitDown, StandUp, are_free, times, turn_of, with_match};
 
 use indexmap::IndexSet;
-use match_plans::{MatchPlan, PlayerAddress};
+use match_plans::{MatchPlan, PlayerAddress, SeasonForm};
 use std::alloc::{AllocError, AllocFailed, Global};
+use std::collections::VecDeque;
 
 /// A match of a season: its place in the schedule, and the numbers of its players' addresses, each once.
 #[derive(Drop)]
@@ -15,13 +17,13 @@ pub struct Fixture {
     players: Vec<usize>,
 }
 
-/// The matches of a season that wait, in the schedule's order, and the players of those under way.
+/// The waiting matches of a season in the schedule's order, and the players of the running ones.
 #[derive(Drop)]
 pub struct Lineup {
-    waiting: Vec<Fixture>,
-    /// By a player's number: in how many matches under way it sits.
+    waiting: VecDeque<Fixture>,
+    /// The number of running matches of each player.
     sitting: Vec<usize>,
-    /// In how many it may sit at most.
+    /// The limit of running matches of a player.
     concurrent: usize,
 }
 
@@ -36,7 +38,7 @@ fn list_once(numbers: &mut Vec<usize>, number: usize) -> Result<(), AllocError>
     Ok(())
 }
 
-/// The numbers of a match's players, each once. An address that has no number gets the next one.
+/// The numbers of a match's players, each once. An address without a number gets the next one.
 fn numbers<'a>(
     alloc: Global,
     addresses: &mut IndexSet<(&'a str, u16)>,
@@ -54,7 +56,7 @@ fn numbers<'a>(
     Ok(numbers)
 }
 
-/// In how many matches under way the player of this number sits.
+/// The number of running matches of this player.
 fn sits_in(sitting: &[usize], player: usize) -> usize
     ensures { result ≡ get_or sitting.now player 0 }
 {
@@ -73,7 +75,7 @@ fn are_free(sitting: &[usize], concurrent: usize, players: &[usize]) -> bool
         .all(|&player| sits_in(sitting, player) < concurrent)
 }
 
-/// The player sits in one match more.
+/// Counts one more running match of a player.
 fn seat(sitting: &mut [usize], player: usize)
     ensures { sitting.new ≡ slice_set sitting.old player (min (get_or sitting.old player 0 + 1) (2 ^ 64 - 1)) }
 {
@@ -82,7 +84,7 @@ fn seat(sitting: &mut [usize], player: usize)
     }
 }
 
-/// The player sits in one match less.
+/// Counts one running match of a player less.
 fn unseat(sitting: &mut [usize], player: usize)
     ensures { sitting.new ≡ slice_set sitting.old player (get_or sitting.old player 0 - 1) }
 {
@@ -91,7 +93,7 @@ fn unseat(sitting: &mut [usize], player: usize)
     }
 }
 
-/// Each of these players sits in one match more.
+/// Counts one more running match of each of these players.
 fn seat_all(sitting: &mut [usize], players: &[usize])
     ensures { SitDown sitting.old sitting.new players.now }
 {
@@ -100,7 +102,7 @@ fn seat_all(sitting: &mut [usize], players: &[usize])
     }
 }
 
-/// Each of these players sits in one match less.
+/// Counts one running match of each of these players less.
 fn unseat_all(sitting: &mut [usize], players: &[usize])
     ensures { StandUp sitting.old sitting.new players.now }
 {
@@ -110,46 +112,50 @@ fn unseat_all(sitting: &mut [usize], players: &[usize])
 }
 
 impl Lineup {
-    /// All matches wait, and nobody sits. A player sits in so many matches at most.
+    /// The lineup at the beginning: all matches wait, and nobody sits.
     pub fn of(
         alloc: Global,
         plans: &[MatchPlan<'_>],
-        concurrent: usize,
+        form: SeasonForm,
     ) -> Result<Lineup, AllocError>
         ensures wait { IfOk result (λ lineup. AllWait lineup (length plans.now)) }
-        ensures concurrent { IfOk result (λ lineup. lineup.concurrent ≡ concurrent) }
+        ensures concurrent { IfOk result (λ lineup. lineup.concurrent ≡ form.concurrent) }
     {
         let mut addresses = IndexSet::new(alloc);
-        let mut waiting = Vec::with_capacity(alloc, plans.len())?;
+        let mut waiting = VecDeque::with_capacity(alloc, plans.len())?;
         for (place, plan) in plans.iter().enumerate() {
             let players = numbers(alloc, &mut addresses, &plan.players)?;
-            waiting.push(Fixture { place, players })?;
+            waiting.push_back(Fixture { place, players })?;
         }
         Ok(Lineup {
             waiting,
             sitting: vec![in alloc; 0; addresses.len()]?,
-            concurrent,
+            concurrent: form.concurrent,
         })
     }
 
-    /// Where the first match stands, among those that wait, whose players are free.
+    /// Whether all players of this match are free.
+    fn can_begin(&self, fixture: &Fixture) -> bool
+        ensures { result ≡ are_free self.now.sitting.items self.now.concurrent fixture.now.players.items }
+    {
+        are_free(&self.sitting, self.concurrent, &fixture.players)
+    }
+
+    /// The index, among the waiting matches, of the first one with free players.
     fn first_free(&self) -> Option<usize>
         ensures some { IfSome result (λ at. (first : Fixture) × (slice_get self.now.waiting.items at ≡ Some first)
             × (are_free self.now.sitting.items self.now.concurrent first.players.items ≡ true)
             × All (IsBusy self.now) (take at self.now.waiting.items)) }
         ensures none { IfNone result (All (IsBusy self.now) self.now.waiting.items) }
     {
-        for (at, fixture) in self.waiting.iter().enumerate() {
-            if are_free(&self.sitting, self.concurrent, &fixture.players) {
-                return Some(at);
-            }
-        }
-        None
+        self.waiting
+            .iter()
+            .position(|fixture| self.can_begin(fixture))
     }
 
     /// Whether matches wait, and none of them can begin.
     pub fn has_to_wait(&self) -> bool
-        ensures { IsTrue result ↔ ((0 < vec_len self.now.waiting) × All (IsBusy self.now) self.now.waiting.items) }
+        ensures { IsTrue result ↔ ((0 < deque_len self.now.waiting) × All (IsBusy self.now) self.now.waiting.items) }
     {
         if self.waiting.is_empty() {
             return false;
@@ -159,23 +165,23 @@ impl Lineup {
 
     /// Whether no match waits.
     pub fn is_empty(&self) -> bool
-        ensures { IsTrue result ↔ (vec_len self.now.waiting ≡ 0) }
+        ensures { IsTrue result ↔ (deque_len self.now.waiting ≡ 0) }
     {
         self.waiting.is_empty()
     }
 
-    /// Has the first match begin whose players are free, if there is one.
+    /// Takes the first waiting match with free players, and seats them. `None` if there is no such match.
     pub fn take(&mut self) -> Option<Fixture>
         ensures some { IfSome result (Begins self.old self.new) }
         ensures none { IfNone result (All (IsBusy self.old) self.old.waiting.items × (self.new ≡ self.old)) }
     {
         let at = self.first_free()?;
-        let fixture = self.waiting.remove(at);
+        let fixture = self.waiting.remove(at)?;
         seat_all(&mut self.sitting, &fixture.players);
         Some(fixture)
     }
 
-    /// The match is over, or was not begun: its players sit in one match less.
+    /// Frees the players of a match that is over, or that was not begun.
     pub fn leave(&mut self, fixture: &Fixture)
         ensures stand { StandUp self.old.sitting.items self.new.sitting.items fixture.now.players.items }
         ensures same { (self.new.waiting ≡ self.old.waiting) × (self.new.concurrent ≡ self.old.concurrent) }
@@ -183,31 +189,29 @@ impl Lineup {
         unseat_all(&mut self.sitting, &fixture.players);
     }
 
-    /// Before how many of those that wait the match at this place does not stand.
+    /// The number of waiting matches before the match at this place.
     fn place_of(&self, place: usize) -> usize
         ensures turn { result ≡ turn_of self.now.waiting.items place }
-        ensures within { result ≤ vec_len self.now.waiting }
+        ensures within { result ≤ deque_len self.now.waiting }
     {
-        for (at, fixture) in self.waiting.iter().enumerate() {
-            if place < fixture.place {
-                return at;
-            }
-        }
-        self.waiting.len()
+        self.waiting
+            .iter()
+            .position(|fixture| place < fixture.place)
+            .unwrap_or(self.waiting.len())
     }
 
-    /// Has a match wait again, in the schedule's order.
+    /// Lets a match wait again, in the schedule's order.
     pub fn put_back(&mut self, fixture: Fixture) -> Result<(), AllocFailed<Fixture>>
         ensures waits { OnOk result (self.new.waiting.items ≡ with_match self.old.waiting.items fixture) }
         ensures refused { OnErr result (self.new.waiting.items ≡ self.old.waiting.items) }
-        ensures full { OnErr result (vec_capacity self.old.waiting ≤ vec_len self.old.waiting) }
+        ensures full { OnErr result (deque_capacity self.old.waiting ≤ deque_len self.old.waiting) }
         ensures same { (self.new.sitting ≡ self.old.sitting) × (self.new.concurrent ≡ self.old.concurrent) }
     {
         let at = self.place_of(fixture.place);
         self.waiting.insert(at, fixture)
     }
 
-    /// Has no match wait.
+    /// Removes all waiting matches.
     pub fn clear(&mut self)
         ensures none_waits { self.new.waiting.items ≡ [] }
         ensures same { (self.new.sitting ≡ self.old.sitting) × (self.new.concurrent ≡ self.old.concurrent) }

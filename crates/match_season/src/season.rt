@@ -1,12 +1,13 @@
-//! A season: the matches of a schedule, some of them at once, each on a desk of its own.
-ghost use Rattle.std.specs.Prelude.{◌≡◌, IfOk, Some, length, slice_get};
+//! Plays a season: the matches of a schedule, several at once, each on a desk of its own.
+ghost use Rattle.std.specs.Prelude.{◌≡◌, ◌↔◌, Err, IfOk, IsTrue, Some, length, min, slice_get};
 ghost use denote.Param.Send.{IsSend, IsSync};
 ghost use Rattle.match_messages.specs.contracts.start_rules.PrintedRules.{the_row as rules_row};
 ghost use Rattle.packed_rules.specs.contracts.packed_game.PackedGame.{the_row as game_row};
+ghost use Rattle.match_play.specs.declared.playing.MatchFault.TheVariants.{Memory};
 ghost use Rattle.match_play.specs.EndedMatches.{match_text};
 ghost use Rattle.match_play.specs.Limits.{max_tries};
 ghost use Rattle.match_play.specs.PlayedMatches.{IsPlayedMatch, IsSetupOf};
-ghost use Rattle.match_season.specs.Seasons.{WritesAllBut};
+ghost use Rattle.match_season.specs.Seasons.{WritesAllBut, faults_after};
 
 use crate::floor::{Floor, Next};
 use crate::lineup::Lineup;
@@ -23,6 +24,13 @@ use std::sync::{Mutex, Wait};
 use std::thread;
 use std::thread::Threads;
 
+/// Whether a match has no record because memory or threads were short.
+fn was_short(outcome: &Result<EndedMatch, MatchFault>) -> bool
+    ensures { IsTrue result ↔ (outcome.now ≡ Err Memory) }
+{
+    matches!(outcome, Err(MatchFault::Memory))
+}
+
 /// The matches of a season, as its threads see them.
 #[derive(Drop)]
 struct Season<'f, 'a, P, S> {
@@ -32,7 +40,7 @@ struct Season<'f, 'a, P, S> {
     plans: &'f [MatchPlan<'a>],
     has_history: bool,
     floor: Floor,
-    /// Who plays: players are made as their match begins.
+    /// The type of the players. A player is made when its match begins.
     players: PhantomData<Mutex<P>>,
 }
 
@@ -64,7 +72,7 @@ impl<P, S> Season<'_, '_, P, S> {
         Ok(ended)
     }
 
-    /// Plays matches, one after another, until none waits, and sends what each came to.
+    /// Plays matches, one after another, until none waits, and sends each result.
     fn play_matches<R>(&self, rt: &R, sender: &Sender<Over>)
     where
         R: Threads + Wait + Sync,
@@ -78,8 +86,7 @@ impl<P, S> Season<'_, '_, P, S> {
             };
             let place = begun.fixture.place;
             let outcome = self.play(rt, place);
-            let is_short = matches!(outcome, Err(MatchFault::Memory));
-            match self.floor.end(rt, begun, is_short) {
+            match self.floor.end(rt, begun, was_short(&outcome)) {
                 Next::HandOn => {
                     let _ = sender.send(rt, Over { place, outcome });
                 }
@@ -90,13 +97,13 @@ impl<P, S> Season<'_, '_, P, S> {
     }
 }
 
-/// Says as a fact what the bound says: threads may share the value. A closure's contract takes it from there.
+/// States as a fact what the bound says: threads may share the value. The contract of a closure requires this fact.
 fn is_shared<T: Sync>(_value: &T)
     ensures { IsSync T.row }
 {}
 
-/// Writes what the matches of a season came to, which has threads or not. Where that fails no further match begins, and it is reported which have no record.
-/// Returns how many those are.
+/// Writes the results of a season's matches. If a write fails, no further match begins and the missing records are reported. Returns
+/// the number of missing records.
 fn write_played<R: Wait, P, S, W: Write, E: Write>(
     rt: &R,
     alloc: Global,
@@ -107,7 +114,8 @@ fn write_played<R: Wait, P, S, W: Write, E: Write>(
     writer: &mut Counted<W>,
     errors: &Mutex<E>,
 ) -> Result<u64, SeasonFault>
-    ensures { IfOk result (λ missing. WritesAllBut missing (length season.now.plans.now) (W.contents writer.old.stream) (W.contents writer.new.stream)) }
+    ensures written { IfOk result (λ missing. WritesAllBut missing (length season.now.plans.now) (W.contents writer.old.stream) (W.contents writer.new.stream)) }
+    ensures faults { writer.new.faults ≡ faults_after result writer.old.faults }
 {
     if !has_thread {
         return Err(SeasonFault::Memory);
@@ -128,7 +136,14 @@ fn write_played<R: Wait, P, S, W: Write, E: Write>(
     }
 }
 
-/// Plays the matches of a season in threads, and writes what they came to.
+/// The number of threads for this number of matches.
+fn threads_for(form: SeasonForm, matches: usize) -> usize
+    ensures { result ≡ min form.at_once matches }
+{
+    form.at_once.min(matches)
+}
+
+/// Plays the matches of a season in threads, and writes their results.
 fn play_in_threads<R, P, S, W: Write, E: Write + Send>(
     rt: &R,
     alloc: Global,
@@ -143,11 +158,12 @@ where
     R: Threads + Wait + Sync,
     P: Player + Drop + Send,
     S: Reach<P> + TellsShortages + Sync,
-    ensures { IfOk result (λ missing. WritesAllBut missing (length season.now.plans.now) (W.contents writer.old.stream) (W.contents writer.new.stream)) }
+    ensures written { IfOk result (λ missing. WritesAllBut missing (length season.now.plans.now) (W.contents writer.old.stream) (W.contents writer.new.stream)) }
+    ensures faults { writer.new.faults ≡ faults_after result writer.old.faults }
 {
     is_shared(season.game.game);
     is_shared(season.game.rules);
-    // The stream comes back, so that it is known what was written to it.
+    // The closure returns the stream, so its content is known behind the scope.
     let (played, _stream) = thread::scope(
         thread::scope_env(),
         rt,
@@ -155,9 +171,10 @@ where
             requires sent { IsSync R.row × IsSync S.row × IsSync game_row × IsSync rules_row }
             ensures stream { result.1.ghost_name ≡ writer.entry.ghost_name }
             ensures written { IfOk result.0 (λ missing. WritesAllBut missing (length season.entry.now.plans.now) (W.contents writer.entry.now.stream) (W.contents result.1.now.stream)) }
+            ensures faults { result.1.now.faults ≡ faults_after result.0 writer.entry.now.faults }
         {
             let mut has_thread = false;
-            for _ in 0..form.at_once.min(season.plans.len()) {
+            for _ in 0..threads_for(form, season.plans.len()) {
                 let work = move || season.play_matches(rt, sender);
                 if scope.spawn(work).is_err() {
                     break;
@@ -173,15 +190,15 @@ where
     played
 }
 
-/// Plays the matches of a season, all of this game, each in threads of its own, and writes the record of each, with its account behind
-/// it where that is wanted. Returns how many matches have no record.
+/// Plays the matches of a season, all of the same game, in threads. Writes the record of each, followed by its account if the form asks
+/// for that. Returns the number of matches without a record.
 ///
-/// A match begins once all before it have begun, beside those with a player who sits in as many matches as it may. One for which there
-/// is no thread or no memory waits until another match is over, and one match less is played at once from then on; where no other one
-/// is under way it has no record.
+/// A match begins once all matches before it in the schedule have begun, except those with a player at its limit of matches. A match
+/// that is short of memory or threads waits again until another one is over, and from then on one match less is played at once. If no
+/// other match is running, it has no record.
 ///
-/// Where no thread can be made at all that is want of memory, and no match was begun. After a failed write no further match begins, and
-/// it is reported which matches have no record.
+/// If not a single thread can be made, the result is out of memory, and no match was begun. After a failed write no further match
+/// begins, and the matches without a record are reported.
 pub fn play_season<'f, 'a, R, P, S, W: Write, E: Write + Send>(
     rt: &R,
     alloc: Global,
@@ -196,12 +213,14 @@ where
     R: Threads + Wait + Sync,
     P: Player + Drop + Send,
     S: Reach<P> + TellsShortages + Sync,
-    ensures { IfOk result (λ missing. WritesAllBut missing (length plans.now) (W.contents writer.old.stream) (W.contents writer.new.stream)) }
+    ensures written { IfOk result (λ missing. WritesAllBut missing (length plans.now) (W.contents writer.old.stream) (W.contents writer.new.stream)) }
+    ensures faults { writer.new.faults ≡ faults_after result writer.old.faults }
 {
     if plans.is_empty() {
         return Ok(0);
     }
-    let floor = Floor::of(Lineup::of(alloc, plans, form.concurrent)?);
+    let floor = Floor::of(Lineup::of(alloc, plans, form)?);
+    // All results find room, so no thread waits for a reader of the records.
     let (sender, receiver) = bounded(alloc, plans.len())?;
     let season: Season<'f, 'a, P, S> = Season {
         alloc,

@@ -1,12 +1,12 @@
-//! What a season writes: the record of each match, and its account behind it.
+//! Writes a season: the record of each match, followed by its account.
 ghost use Rattle.std.specs.Prelude.{◌≡◌, ◌≤◌, ◌-◌, ℕ, false, true, IfOk, OnErr, OnOk, Some, length, replicate, slice_set, vec_len};
-ghost use Rattle.match_season.specs.Seasons.{Settles, WritesMatches, WritesUpTo, records_of};
+ghost use Rattle.match_season.specs.Seasons.{Settles, WritesMatches, WritesUpTo, faults_after, records_of};
 
 use crossbeam_channel::Receiver;
 use game_core::Counted;
 use match_plans::{MatchPlan, RecordOrder};
 use match_play::{EndedMatch, MatchFault};
-use std::alloc::{AllocError, AllocFailed, Global};
+use std::alloc::{AllocError, Global};
 use std::fmt;
 use std::fmt::Write as _;
 use std::io::Write;
@@ -20,36 +20,40 @@ pub enum SeasonFault {
     /// A record or an account can't be written.
     #[error("write fault")]
     WriteFault,
-    #[error("want of memory")]
+    #[error("out of memory")]
     Memory,
 }
 
 impl From<WriteFault> for SeasonFault {
+    ghost use Rattle.std.specs.Prelude.{◌≡◌};
+    ghost use Rattle.match_season.specs.declared.season_output.SeasonFault.TheVariants.{WriteFault};
+
+    ghost from_gives = { λ _ given. given ≡ WriteFault };
+
     fn from(_: WriteFault) -> SeasonFault {
         SeasonFault::WriteFault
     }
 }
 
 impl From<AllocError> for SeasonFault {
+    ghost use Rattle.std.specs.Prelude.{◌≡◌};
+    ghost use Rattle.match_season.specs.declared.season_output.SeasonFault.TheVariants.{Memory};
+
+    ghost from_gives = { λ _ given. given ≡ Memory };
+
     fn from(_: AllocError) -> SeasonFault {
         SeasonFault::Memory
     }
 }
 
-impl<T: Drop> From<AllocFailed<T>> for SeasonFault {
-    fn from(_: AllocFailed<T>) -> SeasonFault {
-        SeasonFault::Memory
-    }
-}
-
-/// A match of a season that is over: its place in the schedule, and what is written of it or why it has no record.
+/// A match of a season that is over: its place in the schedule, and its text or the reason why it has no record.
 #[derive(Drop)]
 pub struct Over {
     pub place: usize,
     pub outcome: Result<EndedMatch, MatchFault>,
 }
 
-/// Where it is reported of which matches there is no record.
+/// The reports of matches without a record.
 #[derive(Drop)]
 pub struct Reports<'r, 'p, 'a, 'e, R, E> {
     pub rt: &'r R,
@@ -58,7 +62,7 @@ pub struct Reports<'r, 'p, 'a, 'e, R, E> {
 }
 
 impl<R: Wait, E: Write> Reports<'_, '_, '_, '_, R, E> {
-    /// Reports in a line why the match at this place has no record. A failed write of it is skipped.
+    /// Reports in a line why the match at this place has no record. A failed write is skipped.
     fn report<F: fmt::Display>(&self, place: usize, why: &F) {
         let Some(plan) = self.plans.get(place) else {
             return;
@@ -71,7 +75,7 @@ impl<R: Wait, E: Write> Reports<'_, '_, '_, '_, R, E> {
         let _ = writeln!(pieces, "ggp_manager: {id}: {why}");
     }
 
-    /// Reports of each match of which nothing is written and nothing was reported that it has no record.
+    /// Reports `no record` for each match that was neither written nor reported.
     pub fn report_rest(&self, written: &Written) {
         for (place, is_settled) in written.is_settled.iter().enumerate() {
             if !*is_settled {
@@ -85,12 +89,12 @@ impl<R: Wait, E: Write> Reports<'_, '_, '_, '_, R, E> {
 #[derive(Drop)]
 pub struct Written {
     records: u64,
-    /// By a match's place: whether its record is written, or it is reported why there is none.
+    /// For each match, by its place: whether its record is written, or it is reported that it has none.
     is_settled: Vec<bool>,
 }
 
 impl Written {
-    /// Nothing of so many matches.
+    /// Nothing written yet, of `count` matches.
     pub fn nothing(alloc: Global, count: usize) -> Result<Written, AllocError>
         ensures { IfOk result (λ written. (written.records ≡ 0) × (written.is_settled.items ≡ replicate count false)) }
     {
@@ -100,14 +104,14 @@ impl Written {
         })
     }
 
-    /// How many of the matches have no record.
+    /// The number of matches without a record.
     pub fn missing(&self) -> u64
         ensures { result ≡ vec_len self.now.is_settled - self.now.records }
     {
         (self.is_settled.len() as u64).saturating_sub(self.records)
     }
 
-    /// The match at this place is settled, and no other one.
+    /// Settles the match at this place, and no other one.
     fn settle(&mut self, place: usize)
         ensures settled { self.new.is_settled.items ≡ slice_set self.old.is_settled.items place true }
         ensures records { self.new.records ≡ self.old.records }
@@ -118,7 +122,7 @@ impl Written {
     }
 }
 
-/// Writes the record of the match at this place, and its account behind it where that is wanted.
+/// Writes the record of the match at this place, followed by its account if that is asked for.
 fn write_ended<W: Write>(
     place: usize,
     ended: &EndedMatch,
@@ -128,6 +132,7 @@ fn write_ended<W: Write>(
     ensures written { OnOk result (WritesMatches 1 (W.contents writer.old.stream) (W.contents writer.new.stream)) }
     ensures settled { OnOk result (Settles written.old written.new place 1) }
     ensures err { OnErr result (written.new ≡ written.old) }
+    ensures faults { writer.new.faults ≡ faults_after result writer.old.faults }
 {
     write_all(writer, ended.text.as_slice())?;
     written.records = written.records.saturating_add(1);
@@ -145,6 +150,7 @@ fn write_outcome<R: Wait, W: Write, E: Write>(
     ensures written { OnOk result (WritesMatches (records_of over.outcome) (W.contents writer.old.stream) (W.contents writer.new.stream)) }
     ensures settled { OnOk result (Settles written.old written.new over.place (records_of over.outcome)) }
     ensures err { OnErr result (written.new ≡ written.old) }
+    ensures faults { writer.new.faults ≡ faults_after result writer.old.faults }
 {
     let place = over.place;
     match over.outcome {
@@ -157,7 +163,7 @@ fn write_outcome<R: Wait, W: Write, E: Write>(
     }
 }
 
-/// Writes what waits from this place on, up to the first match that is not over. Returns the place of that one.
+/// Writes the kept results from this place on, up to the first match that is not over. Returns the place of that match.
 fn write_waiting<R: Wait, W: Write, E: Write>(
     reports: &Reports<'_, '_, '_, '_, R, E>,
     waiting: &mut [Option<Over>],
@@ -167,6 +173,7 @@ fn write_waiting<R: Wait, W: Write, E: Write>(
 ) -> Result<usize, SeasonFault>
     ensures written { IfOk result (λ place. WritesUpTo (place - next) written.old written.new (W.contents writer.old.stream) (W.contents writer.new.stream)) }
     ensures place { IfOk result (λ place. (place ≤ length waiting.old) × (next ≤ length waiting.old → next ≤ place)) }
+    ensures faults { writer.new.faults ≡ faults_after result writer.old.faults }
 {
     let count = waiting.len();
     for place in next..count {
@@ -178,7 +185,7 @@ fn write_waiting<R: Wait, W: Write, E: Write>(
     Ok(count)
 }
 
-/// Has a match that is over wait at its place.
+/// Keeps a match that is over at its place.
 fn keep(waiting: &mut [Option<Over>], over: Over)
     ensures { waiting.new ≡ slice_set waiting.old over.place (Some over) }
 {
@@ -188,7 +195,7 @@ fn keep(waiting: &mut [Option<Over>], over: Over)
     }
 }
 
-/// So many places at which nothing waits.
+/// `count` empty places.
 fn none_waiting(alloc: Global, count: usize) -> Result<Vec<Option<Over>>, AllocError>
     ensures { IfOk result (λ waiting. vec_len waiting ≡ count) }
 {
@@ -207,7 +214,8 @@ fn write_by_schedule<R: Wait, W: Write, E: Write>(
     written: &mut Written,
     writer: &mut Counted<W>,
 ) -> Result<(), SeasonFault>
-    ensures { OnOk result (WritesUpTo (length reports.now.plans.now) written.old written.new (W.contents writer.old.stream) (W.contents writer.new.stream)) }
+    ensures written { OnOk result (WritesUpTo (length reports.now.plans.now) written.old written.new (W.contents writer.old.stream) (W.contents writer.new.stream)) }
+    ensures faults { writer.new.faults ≡ faults_after result writer.old.faults }
 {
     let count = reports.plans.len();
     let mut waiting = none_waiting(alloc, count)?;
@@ -229,7 +237,8 @@ fn write_by_ends<R: Wait, W: Write, E: Write>(
     written: &mut Written,
     writer: &mut Counted<W>,
 ) -> Result<(), SeasonFault>
-    ensures { OnOk result (WritesUpTo (length reports.now.plans.now) written.old written.new (W.contents writer.old.stream) (W.contents writer.new.stream)) }
+    ensures written { OnOk result (WritesUpTo (length reports.now.plans.now) written.old written.new (W.contents writer.old.stream) (W.contents writer.new.stream)) }
+    ensures faults { writer.new.faults ≡ faults_after result writer.old.faults }
 {
     for _number in 0..reports.plans.len() {
         let Ok(over) = receiver.recv(reports.rt) else {
@@ -240,7 +249,7 @@ fn write_by_ends<R: Wait, W: Write, E: Write>(
     Ok(())
 }
 
-/// Writes the records of the matches as they are over, in this order, each with its account behind it where that is wanted.
+/// Writes the records of the matches in this order, each followed by its account if that is asked for.
 pub fn write_season<R: Wait, W: Write, E: Write>(
     alloc: Global,
     order: RecordOrder,
@@ -249,7 +258,8 @@ pub fn write_season<R: Wait, W: Write, E: Write>(
     written: &mut Written,
     writer: &mut Counted<W>,
 ) -> Result<(), SeasonFault>
-    ensures { OnOk result (WritesUpTo (length reports.now.plans.now) written.old written.new (W.contents writer.old.stream) (W.contents writer.new.stream)) }
+    ensures written { OnOk result (WritesUpTo (length reports.now.plans.now) written.old written.new (W.contents writer.old.stream) (W.contents writer.new.stream)) }
+    ensures faults { writer.new.faults ≡ faults_after result writer.old.faults }
 {
     match order {
         RecordOrder::OfSchedule => write_by_schedule(alloc, reports, receiver, written, writer),

@@ -7,4 +7,7 @@ pub returns-in-Ok : goal.returns-in-Ok
 returns-in-Ok g c =
     let before = c.in_ok-written.written in
     let after = c.write_season.new.written in
-    all-but (length c.args.season.now.plans.now) c.missing.result before after _ _ c.in_ok-written.ensures.0 (ap length c.in_ok-written.ensures.1 ∙ length-replicate _ _) (omega arith) (omega (arith, c.missing.ensures, after.is_settled.ok.0)) c.in-Ok.ensures
+    record {
+      written = all-but (length c.args.season.now.plans.now) c.missing.result before after _ _ c.in_ok-written.ensures.0 (ap length c.in_ok-written.ensures.1 ∙ length-replicate _ _) (omega arith) (omega (arith, c.missing.ensures, after.is_settled.ok.0)) c.in-Ok.ensures.written;
+      faults = c.in-Ok.ensures.faults;
+    }

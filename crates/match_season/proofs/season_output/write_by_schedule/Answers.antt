@@ -1,9 +1,9 @@
-use Rattle.std.proofs.Common.{◌-◌, ◌+◌, arith}
+use Rattle.std.proofs.Common.{◌-◌, ◌+◌, ◌∙◌, refl, arith}
 use Rattle.match_season.proofs.WrittenLines.{up-to-none, up-to-trans, up-to-weaker}
 use Rattle.match_season.proofs.season_output.write_by_schedule.Goals as goal
 
 pub loop-number-init : goal.loop-number-init
-loop-number-init g c = record { within = omega arith; places = c.in_ok-waiting.ensures; written = up-to-none _ _ }
+loop-number-init g c = record { within = omega arith; places = c.in_ok-waiting.ensures; written = up-to-none _ _; faults = refl }
 
 pub loop-number-preserved : goal.loop-number-preserved
 loop-number-preserved g c =
@@ -14,7 +14,8 @@ loop-number-preserved g c =
       within = omega (arith, past);
       places = omega arith;
       written = up-to-weaker (next + (c.in_ok-next.next - next)) _ _ _ _ _ (omega (arith, past, onward)) (up-to-trans _ _ _ _ _ _ _ _ c.loop-number.invariant.written c.in_ok-next.ensures.written);
+      faults = c.in_ok-next.ensures.faults ∙ c.loop-number.invariant.faults;
     }
 
 pub returns : goal.returns
-returns g c = up-to-weaker c.loop-number.next _ _ _ _ _ (omega arith) c.loop-number.invariant.written
+returns g c = record { written = up-to-weaker c.loop-number.next _ _ _ _ _ (omega arith) c.loop-number.invariant.written; faults = c.loop-number.invariant.faults }

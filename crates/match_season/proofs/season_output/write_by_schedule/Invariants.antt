@@ -7,4 +7,5 @@ invariant-loop-number g l = record {
   within : l.next ≤ vec_len l.waiting;
   places : vec_len l.waiting ≡ l.count;
   written : WritesUpTo l.next l.initial.written l.written (g.W.Write.contents l.initial.writer.stream) (g.W.Write.contents l.writer.stream);
+  faults : l.writer.faults ≡ l.initial.writer.faults;
 }

@@ -7,7 +7,7 @@ pub loop-place-preserved : goal.loop-place-preserved
 loop-place-preserved c =
     let waiting = c.loop-place.waiting.items in
     let before = c.loop-place.invariant in
-    let is = c.in_ok-push.ensures.items in
+    let is = c.in_ok-push_back.ensures.items in
     record {
       each = ap length is ∙ (length_push waiting _ ∙ ap (λ (n : ℕ). n + 1) before.each);
       in_order = in-order-more waiting _ _ c.loop-place.place is before.each refl before.in_order;
