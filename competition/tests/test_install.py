@@ -10,25 +10,43 @@ import unittest
 from competition.descriptions import TOP
 from competition.tests.support import GAMES, program, toml
 
+RECORD = TOP / "examples/records/countdown-3-second_version.record"
+
 
 class Install(unittest.TestCase):
+    def setUp(self):
+        room = tempfile.TemporaryDirectory()
+        self.addCleanup(room.cleanup)
+        self.room = pathlib.Path(room.name)
+        self.prefix = self.room / "prefix"
+        self.said = subprocess.run([TOP / "competition/install", self.prefix], check=True, capture_output=True, text=True).stdout
+        shutil.copy(program(), self.prefix / "bin/ggp_manager")
+
+    def run_there(self, *words, **more):
+        """Runs what is found by the path of the shell, as whoever has installed it calls it."""
+        environment = {**os.environ, "PATH": f"{self.prefix}/bin:{os.environ['PATH']}"}
+        return subprocess.run(words, env=environment, capture_output=True, **more)
+
+    def test_it_says_what_it_has_installed(self):
+        self.assertEqual(self.said, f"{self.prefix}/bin/ggp_competition\n{self.prefix}/bin/verify-records\n")
+
     def test_it_plans_where_it_was_put(self):
-        with tempfile.TemporaryDirectory() as room:
-            prefix, cup = pathlib.Path(room) / "prefix", pathlib.Path(room) / "cup"
-            said = subprocess.run([TOP / "competition/install", prefix], check=True, capture_output=True, text=True).stdout
-            self.assertEqual(said, f"{prefix}/bin/ggp_competition\n")
-            shutil.copy(program(), prefix / "bin/ggp_manager")
-            cup.mkdir()
-            nim = [("nim", GAMES / "general/nim.kif", 'told = "variables"')] if shutil.which("gringo") else []
-            games = [("countdown", GAMES / "countdown.kif"), *nim]
-            (cup / "competition.toml").write_text(toml([("ann", "h:1"), ("bob", "h:2")], games))
-            # Found by the path of the shell, as after an installation.
-            environment = {**os.environ, "PATH": f"{prefix}/bin:{os.environ['PATH']}"}
-            done = subprocess.run(["ggp_competition", "plan"], cwd=cup, env=environment, capture_output=True, text=True)
-            self.assertEqual((done.returncode, done.stderr), (0, ""))
-            self.assertIn(f"schedule.tsv: {2 * len(games)} matches of 2 players", done.stdout)
-            self.assertEqual(subprocess.run(["ggp_competition", "pages"], cwd=cup, env=environment, capture_output=True).returncode, 0)
-            self.assertTrue((cup / "pages/index.html").exists())
+        cup = self.room / "cup"
+        cup.mkdir()
+        nim = [("nim", GAMES / "general/nim.kif", 'told = "variables"')] if shutil.which("gringo") else []
+        games = [("countdown", GAMES / "countdown.kif"), *nim]
+        (cup / "competition.toml").write_text(toml([("ann", "h:1"), ("bob", "h:2")], games))
+        done = self.run_there("ggp_competition", "plan", cwd=cup, text=True)
+        self.assertEqual((done.returncode, done.stderr), (0, ""))
+        self.assertIn(f"schedule.tsv: {2 * len(games)} matches of 2 players", done.stdout)
+        self.assertEqual(self.run_there("ggp_competition", "pages", cwd=cup).returncode, 0)
+        self.assertTrue((cup / "pages/index.html").exists())
+
+    def test_it_checks_records_where_it_was_put(self):
+        records = RECORD.read_bytes() * 3 + b"none\n"
+        done = self.run_there("verify-records", "--piece", "600", "ggp_manager", "--", "--countdown", "3", input=records)
+        said = done.returncode, done.stdout, done.stderr
+        self.assertEqual(said, (1, b"lawful\n" * 3 + b"not lawful: json\n", b"ggp_manager: records not lawful 1\n"))
 
 
 if __name__ == "__main__":
