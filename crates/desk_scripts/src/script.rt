@@ -1,4 +1,4 @@
-//! The answers to a script: one line of output for each line of the input, and then the records.
+//! The output for a script: an answer for each line of the input, and then the records of the matches.
 ghost use Rattle.std.specs.Prelude.{◌≡◌, ◌++◌, ◌∷◌, [], IfOk, OnOk, is_some};
 ghost use Rattle.std.specs.Str.Lines.{lines};
 ghost use Rattle.game_core.specs.Bytes.{line_feed};
@@ -20,7 +20,7 @@ pub struct Answers {
     pub bad_lines: u64,
 }
 
-/// Answers one line, and returns whether it is good.
+/// Appends the answer to one line. Returns whether the line has a call.
 fn answer_line<O: Object<Call = Call, Reply = Reply>>(
     alloc: Global,
     object: &mut O,
@@ -42,7 +42,7 @@ fn answer_line<O: Object<Call = Call, Reply = Reply>>(
     Ok(true)
 }
 
-/// Answers the lines of an input in their order.
+/// The answers to the lines of an input, in their order.
 fn answer_input<O: Object<Call = Call, Reply = Reply>>(
     alloc: Global,
     object: &mut O,

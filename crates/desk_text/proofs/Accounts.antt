@@ -1,4 +1,4 @@
--- An account, made again line by line, and the history that its lines tell.
+-- An account whose calls are made again line by line, and the history of its lines.
 use Rattle.std.proofs.Common.{◌≡◌, ℕ, ◌+◌, Bool, true, false, not, List, [], ◌∷◌, ◌++◌, length, map, refl, sym, ap, ◌∙◌, subst, append-nil, arith}
 use Rattle.std.specs.List.{AllByRecursion}
 use Rattle.std.specs.Str.{bytes_eq}
@@ -24,7 +24,7 @@ no_lines [] empty = refl
 no_lines (byte ∷ text) empty = absurd (omega arith)
 
 module _ {S : Type 0} (reply : S → Call → Reply) (after : S → Call → S) where
-  -- the lines before these last ones tell a history that is legal from the start: it makes as many calls, and then those that the object takes
+  -- the lines before the last ones tell a history that is legal from the start, of the calls that were made and of further ones
   pub record Tells (start : S) (told last : List (List ℕ)) (object : S) (calls : ℕ) (more : List (Entry Call Reply)) : Type 0 where
     pub history : List (Entry Call Reply)
     pub cut : told ≡ map entry_text history ++ last
@@ -33,7 +33,7 @@ module _ {S : Type 0} (reply : S → Call → Reply) (after : S → Call → S) 
     pub leaves : run after object more ≡ run after start history
     pub counted : calls + length more ≡ length history
 
-  -- however a history goes on from the object in the lines that are left, it is one from the start in all lines
+  -- each history from the object in the lines that are left continues one from the start in all lines
   abbrev pub IsAccountSoFar : S → List (List ℕ) → List (List ℕ) → S → ℕ → Type 0
   IsAccountSoFar start told rest object calls = (more : List (Entry Call Reply)) (last : List (List ℕ))
       → rest ≡ map entry_text more ++ last → AllByRecursion IsRead more → IsLegalHistory reply after object more → Tells start told last object calls more

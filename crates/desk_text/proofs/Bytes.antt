@@ -1,4 +1,4 @@
--- Which bytes stand in the words and lines of an account, and how a list without a byte is cut there.
+-- The bytes in the words and lines of an account, and cutting a list at a byte that its front lacks.
 use Rattle.std.proofs.Common.{◌≡◌, ◌≢◌, ℕ, zero, suc, ◌+◌, ◌-◌, ◌%◌, ◌<◌, ◌≤◌, ◌^◌, ◌==◌, true, nat_le, List, [], ◌∷◌, ◌++◌, refl, ap, ◌∙◌, arith, ne_eqb, eq-eqb, leb-true}
 use Rattle.std.specs.Prelude.{slice_index}
 use Rattle.std.specs.Fmt.{decimal}

@@ -1,4 +1,4 @@
--- What is written with escapes stands in a line, and is read again.
+-- A text with escapes fits into a line, and can be read again.
 use Rattle.std.proofs.Common.{◌≡◌, ℕ, ◌+◌, ◌*◌, ◌/◌, ◌%◌, ◌<◌, ◌≤◌, ◌==◌, Bool, true, false, List, [], ◌∷◌, ◌++◌, map, length, take, drop, if◌then◌else◌, Option, Some, None, refl, ap, sym, ◌∙◌, append_assoc, arith}
 use Rattle.std.specs.List.{AllByRecursion}
 use Rattle.std.specs.Prelude.{option_map, slice_set}
@@ -65,7 +65,7 @@ pub none_yet : (read : Option (List ℕ)) → option_map (λ behind. [] ++ behin
 none_yet None = refl
 none_yet (Some bytes) = refl
 
--- the byte that stands at a place takes the place behind those that are kept
+-- the byte at a place moves behind the bytes that are kept
 pub kept_in_place : (bytes : List ℕ) (kept place taken byte : ℕ) (whole : Option (List ℕ)) → kept ≤ place → 0 < taken → place + taken ≤ length bytes
     → unescaped (drop place bytes) ≡ before_rest (Some byte) (unescaped (drop taken (drop place bytes)))
     → option_map (λ behind. take kept bytes ++ behind) (unescaped (drop place bytes)) ≡ whole

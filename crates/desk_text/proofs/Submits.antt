@@ -1,4 +1,4 @@
--- The text of a `submit` line is the rest of the line, as it stands.
+-- The text of a `submit` line is the unchanged rest of the line.
 use Rattle.std.proofs.Common.{◌≡◌, ℕ, List, [], ◌∷◌, Option, Some, None, refl, sym, Bor}
 use Rattle.std.specs.Prelude.{option_copied, unwrap_or}
 use Rattle.match_desk.specs.declared.call.Call.TheVariants.{Submit}

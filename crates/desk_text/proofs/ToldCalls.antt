@@ -1,4 +1,4 @@
--- What the words of a call tell is the call.
+-- A call is read from its words.
 use Rattle.std.proofs.Common.{◌≡◌, ℕ, zero, suc, ◌<◌, ◌≤◌, ◌^◌, ◌++◌, ◌==◌, Bool, true, false, List, [], ◌∷◌, map, if◌then◌else◌, codes, Option, Some, refl, ap, ◌∙◌, sym, append-nil, arith, eqb-true}
 use Rattle.std.specs.Prelude.{option_and_then}
 use Rattle.std.specs.Fmt.{decimal}
@@ -22,12 +22,12 @@ pub words_of_spaced : (w : List ℕ) (ws : List (List ℕ)) → AreFrom 33 w →
 words_of_spaced w [] first others = ap words (append-nil w) ∙ uncut space w (lacks_below space 33 w (omega arith) first)
 words_of_spaced w (v ∷ ws) first others = cut_front space w (v ++ behind_spaces ws) (lacks_below space 33 w (omega arith) first) ∙ ap (λ vs. w ∷ vs) (words_of_spaced v ws others.0 others.1)
 
--- where a text is behind them, its words follow
+-- if a text follows them, its words follow
 pub words_of_text : (w : List ℕ) (ws : List (List ℕ)) (text : List ℕ) → AreFrom 33 w → AllByRecursion (AreFrom 33) ws → words (spaced (w ∷ (ws ++ text ∷ []))) ≡ w ∷ (ws ++ words text)
 words_of_text w [] text first others = cut_front space w (text ++ []) (lacks_below space 33 w (omega arith) first) ∙ ap (λ t. w ∷ words t) (append-nil text)
 words_of_text w (v ∷ ws) text first others = cut_front space w (spaced (v ∷ (ws ++ text ∷ []))) (lacks_below space 33 w (omega arith) first) ∙ ap (λ vs. w ∷ vs) (words_of_text v ws text others.0 others.1)
 
--- the words stand in a line
+-- the words fit into a line
 pub behind_from : (ws : List (List ℕ)) → AllByRecursion (AreFrom 32) ws → AreFrom 32 (behind_spaces ws)
 behind_from [] each = tt
 behind_from (w ∷ ws) each = (omega arith, each_append _ w (behind_spaces ws) each.0 (behind_from ws each.1))
@@ -100,7 +100,7 @@ abort_words id is = (from_tested 33 (codes "abort") refl, (name_from id, tt))
 
 -- ---- they are read
 
--- the call that words tell
+-- the call of words
 abbrev worded : List (List ℕ) → Option Call
 worded ws = option_and_then unescaped_call (call_of_words ws)
 
@@ -162,7 +162,7 @@ call_read (Miss id role round broken) is = miss_read id role round broken is
 call_read (Query id) is = query_read id is
 call_read (Abort id) is = abort_read id is
 
--- ---- and stand in a line
+-- ---- and they fit into a line
 
 pub call_from : (call : Call) → IsCall call → AreFrom 32 (call_text call)
 call_from (Open id game start play strikes players) is = step (strikes == 0)

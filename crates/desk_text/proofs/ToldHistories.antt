@@ -1,4 +1,4 @@
--- The lines of a history tell it, and tell no other.
+-- The lines of a history tell this history and no other.
 use Rattle.std.proofs.Common.{◌≡◌, ◌≢◌, ℕ, ◌+◌, ◌-◌, ◌<◌, ◌≤◌, ◌==◌, Bool, true, false, List, [], ◌∷◌, ◌++◌, length, map, if◌then◌else◌, Some, None, refl, sym, ap, ◌∙◌, subst, arith, take, ne_eqb}
 use Rattle.std.specs.Prelude.{slice_index}
 use Rattle.std.specs.Fmt.{decimal}
@@ -23,7 +23,7 @@ use Rattle.desk_text.proofs.ToldCalls.{call_from, call_read, number_32, read_32}
 
 -- ---- one line
 
--- the words of the call and the reply stand in one field each
+-- the words of the call are one field, and so is the reply
 pub entry_read : (e : Entry Call Reply) → IsEntry e → IsRead e
 entry_read e is =
     let line_from = number_32 e.line is.line in
@@ -33,7 +33,7 @@ entry_read e is =
     ∙ ap (λ fields. decimal e.line ∷ fields) (cut_front tab (call_text e.call) reply (lacks_below tab 32 _ (omega arith) words_from)))
     ∙ rw (read_32 e.line is.line, call_read e.call is.call) refl
 
--- a line has no byte that ends one
+-- a line has no line feed
 entry_lacks : (c : ℕ) (e : Entry Call Reply) → c < 32 → c ≢ tab → IsEntry e → Lacks c (entry_text e)
 entry_lacks c e small other is =
     let field = lacks_below c 32 (escaped_text (reply_text e.reply)) small (escapes_from 32 (reply_text e.reply) (omega arith)) in
@@ -107,7 +107,7 @@ module _ {S : Type 0} (reply : S → Call → Reply) (after : S → Call → S) 
       no_other (after start b.call) before more line rest place fault other lines'.1 read.1 read'.1
       (subst (λ made. IsLegalHistory reply after (after start made) more) parts.1 legal.1) legal'.1 refused
 
-  -- where a line is refused behind a legal history, no legal history has these lines
+  -- if a line is refused after a legal history, no legal history has these lines
   pub first_fault_refuses : (start : S) (account : List (List ℕ)) (fault : ReplayFault) → fault ≢ Memory → IsFirstFault reply after start account fault → TellNoHistory reply after start account
   first_fault_refuses start account fault other first object calls told_so =
       no_other start first.history told_so.history first.line first.rest (length first.history + 1) fault other

@@ -1,4 +1,4 @@
--- The account of a desk: its history as text, one line for each entry, and the history that the lines of an account tell.
+-- The account of a desk: its history as text, one line for each entry, and the history that is read from such lines.
 use Rattle.std.specs.Prelude.{◌≡◌, ◌≢◌, ◌==◌, ℕ, ◌+◌, ◌≤◌, ◌<◌, Bool, List, [], ◌∷◌, ◌++◌, map, length, Option, Some, None, option_and_then, option_map, codes, if◌then◌else◌}
 use Rattle.std.specs.Fmt.{decimal}
 use Rattle.std.specs.List.{AllByRecursion}
@@ -20,7 +20,7 @@ no_matches games = record { games = games; matches = [] }
 
 -- ---- what is written
 
--- the words of a call, as in a script, but for the escapes in names and text: `open` where strikes are 0, else `strict`
+-- the words of a call, as in a script except for the escapes in names and text: `open` if strikes are 0, else `strict`
 abbrev pub call_words : Call → List (List ℕ)
 call_words (Open id game start play strikes players) =
     if strikes == 0 then codes "open" ∷ (escaped_name id ∷ (decimal game ∷ (decimal start ∷ (decimal play ∷ map escaped_name players))))
@@ -34,11 +34,11 @@ call_words (Abort id) = codes "abort" ∷ (escaped_name id ∷ [])
 abbrev pub call_text : Call → List ℕ
 call_text call = spaced (call_words call)
 
--- an entry's line, without its line feed: the number of the line that made the call, the call, and its reply
+-- an entry's text, without its line feed: the number of the desk's line that made the call, the call, and its reply
 abbrev pub entry_text : Entry Call Reply → List ℕ
 entry_text e = decimal e.line ++ tab ∷ (call_text e.call ++ tab ∷ escaped_text (reply_text e.reply))
 
--- the entries in their order, each with a line feed
+-- the texts of the entries in their order, each with a line feed
 abbrev pub history_text : List (Entry Call Reply) → List ℕ
 history_text [] = []
 history_text (e ∷ more) = entry_text e ++ line_feed ∷ history_text more
@@ -54,30 +54,30 @@ unescaped_call (Miss id role round broken) = option_map (λ name. Miss name role
 unescaped_call (Query id) = option_map (λ name. Query name) (unescaped id)
 unescaped_call (Abort id) = option_map (λ name. Abort name) (unescaped id)
 
--- the call that a text of an account tells: that of its words, unescaped
+-- the call of a text with escapes: that of its words, unescaped
 abbrev pub told_call : List ℕ → Option Call
 told_call text = option_and_then unescaped_call (call_of_words (words text))
 
--- the number of the line that made the call, and the call, in the fields of a line
+-- the number of the desk's line that made the call, and the call, in the fields of an entry's text
 abbrev pub told_fields : List (List ℕ) → Option (ℕ × Call)
-told_fields (made_by ∷ (call ∷ more)) = option_and_then (λ number. option_map (λ made. (number, made)) (told_call call)) (plain_number made_by max_in_32_bits)
+told_fields (line ∷ (call ∷ more)) = option_and_then (λ number. option_map (λ made. (number, made)) (told_call call)) (plain_number line max_in_32_bits)
 told_fields _ = None
 
--- the same in a line
+-- the same in an entry's text
 abbrev pub told : List ℕ → Option (ℕ × Call)
-told line = told_fields (pieces tab line)
+told text = told_fields (pieces tab text)
 
--- what is read of an entry's line is the entry's
+-- the number and the call that are read from an entry's text are the entry's
 abbrev pub IsRead : Entry Call Reply → Type 0
 IsRead e = told (entry_text e) ≡ Some (e.line, e.call)
 
--- the lines are those of a history, of which each is read as its entry
+-- the lines are those of a history, and each is read as its entry
 pub record Tell (lines : List (List ℕ)) (history : List (Entry Call Reply)) : Type 0 where
   pub texts : lines ≡ map entry_text history
   pub are_read : AllByRecursion IsRead history
 
--- These lines tell a history: this many calls from this start on, each with the reply that it gets there. The object is what the
--- calls leave.
+-- These lines tell a history: this many calls from this start on, each with the reply that it gets there. The calls leave this
+-- object.
 pub record IsAccount {S : Type 0} (reply : S → Call → Reply) (after : S → Call → S) (start : S) (lines : List (List ℕ)) (object : S) (calls : ℕ) : Type 0 where
   pub history : List (Entry Call Reply)
   pub tell : Tell lines history
@@ -90,7 +90,7 @@ pub record IsAccount {S : Type 0} (reply : S → Call → Reply) (after : S → 
 abbrev pub AreBytes : List ℕ → Type 0
 AreBytes text = AllByRecursion (λ byte. byte < 256) text
 
--- numbers of as many bits as their types have
+-- the numbers have as many bits as their types
 abbrev pub HasNumbers : Call → Type 0
 HasNumbers (Open id game start play strikes players) = (game ≤ max_in_64_bits) × (start ≤ max_in_32_bits) × (play ≤ max_in_32_bits) × (strikes ≤ max_in_32_bits)
 HasNumbers (Next id role) = role ≤ max_in_64_bits
@@ -99,18 +99,18 @@ HasNumbers (Miss id role round broken) = (role ≤ max_in_64_bits) × (round ≤
 HasNumbers (Query id) = Unit {0}
 HasNumbers (Abort id) = Unit {0}
 
--- the text of a submission, or none
+-- the text of a submission. Other calls have none.
 abbrev pub text_in : Call → List ℕ
 text_in (Submit id role round text) = text
 text_in _ = []
 
--- a call as it can be made: its texts are of bytes
+-- a call that can be made: its texts are of bytes, and its numbers are within their types
 pub record IsCall (call : Call) : Type 0 where
   pub names : AllByRecursion AreBytes (names_in call)
   pub text : AreBytes (text_in call)
   pub numbers : HasNumbers call
 
--- an entry as it can stand in a history
+-- an entry that a history can have
 pub record IsEntry (e : Entry Call Reply) : Type 0 where
   pub line : e.line ≤ max_in_32_bits
   pub call : IsCall e.call

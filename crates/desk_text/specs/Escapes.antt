@@ -13,7 +13,7 @@ letter_x = 120
 abbrev pub exclamation_mark : ℕ
 exclamation_mark = 33
 
--- whether a byte from this one on stands as it is: up to the tilde, except the backslash
+-- whether a byte gets no escape: the bytes from this one to the tilde, except the backslash
 abbrev pub stands_from : ℕ → ℕ → Bool
 stands_from least byte = nat_le least byte && nat_lt byte 127 && not (byte == backslash)
 
@@ -25,7 +25,7 @@ hex_digit number = if nat_lt number 10 then 48 + number else 87 + number
 abbrev pub escape : ℕ → List ℕ
 escape byte = backslash ∷ (letter_x ∷ (hex_digit (byte / 16) ∷ (hex_digit (byte % 16) ∷ [])))
 
--- these bytes, with an escape for each that doesn't stand as it is
+-- these bytes, with the escapes that they need
 abbrev pub escaped_from : ℕ → List ℕ → List ℕ
 escaped_from least [] = []
 escaped_from least (byte ∷ more) = (if stands_from least byte then byte ∷ [] else escape byte) ++ escaped_from least more
@@ -34,19 +34,19 @@ escaped_from least (byte ∷ more) = (if stands_from least byte then byte ∷ []
 abbrev pub escaped_name : List ℕ → List ℕ
 escaped_name name = escaped_from exclamation_mark name
 
--- a text, in which spaces stand
+-- a text, whose spaces get no escapes
 abbrev pub escaped_text : List ℕ → List ℕ
 escaped_text text = escaped_from space text
 
--- the number that a hexadecimal digit writes
+-- the number of a hexadecimal digit
 abbrev pub hex_value : ℕ → Option ℕ
 hex_value digit = if nat_le 48 digit && nat_le digit 57 then Some (digit - 48) else (if nat_le 97 digit && nat_le digit 102 then Some (digit - 87) else None)
 
--- the byte that two hexadecimal digits write
+-- the byte of two hexadecimal digits
 abbrev pub escaped_byte : ℕ → ℕ → Option ℕ
 escaped_byte high low = option_and_then (λ h. option_map (λ l. h * 16 + l) (hex_value low)) (hex_value high)
 
--- a byte in front of what stands behind it
+-- a byte before the rest, if there are both
 abbrev pub before_rest : Option ℕ → Option (List ℕ) → Option (List ℕ)
 before_rest byte rest = option_and_then (λ b. option_map (λ bytes. b ∷ bytes) rest) byte
 
@@ -58,7 +58,7 @@ unescaped (byte ∷ (mark ∷ (high ∷ (low ∷ rest)))) =
     else before_rest (Some byte) (unescaped (mark ∷ (high ∷ (low ∷ rest))))
 unescaped (byte ∷ rest) = if byte == backslash then None else before_rest (Some byte) (unescaped rest)
 
--- what stands there now, if all could be read
+-- the value now, if all could be read
 abbrev pub read_as : {A : Type 0} → Bool → A → Option A
 read_as true now = Some now
 read_as false now = None
@@ -68,7 +68,7 @@ abbrev pub bytes_taken : Option (ℕ × ℕ) → ℕ
 bytes_taken None = 0
 bytes_taken (Some read) = read.1
 
--- the texts without their escapes, if each can be read so
+-- the texts without their escapes, if each can be read
 abbrev pub all_unescaped : List (List ℕ) → Option (List (List ℕ))
 all_unescaped [] = Some []
 all_unescaped (text ∷ more) = option_and_then (λ bytes. option_map (λ others. bytes ∷ others) (all_unescaped more)) (unescaped text)

@@ -9,11 +9,12 @@ use Rattle.desk_text.specs.Account.{IsAccount, IsRead, entry_text, told}
 use Rattle.desk_text.specs.declared.replaying.ReplayFault.{ReplayFault}
 use Rattle.desk_text.specs.declared.replaying.ReplayFault.TheVariants.{Memory, NoEntry, Differs}
 
--- why the line at this place, counted from 1, is refused where the object stands so: it tells no call, or it is not the line of the call and its reply
+-- Why the line of this number, counted from 1, is refused in this state of the object: it tells no call, or it is not the text of
+-- the call and its reply.
 abbrev pub RefusesLine : {S : Type 0} → (S → Call → Reply) → S → ℕ → List ℕ → ReplayFault → Type 0
-RefusesLine reply s place line Memory = Unit {0}
-RefusesLine reply s place line (NoEntry at) = (at ≡ place) × (told line ≡ None)
-RefusesLine reply s place line (Differs at right) = (at ≡ place) × (e : Entry Call Reply) × (told line ≡ Some (e.line, e.call)) × (e.reply ≡ reply s e.call) × (right.items ≡ entry_text e) × (line ≢ entry_text e)
+RefusesLine reply s place text Memory = Unit {0}
+RefusesLine reply s place text (NoEntry at) = (at ≡ place) × (told text ≡ None)
+RefusesLine reply s place text (Differs at right) = (at ≡ place) × (e : Entry Call Reply) × (told text ≡ Some (e.line, e.call)) × (e.reply ≡ reply s e.call) × (right.items ≡ entry_text e) × (text ≢ entry_text e)
 
 -- the lines before one tell a legal history, and that one is refused
 pub record IsFirstFault {S : Type 0} (reply : S → Call → Reply) (after : S → Call → S) (start : S) (lines : List (List ℕ)) (fault : ReplayFault) : Type 0 where

@@ -20,7 +20,7 @@ use Rattle.desk_text.specs.Words.{words, spaced, max_number, max_in_32_bits, max
 
 -- the call that f makes from a number up to this limit, if the word is one: in decimal digits, without leading zeros
 abbrev pub with_number : ℕ → List ℕ → (ℕ → Option Call) → Option Call
-with_number most word f = option_and_then f (plain_number word most)
+with_number limit word f = option_and_then f (plain_number word limit)
 
 -- ID GAME START PLAY PLAYER .., with 0 strikes
 abbrev pub open_call : List (List ℕ) → Option Call
@@ -94,15 +94,15 @@ numbers_in (Abort id) = []
 abbrev pub is_named : List ℕ → Bool
 is_named word = nat_lt 0 (length word)
 
--- a script's names are not empty, and its numbers not past the largest
+-- a script's names are not empty, and its numbers are at most the largest
 abbrev pub is_scripted : Call → Bool
 is_scripted call = list_all is_named (names_in call) && list_all (λ number. nat_le number max_number) (numbers_in call)
 
--- the call of a script's line: none for a bad line
+-- the call of a script's line. A bad line has none.
 abbrev pub call_of : List ℕ → Option Call
 call_of line = option_and_then (λ call. if is_scripted call then Some call else None) (call_of_words (words line))
 
--- the last joint move: NIL before the first turn
+-- the last joint move. It is NIL before the first turn.
 abbrev pub joint_text : Option (List (List ℕ)) → List ℕ
 joint_text None = codes "NIL"
 joint_text (Some moves) = left_parenthesis ∷ (spaced moves ++ right_parenthesis ∷ [])

@@ -3,11 +3,11 @@ use Rattle.std.specs.Prelude.{ℕ, ◌==◌, List, [], ◌∷◌, ◌++◌, Opti
 use Rattle.std.specs.List.{slice_split}
 use Rattle.game_core.specs.Bytes.{space}
 
--- the pieces of a text between its separators: one more than it has separators
+-- the pieces of a text between its separators. There is one piece more than separators.
 abbrev pub pieces : ℕ → List ℕ → List (List ℕ)
 pieces separator text = slice_split (λ b. b == separator) text
 
--- the pieces after a piece: none if no separator stands after it
+-- the pieces after a piece. There are none if no separator follows it.
 abbrev pub pieces_behind : ℕ → Option (List ℕ) → List (List ℕ)
 pieces_behind separator None = []
 pieces_behind separator (Some rest) = pieces separator rest
@@ -29,7 +29,7 @@ abbrev pub spaced : List (List ℕ) → List ℕ
 spaced [] = []
 spaced (word ∷ more) = word ++ behind_spaces more
 
--- the largest number that a script may name
+-- the largest number in a script
 abbrev pub max_number : ℕ
 max_number = 1000000000
 

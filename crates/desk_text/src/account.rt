@@ -1,4 +1,4 @@
-//! The account of a desk: its history as text, one line for each entry, so that anyone can make its calls again.
+//! The account of a desk: its history as text, one line for each entry, so that its calls can be made again.
 ghost use Rattle.std.specs.Prelude.{◌≡◌, [], ◌∷◌, ◌++◌, map, OnOk};
 ghost use Rattle.std.specs.Fmt.{decimal};
 ghost use Rattle.game_core.specs.Bytes.{space};
@@ -29,7 +29,7 @@ fn push_name(out: &mut Vec<u8>, name: &Text) -> Result<(), AllocError>
     push_escaped(out, name.as_slice(), b'!')
 }
 
-/// Appends a text to `out`, in which spaces stand.
+/// Appends a text to `out`. Its spaces are not escaped.
 fn push_text(out: &mut Vec<u8>, text: &[u8]) -> Result<(), AllocError>
     ensures { OnOk result (out.new.items ≡ out.old.items ++ escaped_text text.now) }
 {
@@ -147,7 +147,7 @@ fn push_call(out: &mut Vec<u8>, call: &Call) -> Result<(), AllocError>
 /// The initial capacity for a reply's text. Most replies fit.
 const USUAL_LENGTH: usize = 128;
 
-/// Appends the line of an entry to `out`, without its line feed.
+/// Appends the text of an entry to `out`, without its line feed.
 pub(crate) fn push_entry(
     alloc: Global,
     out: &mut Vec<u8>,
@@ -164,9 +164,9 @@ pub(crate) fn push_entry(
     push_text(out, reply.as_slice())
 }
 
-/// Appends the lines of a history to `out`, each with its line feed. A line has the number of the desk's line that made the call,
-/// the call in the words of a script, and the reply, with a tab between each two. In names each byte that is not visible ASCII, and
-/// the backslash, are written `\xHH`; so they are in the text of a submission and in the reply, where spaces stand.
+/// Appends the texts of a history's entries to `out`, each with a line feed. An entry's text is the number of its line of the desk,
+/// the call in the words of a script, and the reply, with a tab between each two. Each byte that is not visible ASCII, and the
+/// backslash, is written `\xHH`. A space is written so in a name, but not in the text of a submission or a reply.
 pub fn push_history(
     alloc: Global,
     out: &mut Vec<u8>,

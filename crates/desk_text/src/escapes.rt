@@ -1,11 +1,11 @@
-//! The escapes of an account: a byte that can't stand as it is, and the backslash, are written `\xHH`.
+//! The escapes of an account: the backslash, and each byte that is not visible ASCII, is written `\xHH`.
 ghost use Rattle.std.specs.Prelude.{◌≡◌, ◌<◌, ◌≤◌, ◌++◌, IfSome, OnOk, drop, length, option_map};
 ghost use Rattle.desk_text.specs.Escapes.{stands_from, hex_digit, escape, escaped_from, hex_value, escaped_byte, before_rest, bytes_taken, read_as, unescaped, all_unescaped};
 
 use game_core::Text;
 use std::alloc::AllocError;
 
-/// Whether a byte from `least` on stands as it is.
+/// Whether a byte is written without an escape. `least` is the lowest such byte.
 fn stands(least: u8, byte: u8) -> bool
     ensures { result ≡ stands_from least byte }
 {
@@ -34,7 +34,7 @@ fn push_escape(out: &mut Vec<u8>, byte: u8) -> Result<(), AllocError>
     Ok(())
 }
 
-/// Appends a text to `out`, in which the bytes from `least` to the tilde stand as they are.
+/// Appends a text to `out`. The bytes from `least` to the tilde, except the backslash, get no escapes.
 pub fn push_escaped(out: &mut Vec<u8>, text: &[u8], least: u8) -> Result<(), AllocError>
     ensures { OnOk result (out.new.items ≡ out.old.items ++ escaped_from least text.now) }
 {
@@ -86,7 +86,7 @@ fn first_byte(text: &[u8]) -> Option<(u8, usize)>
     Some((byte, 4))
 }
 
-/// Takes the escapes out of these bytes. Returns whether it could: not if a backslash is not followed by `xHH`.
+/// Removes the escapes from these bytes. Returns false if a backslash is not followed by `xHH`.
 fn unescape_bytes(bytes: &mut Vec<u8>) -> bool
     ensures { unescaped bytes.old.items ≡ read_as result bytes.new.items }
 {
@@ -104,14 +104,14 @@ fn unescape_bytes(bytes: &mut Vec<u8>) -> bool
     true
 }
 
-/// Takes the escapes out of a text. Returns whether it could.
+/// Removes the escapes from a text. Returns false if a backslash is not followed by `xHH`.
 pub fn unescape(text: &mut Text) -> bool
     ensures { unescaped text.old ≡ read_as result text.new }
 {
     unescape_bytes(&mut text.bytes)
 }
 
-/// Takes the escapes out of these texts. Returns whether it could.
+/// Removes the escapes from these texts. Returns false if a backslash is not followed by `xHH`.
 pub fn unescape_all(texts: &mut Vec<Text>) -> bool
     ensures { all_unescaped texts.old.items ≡ read_as result texts.new.items }
 {

@@ -1,4 +1,4 @@
-//! What holds of accounts, whatever the desk.
+//! Laws of accounts, for any desk.
 ghost use Rattle.std.specs.Prelude.{◌≡◌, List, Some};
 ghost use Rattle.std.specs.List.{AllByRecursion};
 ghost use Rattle.std.specs.Str.Lines.{lines};
@@ -6,12 +6,12 @@ ghost use Rattle.call_history.specs.declared.journal.Entry.{Entry};
 ghost use Rattle.match_desk.specs.declared.call.Call.{Call};
 ghost use Rattle.desk_text.specs.Account.{IsCall, IsEntry, Tell, call_text, history_text, told_call};
 
-/// The text of a call tells that call, so no two calls have the same text.
+/// A call can be read from its text, so no two calls have the same text.
 pub fn calls_are_told()
     ensures { (call : Call) → IsCall call → told_call (call_text call) ≡ Some call }
 {}
 
-/// The text of a history is made of the lines of its entries, and each line tells its entry.
+/// The lines of a history's text are the texts of its entries, and each entry can be read from its line.
 pub fn histories_are_told()
     ensures { (history : List (Entry _ _)) → AllByRecursion IsEntry history → Tell (lines (history_text history)) history }
 {}

@@ -20,4 +20,5 @@ pub use account::push_history;
 pub use lines::first_line;
 pub use replaying::{ReplayFault, Replayed, replay};
 pub use reply_lines::{push_reply, refusal_word};
-pub use script_lines::call_of;
+pub use script_lines::{MAX_NUMBER, call_of};
+pub use words::{first_piece, number_up_to};

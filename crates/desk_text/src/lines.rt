@@ -1,13 +1,8 @@
 //! Cutting an input into lines.
-ghost use Rattle.std.specs.Prelude.{◌≡◌, ◌<◌, ◌∷◌, ◌==◌, length, position};
+ghost use Rattle.std.specs.Prelude.{◌≡◌, ◌<◌, ◌∷◌, length};
 ghost use Rattle.std.specs.Str.Lines.{lines, strip_carriage_return};
-ghost use Rattle.game_core.specs.Bytes.{line_feed};
 
-fn line_end(text: &[u8]) -> Option<usize>
-    ensures { result ≡ position (λ b. b == line_feed) text.now }
-{
-    text.iter().position(|b| *b == b'\n')
-}
+use crate::words::piece_end;
 
 /// A line without one carriage return at its end.
 fn without_return(line: &[u8]) -> &[u8]
@@ -26,7 +21,7 @@ pub fn first_line(text: &[u8]) -> (&[u8], &[u8])
     ensures cut { lines text.now ≡ result.0.now ∷ lines result.1.now }
     ensures shorter { length result.1.now < length text.now }
 {
-    match line_end(text) {
+    match piece_end(text, b'\n') {
         None => (text, &text[text.len()..]),
         Some(end) => (without_return(&text[..end]), &text[end + 1..]),
     }

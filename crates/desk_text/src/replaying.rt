@@ -1,4 +1,4 @@
-//! How the calls of an account are made again, one by one, on one thread.
+//! Making the calls of an account again, one by one, on one thread.
 ghost use Rattle.std.specs.Prelude.{◌≡◌, ◌≢◌, IfErr, IfOk, OnOk};
 ghost use Rattle.std.specs.Str.Lines.{lines};
 ghost use Rattle.match_desk.specs.Steps.{reply, after};
@@ -44,36 +44,32 @@ impl From<AllocError> for ReplayFault {
     }
 }
 
-/// Makes the call of the account's line with the number `place`. The line must be the one that is written for this call and its
-/// reply.
-fn replay_line<O: Object<Call = Call, Reply = Reply>>(
+/// Makes the call of an entry's text, which is the one of number `place` in the account. It must be the text that is written for this
+/// call and its reply.
+fn replay_entry<O: Object<Call = Call, Reply = Reply>>(
     alloc: Global,
     object: &mut O,
     place: u64,
-    line: &[u8],
+    text: &[u8],
 ) -> Result<(), ReplayFault>
-    ensures ok { OnOk result ((e : Entry _ _) × (line.now ≡ entry_text e) × IsRead e × (e.reply ≡ O.reply object.old e.call) × (object.new ≡ O.after object.old e.call)) }
-    ensures refused { IfErr result (RefusesLine O.reply object.old place line.now) }
+    ensures ok { OnOk result ((e : Entry _ _) × (text.now ≡ entry_text e) × IsRead e × (e.reply ≡ O.reply object.old e.call) × (object.new ≡ O.after object.old e.call)) }
+    ensures refused { IfErr result (RefusesLine O.reply object.old place text.now) }
 {
-    let Some((made_by, call)) = told(alloc, line)? else {
+    let Some((line, call)) = told(alloc, text)? else {
         return Err(ReplayFault::NoEntry(place));
     };
     let reply = object.answer(alloc, &call)?;
-    let entry = Entry {
-        line: made_by,
-        call,
-        reply,
-    };
+    let entry = Entry { line, call, reply };
     let mut told = Vec::new(alloc);
     push_entry(alloc, &mut told, &entry)?;
-    if told.as_slice() != line {
+    if told.as_slice() != text {
         return Err(ReplayFault::Differs(place, told));
     }
     object.apply(alloc, &entry.call)?;
     Ok(())
 }
 
-/// Makes the calls of an account's lines one by one. Returns how many there are.
+/// Makes the calls of an account's lines one by one. Returns their number.
 fn replay_lines<O: Object<Call = Call, Reply = Reply>>(
     alloc: Global,
     object: &mut O,
@@ -86,15 +82,15 @@ fn replay_lines<O: Object<Call = Call, Reply = Reply>>(
     let mut rest = input;
     while !rest.is_empty() {
         let (line, more) = first_line(rest);
-        replay_line(alloc, object, calls + 1, line)?;
+        replay_entry(alloc, object, calls + 1, line)?;
         calls += 1;
         rest = more;
     }
     Ok(calls)
 }
 
-/// Makes the calls of an account again on a manager of these games. Each line must be the one that is written for its call
-/// and the reply that the call gets now: so lines are taken exactly where they tell a legal history.
+/// Makes the calls of an account again on a manager of these games. Each line must be the one that is written for its call and the
+/// reply that the call gets now. So exactly the accounts of legal histories are accepted.
 pub fn replay<G: Game + Drop>(
     alloc: Global,
     games: Vec<G>,

@@ -10,7 +10,7 @@ use game_core::{Text, Texts};
 use match_desk::Call;
 use std::alloc::{AllocError, Global};
 
-/// The number of a word, up to the largest of 64 bits.
+/// The number of a word, if 64 bits hold it.
 fn number(word: &[u8]) -> Option<u64>
     ensures { result ≡ plain_number word.now max_in_64_bits }
 {
@@ -194,7 +194,7 @@ fn call_of_words(alloc: Global, keyword: &[u8], words: &[&[u8]]) -> Result<Optio
     }
 }
 
-/// The call of a line's words, with any names, and any numbers that a call holds. `None` if there is none.
+/// The call of a line's words. Its names may be empty, and its numbers as large as a call's can be. `None` if there is no call.
 pub(crate) fn worded_call(alloc: Global, line: &[u8]) -> Result<Option<Call>, AllocError>
     ensures { IfOk result (λ o. o ≡ call_of_words (words line.now)) }
 {
@@ -208,8 +208,8 @@ pub(crate) fn worded_call(alloc: Global, line: &[u8]) -> Result<Option<Call>, Al
     call_of_words(alloc, keyword, words.as_slice())
 }
 
-/// The largest number that a script may name.
-const MAX_NUMBER: u64 = 1_000_000_000;
+/// The largest number in a script.
+pub const MAX_NUMBER: u64 = 1_000_000_000;
 
 fn are_numbers(numbers: &[u64]) -> bool
     ensures { result ≡ list_all (λ number. nat_le number max_number) numbers.now }
@@ -271,7 +271,7 @@ fn has_names(call: &Call) -> bool
     }
 }
 
-/// The call of a script's line. `None` if it is a bad line: one that has no call, an empty name, or a number past the largest.
+/// The call of a script's line. `None` if it is a bad line: one with no call, an empty name, or a number above `MAX_NUMBER`.
 pub fn call_of(alloc: Global, line: &[u8]) -> Result<Option<Call>, AllocError>
     ensures { IfOk result (λ o. o ≡ call_of line.now) }
 {

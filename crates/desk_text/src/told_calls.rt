@@ -1,4 +1,4 @@
-//! The calls that the lines of an account tell.
+//! Reading the calls of an account.
 ghost use Rattle.std.specs.Prelude.{◌≡◌, IfOk};
 ghost use Rattle.desk_text.specs.Account.{told, told_call, unescaped_call};
 ghost use Rattle.desk_text.specs.Escapes.{read_as};
@@ -9,7 +9,7 @@ use crate::words::{first_piece, small_number};
 use match_desk::Call;
 use std::alloc::{AllocError, Global};
 
-/// Takes the escapes out of a call's names and its text. Returns whether it could.
+/// Removes the escapes from a call's names and its text. Returns whether each of them could be read.
 fn unescape_call(call: &mut Call) -> bool
     ensures { unescaped_call call.old ≡ read_as result call.new }
 {
@@ -23,7 +23,7 @@ fn unescape_call(call: &mut Call) -> bool
     }
 }
 
-/// The call that a text of an account tells.
+/// The call of a text with escapes. `None` if it has none.
 fn told_call(alloc: Global, text: &[u8]) -> Result<Option<Call>, AllocError>
     ensures { IfOk result (λ o. o ≡ told_call text.now) }
 {
@@ -37,19 +37,19 @@ fn told_call(alloc: Global, text: &[u8]) -> Result<Option<Call>, AllocError>
     }
 }
 
-/// The number of the desk's line, and the call, that a line of an account tells.
-pub fn told(alloc: Global, line: &[u8]) -> Result<Option<(u32, Call)>, AllocError>
-    ensures { IfOk result (λ o. o ≡ told line.now) }
+/// The number of a desk's line, and the call, that an entry's text holds. `None` if it holds no call.
+pub fn told(alloc: Global, text: &[u8]) -> Result<Option<(u32, Call)>, AllocError>
+    ensures { IfOk result (λ o. o ≡ told text.now) }
 {
-    let (made_by, Some(rest)) = first_piece(line, b'\t') else {
+    let (line, Some(rest)) = first_piece(text, b'\t') else {
         return Ok(None);
     };
     let (call, _) = first_piece(rest, b'\t');
-    let Some(made_by) = small_number(made_by) else {
+    let Some(line) = small_number(line) else {
         return Ok(None);
     };
     match told_call(alloc, call)? {
-        Some(call) => Ok(Some((made_by, call))),
+        Some(call) => Ok(Some((line, call))),
         None => Ok(None),
     }
 }

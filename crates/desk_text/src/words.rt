@@ -1,4 +1,4 @@
-//! The words of a line, and the numbers that words write.
+//! The words of a line, and the numbers in them.
 ghost use Rattle.std.specs.Prelude.{◌≡◌, ◌^◌, ◌≤◌, ◌==◌, ◌∷◌, IfOk, IsTrue, MatchOption, map, option_copied, position};
 ghost use Rattle.std.specs.Str.Parse.{digits_value};
 ghost use Rattle.game_core.specs.Numerals.{are_digits, is_plain_numeral, plain_number};
@@ -14,7 +14,8 @@ pub fn words<'a>(alloc: Global, text: &'a [u8]) -> Result<Vec<&'a [u8]>, AllocEr
     text.split(|b| *b == b' ').collect(alloc)
 }
 
-fn piece_end(text: &[u8], separator: u8) -> Option<usize>
+/// The place of the first separator.
+pub fn piece_end(text: &[u8], separator: u8) -> Option<usize>
     ensures { result ≡ position (λ b. b == separator) text.now }
 {
     text.iter().position(|b| *b == separator)
@@ -44,7 +45,7 @@ fn is_plain_numeral(word: &[u8]) -> bool
     are_digits(word) && (word.len() == 1 || word[0] != b'0')
 }
 
-/// The number that digits write. `None` if 64 bits don't hold it.
+/// The number of these digits. `None` if 64 bits don't hold it.
 fn digits_value(digits: &[u8]) -> Option<u64>
     requires { IsTrue (are_digits digits.now) }
     ensures { MatchOption result (2 ^ 64 ≤ digits_value 10 digits.now) (λ number. number ≡ digits_value 10 digits.now) }
@@ -60,18 +61,18 @@ fn digits_value(digits: &[u8]) -> Option<u64>
     Some(number)
 }
 
-/// The number of a word: decimal, without sign or leading zeros, and at most `most`.
-pub fn number_up_to(word: &[u8], most: u64) -> Option<u64>
-    ensures { result ≡ plain_number word.now most }
+/// The number of a word: decimal, without sign or leading zeros, and at most `limit`.
+pub fn number_up_to(word: &[u8], limit: u64) -> Option<u64>
+    ensures { result ≡ plain_number word.now limit }
 {
     if !is_plain_numeral(word) {
         return None;
     }
     let number = digits_value(word)?;
-    if number <= most { Some(number) } else { None }
+    if number <= limit { Some(number) } else { None }
 }
 
-/// The number of a word, up to the largest of 32 bits.
+/// The number of a word, if 32 bits hold it.
 pub fn small_number(word: &[u8]) -> Option<u32>
     ensures { result ≡ plain_number word.now max_in_32_bits }
 {

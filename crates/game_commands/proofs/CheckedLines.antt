@@ -1,4 +1,4 @@
--- Lines that were checked one after another.
+-- Lines that are checked one after another.
 use Rattle.std.proofs.Common.{◌≡◌, ◌≢◌, ◌≤◌, ◌<◌, ◌+◌, ℕ, List, [], ◌∷◌, ◌++◌, length, Option, refl, sym, ap, subst, ◌∙◌, inl, inr, arith, ◌⊎◌, cond, zero-add}
 use Rattle.std.proofs.lemmas.List.Sums.{sum_by_push}
 use Rattle.std.proofs.lemmas.List.{append_assoc, flat_map_more}
@@ -19,7 +19,7 @@ use Rattle.game_commands.specs.Faults.{input_fault}
 use Rattle.game_commands.specs.Verdicts.{IsVerdict, AreVerdicts, verdict_line, verdict_lines, is_unlawful, count_unlawful}
 use Rattle.game_commands.specs.Checks.{BeginsWithLines, HasFirstLine, TellsVerdicts, TellsPart, LineFails, CheckStops, max_record}
 
--- more of the input is at hand
+-- more of the input was read
 pub begins_more : (text : List ℕ) (first : List (List ℕ)) (left given : List ℕ) → BeginsWithLines text first left → BeginsWithLines (text ++ given) first (left ++ given)
 begins_more text first left given begins more =
     ap lines (append_assoc text given more) ∙ begins (given ++ more) ∙ ap (λ l. first ++ lines l) (sym (append_assoc left given more))
@@ -60,7 +60,7 @@ stops_reading given reader mid reader' same calls (inr ended) =
     let made : CallsMade max_stream_calls reader.calls reader'.calls = λ below. omega (arith, ended.0 below, calls) in
     inr (made, ended.1, ended.2 ∙ same)
 
--- what a fault of reading a line says
+-- the meaning of a fault at reading a line
 pub read_stops : {S M R W : Type 0} (remaining : R → Option (List ℕ)) (contents : W → Option (List ℕ)) (g : Rules S M) (fault : InputFault) (verdicts : List Verdict) (bytes lost left : List ℕ)
     (reader mid reader' : Counting R) (writer writer' : Counting W)
     → mid.faults ≡ reader.faults → CallsMade 0 reader.calls mid.calls → bytes ≡ lost ++ left → HasNoLineFeed lost → InputFails max_record fault lost mid reader' → TellsVerdicts contents verdicts writer writer'
@@ -72,7 +72,7 @@ read_stops remaining contents g TooLong verdicts bytes lost left reader mid read
 read_stops remaining contents g Memory verdicts bytes lost left reader mid reader' writer writer' same calls cut feedless fails tells =
     (fails.1 ∙ same, tells)
 
--- what a fault of telling a verdict says
+-- the meaning of a fault at writing a verdict
 pub tell_stops : {S M R W : Type 0} (remaining : R → Option (List ℕ)) (contents : W → Option (List ℕ)) (g : Rules S M) (fault : Fault) (verdicts : List Verdict) (bytes line : List ℕ)
     (reader reader' : Counting R) (writer mid writer' : Counting W)
     → reader'.faults ≡ reader.faults → HasFirstLine (remaining reader'.stream) bytes line → TellsVerdicts contents verdicts writer mid → LineFails contents g fault line mid writer'

@@ -1,4 +1,4 @@
--- What the check of a record writes, and what its faults say.
+-- The output of the check of records, and the meaning of its faults.
 use Rattle.std.specs.Prelude.{◌≡◌, ℕ, ◌<◌, ◌≤◌, List, [], ◌∷◌, ◌++◌, length, take, codes, ◌⊎◌, Option}
 use Rattle.std.specs.Io.KnownBytes.{Appends, IsAtEnd}
 use Rattle.game_core.specs.Bytes.{line_feed}
@@ -14,16 +14,16 @@ use Rattle.game_commands.specs.Verdicts.{IsVerdict, verdict_line, verdict_lines}
 use Rattle.game_commands.specs.declared.fault.Fault.{Fault}
 use Rattle.game_commands.specs.declared.fault.Fault.TheVariants.{ReadFault, InputTooLong, Memory, NotLawful, WriteFault}
 
--- how many bytes a record has at most
+-- the limit of a record's bytes
 abbrev pub max_record : ℕ
 max_record = 16777216
 
--- what is written for a lawful record
+-- the output for a lawful record
 abbrev pub lawful_line : List ℕ
 lawful_line = codes "lawful" ++ line_feed ∷ []
 
--- Of an input of which these bytes were given: what the fault says of it, of the reader before and after, and of the writer. Nothing
--- was written but at a failed write, which leaves a prefix of the line for a lawful record. A record is judged once all of it was read.
+-- What a fault says about the bytes that were given, the reader before and after, and the writer. Only a failed write leaves
+-- something written: a prefix of the line for a lawful record. A record is checked after all of it was read.
 abbrev pub CheckFails : {S M R W : Type 0} → (R → Option (List ℕ)) → (W → Option (List ℕ)) → Rules S M → Fault → List ℕ → Counting R → Counting R → Counting W → Counting W → Type 0
 CheckFails remaining contents g ReadFault given reader reader' writer writer' = (length given ≤ max_record) × StopsReading (length given) reader reader' × (writer' ≡ writer)
 CheckFails remaining contents g InputTooLong given reader reader' writer writer' = (max_record < length given) × (reader'.faults ≡ reader.faults) × (writer' ≡ writer)
@@ -35,34 +35,34 @@ CheckFails remaining contents g WriteFault given reader reader' writer writer' =
     × ((taken : ℕ) × (taken ≤ length lawful_line) × Appends (contents writer.stream) (contents writer'.stream) (take taken lawful_line))
 CheckFails remaining contents g fault given reader reader' writer writer' = ⊥
 
--- However the text goes on, its lines are these, and then those of what is left of it.
+-- For each continuation of the text, its lines are these and then those of the bytes that are left.
 abbrev pub BeginsWithLines : List ℕ → List (List ℕ) → List ℕ → Type 0
 BeginsWithLines text first left = (more : List ℕ) → lines (text ++ more) ≡ first ++ lines (left ++ more)
 
--- the first line of these bytes, which may be a last one without a line feed
+-- the first line of these bytes. It may be the last one, without a line feed.
 abbrev pub HasFirstLine : Option (List ℕ) → List ℕ → List ℕ → Type 0
 HasFirstLine remaining bytes line = ((left : List ℕ) × BeginsWithLine bytes line left) ⊎ ((0 < length bytes) × HasNoLineFeed bytes × (line ≡ bytes) × IsAtEnd remaining)
 
--- the bytes begin with so many of a line that has not ended
+-- the bytes begin with a line that has not ended, and its length so far has this property
 abbrev pub HasOpenLine : List ℕ → (ℕ → Type 0) → Type 0
 HasOpenLine bytes IsLength = (part rest : List ℕ) × (bytes ≡ part ++ rest) × HasNoLineFeed part × IsLength (length part)
 
--- these verdicts, and nothing else, were written
+-- exactly these verdicts were written
 abbrev pub TellsVerdicts : {W : Type 0} → (W → Option (List ℕ)) → List Verdict → Counting W → Counting W → Type 0
 TellsVerdicts contents verdicts writer writer' = Appends (contents writer.stream) (contents writer'.stream) (verdict_lines verdicts) × (writer'.faults ≡ writer.faults)
 
--- these verdicts were written, and a part of that on this line, and then a write failed
+-- these verdicts were written, then a part of the verdict on this line, and then a write failed
 abbrev pub TellsPart : {S M W : Type 0} → (W → Option (List ℕ)) → Rules S M → List Verdict → List ℕ → Counting W → Counting W → Type 0
 TellsPart contents g verdicts line writer writer' = (writer'.faults ≡ one_more writer.faults)
     × ((verdict : Verdict) × (taken : ℕ) × IsVerdict g line verdict × (taken ≤ length (verdict_line verdict))
     × Appends (contents writer.stream) (contents writer'.stream) (verdict_lines verdicts ++ take taken (verdict_line verdict)))
 
--- what a fault says of telling the verdict on this line
+-- the meaning of a fault at writing the verdict on this line
 abbrev pub LineFails : {S M W : Type 0} → (W → Option (List ℕ)) → Rules S M → Fault → List ℕ → Counting W → Counting W → Type 0
 LineFails contents g fault line writer writer' = ((fault ≡ Memory) × (writer' ≡ writer)) ⊎ ((fault ≡ WriteFault) × TellsPart contents g [] line writer writer')
 
--- Of an input whose first lines have these verdicts, and of which these bytes are left: what the fault says of the streams before and
--- after. A line that is too long is not read further; so is an input of 2^64 - 1 lines.
+-- What a fault says about the streams before and after. The first lines have these verdicts, and these bytes are left. A line that
+-- is too long is not read further, and neither is an input after 2^64 - 1 lines.
 abbrev pub CheckStops : {S M R W : Type 0} → (R → Option (List ℕ)) → (W → Option (List ℕ)) → Rules S M → Fault → List Verdict → List ℕ → Counting R → Counting R → Counting W → Counting W → Type 0
 CheckStops remaining contents g ReadFault verdicts left reader reader' writer writer' =
     HasOpenLine left (λ count. (count ≤ max_record) × StopsReading count reader reader') × TellsVerdicts contents verdicts writer writer'

@@ -1,4 +1,4 @@
--- The program's fault where a part of its work fails.
+-- The program's fault for a fault of one of its parts.
 use Rattle.record_reading.specs.declared.verify_fault.VerifyFault.{VerifyFault}
 use Rattle.record_reading.specs.declared.verify_fault.VerifyFault.TheVariants.{Memory as CheckMemory}
 use Rattle.whole_streams.specs.declared.whole.InputFault.{InputFault}
@@ -19,7 +19,7 @@ script_fault ScriptTooLong = InputTooLong
 script_fault ScriptMemory = Memory
 script_fault ScriptWriteFault = WriteFault
 
--- an input that is no script fails as a script does
+-- any input fails as a script does
 abbrev pub input_fault : InputFault → Fault
 input_fault fault = script_fault (script_input_fault fault)
 

@@ -1,4 +1,4 @@
--- The verdicts on lines of records, and what is written of them.
+-- The verdicts on lines of records, and their output.
 use Rattle.std.specs.Prelude.{◌≡◌, ◌≢◌, ◌&&◌, ℕ, nat_le, Bool, true, false, List, [], ◌∷◌, ◌++◌, codes, count_by, flat_map}
 use Rattle.std.specs.Fmt.{decimal}
 use Rattle.game_core.specs.Bytes.{line_feed}
@@ -16,7 +16,7 @@ abbrev pub is_account_line : List ℕ → Bool
 is_account_line [] = false
 is_account_line (byte ∷ line) = nat_le 48 byte && nat_le byte 57
 
--- The verdict on a line: by its first byte one of an account; else whether it is a lawful record, and the first test that it fails.
+-- The verdict on a line. By its first byte it is one of an account. Otherwise it is a lawful record, or fails a first test.
 abbrev pub IsVerdict : {S M : Type 0} → Rules S M → List ℕ → Verdict → Type 0
 IsVerdict g text Account = is_account_line text ≡ true
 IsVerdict g text Lawful = (is_account_line text ≡ false) × IsLawfulRecord g text
@@ -29,7 +29,7 @@ AreVerdicts g [] (verdict ∷ verdicts) = ⊥
 AreVerdicts g (text ∷ texts) [] = ⊥
 AreVerdicts g (text ∷ texts) (verdict ∷ verdicts) = IsVerdict g text verdict × AreVerdicts g texts verdicts
 
--- a word, then the numbers of a turn and of a role
+-- a word, then the numbers of a turn and a role
 abbrev pub turn_and_role : List ℕ → ℕ → ℕ → List ℕ
 turn_and_role word turn role = word ++ decimal turn ++ codes " " ++ decimal role
 
@@ -42,9 +42,9 @@ fault_text (WrongRetired turn role) = turn_and_role (codes "retired ") turn role
 fault_text (WrongState turn) = codes "state " ++ decimal turn
 fault_text WrongGoals = codes "goals"
 fault_text WrongEnd = codes "end"
-fault_text Memory = codes "want of memory"
+fault_text Memory = codes "out of memory"
 
--- what is written of a verdict: nothing of a line of an account
+-- the output for a verdict. It is empty for a line of an account.
 abbrev pub verdict_line : Verdict → List ℕ
 verdict_line Lawful = codes "lawful" ++ line_feed ∷ []
 verdict_line (Unlawful fault) = codes "not lawful: " ++ fault_text fault ++ line_feed ∷ []
@@ -57,6 +57,6 @@ abbrev pub is_unlawful : Verdict → Bool
 is_unlawful (Unlawful fault) = true
 is_unlawful verdict = false
 
--- how many of the lines are no lawful records, beside those of accounts
+-- the number of lines that are no lawful records. Lines of accounts don't count.
 abbrev pub count_unlawful : List Verdict → ℕ
 count_unlawful verdicts = count_by is_unlawful verdicts

@@ -1,33 +1,34 @@
-//! What is wrong with the line of an account at which its calls can't be made again.
+//! The explanation of an account's line whose call can't be made again.
 
-use crate::bad_lines::{LineFault, Place, cut, is_number, push_fault};
+use crate::bad_lines::{BadLine, Source, push_bad_line};
+use desk_text::{first_piece, number_up_to};
 use std::alloc::AllocError;
 
-/// The form of a line of an account.
+/// The form of an entry's text.
 const FORM: &str = "LINE CALL REPLY, with a tab between each two";
 
-/// The largest number of a desk's line.
-const MAX_LINE: u64 = 4_294_967_295;
+/// The largest number of a line of a desk.
+const MAX_DESK_LINE: u64 = 4_294_967_295;
 
-/// What is wrong with a line that tells no call.
-fn fault_of(line: &[u8]) -> LineFault {
-    let (number, Some(rest)) = cut(line, b'\t') else {
-        return LineFault::new(line.len(), "fewer fields than in ", FORM);
+/// What is wrong with an entry's text that holds no call.
+fn fault_of(entry: &[u8]) -> BadLine {
+    let (number, Some(rest)) = first_piece(entry, b'\t') else {
+        return BadLine::new(entry.len(), "fewer fields than in ", FORM);
     };
-    if !is_number(number, MAX_LINE) {
-        return LineFault::new(0, "no number of a line", "");
+    if number_up_to(number, MAX_DESK_LINE).is_none() {
+        return BadLine::new(0, "no number of a line", "");
     }
-    let (call, _) = cut(rest, b'\t');
-    let fault = LineFault::of(call, Place::Account);
+    let (call, _) = first_piece(rest, b'\t');
+    let fault = BadLine::of(call, Source::Account);
     let at = number.len().saturating_add(1).saturating_add(fault.at);
-    LineFault { at, ..fault }
+    BadLine { at, ..fault }
 }
 
-/// Where a line differs from the right one, and whether that is its reply.
-fn difference(line: &[u8], right: &[u8]) -> LineFault {
+/// Where an entry's text differs from the right one, and whether it does in its reply.
+fn difference(entry: &[u8], right: &[u8]) -> BadLine {
     let mut fields: usize = 1;
     let mut at: usize = 0;
-    for (byte, other) in line.iter().zip(right.iter()) {
+    for (byte, other) in entry.iter().zip(right.iter()) {
         if byte != other {
             break;
         }
@@ -36,28 +37,31 @@ fn difference(line: &[u8], right: &[u8]) -> LineFault {
         }
         at = at.saturating_add(1);
     }
-    if fields == 3 {
-        LineFault::new(at, "the call gets another reply", "")
+    let words = if fields == 3 {
+        "the call gets another reply"
     } else {
-        LineFault::new(at, "the call is written in another way", "")
-    }
+        "the call is written in another way"
+    };
+    BadLine::new(at, words, "")
 }
 
-/// Puts what is wrong with the line of this number of an account, from 1 on, behind what is written, as a line of standard error. Where
-/// the line tells a call, the right one is known.
+/// Appends to `out` what is wrong with the line of this number of an account, as a line of standard error. Lines are numbered from 1.
+/// `right` is the right line, if the line holds a call.
 pub fn push_bad_entry(
     account: &[u8],
     number: u64,
     right: Option<&[u8]>,
     out: &mut String,
 ) -> Result<(), AllocError> {
-    let place = number.saturating_sub(1) as usize;
-    let Some(line) = account.split(|byte| *byte == b'\n').nth(place) else {
-        return Ok(());
-    };
+    let mut rest = account;
+    for _ in 1..number {
+        let (_, more) = first_piece(rest, b'\n');
+        rest = more.unwrap_or(b"");
+    }
+    let (entry, _) = first_piece(rest, b'\n');
     let fault = match right {
-        Some(right) => difference(line, right),
-        None => fault_of(line),
+        Some(right) => difference(entry, right),
+        None => fault_of(entry),
     };
-    push_fault(out, number, line, fault)
+    push_bad_line(out, number, entry, fault)
 }

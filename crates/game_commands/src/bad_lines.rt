@@ -1,196 +1,195 @@
-//! What is wrong with a line of a script, or a call of an account, that tells no call.
+//! The explanation of a script's line, or of an account's call, that can't be read.
 
-use desk_text::call_of;
-use match_plans::decimal;
+use desk_text::{MAX_NUMBER, call_of, first_line, first_piece, number_up_to};
 use std::alloc::{AllocError, Global};
-use std::str::from_utf8;
 
-/// The word with which a line's call begins.
+/// The form of the lines with one keyword: the keyword, an id, numbers, and the last words.
 #[derive(Clone, Copy)]
-enum Keyword {
-    Open,
-    Strict,
-    Next,
-    Submit,
-    Miss,
-    Query,
-    Abort,
+struct Form {
+    /// The form in words. The first one is the keyword.
+    text: &'static str,
+    /// How many numbers follow the id.
+    numbers: usize,
+    last: LastWords,
 }
 
-/// The words with which calls begin.
-const KEYWORDS: [(&[u8], Keyword); 7] = [
-    (b"open", Keyword::Open),
-    (b"strict", Keyword::Strict),
-    (b"next", Keyword::Next),
-    (b"submit", Keyword::Submit),
-    (b"miss", Keyword::Miss),
-    (b"query", Keyword::Query),
-    (b"abort", Keyword::Abort),
+/// The words of a line after its numbers.
+#[derive(Clone, Copy)]
+enum LastWords {
+    Nothing,
+    /// Any number of names.
+    Names,
+    /// A text, in which spaces may stand.
+    Text,
+    /// `silent` or `broken`.
+    Reason,
+}
+
+const FORMS: [Form; 7] = [
+    Form {
+        text: "open ID GAME START PLAY PLAYER ..",
+        numbers: 3,
+        last: LastWords::Names,
+    },
+    Form {
+        text: "strict ID GAME START PLAY STRIKES PLAYER ..",
+        numbers: 4,
+        last: LastWords::Names,
+    },
+    Form {
+        text: "next ID ROLE",
+        numbers: 1,
+        last: LastWords::Nothing,
+    },
+    Form {
+        text: "submit ID ROLE ROUND TEXT",
+        numbers: 2,
+        last: LastWords::Text,
+    },
+    Form {
+        text: "miss ID ROLE ROUND silent, or broken",
+        numbers: 2,
+        last: LastWords::Reason,
+    },
+    Form {
+        text: "query ID",
+        numbers: 0,
+        last: LastWords::Nothing,
+    },
+    Form {
+        text: "abort ID",
+        numbers: 0,
+        last: LastWords::Nothing,
+    },
 ];
 
-impl Keyword {
-    fn of(word: &[u8]) -> Option<Keyword> {
-        for (name, keyword) in KEYWORDS {
-            if word == name {
-                return Some(keyword);
+/// The text that a call stands in.
+#[derive(Clone, Copy)]
+pub enum Source {
+    /// A script. It has no empty names, and no numbers above `MAX_NUMBER`.
+    Script,
+    /// An account. It may have both.
+    Account,
+}
+
+impl Source {
+    /// What is wrong with a word that must be a number.
+    fn number_fault(self, word: &[u8]) -> Option<&'static str> {
+        let (limit, fault) = match self {
+            Source::Script => (
+                MAX_NUMBER,
+                "no number from 0 to 1000000000 without leading zeros",
+            ),
+            Source::Account => (
+                u64::MAX,
+                "no number from 0 to 18446744073709551615 without leading zeros",
+            ),
+        };
+        match number_up_to(word, limit) {
+            Some(_) => None,
+            None => Some(fault),
+        }
+    }
+
+    /// What is wrong with a word that must be a name.
+    fn name_fault(self, word: &[u8]) -> Option<&'static str> {
+        match self {
+            Source::Script if word.is_empty() => Some("an empty word, as two spaces together make"),
+            _ => None,
+        }
+    }
+}
+
+/// What is wrong with a word that must be a reason.
+fn reason_fault(word: &[u8]) -> Option<&'static str> {
+    if word == b"silent".as_slice() || word == b"broken".as_slice() {
+        None
+    } else {
+        Some("neither silent nor broken")
+    }
+}
+
+impl Form {
+    /// The form of the lines with this keyword.
+    fn of(keyword: &[u8]) -> Option<Form> {
+        for form in FORMS {
+            if first_piece(form.text.as_bytes(), b' ').0 == keyword {
+                return Some(form);
             }
         }
         None
     }
 
-    /// The form of a line.
-    fn form(self) -> &'static str {
-        match self {
-            Keyword::Open => "open ID GAME START PLAY PLAYER ..",
-            Keyword::Strict => "strict ID GAME START PLAY STRIKES PLAYER ..",
-            Keyword::Next => "next ID ROLE",
-            Keyword::Submit => "submit ID ROLE ROUND TEXT",
-            Keyword::Miss => "miss ID ROLE ROUND silent, or broken",
-            Keyword::Query => "query ID",
-            Keyword::Abort => "abort ID",
+    /// The fewest words of a line, and whether it may have more.
+    fn words(self) -> (usize, bool) {
+        let numbered = self.numbers.saturating_add(2);
+        match self.last {
+            LastWords::Nothing => (numbered, false),
+            LastWords::Names | LastWords::Text => (numbered, true),
+            LastWords::Reason => (numbered.saturating_add(1), false),
         }
     }
 
-    /// How many words a line has at least, with the keyword.
-    fn least(self) -> usize {
-        match self {
-            Keyword::Open | Keyword::Miss => 5,
-            Keyword::Strict => 6,
-            Keyword::Next => 3,
-            Keyword::Submit => 4,
-            Keyword::Query | Keyword::Abort => 2,
+    /// What is wrong with the word at a place of a line. The keyword's place is 0.
+    fn word_fault(self, place: usize, source: Source, word: &[u8]) -> Option<&'static str> {
+        if place > 1 && place < self.numbers.saturating_add(2) {
+            return source.number_fault(word);
         }
-    }
-
-    /// What the word at this place has to be, where the keyword is word 0; none where there may be no such word.
-    fn kind(self, place: usize) -> Option<Kind> {
-        match (self, place) {
-            (_, 1) => Some(Kind::Name),
-            (Keyword::Open, 2..=4)
-            | (Keyword::Strict, 2..=5)
-            | (Keyword::Next, 2)
-            | (Keyword::Submit | Keyword::Miss, 2..=3) => Some(Kind::Number),
-            (Keyword::Open | Keyword::Strict, _) => Some(Kind::Name),
-            (Keyword::Miss, 4) => Some(Kind::Reason),
-            (Keyword::Submit, _) => Some(Kind::Any),
-            _ => None,
+        match self.last {
+            LastWords::Text if place > 1 => None,
+            LastWords::Reason if place > 1 => reason_fault(word),
+            _ => source.name_fault(word),
         }
     }
 }
 
-/// What a word of a line has to be.
+/// What is wrong with a line: the place of the byte, the words, and the form of a line that the words end with.
 #[derive(Clone, Copy)]
-enum Kind {
-    Name,
-    Number,
-    Reason,
-    Any,
-}
-
-/// In which text a call stands.
-#[derive(Clone, Copy)]
-pub enum Place {
-    /// A line of a script. It has no empty names, and no numbers past the largest.
-    Script,
-    /// A line of an account, whose calls may have them.
-    Account,
-}
-
-/// The largest number that a line of a script may name.
-const MAX_NUMBER: u64 = 1_000_000_000;
-
-/// Whether the word is a number without leading zeros, at most this one.
-pub fn is_number(word: &[u8], most: u64) -> bool {
-    let has_leading_zero = word.len() > 1 && word.first() == Some(&b'0');
-    match from_utf8(word) {
-        Ok(text) => !has_leading_zero && decimal(text, most).is_some(),
-        Err(_) => false,
-    }
-}
-
-impl Kind {
-    /// What is wrong with a word that has to be of this kind.
-    fn fault(self, place: Place, word: &[u8]) -> Option<&'static str> {
-        match (self, place) {
-            (Kind::Name, Place::Script) if word.is_empty() => Some(
-                "an empty word, as two spaces together make",
-            ),
-            (Kind::Number, Place::Script) if !is_number(word, MAX_NUMBER) => Some(
-                "no number from 0 to 1000000000 without leading zeros",
-            ),
-            (Kind::Number, Place::Account) if !is_number(word, u64::MAX) => Some(
-                "no number from 0 to 18446744073709551615 without leading zeros",
-            ),
-            (Kind::Reason, _) if word != b"silent".as_slice() && word != b"broken".as_slice() => {
-                Some("neither silent nor broken")
-            }
-            _ => None,
-        }
-    }
-}
-
-/// The bytes before the first of these, and those behind it.
-pub fn cut(text: &[u8], mark: u8) -> (&[u8], Option<&[u8]>) {
-    for (at, byte) in text.iter().enumerate() {
-        if *byte == mark {
-            return (
-                text.get(..at).unwrap_or(text),
-                text.get(at.saturating_add(1)..),
-            );
-        }
-    }
-    (text, None)
-}
-
-/// What is wrong with a bad line: where, by the byte, in which words, and of which form of a line these speak.
-#[derive(Clone, Copy)]
-pub struct LineFault {
+pub struct BadLine {
     pub at: usize,
     pub words: &'static str,
     pub form: &'static str,
 }
 
-impl LineFault {
-    pub fn new(at: usize, words: &'static str, form: &'static str) -> LineFault {
-        LineFault { at, words, form }
+impl BadLine {
+    pub fn new(at: usize, words: &'static str, form: &'static str) -> BadLine {
+        BadLine { at, words, form }
     }
 
-    /// What is wrong with a call in this place that has a byte and is none.
-    pub fn of(line: &[u8], stands_in: Place) -> LineFault {
-        let (first, mut rest) = cut(line, b' ');
-        let Some(keyword) = Keyword::of(first) else {
-            return LineFault::new(0, "no call begins with this word", "");
+    /// What is wrong with a call that can't be read and is not empty.
+    pub fn of(call: &[u8], source: Source) -> BadLine {
+        let (keyword, mut rest) = first_piece(call, b' ');
+        let Some(form) = Form::of(keyword) else {
+            return BadLine::new(0, "no call begins with this word", "");
         };
-        let mut at = first.len().saturating_add(1);
-        for place in 1..=line.len() {
+        let (fewest, may_have_more) = form.words();
+        let mut at = keyword.len().saturating_add(1);
+        for place in 1..=call.len() {
             let Some(words) = rest else {
-                if place >= keyword.least() {
-                    return LineFault::new(
-                        0,
-                        "a byte escaped in another way, or a number too large",
-                        "",
-                    );
+                if place < fewest {
+                    break;
                 }
-                break;
+                let fault = "a byte escaped in another way, or a number too large";
+                return BadLine::new(0, fault, "");
             };
-            let (word, more) = cut(words, b' ');
-            let Some(kind) = keyword.kind(place) else {
-                return LineFault::new(at, "more words than in ", keyword.form());
-            };
-            if let Some(words) = kind.fault(stands_in, word) {
-                return LineFault::new(at, words, "");
+            let (word, more) = first_piece(words, b' ');
+            if place >= fewest && !may_have_more {
+                return BadLine::new(at, "more words than in ", form.text);
+            }
+            if let Some(fault) = form.word_fault(place, source, word) {
+                return BadLine::new(at, fault, "");
             }
             at = at.saturating_add(word.len()).saturating_add(1);
             rest = more;
         }
-        LineFault::new(line.len(), "fewer words than in ", keyword.form())
+        BadLine::new(call.len(), "fewer words than in ", form.text)
     }
 }
 
 /// How many bytes of a line are shown.
 const SHOWN: usize = 80;
 
-/// Puts the beginning of a line behind what is written, with `?` for a byte that is not seen, and two dots where more follows.
+/// Appends the beginning of a line to `out`, with `?` for each byte that is not visible, and two dots if more follows.
 fn push_shown(out: &mut String, line: &[u8]) -> Result<(), AllocError> {
     for byte in line.iter().take(SHOWN) {
         let is_seen = byte.is_ascii_graphic() || *byte == b' ';
@@ -202,23 +201,14 @@ fn push_shown(out: &mut String, line: &[u8]) -> Result<(), AllocError> {
     out.push('\n')
 }
 
-/// Puts what is wrong with the line of this number, from 0 on, behind what is written, as a line of standard error.
-fn push_line(out: &mut String, number: usize, line: &[u8]) -> Result<(), AllocError> {
-    let number = number.saturating_add(1);
-    if line.is_empty() {
-        return write!(out, "ggp_manager: line {number}, column 1: an empty line\n");
-    }
-    push_fault(out, number as u64, line, LineFault::of(line, Place::Script))
-}
-
-/// Puts what is wrong with the line of this number, from 1 on, behind what is written, as a line of standard error.
-pub fn push_fault(
+/// Appends to `out` what is wrong with a line, as a line of standard error. Lines are numbered from 1.
+pub fn push_bad_line(
     out: &mut String,
     number: u64,
     line: &[u8],
-    fault: LineFault,
+    fault: BadLine,
 ) -> Result<(), AllocError> {
-    let LineFault { at, words, form } = fault;
+    let BadLine { at, words, form } = fault;
     let column = at.saturating_add(1);
     write!(
         out,
@@ -227,27 +217,24 @@ pub fn push_fault(
     push_shown(out, line)
 }
 
-/// The first line of a text, without one carriage return before its line feed, and the text after it. The last line may have none.
-fn first_line(text: &[u8]) -> (&[u8], &[u8]) {
-    match cut(text, b'\n') {
-        (line, Some(more)) => (line.strip_suffix(b"\r".as_slice()).unwrap_or(line), more),
-        (line, None) => (line, b""),
-    }
-}
-
-/// Puts what is wrong with the first of the lines of a script that tell no call behind what is written, as a line of standard error.
+/// Appends to `out` what is wrong with the first bad line of a script, as a line of standard error.
 pub fn push_first_bad_line(
     alloc: Global,
     script: &[u8],
     out: &mut String,
 ) -> Result<(), AllocError> {
     let mut rest = script;
-    for number in 0..script.len() {
+    let mut number: u64 = 0;
+    while !rest.is_empty() {
         let (line, more) = first_line(rest);
-        if call_of(alloc, line)?.is_none() {
-            return push_line(out, number, line);
+        number = number.saturating_add(1);
+        if call_of(alloc, line)?.is_some() {
+            rest = more;
+        } else if line.is_empty() {
+            return write!(out, "ggp_manager: line {number}, column 1: an empty line\n");
+        } else {
+            return push_bad_line(out, number, line, BadLine::of(line, Source::Script));
         }
-        rest = more;
     }
     Ok(())
 }

@@ -1,4 +1,4 @@
-//! The check of a record.
+//! The check of records.
 ghost use Rattle.std.specs.Prelude.{◌≡◌, ◌∷◌, [], ℕ, List, IfErr, IfOk, OnOk};
 ghost use Rattle.std.specs.Io.KnownBytes.{Consumes, Appends, IsAtEnd};
 ghost use Rattle.std.specs.Str.Lines.{lines};
@@ -17,7 +17,7 @@ use std::alloc::Global;
 use std::io::{Read, Write};
 use whole_streams::{InputFault, LineBuffer, NextLine, read_to_end, write_all};
 
-/// How many bytes a record has at most: 16 MiB.
+/// The limit of a record's bytes: 16 MiB.
 pub const MAX_RECORD: usize = 16_777_216;
 
 impl From<InputFault> for Fault {
@@ -45,7 +45,7 @@ impl From<VerifyFault> for Fault {
     }
 }
 
-/// Reads a record and tests it for the game. It is lawful, or the first test that it fails is the fault.
+/// Reads a record, checks it by the game, and writes `lawful`. For an unlawful record the fault is the first test that it fails.
 pub fn check_record<G: Game, R: Read, W: Write>(
     alloc: Global,
     game: &G,
@@ -67,7 +67,8 @@ pub fn check_record<G: Game, R: Read, W: Write>(
     Ok(write_all(writer, b"lawful\n")?)
 }
 
-/// Writes the verdict on a line, and counts it where it is no lawful record. A line of an account is skipped.
+/// Writes the verdict on a line. Returns 1 if the line is no lawful record, and 0 if it is one. A line of an account is skipped, and
+/// counts as 0.
 fn check_line<G: Game, W: Write>(
     alloc: Global,
     game: &G,
@@ -89,8 +90,8 @@ fn check_line<G: Game, W: Write>(
     }
 }
 
-/// Tests each line of the input as a record of the game, one after another, and writes a line for each as soon as it is tested; lines
-/// of accounts are skipped. Returns how many are no lawful records. One line is in memory at a time.
+/// Checks each line of the input as a record of the game, and writes its verdict before the next line is read. Lines of accounts are
+/// skipped. Returns the number of the other lines that are no lawful records. One line is in memory at a time.
 pub fn check_records<G: Game, R: Read, W: Write>(
     alloc: Global,
     game: &G,

@@ -1,4 +1,4 @@
-//! The commands over standard input and output that want one game.
+//! The commands over standard input and output for one game.
 
 use crate::checking::{check_record, check_records};
 use crate::fault::Fault;
@@ -12,7 +12,7 @@ use std::alloc::{AllocFailed, Global};
 use std::io::{Read, Write};
 use std::rt::Files;
 
-/// That so many lines, records or answers were not good, if any was.
+/// The fault, unless the count is 0.
 fn unless_none(count: u64, fault: Fault) -> Result<(), Fault> {
     match count {
         0 => Ok(()),
@@ -20,14 +20,14 @@ fn unless_none(count: u64, fault: Fault) -> Result<(), Fault> {
     }
 }
 
-/// The game alone, as number 0.
+/// A list of this game alone. Its number is 0.
 fn alone<G: Drop>(alloc: Global, game: G) -> Result<Vec<G>, AllocFailed<G>> {
     let mut games = Vec::new(alloc);
     games.push(game)?;
     Ok(games)
 }
 
-/// Does a command's work for this game.
+/// Performs a command for this game.
 fn perform<G: Game + Drop, R: Read, W: Write>(
     alloc: Global,
     command: GameCommand,
@@ -52,7 +52,7 @@ fn perform<G: Game + Drop, R: Read, W: Write>(
     }
 }
 
-/// Does a command's work for the game that the command line gives.
+/// Performs a command for the game of the command line.
 pub fn for_game<F: Files, R: Read, W: Write>(
     files: &F,
     alloc: Global,

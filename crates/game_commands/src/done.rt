@@ -1,7 +1,7 @@
-//! Matches of which a file holds a lawful record.
+//! The matches that a file of records has finished or aborted.
 ghost use Rattle.std.specs.Prelude.{◌≡◌, ◌∷◌, ◌++◌, [], map, IfErr, IfOk, IfSome, OnOk};
 ghost use Rattle.game_core.specs.Bytes.{space};
-ghost use Rattle.game_commands.specs.Done.{IsDone, is_over, match_names};
+ghost use Rattle.game_commands.specs.Done.{IsDone, match_names};
 ghost use Rattle.game_commands.specs.declared.fault.Fault.TheVariants.{Memory};
 
 use crate::checking::MAX_RECORD;
@@ -9,7 +9,6 @@ use crate::fault::Fault;
 use crate::rules::{opening_fault, reading_fault};
 use game_core::{Counted, Game};
 use indexmap::IndexSet;
-use match_book::Phase;
 use match_plans::MatchPlan;
 use match_record::VerifyFault;
 use record_check::lawful_parts;
@@ -23,11 +22,11 @@ use whole_streams::{LineBuffer, NextLine};
 /// The matches that are over, by their records.
 #[derive(Drop)]
 pub struct DoneMatches {
-    /// The names of each: lawful names have no space, so no other match has the same.
+    /// The names of each match. Lawful names have no spaces, so different matches have different texts.
     names: IndexSet<Vec<u8>>,
 }
 
-/// Puts a name behind those that are there.
+/// Appends a name and a space to `names`.
 fn push_name(names: &mut Vec<u8>, name: &[u8]) -> Result<(), AllocError>
     ensures { OnOk result (names.new.items ≡ names.old.items ++ name.now ++ space ∷ []) }
 {
@@ -35,7 +34,7 @@ fn push_name(names: &mut Vec<u8>, name: &[u8]) -> Result<(), AllocError>
     names.extend_from_slice(b" ")
 }
 
-/// The names of a match that a record says.
+/// The names of a record's match.
 fn recorded_names(alloc: Global, parts: &RecordParts) -> Result<Vec<u8>, AllocError>
     ensures { IfOk result (λ names. names.items ≡ match_names parts.now.id parts.now.players) }
 {
@@ -47,7 +46,7 @@ fn recorded_names(alloc: Global, parts: &RecordParts) -> Result<Vec<u8>, AllocEr
     Ok(names)
 }
 
-/// The names of a match that is planned.
+/// The names of a planned match.
 fn planned_names(alloc: Global, plan: &MatchPlan<'_>) -> Result<Vec<u8>, AllocError>
     ensures { IfOk result (λ names. names.items ≡ match_names plan.now.id.now (map (λ p. p.name.now) plan.now.players.items)) }
 {
@@ -59,32 +58,25 @@ fn planned_names(alloc: Global, plan: &MatchPlan<'_>) -> Result<Vec<u8>, AllocEr
     Ok(names)
 }
 
-/// Whether a match in this phase is over.
-fn is_over(phase: Phase) -> bool
-    ensures { result ≡ is_over phase }
-{
-    matches!(phase, Phase::Finished | Phase::Aborted)
-}
-
-/// The names of the match of which a line is the lawful record, if that match is over.
+/// The names of a line's match. `None` if the line is no lawful record, or the match is not over.
 fn done_names<G: Game>(alloc: Global, game: &G, line: &[u8]) -> Result<Option<Vec<u8>>, Fault>
     ensures done { IfOk result (λ o. IfSome o (λ names. IsDone (G.rules game.now) line.now names.items)) }
     ensures memory { IfErr result (λ fault. fault ≡ Memory) }
 {
     match lawful_parts(alloc, game, line) {
-        Ok(parts) if is_over(parts.phase) => Ok(Some(recorded_names(alloc, &parts)?)),
+        Ok(parts) if parts.phase.is_last() => Ok(Some(recorded_names(alloc, &parts)?)),
         Err(VerifyFault::Memory) => Err(Fault::Memory),
         _ => Ok(None),
     }
 }
 
 impl DoneMatches {
-    /// Whether this match is over: its id and its players' names are those of one.
+    /// Whether a match with this id and these players is over.
     pub fn has(&self, alloc: Global, plan: &MatchPlan<'_>) -> Result<bool, AllocError> {
         Ok(self.names.contains(&planned_names(alloc, plan)?))
     }
 
-    /// Notes the match of a line that is the lawful record of one that is over. Any other line is skipped.
+    /// Notes the match of a line, if the line is its lawful record and the match is over. Any other line is skipped.
     fn note<G: Game>(&mut self, alloc: Global, game: &G, line: &[u8]) -> Result<(), Fault> {
         if let Some(names) = done_names(alloc, game, line)? {
             self.names.insert(names)?;
@@ -112,7 +104,7 @@ impl DoneMatches {
     }
 }
 
-/// Reads the file at this path, line by line.
+/// Reads the file at this path line by line.
 fn read_done<F: Files, G: Game>(
     files: &F,
     alloc: Global,
@@ -130,8 +122,8 @@ fn read_done<F: Files, G: Game>(
     Ok(done)
 }
 
-/// The matches of the game of which the file at this path holds a lawful record, a line each. All other lines are skipped, those of
-/// accounts among them.
+/// The matches of the game that are over, by the file of records at this path. Each line is one record. Other lines are skipped, and so
+/// are those of accounts.
 pub fn done_matches<F: Files, G: Game>(
     files: &F,
     alloc: Global,

@@ -1,4 +1,4 @@
-//! Why a command ends with a fault.
+//! The faults of the program.
 
 use crate::rules::FileFault;
 use crate::script_fault::ScriptFault;
@@ -10,7 +10,7 @@ use std::alloc::{AllocError, AllocFailed};
 use std::fmt;
 use whole_streams::WriteFault;
 
-/// A fault of the program. Its text is what standard error shows behind the program's name. Of some a `Remarks` says more.
+/// A fault of the program. Its text is what standard error shows after the program's name. `Remarks` says more about some.
 #[derive(Clone, Copy)]
 pub enum Fault {
     /// The command line is refused.
@@ -19,43 +19,43 @@ pub enum Fault {
     Memory,
     /// The text of the rules is not KIF, or is no ground description.
     BadDescription,
-    /// The file of the rules was not read.
+    /// The file of the rules could not be read.
     RulesFile(FileFault),
-    /// The file of the rules that players are told was not read.
+    /// The file of the players' rules could not be read.
     ToldFile(FileFault),
-    /// The file of the rules that players are told is not KIF.
+    /// The file of the players' rules is not KIF.
     BadTold,
-    /// The file of records of matches that are not played again was not read.
+    /// The file of records of matches that are over could not be read.
     DoneFile(FileFault),
     /// Standard input failed.
     ReadFault,
-    /// The input has more bytes than it may have.
+    /// The input is longer than its limit.
     InputTooLong,
     /// Standard output failed.
     WriteFault,
-    /// The player can't be reached, or its answer can't be taken.
+    /// The player can't be reached, or its answer can't be read.
     NoAnswer,
     /// The match was not opened.
     Refused(Refusal),
     /// The match has neither finished nor been aborted.
     MatchNotEnded,
-    /// The referee was short of this in the match, so some answer in it is no answer of the player's.
+    /// The referee had this shortage in the match, so an answer in it is not the player's.
     NoRecord(Shortage),
-    /// The line of that number of a schedule is a bad one. No match was begun.
+    /// The schedule's line of this number is bad. No match was begun.
     BadSchedule(u64, LineFault),
-    /// So many matches of a schedule have no record. The records of the others are output.
+    /// The number of a schedule's matches without a record. The other records are output.
     NoRecords(u64),
-    /// The record is not lawful: the first test that it fails.
+    /// The record is not lawful, by the first test that it fails.
     NotLawful(VerifyFault),
-    /// So many lines of the input are no lawful records. All verdicts are output.
+    /// The number of the input's lines that are no lawful records. All verdicts are output.
     UnlawfulRecords(u64),
-    /// The line of that number tells no call.
+    /// The account's line of this number holds no call.
     NoEntry(u64),
-    /// The call of the line of that number gets another reply, or the line is written in another way. What it should be is output.
+    /// The call of the account's line of this number gets another reply, or the line is written in another way. The right line is output.
     Differs(u64),
-    /// So many lines of a script were bad. All output is there.
+    /// The number of a script's bad lines. The whole output is written.
     BadLines(u64),
-    /// So many answers of a player that was checked were not good. The whole table is output.
+    /// The number of a checked player's bad answers. The whole table is output.
     BadAnswers(u64),
 }
 
@@ -69,7 +69,7 @@ impl Fault {
         }
     }
 
-    /// What the fault's text begins with.
+    /// The first words of the fault's text.
     fn words(self) -> &'static str {
         match self {
             Fault::WrongUse => "wrong use",

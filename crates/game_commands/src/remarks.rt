@@ -1,11 +1,11 @@
-//! What is said of a fault before its own line.
+//! The lines that explain a fault, before its own line.
 
 use crate::bad_entries::push_bad_entry;
 use crate::bad_lines::push_first_bad_line;
 use described_games::{DescriptionFault, push_explanation};
 use std::alloc::{AllocError, Global};
 
-/// The lines that say more of a fault, each with a line feed. There are none where they are not wanted, or memory for them was refused.
+/// The lines that explain a fault, each with a line feed. There are none if they are not wanted, or if they were out of memory.
 #[derive(Drop)]
 pub struct Remarks {
     alloc: Global,
@@ -13,7 +13,7 @@ pub struct Remarks {
     lines: String,
 }
 
-/// Puts what is wrong with a text behind what is written, and before it what helps against that.
+/// Appends to `out` what is wrong with a text, after what helps against it.
 fn push_description(
     alloc: Global,
     text: &[u8],
@@ -29,7 +29,7 @@ fn push_description(
 }
 
 impl Remarks {
-    /// No lines yet, and whether any are wanted.
+    /// No lines yet.
     pub fn new(alloc: Global, is_wanted: bool) -> Remarks {
         Remarks {
             alloc,
@@ -42,28 +42,28 @@ impl Remarks {
         self.lines.as_str()
     }
 
-    /// Says what is wrong with a text that describes no game, and where.
+    /// Explains what is wrong with a text that describes no game, and where.
     pub fn describe(&mut self, text: &[u8], fault: DescriptionFault) {
         if self.is_wanted && push_description(self.alloc, text, fault, &mut self.lines).is_err() {
             self.lines.clear();
         }
     }
 
-    /// Says what is wrong with the first of the lines of a script that tell no call.
+    /// Explains the first bad line of a script.
     pub fn first_bad_line(&mut self, script: &[u8]) {
         if self.is_wanted && push_first_bad_line(self.alloc, script, &mut self.lines).is_err() {
             self.lines.clear();
         }
     }
 
-    /// Says what is wrong with the line of this number of an account, from 1 on. Where it tells a call, the right line is known.
+    /// Explains the line of this number of an account. Lines are numbered from 1. `right` is the right line, if the line holds a call.
     pub fn bad_entry(&mut self, account: &[u8], number: u64, right: Option<&[u8]>) {
         if self.is_wanted && push_bad_entry(account, number, right, &mut self.lines).is_err() {
             self.lines.clear();
         }
     }
 
-    /// Takes a text that was made elsewhere, unless memory for it was refused.
+    /// Takes lines that were made elsewhere, unless they were out of memory.
     pub fn take(&mut self, made: Result<String, AllocError>) {
         if let Ok(lines) = made {
             self.lines = lines;

@@ -1,4 +1,4 @@
-//! An account is read, and its calls are made again.
+//! Reading an account, and making its calls again.
 
 use crate::fault::Fault;
 use crate::remarks::Remarks;
@@ -9,32 +9,29 @@ use std::alloc::{AllocError, Global};
 use std::io::{Read, Write};
 use whole_streams::{read_to_end, write_all};
 
-/// How many bytes an account has at most: 256 MiB.
+/// The limit of an account's bytes: 256 MiB.
 const MAX_ACCOUNT: usize = 268_435_456;
 
-/// Whether the line begins as a record does, and no line of an account.
-fn is_record_line(line: &[u8]) -> bool {
-    line.first() == Some(&b'{')
-}
-
-/// The lines of an account, without the records among them.
-fn without_records(alloc: Global, input: Vec<u8>) -> Result<Vec<u8>, AllocError> {
-    if !input
-        .split(|byte| *byte == b'\n')
-        .any(|line| is_record_line(line))
-    {
-        return Ok(input);
-    }
-    let mut account = Vec::new(alloc);
-    for line in input.split_inclusive(|byte| *byte == b'\n') {
-        if !is_record_line(line) {
-            account.extend_from_slice(line)?;
+/// Removes the records between the lines of an account. A record begins with a brace, and no line of an account does.
+fn remove_records(account: &mut Vec<u8>) {
+    let mut kept = 0;
+    let mut is_record = false;
+    let mut line_begins = true;
+    for place in 0..account.len() {
+        let byte = account[place];
+        if line_begins {
+            is_record = byte == b'{';
+        }
+        line_begins = byte == b'\n';
+        if !is_record {
+            account[kept] = byte;
+            kept += 1;
         }
     }
-    Ok(account)
+    account.truncate(kept);
 }
 
-/// Puts how many calls were made behind what is written, and the records of their matches.
+/// Appends the number of calls to `output`, and the records of their matches.
 fn push_replayed<G: Game + Drop>(
     alloc: Global,
     replayed: &Replayed<G>,
@@ -45,9 +42,8 @@ fn push_replayed<G: Game + Drop>(
     push_records(alloc, &replayed.manager, output)
 }
 
-/// Makes the calls of an account again on a manager of these games, and puts how many they are and the records of its matches behind
-/// what is written. Where a line is not right, the line that it should be is put there instead, the remarks say what is wrong with it, and the fault is
-/// returned.
+/// Makes the calls of an account again on a manager of these games. Appends their number to `output`, and the records of the matches.
+/// If a line is wrong, appends the right line instead, explains the wrong one in the remarks, and returns the fault.
 fn push_answer<G: Game + Drop>(
     alloc: Global,
     games: Vec<G>,
@@ -74,8 +70,8 @@ fn push_answer<G: Game + Drop>(
     }
 }
 
-/// Reads an account, makes its calls again on a manager of these games, and writes what comes of it. Lines that begin as records do are
-/// skipped, and not counted.
+/// Reads an account, makes its calls again on a manager of these games, and writes the result. Lines that begin as records do are
+/// skipped, and are not counted.
 pub fn replay_account<R: Read, W: Write, G: Game + Drop>(
     alloc: Global,
     reader: &mut Counted<R>,
@@ -83,7 +79,8 @@ pub fn replay_account<R: Read, W: Write, G: Game + Drop>(
     games: Vec<G>,
     remarks: &mut Remarks,
 ) -> Result<(), Fault> {
-    let account = without_records(alloc, read_to_end(alloc, reader, MAX_ACCOUNT)?)?;
+    let mut account = read_to_end(alloc, reader, MAX_ACCOUNT)?;
+    remove_records(&mut account);
     let mut output = Vec::new(alloc);
     let fault = push_answer(alloc, games, &account, &mut output, remarks)?;
     write_all(writer, &output)?;

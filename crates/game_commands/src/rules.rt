@@ -1,4 +1,4 @@
-//! Where a game comes from.
+//! The game of a command, from its rules.
 ghost use Rattle.std.specs.Prelude.{IfOk};
 ghost use Rattle.described_games.specs.Games.{IsDescribed};
 
@@ -16,10 +16,10 @@ use std::rt::Files;
 use std::{fs, io};
 use whole_streams::{InputFault, read_to_end};
 
-/// How many bytes a file of rules has at most: as many as a description may have.
+/// The limit of the bytes in a file of rules, which is that of a description.
 const MAX_RULES: usize = 1_048_576;
 
-/// Why a file was not read.
+/// Why a file could not be read.
 #[derive(Clone, Copy)]
 pub enum FileFault {
     NoFile,
@@ -39,7 +39,7 @@ impl FileFault {
     }
 }
 
-/// The fault where a file of rules can't be opened.
+/// The fault for a file of rules that can't be opened.
 pub fn opening_fault(error: io::Error) -> Fault {
     match error.kind() {
         ErrorKind::OutOfMemory => Fault::Memory,
@@ -48,7 +48,7 @@ pub fn opening_fault(error: io::Error) -> Fault {
     }
 }
 
-/// The fault where a file of rules can't be read.
+/// The fault for a file of rules that can't be read.
 pub fn reading_fault(fault: InputFault) -> Fault {
     match fault {
         InputFault::ReadFault => Fault::RulesFile(FileFault::Unread),
@@ -81,7 +81,7 @@ pub fn rules_text<'a, F: Files>(
     }
 }
 
-/// The game that a text describes. Where it describes none, the remarks say why.
+/// The game of a description. If the text describes none, the remarks explain why.
 pub fn game_of(alloc: Global, text: &[u8], remarks: &mut Remarks) -> Result<PackedGame, Fault>
     ensures { IfOk result (IsDescribed text.now) }
 {
@@ -95,7 +95,7 @@ pub fn game_of(alloc: Global, text: &[u8], remarks: &mut Remarks) -> Result<Pack
     }
 }
 
-/// The fault where the text that players are to be told is not KIF. The remarks say why.
+/// The fault for a players' description that is not KIF. The remarks explain it.
 pub fn told_fault(text: &[u8], fault: KifFault, remarks: &mut Remarks) -> Fault {
     match DescriptionFault::from(fault) {
         DescriptionFault::Memory => Fault::Memory,
@@ -106,7 +106,7 @@ pub fn told_fault(text: &[u8], fault: KifFault, remarks: &mut Remarks) -> Fault 
     }
 }
 
-/// The text of a game whose players are told its rules: that of Countdown is written here.
+/// The text of a game's rules for players. Countdown's is written here.
 pub fn told_rules<'a, F: Files>(
     files: &F,
     alloc: Global,

@@ -1,4 +1,4 @@
-//! A script on a desk: it is read whole, each of its lines is answered, and what is written ends with the records.
+//! Runs a script on a desk: reads it whole, answers each line, and writes the answers and then the records.
 ghost use Rattle.std.specs.Prelude.{◌≡◌, ℕ, List, length, IfOk, OnOk, IfErr};
 ghost use Rattle.std.specs.Io.KnownBytes.{Consumes, Appends, IsAtEnd};
 ghost use Rattle.std.specs.Str.Lines.{lines};
@@ -13,12 +13,11 @@ use std::alloc::Global;
 use std::io::{Read, Write};
 use whole_streams::{read_to_end, write_all};
 
-/// How many bytes a script has at most.
+/// The limit of a script's bytes.
 const MAX_SCRIPT: usize = 1_048_576;
 
-/// Reads a whole script, answers each of its lines on a manager of these games, and writes the
-/// answers and then the record of each match in order of opening. The number of bad lines is returned; what is wrong with the first
-/// of them is put into the remarks.
+/// Reads a whole script, answers each line on a manager of these games, and writes the answers and then the record of each match in
+/// order of opening. Returns the number of bad lines. The remarks explain the first of them.
 pub fn run_script<R: Read, W: Write, G: Game + Drop>(
     alloc: Global,
     reader: &mut Counted<R>,

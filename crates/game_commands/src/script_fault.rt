@@ -3,15 +3,15 @@
 use std::alloc::AllocError;
 use whole_streams::{InputFault, WriteFault};
 
-/// Why a script was not answered: the first of these to come. After the first three nothing was
-/// written, and after a failed write a prefix of the output was.
+/// Why a script was not answered: the first of these that happened. After the first three nothing was written, and after a failed
+/// write a prefix of the output was.
 #[derive(Clone, Copy)]
 pub enum ScriptFault {
     /// A read failed, interruptions included, or 200,000 reads came to no end.
     ReadFault,
     /// The script has more than 1,048,576 bytes.
     TooLong,
-    /// Want of memory.
+    /// Out of memory.
     Memory,
     /// A write failed, or took none of some bytes.
     WriteFault,

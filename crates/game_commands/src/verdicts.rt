@@ -1,4 +1,4 @@
-//! The verdicts on lines of records, and the lines that tell them.
+//! The verdicts on the lines of a file of records, and their lines of output.
 ghost use Rattle.std.specs.Prelude.{◌≡◌, IfOk, OnErr, IfErr, string_bytes};
 ghost use Rattle.game_commands.specs.declared.fault.Fault.TheVariants.{Memory};
 ghost use Rattle.game_commands.specs.Verdicts.{IsVerdict, fault_text, is_account_line, verdict_line};
@@ -9,18 +9,18 @@ use match_record::VerifyFault;
 use record_check::verify;
 use std::alloc::{AllocError, Global};
 
-/// What a line is, where each is to be a record or a part of an account.
+/// The verdict on a line of a file of records and accounts.
 #[derive(Clone, Copy)]
 pub enum Verdict {
     /// A lawful record.
     Lawful,
-    /// No lawful record: the first test that it fails.
+    /// No lawful record, by the first test that it fails.
     Unlawful(VerifyFault),
     /// A line of an account, by its first byte.
     Account,
 }
 
-/// Whether the line begins with a digit, as those of an account do and no record does.
+/// Whether the line begins with a digit. Each line of an account does, and no record does.
 fn is_account_line(line: &[u8]) -> bool
     ensures { result ≡ is_account_line line.now }
 {
@@ -45,7 +45,7 @@ pub fn verdict_on<G: Game>(alloc: Global, game: &G, text: &[u8]) -> Result<Verdi
     }
 }
 
-/// The fault in the words that it is shown in.
+/// The words of a fault.
 fn fault_text(alloc: Global, fault: VerifyFault) -> Result<String, AllocError>
     ensures { IfOk result (λ text. string_bytes text ≡ fault_text fault) }
 {
@@ -61,11 +61,11 @@ fn fault_text(alloc: Global, fault: VerifyFault) -> Result<String, AllocError>
         VerifyFault::WrongState(turn) => format!(in alloc; "state {turn}"),
         VerifyFault::WrongGoals => String::from_str(alloc, "goals"),
         VerifyFault::WrongEnd => String::from_str(alloc, "end"),
-        VerifyFault::Memory => String::from_str(alloc, "want of memory"),
+        VerifyFault::Memory => String::from_str(alloc, "out of memory"),
     }
 }
 
-/// The line that tells a verdict: nothing of a line of an account.
+/// The line of output for a verdict. It is empty for a line of an account.
 pub fn verdict_line(alloc: Global, verdict: Verdict) -> Result<String, AllocError>
     ensures { IfOk result (λ line. string_bytes line ≡ verdict_line verdict) }
 {

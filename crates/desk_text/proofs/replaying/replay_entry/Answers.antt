@@ -4,22 +4,22 @@ use Rattle.match_desk.specs.declared.call.Call.{Call}
 use Rattle.match_desk.specs.declared.call.Reply.{Reply}
 use Rattle.desk_text.specs.Account.{entry_text, told}
 use Rattle.desk_text.proofs.Accounts.{apart_when_not}
-use Rattle.desk_text.proofs.replaying.replay_line.Goals as goal
+use Rattle.desk_text.proofs.replaying.replay_entry.Goals as goal
 
 pub returns-clause-ok : goal.returns-clause-ok
 returns-clause-ok g c =
-    let e : Entry Call Reply = record { line = c.in-Some.made_by; call = c.in-Some.call; reply = c.in_ok-reply.reply } in
-    let is_line : c.args.line.now ≡ entry_text e = search rules in
-    let was_told : told c.args.line.now ≡ Some (c.in-Some.made_by, c.in-Some.call) = search rules in
+    let e : Entry Call Reply = record { line = c.in-Some.line; call = c.in-Some.call; reply = c.in_ok-reply.reply } in
+    let is_line : c.args.text.now ≡ entry_text e = search rules in
+    let was_told : told c.args.text.now ≡ Some (c.in-Some.line, c.in-Some.call) = search rules in
     let is_reply : c.in_ok-reply.reply ≡ g.O.Object.reply c.args.object.now c.in-Some.call = search rules in
     let is_new : c.apply.new.self ≡ g.O.Object.after c.args.object.now c.in-Some.call = search rules in
     (e, is_line, ap told (sym is_line) ∙ was_told, is_reply, is_new)
 
 pub returns-then-ne-clause-refused : goal.returns-then-ne-clause-refused
 returns-then-ne-clause-refused g c =
-    let e : Entry Call Reply = record { line = c.in-Some.made_by; call = c.in-Some.call; reply = c.in_ok-reply.reply } in
-    let was_told : told c.args.line.now ≡ Some (c.in-Some.made_by, c.in-Some.call) = search rules in
+    let e : Entry Call Reply = record { line = c.in-Some.line; call = c.in-Some.call; reply = c.in_ok-reply.reply } in
+    let was_told : told c.args.text.now ≡ Some (c.in-Some.line, c.in-Some.call) = search rules in
     let is_reply : c.in_ok-reply.reply ≡ g.O.Object.reply c.args.object.now c.in-Some.call = search rules in
     let is_text : c.push_entry.new.out.items ≡ entry_text e = search rules in
-    let differ = apart_when_not c.as_slice.result.now c.args.line.now (sym c.if-ne.ensures) in
+    let differ = apart_when_not c.as_slice.result.now c.args.text.now (sym c.if-ne.ensures) in
     (refl, e, was_told, is_reply, is_text, λ same. differ (c.as_slice.ensures.value ∙ (is_text ∙ sym same)))
