@@ -6,7 +6,8 @@ use Rattle.whole_streams.specs.declared.whole.InputFault.TheVariants.{ReadFault 
 use Rattle.game_commands.specs.declared.script_fault.ScriptFault.{ScriptFault}
 use Rattle.game_commands.specs.declared.script_fault.ScriptFault.TheVariants.{ReadFault as ScriptReadFault, TooLong as ScriptTooLong, Memory as ScriptMemory, WriteFault as ScriptWriteFault}
 use Rattle.game_commands.specs.declared.fault.Fault.{Fault}
-use Rattle.game_commands.specs.declared.fault.Fault.TheVariants.{Memory, ReadFault, InputTooLong, WriteFault, NotLawful}
+use Rattle.game_commands.specs.declared.fault.Fault.TheVariants.{Memory, RulesFile, ReadFault, InputTooLong, WriteFault, NotLawful}
+use Rattle.game_commands.specs.declared.rules.FileFault.TheVariants.{Unread, TooLong as FileTooLong}
 
 abbrev pub script_input_fault : InputFault → ScriptFault
 script_input_fault InputReadFault = ScriptReadFault
@@ -22,6 +23,12 @@ script_fault ScriptWriteFault = WriteFault
 -- any input fails as a script does
 abbrev pub input_fault : InputFault → Fault
 input_fault fault = script_fault (script_input_fault fault)
+
+-- a file of rules that can't be read
+abbrev pub reading_fault : InputFault → Fault
+reading_fault InputReadFault = RulesFile Unread
+reading_fault TooLong = RulesFile FileTooLong
+reading_fault InputMemory = Memory
 
 -- a record that fails a test is not lawful
 abbrev pub check_fault : VerifyFault → Fault

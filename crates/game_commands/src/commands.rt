@@ -1,4 +1,5 @@
 //! The commands over standard input and output for one game.
+ghost use Rattle.std.specs.Prelude.{◌≡◌, ◌≢◌, IfErr, OnOk};
 
 use crate::checking::{check_record, check_records};
 use crate::fault::Fault;
@@ -13,7 +14,10 @@ use std::io::{Read, Write};
 use std::rt::Files;
 
 /// The fault, unless the count is 0.
-fn unless_none(count: u64, fault: Fault) -> Result<(), Fault> {
+fn unless_none(count: u64, fault: Fault) -> Result<(), Fault>
+    ensures none { OnOk result (count ≡ 0) }
+    ensures some { IfErr result (λ given. (count ≢ 0) × (given ≡ fault)) }
+{
     match count {
         0 => Ok(()),
         _ => Err(fault),

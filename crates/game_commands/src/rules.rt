@@ -1,6 +1,7 @@
 //! The game of a command, from its rules.
-ghost use Rattle.std.specs.Prelude.{IfOk};
-ghost use Rattle.described_games.specs.Games.{IsDescribed};
+ghost use Rattle.std.specs.Prelude.{◌≡◌, ◌≢◌, IfErr, IfOk};
+ghost use Rattle.described_games.specs.Games.{DescribesNone, IsDescribed};
+ghost use Rattle.game_commands.specs.Faults.{reading_fault};
 
 use crate::fault::Fault;
 use crate::remarks::Remarks;
@@ -49,7 +50,9 @@ pub fn opening_fault(error: io::Error) -> Fault {
 }
 
 /// The fault for a file of rules that can't be read.
-pub fn reading_fault(fault: InputFault) -> Fault {
+pub fn reading_fault(fault: InputFault) -> Fault
+    ensures { result ≡ reading_fault fault }
+{
     match fault {
         InputFault::ReadFault => Fault::RulesFile(FileFault::Unread),
         InputFault::TooLong => Fault::RulesFile(FileFault::TooLong),
@@ -83,7 +86,8 @@ pub fn rules_text<'a, F: Files>(
 
 /// The game of a description. If the text describes none, the remarks explain why.
 pub fn game_of(alloc: Global, text: &[u8], remarks: &mut Remarks) -> Result<PackedGame, Fault>
-    ensures { IfOk result (IsDescribed text.now) }
+    ensures described { IfOk result (IsDescribed text.now) }
+    ensures refused { IfErr result (λ fault. fault ≢ Fault.Memory → (fault ≡ Fault.BadDescription) × DescribesNone text.now) }
 {
     match described_game(alloc, text) {
         Ok(game) => Ok(game),
