@@ -1,5 +1,7 @@
 -- The matches that are over, by their records.
-use Rattle.std.specs.Prelude.{◌≡◌, ℕ, true, List, [], ◌∷◌, ◌++◌}
+use Rattle.std.specs.Prelude.{◌≡◌, ℕ, Bool, true, List, [], ◌∷◌, ◌++◌}
+use Rattle.std.specs.Str.{bytes_eq}
+use Rattle.indexmap.specs.IndexSet.{contains_by}
 use Rattle.serde_json.specs.Data.{Data}
 use Rattle.game_core.specs.Bytes.{space}
 use Rattle.game_core.specs.Play.{Rules}
@@ -7,6 +9,7 @@ use Rattle.match_book.specs.Phase.{is_last}
 use Rattle.record_reading.specs.LawfulRecord.{IsJson, IsLawfulRecord}
 use Rattle.record_reading.specs.RecordTree.{Holds}
 use Rattle.record_reading.specs.declared.record_parts.RecordParts.{RecordParts}
+use Rattle.game_commands.specs.declared.done.DoneMatches.{DoneMatches}
 
 -- these names in one text, each followed by a space
 abbrev pub joined : List (List ℕ) → List ℕ
@@ -16,6 +19,10 @@ joined (name ∷ names) = name ++ space ∷ joined names
 -- the names of a match: its id, and its players in the order of the roles
 abbrev pub match_names : List ℕ → List (List ℕ) → List ℕ
 match_names id players = joined (id ∷ players)
+
+-- a match with these names is noted
+abbrev pub is_noted : DoneMatches → List ℕ → Bool
+is_noted done names = contains_by (λ noted. bytes_eq names noted.items) done.names
 
 -- the line is the lawful record of a match that is over, and these are the names of the match
 abbrev pub IsDone : {S M : Type 0} → Rules S M → List ℕ → List ℕ → Type 0

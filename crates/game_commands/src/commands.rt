@@ -9,7 +9,7 @@ use crate::rules::{game_of, rules_text};
 use crate::script::run_script;
 use game_core::{Countdown, Counted, Game};
 use match_plans::{GameCommand, GameSource};
-use std::alloc::{AllocFailed, Global};
+use std::alloc::Global;
 use std::io::{Read, Write};
 use std::rt::Files;
 
@@ -25,7 +25,7 @@ fn unless_none(count: u64, fault: Fault) -> Result<(), Fault>
 }
 
 /// A list of this game alone. Its number is 0.
-fn alone<G: Drop>(alloc: Global, game: G) -> Result<Vec<G>, AllocFailed<G>> {
+fn alone<G: Drop>(alloc: Global, game: G) -> Result<Vec<G>, Fault> {
     let mut games = Vec::new(alloc);
     games.push(game)?;
     Ok(games)
@@ -46,10 +46,10 @@ fn perform<G: Game + Drop, R: Read, W: Write>(
             unless_none(count, Fault::BadLines(count))
         }
         GameCommand::Verify => check_record(alloc, &game, reader, writer),
-        GameCommand::VerifyLines => {
-            let count = check_records(alloc, &game, reader, writer)?;
-            unless_none(count, Fault::UnlawfulRecords(count))
-        }
+        GameCommand::VerifyLines => match check_records(alloc, &game, reader, writer) {
+            Ok(count) => unless_none(count, Fault::UnlawfulRecords(count)),
+            Err(fault) => Err(fault),
+        },
         GameCommand::Replay => {
             replay_account(alloc, reader, writer, alone(alloc, game)?, remarks)
         }
@@ -68,13 +68,17 @@ pub fn for_game<F: Files, R: Read, W: Write>(
 ) -> Result<(), Fault> {
     match source {
         GameSource::Countdown(size) => {
-            let game = Countdown::new(size).ok_or(Fault::WrongUse)?;
+            let Some(game) = Countdown::new(size) else {
+                return Err(Fault::WrongUse);
+            };
             perform(alloc, command, game, reader, writer, remarks)
         }
         GameSource::Described(rules) => {
             let text = rules_text(files, alloc, rules)?;
-            let game = game_of(alloc, &text, remarks)?;
-            perform(alloc, command, game, reader, writer, remarks)
+            match game_of(alloc, &text, remarks) {
+                Ok(game) => perform(alloc, command, game, reader, writer, remarks),
+                Err(fault) => Err(fault),
+            }
         }
     }
 }

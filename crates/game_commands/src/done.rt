@@ -1,7 +1,7 @@
 //! The matches that a file of records has finished or aborted.
 ghost use Rattle.std.specs.Prelude.{◌≡◌, ◌∷◌, ◌++◌, [], map, IfErr, IfOk, IfSome, OnOk};
 ghost use Rattle.game_core.specs.Bytes.{space};
-ghost use Rattle.game_commands.specs.Done.{IsDone, match_names};
+ghost use Rattle.game_commands.specs.Done.{IsDone, is_noted, match_names};
 ghost use Rattle.game_commands.specs.declared.fault.Fault.TheVariants.{Memory};
 
 use crate::checking::MAX_RECORD;
@@ -72,8 +72,11 @@ fn done_names<G: Game>(alloc: Global, game: &G, line: &[u8]) -> Result<Option<Ve
 
 impl DoneMatches {
     /// Whether a match with this id and these players is over.
-    pub fn has(&self, alloc: Global, plan: &MatchPlan<'_>) -> Result<bool, AllocError> {
-        Ok(self.names.contains(&planned_names(alloc, plan)?))
+    pub fn has(&self, alloc: Global, plan: &MatchPlan<'_>) -> Result<bool, AllocError>
+        ensures { IfOk result (λ found. found ≡ is_noted self.now (match_names plan.now.id.now (map (λ p. p.name.now) plan.now.players.items))) }
+    {
+        let names = planned_names(alloc, plan)?;
+        Ok(self.names.contains(names.as_slice()))
     }
 
     /// Notes the match of a line, if the line is its lawful record and the match is over. Any other line is skipped.
@@ -118,8 +121,10 @@ fn read_done<F: Files, G: Game>(
     let mut done = DoneMatches {
         names: IndexSet::new(alloc),
     };
-    done.note_all(alloc, game, &mut Counted::new(file))?;
-    Ok(done)
+    match done.note_all(alloc, game, &mut Counted::new(file)) {
+        Ok(()) => Ok(done),
+        Err(fault) => Err(fault),
+    }
 }
 
 /// The matches of the game that are over, by the file of records at this path. Each line is one record. Other lines are skipped, and so

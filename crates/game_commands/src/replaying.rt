@@ -31,20 +31,20 @@ fn remove_records(account: &mut Vec<u8>) {
     account.truncate(kept);
 }
 
-/// Appends the number of calls to `output`, and the records of their matches.
-fn push_replayed<G: Game + Drop>(
+/// Puts the number of calls into `output`, and the records of their matches.
+fn put_replayed<G: Game + Drop>(
     alloc: Global,
     replayed: &Replayed<G>,
     output: &mut Vec<u8>,
 ) -> Result<(), AllocError> {
     let calls = replayed.calls;
-    output.extend_from_slice(format!(in alloc; "replayed {calls} calls\n")?.as_bytes())?;
+    *output = format!(in alloc; "replayed {calls} calls\n")?.into_bytes();
     push_records(alloc, &replayed.manager, output)
 }
 
-/// Makes the calls of an account again on a manager of these games. Appends their number to `output`, and the records of the matches.
-/// If a line is wrong, appends the right line instead, explains the wrong one in the remarks, and returns the fault.
-fn push_answer<G: Game + Drop>(
+/// Makes the calls of an account again on a manager of these games. Puts their number and the records of the matches into `output`. If
+/// a line is wrong, puts the right line there instead, explains the wrong one in the remarks, and returns the fault.
+fn put_answer<G: Game + Drop>(
     alloc: Global,
     games: Vec<G>,
     account: &[u8],
@@ -53,19 +53,19 @@ fn push_answer<G: Game + Drop>(
 ) -> Result<Option<Fault>, AllocError> {
     match replay(alloc, games, account) {
         Ok(replayed) => {
-            push_replayed(alloc, &replayed, output)?;
+            put_replayed(alloc, &replayed, output)?;
             Ok(None)
         }
         Err(ReplayFault::Memory) => Err(AllocError),
-        Err(ReplayFault::NoEntry(place)) => {
-            remarks.bad_entry(account, place, None);
-            Ok(Some(Fault::NoEntry(place)))
+        Err(ReplayFault::NoEntry(number)) => {
+            remarks.bad_entry(account, number, None);
+            Ok(Some(Fault::NoEntry(number)))
         }
-        Err(ReplayFault::Differs(place, wanted)) => {
-            remarks.bad_entry(account, place, Some(&wanted));
-            output.extend_from_slice(&wanted)?;
+        Err(ReplayFault::Differs(number, right)) => {
+            remarks.bad_entry(account, number, Some(&right));
+            *output = right;
             output.push(b'\n')?;
-            Ok(Some(Fault::Differs(place)))
+            Ok(Some(Fault::Differs(number)))
         }
     }
 }
@@ -82,7 +82,7 @@ pub fn replay_account<R: Read, W: Write, G: Game + Drop>(
     let mut account = read_to_end(alloc, reader, MAX_ACCOUNT)?;
     remove_records(&mut account);
     let mut output = Vec::new(alloc);
-    let fault = push_answer(alloc, games, &account, &mut output, remarks)?;
+    let fault = put_answer(alloc, games, &account, &mut output, remarks)?;
     write_all(writer, &output)?;
     match fault {
         None => Ok(()),

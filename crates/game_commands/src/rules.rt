@@ -119,7 +119,9 @@ pub fn told_rules<'a, F: Files>(
     match game {
         GameSource::Described(rules) => rules_text(files, alloc, rules),
         GameSource::Countdown(size) => {
-            let game = Countdown::new(size).ok_or(Fault::WrongUse)?;
+            let Some(game) = Countdown::new(size) else {
+                return Err(Fault::WrongUse);
+            };
             match countdown_rules(alloc, game.size) {
                 Ok(text) => Ok(CowSlice::Owned(text.into_bytes())),
                 Err(_) => Err(Fault::Memory),
