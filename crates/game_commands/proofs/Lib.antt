@@ -1,1 +1,2 @@
 mod CheckedLines
+mod DoneNames

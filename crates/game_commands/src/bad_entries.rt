@@ -26,18 +26,15 @@ fn fault_of(entry: &[u8]) -> BadLine {
 
 /// Where an entry's text differs from the right one, and whether it does in its reply.
 fn difference(entry: &[u8], right: &[u8]) -> BadLine {
-    let mut fields: usize = 1;
-    let mut at: usize = 0;
-    for (byte, other) in entry.iter().zip(right.iter()) {
-        if byte != other {
-            break;
+    let mut tabs: usize = 0;
+    let mut at = 0;
+    while at < entry.len() && at < right.len() && entry[at] == right[at] {
+        if entry[at] == b'\t' {
+            tabs = tabs.saturating_add(1);
         }
-        if *byte == b'\t' {
-            fields = fields.saturating_add(1);
-        }
-        at = at.saturating_add(1);
+        at += 1;
     }
-    let words = if fields == 3 {
+    let words = if tabs == 2 {
         "the call gets another reply"
     } else {
         "the call is written in another way"

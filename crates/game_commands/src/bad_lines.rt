@@ -121,7 +121,7 @@ impl Form {
     }
 
     /// The fewest words of a line, and whether it may have more.
-    fn words(self) -> (usize, bool) {
+    fn word_count(self) -> (usize, bool) {
         let numbered = self.numbers.saturating_add(2);
         match self.last {
             LastWords::Nothing => (numbered, false),
@@ -162,7 +162,7 @@ impl BadLine {
         let Some(form) = Form::of(keyword) else {
             return BadLine::new(0, "no call begins with this word", "");
         };
-        let (fewest, may_have_more) = form.words();
+        let (fewest, may_have_more) = form.word_count();
         let mut at = keyword.len().saturating_add(1);
         for place in 1..=call.len() {
             let Some(words) = rest else {

@@ -1,6 +1,7 @@
 //! The matches that a file of records has finished or aborted.
-ghost use Rattle.std.specs.Prelude.{◌≡◌, ◌∷◌, ◌++◌, [], map, IfErr, IfOk, IfSome, OnOk};
+ghost use Rattle.std.specs.Prelude.{◌≡◌, ◌∷◌, ◌++◌, [], true, map, IfErr, IfOk, IfSome, OnOk};
 ghost use Rattle.game_core.specs.Bytes.{space};
+ghost use Rattle.match_book.specs.Phase.{is_last};
 ghost use Rattle.game_commands.specs.Done.{IsDone, is_noted, match_names};
 ghost use Rattle.game_commands.specs.declared.fault.Fault.TheVariants.{Memory};
 
@@ -58,15 +59,28 @@ fn planned_names(alloc: Global, plan: &MatchPlan<'_>) -> Result<Vec<u8>, AllocEr
     Ok(names)
 }
 
+/// The names of a record's match, if the match is over.
+fn names_if_over(alloc: Global, parts: &RecordParts) -> Result<Option<Vec<u8>>, Fault>
+    ensures names { IfOk result (λ o. IfSome o (λ names. (is_last parts.now.phase ≡ true)
+        × (names.items ≡ match_names parts.now.id parts.now.players))) }
+    ensures memory { IfErr result (λ fault. fault ≡ Memory) }
+{
+    if parts.phase.is_last() {
+        Ok(Some(recorded_names(alloc, parts)?))
+    } else {
+        Ok(None)
+    }
+}
+
 /// The names of a line's match. `None` if the line is no lawful record, or the match is not over.
 fn done_names<G: Game>(alloc: Global, game: &G, line: &[u8]) -> Result<Option<Vec<u8>>, Fault>
     ensures done { IfOk result (λ o. IfSome o (λ names. IsDone (G.rules game.now) line.now names.items)) }
     ensures memory { IfErr result (λ fault. fault ≡ Memory) }
 {
     match lawful_parts(alloc, game, line) {
-        Ok(parts) if parts.phase.is_last() => Ok(Some(recorded_names(alloc, &parts)?)),
+        Ok(parts) => names_if_over(alloc, &parts),
         Err(VerifyFault::Memory) => Err(Fault::Memory),
-        _ => Ok(None),
+        Err(_) => Ok(None),
     }
 }
 
@@ -81,9 +95,16 @@ impl DoneMatches {
 
     /// Notes the match of a line, if the line is its lawful record and the match is over. Any other line is skipped.
     fn note<G: Game>(&mut self, alloc: Global, game: &G, line: &[u8]) -> Result<(), Fault> {
-        if let Some(names) = done_names(alloc, game, line)? {
-            self.names.insert(names)?;
+        match done_names(alloc, game, line) {
+            Ok(Some(names)) => self.add(names),
+            Ok(None) => Ok(()),
+            Err(fault) => Err(fault),
         }
+    }
+
+    /// Adds the names of a match.
+    fn add(&mut self, names: Vec<u8>) -> Result<(), Fault> {
+        self.names.insert(names)?;
         Ok(())
     }
 
@@ -100,30 +121,18 @@ impl DoneMatches {
                 Ok(NextLine::Ended(line)) => self.note(alloc, game, &line)?,
                 Ok(NextLine::Last(line)) => return self.note(alloc, game, &line),
                 Ok(NextLine::Nothing) => return Ok(()),
-                Err(fault) => return Err(reading_fault(fault)),
+                Err(fault) => return Err(done_fault(reading_fault(fault))),
             }
         }
         Ok(())
     }
 }
 
-/// Reads the file at this path line by line.
-fn read_done<F: Files, G: Game>(
-    files: &F,
-    alloc: Global,
-    game: &G,
-    path: &str,
-) -> Result<DoneMatches, Fault> {
-    let file = match fs::open(files, path) {
-        Ok(file) => file,
-        Err(error) => return Err(opening_fault(error)),
-    };
-    let mut done = DoneMatches {
-        names: IndexSet::new(alloc),
-    };
-    match done.note_all(alloc, game, &mut Counted::new(file)) {
-        Ok(()) => Ok(done),
-        Err(fault) => Err(fault),
+/// The fault for a file of records, by that for a file of rules.
+fn done_fault(fault: Fault) -> Fault {
+    match fault {
+        Fault::RulesFile(why) => Fault::DoneFile(why),
+        _ => fault,
     }
 }
 
@@ -135,8 +144,15 @@ pub fn done_matches<F: Files, G: Game>(
     game: &G,
     path: &str,
 ) -> Result<DoneMatches, Fault> {
-    match read_done(files, alloc, game, path) {
-        Err(Fault::RulesFile(why)) => Err(Fault::DoneFile(why)),
-        read => read,
+    let file = match fs::open(files, path) {
+        Ok(file) => file,
+        Err(error) => return Err(done_fault(opening_fault(error))),
+    };
+    let mut done = DoneMatches {
+        names: IndexSet::new(alloc),
+    };
+    match done.note_all(alloc, game, &mut Counted::new(file)) {
+        Ok(()) => Ok(done),
+        Err(fault) => Err(fault),
     }
 }

@@ -31,42 +31,57 @@ fn remove_records(account: &mut Vec<u8>) {
     account.truncate(kept);
 }
 
-/// Puts the number of calls into `output`, and the records of their matches.
-fn put_replayed<G: Game + Drop>(
+/// The number of calls that were made, and the records of their matches.
+fn replayed_text<G: Game + Drop>(
     alloc: Global,
     replayed: &Replayed<G>,
-    output: &mut Vec<u8>,
-) -> Result<(), AllocError> {
+) -> Result<Vec<u8>, AllocError> {
     let calls = replayed.calls;
-    *output = format!(in alloc; "replayed {calls} calls\n")?.into_bytes();
-    push_records(alloc, &replayed.manager, output)
+    let mut text = format!(in alloc; "replayed {calls} calls\n")?.into_bytes();
+    push_records(alloc, &replayed.manager, &mut text)?;
+    Ok(text)
 }
 
-/// Makes the calls of an account again on a manager of these games. Puts their number and the records of the matches into `output`. If
-/// a line is wrong, puts the right line there instead, explains the wrong one in the remarks, and returns the fault.
-fn put_answer<G: Game + Drop>(
+/// Explains the first wrong line of an account in the remarks, and returns the fault. The right line is the output, if there is one.
+fn refuse(
+    account: &[u8],
+    fault: ReplayFault,
+    output: &mut Vec<u8>,
+    remarks: &mut Remarks,
+) -> Result<(), Fault> {
+    match fault {
+        ReplayFault::Memory => Err(Fault::Memory),
+        ReplayFault::NoEntry(number) => {
+            remarks.bad_entry(account, number, None);
+            Err(Fault::NoEntry(number))
+        }
+        ReplayFault::Differs(number, mut right) => {
+            remarks.bad_entry(account, number, Some(&right));
+            right.push(b'\n')?;
+            *output = right;
+            Err(Fault::Differs(number))
+        }
+    }
+}
+
+/// Makes the calls of an account again on a manager of these games. The output is their number and the records of the matches, or the
+/// right line in place of the first wrong one. There is none if it is out of memory.
+fn answer<G: Game + Drop>(
     alloc: Global,
     games: Vec<G>,
     account: &[u8],
     output: &mut Vec<u8>,
     remarks: &mut Remarks,
-) -> Result<Option<Fault>, AllocError> {
+) -> Result<(), Fault> {
     match replay(alloc, games, account) {
-        Ok(replayed) => {
-            put_replayed(alloc, &replayed, output)?;
-            Ok(None)
-        }
-        Err(ReplayFault::Memory) => Err(AllocError),
-        Err(ReplayFault::NoEntry(number)) => {
-            remarks.bad_entry(account, number, None);
-            Ok(Some(Fault::NoEntry(number)))
-        }
-        Err(ReplayFault::Differs(number, right)) => {
-            remarks.bad_entry(account, number, Some(&right));
-            *output = right;
-            output.push(b'\n')?;
-            Ok(Some(Fault::Differs(number)))
-        }
+        Ok(replayed) => match replayed_text(alloc, &replayed) {
+            Ok(text) => {
+                *output = text;
+                Ok(())
+            }
+            Err(fault) => Err(Fault::from(fault)),
+        },
+        Err(fault) => refuse(account, fault, output, remarks),
     }
 }
 
@@ -82,10 +97,7 @@ pub fn replay_account<R: Read, W: Write, G: Game + Drop>(
     let mut account = read_to_end(alloc, reader, MAX_ACCOUNT)?;
     remove_records(&mut account);
     let mut output = Vec::new(alloc);
-    let fault = put_answer(alloc, games, &account, &mut output, remarks)?;
+    let answered = answer(alloc, games, &account, &mut output, remarks);
     write_all(writer, &output)?;
-    match fault {
-        None => Ok(()),
-        Some(fault) => Err(fault),
-    }
+    answered
 }
