@@ -46,12 +46,7 @@ pub fn verdict_on<G: Game>(alloc: Global, game: &G, text: &[u8]) -> Result<Verdi
 }
 
 /// A word, and the numbers of a turn and a role.
-fn turn_and_role(
-    alloc: Global,
-    word: &str,
-    turn: usize,
-    role: usize,
-) -> Result<String, AllocError>
+fn turn_and_role(alloc: Global, word: &str, turn: usize, role: usize) -> Result<String, AllocError>
     ensures { IfOk result (λ text. string_bytes text ≡ turn_and_role word.now turn role) }
 {
     format!(in alloc; "{word}{turn} {role}")
