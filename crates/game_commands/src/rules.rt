@@ -1,6 +1,6 @@
 //! The game of a command, from its rules.
-ghost use Rattle.std.specs.Prelude.{◌≡◌, ◌≢◌, IfErr, IfOk};
-ghost use Rattle.described_games.specs.Games.{DescribesNone, IsDescribed};
+ghost use Rattle.std.specs.Prelude.{◌≡◌, IfOk};
+ghost use Rattle.described_games.specs.Games.{IsDescribed};
 ghost use Rattle.game_commands.specs.Faults.{reading_fault};
 
 use crate::fault::Fault;
@@ -86,8 +86,7 @@ pub fn rules_text<'a, F: Files>(
 
 /// The game of a description. If the text describes none, the remarks explain why.
 pub fn game_of(alloc: Global, text: &[u8], remarks: &mut Remarks) -> Result<PackedGame, Fault>
-    ensures described { IfOk result (IsDescribed text.now) }
-    ensures refused { IfErr result (λ fault. fault ≢ Fault.Memory → (fault ≡ Fault.BadDescription) × DescribesNone text.now) }
+    ensures { IfOk result (IsDescribed text.now) }
 {
     match described_game(alloc, text) {
         Ok(game) => Ok(game),
