@@ -12,7 +12,7 @@ returns-in_err-message-clause-fault g c =
 pub returns-in_err-answer-clause-fault : goal.returns-in_err-answer-clause-fault
 returns-in_err-answer-clause-fault g c =
     let p = err_from_is_err_and c.from_residual-in_err-answer.result c.from_residual-in_err-answer.ensures.1 in
-    rw p.1 (nothing_handed c.args.brief.now c.args.role c.args.round c.args.owed _ _ _ p.2 (ap (telling _ _) c.ask_shared.ensures.nothing))
+    rw p.1 (nothing_handed c.args.brief.now c.args.role c.args.round c.args.owed _ _ _ p.2 (ap (telling _ _) c.in_err-answer.ensures.nothing))
 
 pub returns-clause-told : goal.returns-clause-told
 returns-clause-told g c =
