@@ -5,6 +5,7 @@ use crate::remarks::Remarks;
 use desk_scripts::push_records;
 use desk_text::{ReplayFault, Replayed, replay};
 use game_core::{Counted, Game};
+use match_desk::Manager;
 use std::alloc::{AllocError, Global};
 use std::io::{Read, Write};
 use whole_streams::{read_to_end, write_all};
@@ -31,13 +32,30 @@ fn remove_records(account: &mut Vec<u8>) {
     account.truncate(kept);
 }
 
-/// The number of calls that were made, and the records of their matches.
+/// The number of matches that are not over: in an account whose last calls are missing, at least one.
+fn open_matches<G: Game>(manager: &Manager<G>) -> usize {
+    let mut count: usize = 0;
+    for place in 0..manager.matches() {
+        match manager.match_at(place) {
+            Some(held) if !held.status().phase.is_last() => count = count.saturating_add(1),
+            _ => {}
+        }
+    }
+    count
+}
+
+/// The number of calls that were made, whether a match is not over, and the records of the matches.
 fn replayed_text<G: Game + Drop>(
     alloc: Global,
     replayed: &Replayed<G>,
 ) -> Result<Vec<u8>, AllocError> {
     let calls = replayed.calls;
-    let mut text = format!(in alloc; "replayed {calls} calls\n")?.into_bytes();
+    let first_line = match open_matches(&replayed.manager) {
+        0 => format!(in alloc; "replayed {calls} calls\n"),
+        1 => format!(in alloc; "replayed {calls} calls, match not ended\n"),
+        open => format!(in alloc; "replayed {calls} calls, {open} matches not ended\n"),
+    };
+    let mut text = first_line?.into_bytes();
     push_records(alloc, &replayed.manager, &mut text)?;
     Ok(text)
 }
