@@ -1,10 +1,11 @@
 //! The commands, over any streams, runtime and players.
 
 use crate::errands::{abort, info};
+use crate::faults::argument_fault;
 use crate::hosting::host;
-use crate::matches::hold_matches;
+use crate::matches::{hold_matches, input_of};
 use crate::terminals::Terminals;
-use command_line::{ArgumentFault, Task, has_own_word, read_arguments, refusal};
+use command_line::{Task, has_own_word, read_arguments, refusal};
 use game_commands::{Fault, Remarks, for_game};
 use game_core::Counted;
 use match_plans::{Reach, TellsShortages};
@@ -20,9 +21,8 @@ use std::thread::Threads;
 use std::time::Clock;
 use whole_streams::{Pieces, write_all};
 
-/// Does what the words after the program's name ask for, and returns the program's status. A fault
-/// is one line on `errors`, and before it the lines that say more stand where they may; a failed write to `errors` is skipped. Where
-/// that is a terminal it shows how far matches are.
+/// Performs the command of the words after the program's name, and returns the program's status. A fault is one line on `errors`, after
+/// the lines that explain it. A failed write to `errors` is skipped. On a terminal `errors` also shows the progress of matches.
 pub fn command<H, P, S, R: Read, W: Write, E: Write + Send>(
     rt: &H,
     alloc: Global,
@@ -50,17 +50,22 @@ where
         terminals,
         &mut remarks,
     );
+    end(performed, &remarks, errors)
+}
+
+/// Reports the fault of a command, if it has one. Returns the program's status.
+fn end<E: Write>(performed: Result<(), Fault>, remarks: &Remarks, errors: &mut E) -> u8 {
     match performed {
         Ok(()) => 0,
         Err(fault) => {
-            report_remarks(errors, &remarks);
+            report_remarks(errors, remarks);
             report(errors, fault);
             fault.status()
         }
     }
 }
 
-/// Writes the lines that say more of a fault, as far as the stream takes them.
+/// Writes the lines that explain a fault, as far as the stream takes them.
 fn report_remarks<E: Write>(errors: &mut E, remarks: &Remarks) {
     let mut pieces = Pieces { stream: errors };
     let _ = pieces.write_str(remarks.lines());
@@ -72,7 +77,7 @@ pub fn report<E: Write>(errors: &mut E, fault: Fault) {
     let _ = writeln!(pieces, "ggp_manager: {fault}");
 }
 
-/// What the words ask for. Of words that are refused the remarks say why.
+/// The task in the words. The remarks explain a refusal.
 fn task_of<'a>(
     alloc: Global,
     words: &'a [&'a str],
@@ -80,16 +85,19 @@ fn task_of<'a>(
 ) -> Result<Task<'a>, Fault> {
     match read_arguments(alloc, words) {
         Ok(task) => Ok(task),
-        Err(ArgumentFault::Memory) => Err(Fault::Memory),
         Err(fault) => {
-            if remarks.are_wanted() {
-                remarks.take(refusal(alloc, words, fault));
+            let refused = argument_fault(fault);
+            if let Fault::WrongUse = refused {
+                if remarks.are_wanted() {
+                    remarks.take(refusal(alloc, words, fault));
+                }
             }
-            Err(Fault::WrongUse)
+            Err(refused)
         }
     }
 }
 
+/// Performs the command of the words.
 fn perform<H, P, S, R: Read, W: Write, E: Write + Send>(
     rt: &H,
     alloc: Global,
@@ -114,14 +122,15 @@ where
         Task::Abort(plan) => abort(rt, alloc, &plan, writer, errors, terminals),
         Task::Host(plan, task) => {
             let hosting = host(rt, alloc, plan, remarks)?;
-            hold_matches::<H, P, S, R, W, E>(
+            let input = input_of(alloc, &task, reader)?;
+            hold_matches::<H, P, S, W, E>(
                 rt,
                 alloc,
                 reach,
                 plan.is_logged,
-                task,
+                &task,
                 hosting.hosted(),
-                reader,
+                &input,
                 writer,
                 errors,
                 terminals,

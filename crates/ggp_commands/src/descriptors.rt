@@ -1,23 +1,26 @@
-//! How many matches the program's descriptors carry.
-ghost use Rattle.std.specs.Prelude.{◌≡◌, ◌≤◌, ◌+◌, ◌*◌, ◌⊎◌};
+//! The number of matches at once that the program's descriptors allow.
+ghost use Rattle.std.specs.Prelude.{◌≡◌, ◌<◌, IfNone, IfSome, min};
+ghost use Rattle.ggp_commands.specs.Descriptors.{Allows, IsLargest};
 
 use game_core::Counted;
-use match_plans::decimal;
+use match_plans::{SeasonForm, decimal};
 use std::alloc::Global;
+use std::fmt::Write as _;
+use std::io::Write;
 use std::rt::Files;
 use std::{fs, str};
-use whole_streams::read_to_end;
+use whole_streams::{Pieces, read_to_end};
 
-/// Where Linux tells a process its limits.
+/// The file with the limits of a process under Linux.
 const LIMITS: &str = "/proc/self/limits";
 
-/// How many bytes are read of them at most.
+/// The limit of bytes that are read of this file.
 const MAX_LIMITS: usize = 65_536;
 
-/// How many descriptors are kept for all but the players' connections: the streams, the files, the look-ups of hosts.
+/// The number of descriptors for everything but the players' connections: the streams, the files, the look-ups of hosts.
 const KEPT: u64 = 16;
 
-/// How many descriptors a text of limits allows: none where it doesn't say, or sets no limit.
+/// The limit of descriptors in a text of limits. `None` if it has none.
 fn descriptors_in(limits: &str) -> Option<u64> {
     let line = limits
         .lines()
@@ -26,21 +29,68 @@ fn descriptors_in(limits: &str) -> Option<u64> {
     decimal(word, u64::MAX)
 }
 
-/// How many descriptors the program may have open, where the system says so.
-pub fn allowed_descriptors<F: Files>(files: &F, alloc: Global) -> Option<u64> {
+/// The number of descriptors that the program may have open. `None` if the system does not say it.
+fn allowed_descriptors<F: Files>(files: &F, alloc: Global) -> Option<u64> {
     let file = fs::open(files, LIMITS).ok()?;
     let limits = read_to_end(alloc, &mut Counted::new(file), MAX_LIMITS).ok()?;
     descriptors_in(str::from_utf8(&limits).ok()?)
 }
 
-/// How many matches of so many players the descriptors carry at once, where a player has one connection at a time: at least one.
-pub fn carried_matches(descriptors: u64, players: u64) -> u64
-    ensures within { (result ≡ 1) ⊎ (result * players + KEPT ≤ descriptors) }
-    ensures some { 1 ≤ result }
+/// The largest number of matches of `players` players that the descriptors allow at once, with one connection for each player: at
+/// least 1.
+fn allowed_matches(descriptors: u64, players: u64) -> u64
+    ensures { IsLargest descriptors players result }
 {
     let free = descriptors.saturating_sub(KEPT);
     match free.checked_div(players) {
         Some(count) if count > 0 => count,
         _ => 1,
     }
+}
+
+/// The form of a season of `matches` matches with as many of them at once as the descriptors allow. `None` if they allow the form as it
+/// is.
+fn smaller_form(
+    form: SeasonForm,
+    descriptors: u64,
+    players: usize,
+    matches: usize,
+) -> Option<SeasonForm>
+    ensures allowed { IfNone result (Allows descriptors players (min form.at_once matches)) }
+    ensures largest { IfSome result (λ smaller. IsLargest descriptors players smaller.at_once) }
+    ensures fewer { IfSome result (λ smaller. smaller.at_once < min form.at_once matches) }
+    ensures same { IfSome result (λ smaller. smaller ≡ record form { at_once = smaller.at_once }) }
+{
+    let allowed = allowed_matches(descriptors, players as u64);
+    if allowed >= form.at_once.min(matches) as u64 {
+        return None;
+    }
+    Some(SeasonForm {
+        at_once: allowed as usize,
+        ..form
+    })
+}
+
+/// The season's form with as many matches at once as the descriptors allow. Reports if these are fewer.
+pub fn allowed_form<F: Files, E: Write>(
+    files: &F,
+    alloc: Global,
+    form: SeasonForm,
+    players: usize,
+    matches: usize,
+    errors: &mut E,
+) -> SeasonForm {
+    let Some(descriptors) = allowed_descriptors(files, alloc) else {
+        return form;
+    };
+    let Some(smaller) = smaller_form(form, descriptors, players, matches) else {
+        return form;
+    };
+    let mut pieces = Pieces { stream: errors };
+    let _ = writeln!(
+        pieces,
+        "ggp_manager: {descriptors} descriptors carry {} matches at once",
+        smaller.at_once
+    );
+    smaller
 }

@@ -1,4 +1,7 @@
 //! Single messages to players: a question whether one is free, and ABORT for a match whose referee is gone.
+ghost use Rattle.std.specs.Prelude.{◌≡◌, IfOk, OnOk, string_bytes};
+ghost use Rattle.std.specs.Io.KnownBytes.{Appends};
+ghost use Rattle.ggp_commands.specs.Errands.{abort_line, abort_text, aborted_lines, info_line};
 
 use crate::faults::contact_fault;
 use crate::terminals::Terminals;
@@ -8,7 +11,7 @@ use game_core::{Counted, Text, Texts};
 use match_book::{Owed, is_name};
 use match_desk::Refusal;
 use match_messages::{Brief, Info, info_message, message, read_info};
-use match_plans::{PlayerAddress, Shortage};
+use match_plans::PlayerAddress;
 use network_players::{ContactFault, contact};
 use std::alloc::{AllocError, Global};
 use std::fmt::Write as _;
@@ -17,11 +20,10 @@ use std::net::Net;
 use std::time::Clock;
 use whole_streams::{Pieces, write_all};
 
-/// How many seconds a player has to answer.
+/// A player's seconds for an answer.
 const SECONDS: u32 = 10;
 
-/// Says in a line why a player gave no answer, where the stream is a terminal: elsewhere all of it is the fault's own line. A failed
-/// write of it is skipped.
+/// Reports on a terminal why a player gave no answer: elsewhere the fault's own line is all. A failed write is skipped.
 fn tell_contact<E: Write>(
     errors: &mut E,
     terminals: Terminals,
@@ -35,17 +37,19 @@ fn tell_contact<E: Write>(
     let _ = writeln!(pieces, "ggp_manager: {}: {fault}", player.name);
 }
 
-/// What the answer to an INFO means, as a line of output.
-fn info_line(info: Info) -> &'static [u8] {
+/// The line of output for an answer to INFO.
+fn info_line(info: Info) -> &'static str
+    ensures { result.now ≡ info_line info }
+{
     match info {
-        Info::Available => b"available\n",
-        Info::Ready => b"ready\n",
-        Info::Busy => b"busy\n",
-        Info::Unknown => b"unknown\n",
+        Info::Available => "available\n",
+        Info::Ready => "ready\n",
+        Info::Busy => "busy\n",
+        Info::Unknown => "unknown\n",
     }
 }
 
-/// Asks a player whether it is free, and prints what it answers.
+/// Asks a player whether it is free, and writes its answer.
 pub fn info<N: Net + Clock, W: Write, E: Write>(
     rt: &N,
     alloc: Global,
@@ -62,11 +66,13 @@ pub fn info<N: Net + Clock, W: Write, E: Write>(
         }
     };
     let info = read_info(alloc, answer.as_slice())?;
-    Ok(write_all(writer, info_line(info))?)
+    Ok(write_all(writer, info_line(info).as_bytes())?)
 }
 
 /// The text of ABORT for the match of this id.
-fn abort_message(alloc: Global, id: &str) -> Result<Text, AllocError> {
+fn abort_message(alloc: Global, id: &str) -> Result<Text, AllocError>
+    ensures { IfOk result (λ text. text ≡ abort_text id.now) }
+{
     let mut roles = Vec::with_capacity(alloc, 1)?;
     roles.push(Text::from_slice(alloc, b"role")?)?;
     let brief = Brief {
@@ -79,7 +85,18 @@ fn abort_message(alloc: Global, id: &str) -> Result<Text, AllocError> {
     message(alloc, &brief, 0, &Owed::Abort)
 }
 
-/// Sends ABORT to a player, and prints whether it answered.
+/// The line of output for a player.
+fn abort_line(alloc: Global, name: &str, is_answered: bool) -> Result<String, AllocError>
+    ensures { IfOk result (λ line. string_bytes line ≡ abort_line name.now is_answered) }
+{
+    if is_answered {
+        format!(in alloc; "{name} aborted\n")
+    } else {
+        format!(in alloc; "{name} no answer\n")
+    }
+}
+
+/// Sends ABORT to a player, and writes whether it answered.
 fn abort_player<N: Net + Clock, W: Write, E: Write>(
     rt: &N,
     alloc: Global,
@@ -88,21 +105,25 @@ fn abort_player<N: Net + Clock, W: Write, E: Write>(
     writer: &mut Counted<W>,
     errors: &mut E,
     terminals: Terminals,
-) -> Result<bool, Fault> {
-    let (is_answered, outcome) = match contact(rt, alloc, player, SECONDS, message.as_slice()) {
-        Ok(_) => (true, "aborted"),
-        Err(ContactFault::Shortage(Shortage::Memory)) => return Err(Fault::Memory),
+) -> Result<bool, Fault>
+    ensures { IfOk result (λ is_answered. Appends (W.contents writer.old.stream) (W.contents writer.new.stream) (abort_line player.now.name.now is_answered)) }
+{
+    let is_answered = match contact(rt, alloc, player, SECONDS, message.as_slice()) {
+        Ok(_) => true,
         Err(fault) => {
+            if let Fault::Memory = contact_fault(fault) {
+                return Err(Fault::Memory);
+            }
             tell_contact(errors, terminals, player, fault);
-            (false, "no answer")
+            false
         }
     };
-    let line = format!(in alloc; "{} {outcome}\n", player.name)?;
+    let line = abort_line(alloc, player.name, is_answered)?;
     write_all(writer, line.as_bytes())?;
     Ok(is_answered)
 }
 
-/// Sends ABORT to the players of a match, one after another, and prints for each whether it answered.
+/// Sends ABORT to the players of a match, one after another, and writes for each whether it answered.
 pub fn abort<N: Net + Clock, W: Write, E: Write>(
     rt: &N,
     alloc: Global,
@@ -110,7 +131,9 @@ pub fn abort<N: Net + Clock, W: Write, E: Write>(
     writer: &mut Counted<W>,
     errors: &mut E,
     terminals: Terminals,
-) -> Result<(), Fault> {
+) -> Result<(), Fault>
+    ensures { OnOk result (Appends (W.contents writer.old.stream) (W.contents writer.new.stream) (aborted_lines plan.now.players.items)) }
+{
     if !is_name(plan.id.as_bytes()) {
         return Err(Fault::Refused(Refusal::BadId));
     }

@@ -1,4 +1,6 @@
-//! The game that matches are held of, as the command line gives it.
+//! The game to play, and the rules for its players.
+ghost use Rattle.std.specs.Prelude.{ℕ, List, IfOk};
+ghost use Rattle.ggp_commands.specs.Hosting.{AreRulesFor, AreSpelled};
 
 use command_line::HostingPlan;
 use game_commands::{Fault, Remarks, file_text, game_of, told_fault, told_rules};
@@ -8,7 +10,7 @@ use packed_rules::PackedGame;
 use std::alloc::Global;
 use std::rt::Files;
 
-/// The game that matches are held of, and the rules that START carries.
+/// The game to play, and the rules in START.
 #[derive(Drop)]
 pub struct Hosting {
     game: PackedGame,
@@ -16,6 +18,7 @@ pub struct Hosting {
 }
 
 impl Hosting {
+    /// Lends the game and its rules.
     pub fn hosted(&self) -> HostedGame<'_> {
         HostedGame {
             game: &self.game,
@@ -24,13 +27,15 @@ impl Hosting {
     }
 }
 
-/// The rules in a file that players are told.
+/// The players' rules in a file.
 fn rules_in<F: Files>(
     files: &F,
     alloc: Global,
     path: &str,
     remarks: &mut Remarks,
-) -> Result<PrintedRules, Fault> {
+) -> Result<PrintedRules, Fault>
+    ensures { IfOk result (λ rules. (text : List ℕ) × AreSpelled text rules.items) }
+{
     let text = match file_text(files, alloc, path) {
         Ok(text) => text,
         Err(Fault::RulesFile(why)) => return Err(Fault::ToldFile(why)),
@@ -42,13 +47,15 @@ fn rules_in<F: Files>(
     }
 }
 
-/// The game that matches are held of. Its players are told the rules in the file, where one is named, or else its own.
+/// The game of a plan. Its players get the rules of the file, if one is named, and otherwise the game's own.
 pub fn host<F: Files>(
     files: &F,
     alloc: Global,
     plan: HostingPlan<'_>,
     remarks: &mut Remarks,
-) -> Result<Hosting, Fault> {
+) -> Result<Hosting, Fault>
+    ensures { IfOk result (λ hosting. AreRulesFor plan.entry.told hosting.game hosting.rules.items) }
+{
     let game = game_of(alloc, &told_rules(files, alloc, plan.game)?, remarks)?;
     let rules = match plan.told {
         None => own_rules(alloc, &game)?,

@@ -1,9 +1,9 @@
 //! The commands of the program `ggp_manager`: those of `game_commands`, a match between players, the matches of a schedule, a question
-//! to a player, ABORT to players, the check of a player.
+//! to a player, ABORT to players, and the check of a player.
 //!
-//! `command` reads the words of a command line and does what they ask for, over any streams, any runtime and any
-//! players that can be reached; a fault is one line on the stream for errors and a status. `Sockets` reaches players
-//! over HTTP. What is left to the program is its runtime.
+//! `command` reads the words of a command line and performs the command, over any streams, any runtime and any players that can be
+//! reached. A fault is one line on the stream for errors, and a status. `Sockets` of `network_players` reaches players over HTTP. The
+//! program adds only its runtime.
 //!
 //! Free functions take the allocator first, behind a handle for threads, waiting or the network.
 #![tactic(auto)]
@@ -14,9 +14,12 @@ mod errands;
 mod faults;
 mod hosting;
 mod matches;
+mod schedules;
 mod terminals;
 
+pub use command_line::AbortPlan;
 pub use commands::{command, report};
+pub use errands::{abort, info};
 pub use faults::contact_fault;
 pub use game_commands::{Fault, FileFault, ScriptFault};
 pub use terminals::Terminals;

@@ -1,43 +1,47 @@
-//! The matches that are held of a game, and what is reported of them meanwhile.
+//! The matches of a game, and the reports on them.
+ghost use Rattle.std.specs.Prelude.{OnOk};
 ghost use denote.Param.Send.{IsSend, IsSync};
+ghost use Rattle.ggp_commands.specs.Runs.{WritesRun};
+ghost use Rattle.ggp_commands.specs.Schedules.{WritesSeason};
 
-use crate::descriptors::{allowed_descriptors, carried_matches};
-use crate::faults::{check_fault, match_fault, season_fault};
+use crate::descriptors::allowed_form;
+use crate::faults::{check_end, match_fault, season_end};
+use crate::schedules::plans_of;
 use crate::terminals::Terminals;
 use command_line::{HostedTask, RunPlan, SeasonPlan};
-use game_commands::{DoneMatches, Fault, done_matches};
+use game_commands::Fault;
 use game_core::{Counted, Game};
 use match_log::{
     ClearedOutput, LoggedPlayer, Logging, Notices, Progress, ReportStream, StatusStream, Telling,
 };
-use match_plans::{CheckPlan, MatchPlan, Reach, SeasonForm, TellsShortages, read_schedule};
+use match_plans::{CheckPlan, Reach, TellsShortages};
 use match_play::{Entrants, HostedGame, ended_match, entrants_of};
 use match_season::play_season;
 use match_workers::Player;
 use network_players::Explains;
 use player_check::check_player;
-use std::alloc::{AllocError, Global};
-use std::fmt::Write as _;
+use std::alloc::Global;
 use std::io::{Read, Write};
 use std::rt::Files;
 use std::sync::{Mutex, Wait};
 use std::thread;
 use std::thread::Threads;
 use std::time::Clock;
-use whole_streams::{Pieces, read_to_end, write_all};
+use whole_streams::{read_to_end, write_all};
 
-/// The stream for faults, and what is reported on it of matches while they run.
+/// The reports on matches while they run.
 #[derive(Drop)]
-struct Console<'e, E> {
-    stream: Mutex<StatusStream<&'e mut E>>,
+struct Console {
     notices: Notices,
     progress: Progress,
+    /// Whether each message is logged.
     is_logged: bool,
-    /// Whether the stream goes to a terminal.
+    /// Whether the reports go to a terminal.
     is_terminal: bool,
 }
 
-impl<E> Console<'_, E> {
+impl Console {
+    /// The reports on messages that are wanted.
     fn telling(&self) -> Telling<'_> {
         if self.is_logged {
             Telling::Messages
@@ -48,7 +52,7 @@ impl<E> Console<'_, E> {
         }
     }
 
-    /// Says how many matches are to be played.
+    /// Reports the number of matches to play.
     fn plan<R: Wait>(&self, rt: &R, count: usize) {
         self.progress.plan(count);
         if let Telling::Progress(_) = self.telling() {
@@ -57,7 +61,7 @@ impl<E> Console<'_, E> {
     }
 }
 
-/// Referees a match, and writes its record, and its account where that is wanted.
+/// Plays a match, and writes its record, and its account if the plan wants it.
 fn run<H, P, S, W: Write>(
     rt: &H,
     alloc: Global,
@@ -70,6 +74,8 @@ where
     H: Threads + Wait + Sync,
     P: Player + Drop + Send,
     S: Reach<P> + TellsShortages,
+    ensures clear { OnOk result (S.is_clear reach.now 0) }
+    ensures written { OnOk result (WritesRun P.handed game.entry run.now (W.contents writer.old.stream) (W.contents writer.new.stream)) }
 {
     let entrants: Entrants<P> = entrants_of(alloc, reach, 0, &run.plan)?;
     let ended = match ended_match(rt, alloc, reach, entrants, game, run.has_history) {
@@ -79,88 +85,57 @@ where
     Ok(write_all(writer, ended.text.as_slice())?)
 }
 
-/// How many bytes a schedule has at most.
+/// The limit of bytes of a schedule.
 const MAX_SCHEDULE: usize = 16_777_216;
 
-/// The matches that are not over.
-fn left_over<'a>(
+/// The input of a task: the schedule of a season, and nothing for other tasks.
+pub fn input_of<R: Read>(
     alloc: Global,
-    plans: Vec<MatchPlan<'a>>,
-    done: &DoneMatches,
-) -> Result<Vec<MatchPlan<'a>>, AllocError> {
-    let mut left = Vec::with_capacity(alloc, plans.len())?;
-    for plan in plans {
-        if !done.has(alloc, &plan)? {
-            left.push(plan)?;
-        }
-    }
-    Ok(left)
-}
-
-/// The form in which so many matches are played: as many at once as the descriptors carry, which is reported where those are fewer.
-fn carried_form<F: Files, E: Write>(
-    files: &F,
-    alloc: Global,
-    form: SeasonForm,
-    matches: usize,
-    roles: usize,
-    errors: &mut E,
-) -> SeasonForm {
-    let Some(descriptors) = allowed_descriptors(files, alloc) else {
-        return form;
-    };
-    let carried = carried_matches(descriptors, roles as u64);
-    if carried >= form.at_once.min(matches) as u64 {
-        return form;
-    }
-    let mut pieces = Pieces { stream: errors };
-    let _ = writeln!(
-        pieces,
-        "ggp_manager: {descriptors} descriptors carry {carried} matches at once"
-    );
-    SeasonForm {
-        at_once: carried as usize,
-        ..form
+    task: &HostedTask<'_>,
+    reader: &mut Counted<R>,
+) -> Result<Vec<u8>, Fault> {
+    match task {
+        HostedTask::Season(_) => Ok(read_to_end(alloc, reader, MAX_SCHEDULE)?),
+        HostedTask::Run(_) | HostedTask::Check(_) => Ok(Vec::new(alloc)),
     }
 }
 
-/// Plays the matches of the schedule on standard input. The schedule is read before one is begun.
-fn season<H, P, S, R: Read, W: Write, E>(
+/// Plays the matches of a schedule, and writes their records.
+fn season<H, P, S, W: Write>(
     rt: &H,
     alloc: Global,
     reach: &S,
     season: SeasonPlan<'_>,
     game: HostedGame<'_>,
-    reader: &mut Counted<R>,
+    schedule: &[u8],
     writer: &mut Counted<W>,
-    console: &Console<'_, E>,
+    console: &Console,
 ) -> Result<(), Fault>
 where
     H: Files + Threads + Wait + Sync,
     P: Player + Drop + Send,
     S: Reach<P> + TellsShortages + Sync,
+    ensures { OnOk result (WritesSeason season.entry.strikes season.entry.done schedule.now (W.contents writer.old.stream) (W.contents writer.new.stream)) }
 {
-    let input = read_to_end(alloc, reader, MAX_SCHEDULE)?;
-    let roles = game.game.roles();
-    let mut plans = read_schedule(alloc, &input, roles, season.strikes)?;
-    if let Some(path) = season.done {
-        plans = left_over(alloc, plans, &done_matches(rt, alloc, game.game, path)?)?;
-    }
+    let plans = plans_of(rt, alloc, game.game, season, schedule)?;
     console.plan(rt, plans.len());
     let mut errors = ReportStream::new(rt, &console.notices);
-    let form = carried_form(rt, alloc, season.form, plans.len(), roles, &mut errors);
+    let form = allowed_form(
+        rt,
+        alloc,
+        season.form,
+        game.game.roles(),
+        plans.len(),
+        &mut errors,
+    );
     let errors = Mutex::new(errors);
     let played = play_season::<H, P, S, W, ReportStream<'_, H>>(
         rt, alloc, reach, game, &plans, form, writer, &errors,
     );
-    match played {
-        Ok(0) => Ok(()),
-        Ok(count) => Err(Fault::NoRecords(count)),
-        Err(fault) => Err(season_fault(fault)),
-    }
+    season_end(played)
 }
 
-/// Checks a player, and prints its table.
+/// Checks a player, and writes its table.
 fn check<H, P, S, W: Write>(
     rt: &H,
     alloc: Global,
@@ -174,23 +149,20 @@ where
     P: Player + Explains + Drop + Send,
     S: Reach<P> + TellsShortages,
 {
-    match check_player::<H, P, S, W>(rt, alloc, reach, plan, game, writer) {
-        Ok(0) => Ok(()),
-        Ok(count) => Err(Fault::BadAnswers(count)),
-        Err(fault) => Err(check_fault(fault)),
-    }
+    let checked = check_player::<H, P, S, W>(rt, alloc, reach, plan, game, writer);
+    check_end(checked)
 }
 
-/// Does what is to be done with a game, and has reported on the console what is wanted of it.
-fn perform_hosted<H, P, S, R: Read, W: Write, E>(
+/// Performs a task on a game, and reports on its matches.
+fn perform_hosted<H, P, S, W: Write>(
     rt: &H,
     alloc: Global,
     reach: &S,
-    task: HostedTask<'_>,
+    task: &HostedTask<'_>,
     game: HostedGame<'_>,
-    reader: &mut Counted<R>,
+    input: &[u8],
     writer: &mut Counted<W>,
-    console: &Console<'_, E>,
+    console: &Console,
 ) -> Result<(), Fault>
 where
     H: Clock + Files + Threads + Wait + Sync,
@@ -207,28 +179,29 @@ where
     match task {
         HostedTask::Run(plan) => {
             console.plan(rt, 1);
-            run::<H, LoggedPlayer<'_, H, P>, _, W>(rt, alloc, &logging, &plan, game, writer)
+            run::<H, LoggedPlayer<'_, H, P>, _, W>(rt, alloc, &logging, plan, game, writer)
         }
-        HostedTask::Season(plan) => season::<H, LoggedPlayer<'_, H, P>, _, R, W, E>(
-            rt, alloc, &logging, plan, game, reader, writer, console,
+        HostedTask::Season(plan) => season::<H, LoggedPlayer<'_, H, P>, _, W>(
+            rt, alloc, &logging, *plan, game, input, writer, console,
         ),
         HostedTask::Check(plan) => {
             console.plan(rt, game.game.roles());
-            check::<H, LoggedPlayer<'_, H, P>, _, W>(rt, alloc, &logging, &plan, game, writer)
+            check::<H, LoggedPlayer<'_, H, P>, _, W>(rt, alloc, &logging, plan, game, writer)
         }
     }
 }
 
-/// Does it beside a thread that writes what is reported.
-fn perform_beside_notices<H, P, S, R: Read, W: Write, E: Write + Send>(
+/// Performs the task while a thread writes the reports.
+fn perform_beside_notices<H, P, S, W: Write, E: Write + Send>(
     rt: &H,
     alloc: Global,
     reach: &S,
-    task: HostedTask<'_>,
+    task: &HostedTask<'_>,
     game: HostedGame<'_>,
-    reader: &mut Counted<R>,
+    input: &[u8],
     writer: &mut Counted<W>,
-    console: &Console<'_, E>,
+    console: &Console,
+    stream: &Mutex<StatusStream<&mut E>>,
 ) -> Result<(), Fault>
 where
     H: Clock + Files + Threads + Wait + Sync,
@@ -243,12 +216,12 @@ where
         {
             let writing = move || console
                 .notices
-                .write_until_closed(rt, &console.progress, &console.stream);
+                .write_until_closed(rt, &console.progress, stream);
             if scope.spawn(writing).is_err() {
                 return Err(Fault::Memory);
             }
-            let performed = perform_hosted::<H, P, S, R, W, E>(
-                rt, alloc, reach, task, game, reader, writer, console,
+            let performed = perform_hosted::<H, P, S, W>(
+                rt, alloc, reach, task, game, input, writer, console,
             );
             console.notices.close(rt);
             performed
@@ -256,16 +229,16 @@ where
     )
 }
 
-/// Holds matches of a game, and reports of them meanwhile: each message where that is wanted, or else how far they are where the stream
-/// is a terminal. No match waits for whoever reads that.
-pub fn hold_matches<H, P, S, R: Read, W: Write, E: Write + Send>(
+/// Plays matches of a game and reports on them: each message if that is wanted, otherwise the progress if `errors` is a terminal. No match
+/// waits for a reader of the reports.
+pub fn hold_matches<H, P, S, W: Write, E: Write + Send>(
     rt: &H,
     alloc: Global,
     reach: &S,
     is_logged: bool,
-    task: HostedTask<'_>,
+    task: &HostedTask<'_>,
     game: HostedGame<'_>,
-    reader: &mut Counted<R>,
+    input: &[u8],
     writer: &mut Counted<W>,
     errors: &mut E,
     terminals: Terminals,
@@ -276,28 +249,29 @@ where
     S: Reach<P> + TellsShortages + Sync,
 {
     let console = Console {
-        stream: Mutex::new(StatusStream::new(errors)),
         notices: Notices::new(alloc),
         progress: Progress::new(),
         is_logged,
         is_terminal: terminals.errors,
     };
+    let stream = Mutex::new(StatusStream::new(errors));
     let mut output = Counted::new(ClearedOutput {
         rt,
         output: writer,
-        status: &console.stream,
+        status: &stream,
         is_terminal: terminals.output,
     });
-    let performed = perform_beside_notices::<H, P, S, R, ClearedOutput<'_, H, W, &mut E>, E>(
+    let performed = perform_beside_notices::<H, P, S, ClearedOutput<'_, H, W, &mut E>, E>(
         rt,
         alloc,
         reach,
         task,
         game,
-        reader,
+        input,
         &mut output,
         &console,
+        &stream,
     );
-    console.stream.lock(rt).clear();
+    stream.lock(rt).clear();
     performed
 }

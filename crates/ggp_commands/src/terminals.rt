@@ -1,4 +1,4 @@
-//! Which of the program's streams go to a terminal.
+//! The program's streams that go to a terminal.
 
 /// Whether standard error and standard output go to a terminal.
 #[derive(Clone, Copy)]

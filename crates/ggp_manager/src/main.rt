@@ -1,6 +1,8 @@
 //! A referee for General Game Playing: the program.
 #![tactic(auto)]
 
+ghost use Rattle.std.specs.Prelude.{◌<◌};
+
 use game_core::Counted;
 use ggp_commands::{Fault, Terminals, command, report};
 use match_plans::MAX_SCHEDULED;
@@ -12,6 +14,16 @@ use std::{env, io};
 /// The words after the program's name.
 fn command_line(rt: &HostRuntime) -> io::Result<Vec<String>> {
     Ok(env::args(rt)?.skip(1).collect(rt.alloc())?)
+}
+
+/// The number of places that a command's matches may have: `season` has one for each match of its schedule, every other command one.
+fn places(words: &[String]) -> usize
+    ensures { 0 < result }
+{
+    match words.first() {
+        Some(word) if word.as_str() == "season" => MAX_SCHEDULED,
+        _ => 1,
+    }
 }
 
 fn main(rt: HostRuntime) -> ExitCode {
@@ -34,7 +46,7 @@ fn main(rt: HostRuntime) -> ExitCode {
     };
     let mut reader = Counted::new(rt.stdin());
     let mut writer = Counted::new(output);
-    let Ok(signals) = Signal::many(rt.alloc(), MAX_SCHEDULED) else {
+    let Ok(signals) = Signal::many(rt.alloc(), places(&words)) else {
         report(&mut errors, Fault::Memory);
         return ExitCode::from(Fault::Memory.status());
     };

@@ -1,0 +1,3 @@
+mod AbortedLines
+mod LargestNumbers
+mod SeasonEnds

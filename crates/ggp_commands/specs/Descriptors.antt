@@ -1,0 +1,13 @@
+-- The number of matches at once that descriptors allow.
+use Rattle.std.specs.Prelude.{◌≡◌, ◌<◌, ◌≤◌, ◌+◌, ◌*◌, ◌⊎◌, ℕ}
+
+-- The descriptors are enough for these matches at once: one for each player, and 16 for everything else. A single match may always be
+-- played.
+abbrev pub Allows : ℕ → ℕ → ℕ → Type 0
+Allows descriptors players matches = (matches ≤ 1) ⊎ (matches * players + 16 ≤ descriptors)
+
+-- the largest number of matches at once that the descriptors allow
+pub record IsLargest (descriptors players matches : ℕ) : Type 0 where
+  pub some : 1 ≤ matches
+  pub allowed : Allows descriptors players matches
+  pub largest : 0 < players → (others : ℕ) → Allows descriptors players others → others ≤ matches
