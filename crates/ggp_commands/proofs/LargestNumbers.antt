@@ -11,13 +11,12 @@ allowed_most descriptors players others some (inr many) = inr (le-div others (de
 -- the quotient, where it is no less than 1
 pub largest_quotient : (descriptors players count : ℕ) → 0 < players → count ≡ (descriptors - 16) / players → 0 < count → IsLargest descriptors players count
 largest_quotient descriptors players count has_players is some =
-    let free = descriptors - 16 in
-    let whole : count * players + free % players ≡ free = subst (λ n. n * players + free % players ≡ free) (sym is) (div-add-mod' free players) in
+    let whole : count * players + (descriptors - 16) % players ≡ descriptors - 16 = subst (λ n. n * players + (descriptors - 16) % players ≡ descriptors - 16) (sym is) (div-add-mod' (descriptors - 16) players) in
     let one : 1 ≤ count * players = mul-le 1 1 count players (omega (arith, some)) (omega (arith, has_players)) in
     record {
       some = omega (arith, some);
       allowed = inr (omega (arith, whole, one));
-      largest = λ players_too others allows. elim (allowed_most descriptors players others has_players allows) [ inl few ↦ omega (arith, few, some) | inr many ↦ subst (λ n. others ≤ n) (sym is) many ];
+      largest = λ _ others allows. elim (allowed_most descriptors players others has_players allows) [ inl few ↦ omega (arith, few, some) | inr many ↦ subst (λ n. others ≤ n) (sym is) many ];
     }
 
 -- a single one, where the quotient is 0 or there is none
@@ -25,7 +24,7 @@ pub largest_single : (descriptors players : ℕ) → (0 < players → (descripto
 largest_single descriptors players none = record {
   some = omega arith;
   allowed = inl (omega arith);
-  largest = λ has_players others allows. elim (allowed_most descriptors players others has_players allows) [ inl few ↦ few | inr many ↦ omega (arith, many, none has_players) ];
+  largest = λ has_players others allows. elim (allowed_most descriptors players others has_players allows) [ inl few ↦ few | inr many ↦ omega (arith, subst (λ n. others ≤ n) (none has_players) many) ];
 }
 
 -- fewer matches are allowed too

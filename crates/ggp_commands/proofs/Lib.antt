@@ -1,3 +1,2 @@
-mod AbortedLines
 mod LargestNumbers
 mod SeasonEnds

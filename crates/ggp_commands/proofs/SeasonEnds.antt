@@ -1,7 +1,13 @@
 -- The end of a season.
-use Rattle.std.proofs.Common.{◌≡◌, ℕ, Result, Ok, Err, IfOk, OnOk, subst}
+use Rattle.std.proofs.Common.{◌≡◌, ℕ, List, length, Option, Result, Ok, Err, IfOk, OnOk, subst}
+use Rattle.match_plans.specs.declared.plan.MatchPlan.{MatchPlan}
+use Rattle.match_season.specs.Seasons.{WritesAllBut}
+use Rattle.match_season.specs.declared.season_output.SeasonFault.{SeasonFault}
+use Rattle.game_commands.specs.declared.fault.Fault.{Fault}
+use Rattle.ggp_commands.specs.Schedules.{AreToPlay, WritesSeason}
 
--- where a season ends well, none of its matches has no record
-pub ends_well : {A E F : Type 0} (ended : Result A E) (played : Result ℕ F) (P : ℕ → Type 0) → OnOk ended (played ≡ Ok 0) → IfOk played P → OnOk ended (P 0)
-ends_well (Ok x) played P well holds = subst (λ r. IfOk r P) well holds
-ends_well (Err x) played P well holds = tt
+-- where a season ends well, none of its matches lacks a record
+pub season_written : {A F : Type 0} (ended : Result A Fault) (played : Result ℕ SeasonFault) (strikes : ℕ) (done : Option F) (schedule : List ℕ) (plans : List MatchPlan) (old new : Option (List ℕ))
+    → OnOk ended (played ≡ Ok 0) → AreToPlay strikes done schedule plans → IfOk played (λ missing. WritesAllBut missing (length plans) old new) → OnOk ended (WritesSeason strikes done schedule old new)
+season_written (Ok x) played strikes done schedule plans old new well planned written = (plans, planned, subst (λ r. IfOk r (λ missing. WritesAllBut missing (length plans) old new)) well written)
+season_written (Err x) played strikes done schedule plans old new well planned written = tt

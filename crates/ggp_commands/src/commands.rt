@@ -115,20 +115,21 @@ where
     S: Reach<P> + TellsShortages + Sync,
 {
     let words: Vec<&str> = words.iter().map(|word| word.as_str()).collect(alloc)?;
-    match task_of(alloc, words.as_slice(), remarks)? {
+    let task = task_of(alloc, words.as_slice(), remarks)?;
+    match &task {
         Task::Show(text) => Ok(write_all(writer, text.as_bytes())?),
-        Task::Game(command, game) => for_game(rt, alloc, command, game, reader, writer, remarks),
-        Task::Info(player) => info(rt, alloc, &player, writer, errors, terminals),
-        Task::Abort(plan) => abort(rt, alloc, &plan, writer, errors, terminals),
+        Task::Game(command, game) => for_game(rt, alloc, *command, *game, reader, writer, remarks),
+        Task::Info(player) => info(rt, alloc, player, writer, errors, terminals),
+        Task::Abort(plan) => abort(rt, alloc, plan, writer, errors, terminals),
         Task::Host(plan, task) => {
-            let hosting = host(rt, alloc, plan, remarks)?;
-            let input = input_of(alloc, &task, reader)?;
+            let hosting = host(rt, alloc, *plan, remarks)?;
+            let input = input_of(alloc, task, reader)?;
             hold_matches::<H, P, S, W, E>(
                 rt,
                 alloc,
                 reach,
                 plan.is_logged,
-                &task,
+                task,
                 hosting.hosted(),
                 &input,
                 writer,

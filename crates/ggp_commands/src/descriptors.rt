@@ -20,8 +20,8 @@ const MAX_LIMITS: usize = 65_536;
 /// The number of descriptors for everything but the players' connections: the streams, the files, the look-ups of hosts.
 const KEPT: u64 = 16;
 
-/// The limit of descriptors in a text of limits. `None` if it has none.
-fn descriptors_in(limits: &str) -> Option<u64> {
+/// The limit of descriptors in a text of limits, the soft one. `None` if it has none.
+pub fn descriptors_in(limits: &str) -> Option<u64> {
     let line = limits
         .lines()
         .find_map(|line| line.strip_prefix("Max open files"))?;
@@ -50,6 +50,7 @@ fn allowed_matches(descriptors: u64, players: u64) -> u64
 
 /// The form of a season of `matches` matches with as many of them at once as the descriptors allow. `None` if they allow the form as it
 /// is.
+#[tactic(auto, using(crate::proofs::LargestNumbers::fewer_allowed))]
 fn smaller_form(
     form: SeasonForm,
     descriptors: u64,

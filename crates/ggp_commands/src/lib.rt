@@ -19,6 +19,7 @@ mod terminals;
 
 pub use command_line::AbortPlan;
 pub use commands::{command, report};
+pub use descriptors::descriptors_in;
 pub use errands::{abort, info};
 pub use faults::contact_fault;
 pub use game_commands::{Fault, FileFault, ScriptFault};

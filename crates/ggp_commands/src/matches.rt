@@ -101,6 +101,7 @@ pub fn input_of<R: Read>(
 }
 
 /// Plays the matches of a schedule, and writes their records.
+#[tactic(auto, using(crate::proofs::SeasonEnds::season_written))]
 fn season<H, P, S, W: Write>(
     rt: &H,
     alloc: Global,
