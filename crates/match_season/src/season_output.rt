@@ -11,16 +11,14 @@ use std::fmt;
 use std::fmt::Write as _;
 use std::io::Write;
 use std::sync::{Mutex, Wait};
-use thiserror::Error;
 use whole_streams::{Pieces, WriteFault, write_all};
 
 /// Why a season was not played, or not to its end.
-#[derive(Clone, Copy, Debug, PartialEq, Eq, Error)]
+#[derive(Clone, Copy)]
 pub enum SeasonFault {
     /// A record or an account can't be written.
-    #[error("write fault")]
     WriteFault,
-    #[error("out of memory")]
+    /// Out of memory.
     Memory,
 }
 
