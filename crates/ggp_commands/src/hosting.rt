@@ -47,7 +47,26 @@ fn rules_in<F: Files>(
     }
 }
 
-/// The game of a plan. Its players get the rules of the file, if one is named, and otherwise the game's own.
+/// The players' rules: those of the file, if one is named, and otherwise the game's own.
+fn rules_for<F: Files>(
+    files: &F,
+    alloc: Global,
+    game: &PackedGame,
+    told: Option<&str>,
+    remarks: &mut Remarks,
+) -> Result<PrintedRules, Fault>
+    ensures { IfOk result (λ rules. AreRulesFor told.entry game.now rules.items) }
+{
+    match told {
+        None => Ok(own_rules(alloc, game)?),
+        Some(path) => {
+            let rules = rules_in(files, alloc, path, remarks)?;
+            Ok(rules)
+        }
+    }
+}
+
+/// The game of a plan, and the rules for its players.
 pub fn host<F: Files>(
     files: &F,
     alloc: Global,
@@ -57,9 +76,6 @@ pub fn host<F: Files>(
     ensures { IfOk result (λ hosting. AreRulesFor plan.entry.told hosting.game hosting.rules.items) }
 {
     let game = game_of(alloc, &told_rules(files, alloc, plan.game)?, remarks)?;
-    let rules = match plan.told {
-        None => own_rules(alloc, &game)?,
-        Some(path) => rules_in(files, alloc, path, remarks)?,
-    };
+    let rules = rules_for(files, alloc, &game, plan.told, remarks)?;
     Ok(Hosting { game, rules })
 }
