@@ -147,9 +147,8 @@ impl<'a, H, P, S: Reach<P>> Reach<LoggedPlayer<'a, H, P>> for Logging<'a, H, S> 
 }
 
 impl<H: Clock + Wait, P: Explains> LoggedPlayer<'_, H, P> {
-    /// Counts a message that is handed over. Returns the present time, if the clock can be read.
-    fn begin(&mut self, message: &SharedText<'_>) -> Option<Instant> {
-        self.messages = self.messages.saturating_add(1);
+    /// Counts the match that begins with a message. Returns the present time, if the clock can be read.
+    fn begin(&self, message: &SharedText<'_>) -> Option<Instant> {
         if let Telling::Progress(progress) = self.telling {
             progress.begin(self.counts, MessageKind::of(message));
             self.notices.move_on(self.rt);
@@ -209,6 +208,7 @@ impl<H: Clock + Wait, P: Player + Explains> Player for LoggedPlayer<'_, H, P> {
 
     fn ask(&mut self, seconds: u32, body: &[u8]) -> Answer {
         let message = SharedText::lent(self.alloc, body);
+        self.messages = self.messages.saturating_add(1);
         let began = self.begin(&message);
         let answer = self.player.ask(seconds, body);
         self.tell(&message, &answer, began);
@@ -221,6 +221,7 @@ impl<H: Clock + Wait, P: Player + Explains> Player for LoggedPlayer<'_, H, P> {
         seconds: u32,
         message: &SharedText<'_>,
     ) -> Result<Answer, AllocError> {
+        self.messages = self.messages.saturating_add(1);
         let began = self.begin(message);
         let answer = self.player.ask_shared(alloc, seconds, message)?;
         self.tell(message, &answer, began);
