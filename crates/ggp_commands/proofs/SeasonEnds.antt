@@ -7,7 +7,7 @@ use Rattle.game_commands.specs.declared.fault.Fault.{Fault}
 use Rattle.ggp_commands.specs.Schedules.{AreToPlay, WritesSeason}
 
 -- where a season ends well, none of its matches lacks a record
-pub season_written : {A F : Type 0} (ended : Result A Fault) (played : Result ℕ SeasonFault) (strikes : ℕ) (done : Option F) (schedule : List ℕ) (plans : List MatchPlan) (old new : Option (List ℕ))
-    → OnOk ended (played ≡ Ok 0) → AreToPlay strikes done schedule plans → IfOk played (λ missing. WritesAllBut missing (length plans) old new) → OnOk ended (WritesSeason strikes done schedule old new)
-season_written (Ok x) played strikes done schedule plans old new well planned written = (plans, planned, subst (λ r. IfOk r (λ missing. WritesAllBut missing (length plans) old new)) well written)
-season_written (Err x) played strikes done schedule plans old new well planned written = tt
+pub season_written : {A F : Type 0} (ended : Result A Fault) (played : Result ℕ SeasonFault) (strikes : ℕ) (file : Option F) (schedule : List ℕ) (plans : List MatchPlan) (old new : Option (List ℕ))
+    → OnOk ended (played ≡ Ok 0) → AreToPlay strikes file schedule plans → IfOk played (λ missing. WritesAllBut missing (length plans) old new) → OnOk ended (WritesSeason strikes file schedule old new)
+season_written (Ok x) played strikes file schedule plans old new well planned written = (plans, planned, subst (λ r. IfOk r (λ missing. WritesAllBut missing (length plans) old new)) well written)
+season_written (Err x) played strikes file schedule plans old new well planned written = tt

@@ -1,5 +1,5 @@
 -- The number of matches at once that descriptors allow.
-use Rattle.std.specs.Prelude.{◌≡◌, ◌<◌, ◌≤◌, ◌+◌, ◌*◌, ◌⊎◌, ℕ}
+use Rattle.std.specs.Prelude.{◌<◌, ◌≤◌, ◌+◌, ◌*◌, ◌⊎◌, ℕ}
 
 -- The descriptors are enough for these matches at once: one for each player, and 16 for everything else. A single match may always be
 -- played.

@@ -97,12 +97,12 @@ fn task_of<'a>(
     }
 }
 
-/// Performs the command of the words.
-fn perform<H, P, S, R: Read, W: Write, E: Write + Send>(
+/// Performs a task.
+fn perform_task<H, P, S, R: Read, W: Write, E: Write + Send>(
     rt: &H,
     alloc: Global,
     reach: &S,
-    words: &[String],
+    task: &Task<'_>,
     reader: &mut Counted<R>,
     writer: &mut Counted<W>,
     errors: &mut E,
@@ -114,9 +114,7 @@ where
     P: Player + Explains + Drop + Send,
     S: Reach<P> + TellsShortages + Sync,
 {
-    let words: Vec<&str> = words.iter().map(|word| word.as_str()).collect(alloc)?;
-    let task = task_of(alloc, words.as_slice(), remarks)?;
-    match &task {
+    match task {
         Task::Show(text) => Ok(write_all(writer, text.as_bytes())?),
         Task::Game(command, game) => for_game(rt, alloc, *command, *game, reader, writer, remarks),
         Task::Info(player) => info(rt, alloc, player, writer, errors, terminals),
@@ -138,4 +136,28 @@ where
             )
         }
     }
+}
+
+/// Performs the command of the words.
+fn perform<H, P, S, R: Read, W: Write, E: Write + Send>(
+    rt: &H,
+    alloc: Global,
+    reach: &S,
+    words: &[String],
+    reader: &mut Counted<R>,
+    writer: &mut Counted<W>,
+    errors: &mut E,
+    terminals: Terminals,
+    remarks: &mut Remarks,
+) -> Result<(), Fault>
+where
+    H: Net + Clock + Files + Threads + Wait + Sync,
+    P: Player + Explains + Drop + Send,
+    S: Reach<P> + TellsShortages + Sync,
+{
+    let words: Vec<&str> = words.iter().map(|word| word.as_str()).collect(alloc)?;
+    let task = task_of(alloc, words.as_slice(), remarks)?;
+    perform_task::<H, P, S, R, W, E>(
+        rt, alloc, reach, &task, reader, writer, errors, terminals, remarks,
+    )
 }
