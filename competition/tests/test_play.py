@@ -153,7 +153,10 @@ class Play(InFolder):
             time.sleep(0.01)
         playing.kill()
         playing.communicate()
-        time.sleep(0.1)
+        # On a busy computer the end of a process takes a moment; a match takes longer.
+        end = time.monotonic() + 2
+        while self.at_play() and time.monotonic() < end:
+            time.sleep(0.01)
         self.assertEqual(self.at_play(), 0)
 
     def test_two_runs_in_one_folder(self):
