@@ -12,8 +12,11 @@ UNSAID = "it ended with status {} and no word, as where it is killed or the disk
 LIBRARY = ctypes.CDLL(None)
 
 
-def end_with_parent():
+def end_with(parent):
+    """Has the process that calls it end when its parent does, also where that has ended before it could ask."""
     LIBRARY.prctl(END_WITH_PARENT, signal.SIGKILL)
+    if os.getppid() != parent:
+        os.kill(os.getpid(), signal.SIGKILL)
 
 
 class Child:
@@ -22,10 +25,10 @@ class Child:
 
     def __init__(self, words, folder, name, given=os.devnull):
         self.out, self.said = folder / name, folder / f"{name}.said"
-        self.began = time.monotonic()
+        self.began, parent = time.monotonic(), os.getpid()
         with open(given, "rb") as stdin, open(self.out, "wb") as out, open(self.said, "wb") as said:
             self.process = subprocess.Popen(
-                words, stdin=stdin, stdout=out, stderr=said, start_new_session=True, preexec_fn=end_with_parent
+                words, stdin=stdin, stdout=out, stderr=said, start_new_session=True, preexec_fn=lambda: end_with(parent)
             )
 
     def is_over(self):

@@ -11,6 +11,7 @@ import tempfile
 import time
 import unittest
 
+from competition.children import end_with
 from competition.tests.players import TestPlayer
 from competition.tests.support import GAMES, InFolder, program, run, start
 
@@ -158,6 +159,10 @@ class Play(InFolder):
         while self.at_play() and time.monotonic() < end:
             time.sleep(0.01)
         self.assertEqual(self.at_play(), 0)
+
+    def test_a_match_begun_as_its_run_is_killed_is_not_played(self):
+        with subprocess.Popen(["sleep", "60"], preexec_fn=lambda: end_with(0)) as orphan:
+            self.assertEqual(orphan.wait(10), -signal.SIGKILL)
 
     def test_two_runs_in_one_folder(self):
         self.planned(["slow", "slow"])
