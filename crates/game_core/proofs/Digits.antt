@@ -32,10 +32,10 @@ next_number digits i n r e within so_far more =
     (λ j. so_far j * 10 + last j) ∙ sym (digits_value_more 10 digits i within)
 
 -- if the number so far is too great, so is the whole number
-pub too_great : (digits : List ℕ) (i n most : ℕ) → n ≡ digits_value 10 (take i digits) → most < n
-    → None ≡ number_up_to digits most
-too_great digits i n most so_far above =
+pub too_great : (digits : List ℕ) (i n limit : ℕ) → n ≡ digits_value 10 (take i digits) → limit < n
+    → None ≡ number_up_to digits limit
+too_great digits i n limit so_far above =
     let least = digits_value-take-le 10 digits i (omega arith) in
-    let great : most < digits_value 10 digits = omega arith in
-    let test : nat_le (digits_value 10 digits) most ≡ false = grind (arith, nat_tests) in
+    let great : limit < digits_value 10 digits = omega arith in
+    let test : nat_le (digits_value 10 digits) limit ≡ false = grind (arith, nat_tests) in
     rw test refl

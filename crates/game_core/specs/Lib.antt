@@ -7,4 +7,5 @@ pub mod Play
 pub mod PlayAnswer
 pub mod Countdown
 pub mod Counting
+pub mod Laws
 pub mod Internal

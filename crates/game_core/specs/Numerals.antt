@@ -17,8 +17,8 @@ is_plain_numeral word = are_digits word && (length word == 1 || not (slice_index
 
 -- the number that digits write, if it is at most this limit
 abbrev pub number_up_to : List ℕ → ℕ → Option ℕ
-number_up_to digits most = if nat_le (digits_value 10 digits) most then Some (digits_value 10 digits) else None
+number_up_to digits limit = if nat_le (digits_value 10 digits) limit then Some (digits_value 10 digits) else None
 
 -- the number that a word writes without leading zeros, if it is at most this limit
 abbrev pub plain_number : List ℕ → ℕ → Option ℕ
-plain_number word most = if is_plain_numeral word then number_up_to word most else None
+plain_number word limit = if is_plain_numeral word then number_up_to word limit else None

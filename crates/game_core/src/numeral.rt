@@ -16,29 +16,29 @@ fn is_plain_numeral(word: &[u8]) -> bool
     are_digits(word) && (word.len() == 1 || word[0] != b'0')
 }
 
-/// The number that the digits write, if it is at most `most`. There may be any number of digits.
-pub fn number_up_to(digits: &[u8], most: usize) -> Option<usize>
+/// The number that the digits write, if it is within the limit. There may be any number of digits.
+pub fn number_up_to(digits: &[u8], limit: usize) -> Option<usize>
     requires digits { IsTrue (are_digits digits.now) }
-    requires small { most < 2 ^ 32 }
-    ensures { result ≡ number_up_to digits.now most }
+    requires small { limit < 2 ^ 32 }
+    ensures { result ≡ number_up_to digits.now limit }
 {
     let mut number = 0;
     for digit in digits {
         number = number * 10 + usize::from(*digit - b'0');
-        if number > most {
+        if number > limit {
             return None;
         }
     }
     Some(number)
 }
 
-/// The number that a word writes in decimal digits without leading zeros, if it is at most `most`.
-pub fn plain_number(word: &[u8], most: usize) -> Option<usize>
-    requires { most < 2 ^ 32 }
-    ensures { result ≡ plain_number word.now most }
+/// The number that a word writes in decimal digits without leading zeros, if it is within the limit.
+pub fn plain_number(word: &[u8], limit: usize) -> Option<usize>
+    requires { limit < 2 ^ 32 }
+    ensures { result ≡ plain_number word.now limit }
 {
     if !is_plain_numeral(word) {
         return None;
     }
-    number_up_to(word, most)
+    number_up_to(word, limit)
 }

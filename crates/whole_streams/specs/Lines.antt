@@ -41,6 +41,6 @@ IsPiece bytes false piece left = (bytes ≡ piece) × (left ≡ [])
 
 -- why a line does not go on to this length
 abbrev pub StopsLine : ℕ → InputFault → ℕ → Type 0
-StopsLine most ReadFault count = ⊥
-StopsLine most TooLong count = most < count
-StopsLine most Memory count = count ≤ most
+StopsLine limit ReadFault count = ⊥
+StopsLine limit TooLong count = limit < count
+StopsLine limit Memory count = count ≤ limit

@@ -10,6 +10,6 @@ StopsReading given old new = (new.faults ≡ one_more old.faults) ⊎ (CallsMade
 
 -- The meaning of a fault, for the bytes given before it, the limit of bytes, and the reader before and after.
 abbrev pub InputFails : {R : Type 0} → ℕ → InputFault → List ℕ → Counting R → Counting R → Type 0
-InputFails most ReadFault given old new = (length given ≤ most) × StopsReading (length given) old new
-InputFails most TooLong given old new = (most < length given) × (new.faults ≡ old.faults)
-InputFails most Memory given old new = (length given ≤ most) × (new.faults ≡ old.faults)
+InputFails limit ReadFault given old new = (length given ≤ limit) × StopsReading (length given) old new
+InputFails limit TooLong given old new = (limit < length given) × (new.faults ≡ old.faults)
+InputFails limit Memory given old new = (length given ≤ limit) × (new.faults ≡ old.faults)

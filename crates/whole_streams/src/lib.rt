@@ -2,6 +2,7 @@
 //! line, and text that is formatted to a stream piece by piece.
 #![tactic(auto)]
 
+pub mod laws;
 mod lines;
 mod pieces;
 mod whole;

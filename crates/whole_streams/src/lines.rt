@@ -73,14 +73,14 @@ fn at_end(line: Vec<u8>) -> NextLine
     }
 }
 
-/// Adds a piece to a line, if the line then has at most `most` bytes.
-fn push_within(line: &mut Vec<u8>, piece: &[u8], most: usize) -> Result<(), InputFault>
-    requires { length line.old.items ≤ most }
+/// Adds a piece to a line, if the line then has at most `limit` bytes.
+fn push_within(line: &mut Vec<u8>, piece: &[u8], limit: usize) -> Result<(), InputFault>
+    requires { length line.old.items ≤ limit }
     ensures grown { OnOk result (line.new.items ≡ line.old.items ++ piece.now) }
-    ensures within { OnOk result (length line.new.items ≤ most) }
-    ensures fails { IfErr result (λ fault. StopsLine most fault (length line.old.items + length piece.now)) }
+    ensures within { OnOk result (length line.new.items ≤ limit) }
+    ensures fails { IfErr result (λ fault. StopsLine limit fault (length line.old.items + length piece.now)) }
 {
-    if piece.len() > most - line.len() {
+    if piece.len() > limit - line.len() {
         return Err(InputFault::TooLong);
     }
     match line.extend_from_slice(piece) {
@@ -123,19 +123,19 @@ impl LineBuffer {
 
     /// Moves the bytes at hand to the line's end, up to a line feed. Returns whether the line ends there. At a fault the piece is
     /// lost.
-    fn take_piece(&mut self, line: &mut Vec<u8>, most: usize) -> Result<bool, InputFault>
-        requires { length line.old.items ≤ most }
+    fn take_piece(&mut self, line: &mut Vec<u8>, limit: usize) -> Result<bool, InputFault>
+        requires { length line.old.items ≤ limit }
         ensures piece { IfOk result (λ ended. (piece : List ℕ) × (line.new.items ≡ line.old.items ++ piece)
             × HasNoLineFeed piece × IsPiece self.old ended piece self.new) }
-        ensures within { OnOk result (length line.new.items ≤ most) }
+        ensures within { OnOk result (length line.new.items ≤ limit) }
         ensures fails { IfErr result (λ fault. (piece : List ℕ) × (self.old ≡ piece ++ self.new) × HasNoLineFeed piece
-            × StopsLine most fault (length line.old.items + length piece)) }
+            × StopsLine limit fault (length line.old.items + length piece)) }
     {
         let begin = self.start;
         match line_end(&self.chunk[begin..self.end]) {
             Some(count) => {
                 self.start = begin + count;
-                match push_within(line, &self.chunk[begin..begin + count], most) {
+                match push_within(line, &self.chunk[begin..begin + count], limit) {
                     Ok(()) => {
                         self.start += 1;
                         Ok(true)
@@ -145,7 +145,7 @@ impl LineBuffer {
             }
             None => {
                 self.start = self.end;
-                match push_within(line, &self.chunk[begin..self.end], most) {
+                match push_within(line, &self.chunk[begin..self.end], limit) {
                     Ok(()) => Ok(false),
                     Err(fault) => Err(fault),
                 }
@@ -153,28 +153,28 @@ impl LineBuffer {
         }
     }
 
-    /// The next line of the input. It has at most `most` bytes before its line feed, and comes within 200,000 reads. At a fault,
+    /// The next line of the input. It has at most `limit` bytes before its line feed, and comes within 200,000 reads. At a fault,
     /// the part of it that was read is lost.
     pub fn next_line<R: Read>(
         &mut self,
         alloc: Global,
         reader: &mut Counted<R>,
-        most: usize,
+        limit: usize,
     ) -> Result<NextLine, InputFault>
         ensures next { IfOk result (λ line. (given : List ℕ)
             × Consumes (R.remaining reader.old.stream) (R.remaining reader.new.stream) given
             × IsNextLine (R.remaining reader.new.stream) (self.old ++ given) line self.new) }
-        ensures within { IfOk result (λ line. length (line_bytes line) ≤ most) }
+        ensures within { IfOk result (λ line. length (line_bytes line) ≤ limit) }
         ensures no_fault { OnOk result (reader.new.faults ≡ reader.old.faults) }
         ensures fails { IfErr result (λ fault. (given : List ℕ) × (lost : List ℕ)
             × Consumes (R.remaining reader.old.stream) (R.remaining reader.new.stream) given
             × (self.old ++ given ≡ lost ++ self.new)
             × HasNoLineFeed lost
-            × InputFails most fault lost reader.old reader.new) }
+            × InputFails limit fault lost reader.old reader.new) }
         ensures called { CallsMade 0 reader.old.calls reader.new.calls }
     {
         let mut line = Vec::new(alloc);
-        match self.take_piece(&mut line, most) {
+        match self.take_piece(&mut line, limit) {
             Ok(true) => return Ok(NextLine::Ended(without_return(line))),
             Ok(false) => {}
             Err(fault) => return Err(fault),
@@ -185,7 +185,7 @@ impl LineBuffer {
                 Ok(false) => return Ok(at_end(line)),
                 Err(fault) => return Err(fault),
             }
-            match self.take_piece(&mut line, most) {
+            match self.take_piece(&mut line, limit) {
                 Ok(true) => return Ok(NextLine::Ended(without_return(line))),
                 Ok(false) => {}
                 Err(fault) => return Err(fault),

@@ -26,19 +26,19 @@ pub struct WriteFault;
 /// The room for one read, in bytes.
 pub(crate) const READ_SIZE: usize = 16_384;
 
-/// Reads all bytes up to the end of the stream. `most` is the limit of bytes.
+/// Reads all bytes up to the end of the stream, at most `limit` of them.
 pub fn read_to_end<R: Read>(
     alloc: Global,
     reader: &mut Counted<R>,
-    most: usize,
+    limit: usize,
 ) -> Result<Vec<u8>, InputFault>
     ensures whole { IfOk result (λ input. Consumes (R.remaining reader.old.stream) (R.remaining reader.new.stream) input.items
         × IsAtEnd (R.remaining reader.new.stream)) }
-    ensures within { IfOk result (λ input. length input.items ≤ most) }
+    ensures within { IfOk result (λ input. length input.items ≤ limit) }
     ensures no_fault { OnOk result (reader.new.faults ≡ reader.old.faults) }
     ensures fails { IfErr result (λ fault. (given : List ℕ)
         × Consumes (R.remaining reader.old.stream) (R.remaining reader.new.stream) given
-        × InputFails most fault given reader.old reader.new) }
+        × InputFails limit fault given reader.old reader.new) }
 {
     let mut input = Vec::new(alloc);
     let mut chunk = [0u8; READ_SIZE];
@@ -50,7 +50,7 @@ pub fn read_to_end<R: Read>(
         if count == 0 {
             return Ok(input);
         }
-        if count > most - input.len() {
+        if count > limit - input.len() {
             return Err(InputFault::TooLong);
         }
         if input.extend_from_slice(&chunk[..count]).is_err() {

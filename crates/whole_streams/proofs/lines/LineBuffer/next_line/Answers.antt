@@ -25,11 +25,11 @@ joined : (held given line piece read rest new : List ℕ) → held ++ given ≡ 
 joined held given line piece read rest new before grown cut =
     sym (append_assoc held given read) ∙ ap (λ l. l ++ read) before ∙ ap (λ l. line ++ l) cut ∙ sym (append_assoc line piece rest) ∙ ap (λ l. l ++ rest) (sym grown)
 
-input_fails : {R : Type 0} (most : ℕ) (fault : InputFault) (line piece : List ℕ) (reader reader' : Counting R) → reader'.faults ≡ reader.faults → StopsLine most fault (length line + length piece)
-    → InputFails most fault (line ++ piece) reader reader'
-input_fails most ReadFault line piece reader reader' same stops = absurd stops
-input_fails most TooLong line piece reader reader' same stops = (omega (arith, length-append line piece), same)
-input_fails most Memory line piece reader reader' same stops = (omega (arith, length-append line piece), same)
+input_fails : {R : Type 0} (limit : ℕ) (fault : InputFault) (line piece : List ℕ) (reader reader' : Counting R) → reader'.faults ≡ reader.faults → StopsLine limit fault (length line + length piece)
+    → InputFails limit fault (line ++ piece) reader reader'
+input_fails limit ReadFault line piece reader reader' same stops = absurd stops
+input_fails limit TooLong line piece reader reader' same stops = (omega (arith, length-append line piece), same)
+input_fails limit Memory line piece reader reader' same stops = (omega (arith, length-append line piece), same)
 
 is_last : (remaining : Option (List ℕ)) (bytes line left : List ℕ) (last : NextLine) → bytes ≡ line → HasNoLineFeed line → left ≡ [] → IsAtEnd remaining → IsEnd line last
     → IsNextLine remaining bytes last left
@@ -75,7 +75,7 @@ returns-in-Err-take_piece-clause-fails g c =
       Consumes-trans _ _ _ _ _ inv.given.1 c.in-Ok-true-refill.ensures.given,
       cut,
       feedless_append _ _ inv.feedless fails.2,
-      input_fails c.args.most c.in-Err-take_piece.fault line fails.0 c.args.reader.now c.refill.new.reader same fails.3,
+      input_fails c.args.limit c.in-Err-take_piece.fault line fails.0 c.args.reader.now c.refill.new.reader same fails.3,
     )
 
 pub loop-call-preserved : goal.loop-call-preserved

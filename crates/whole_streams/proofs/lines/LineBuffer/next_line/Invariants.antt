@@ -10,7 +10,7 @@ invariant-loop-call g l = record {
       × (l.fn.self ++ given ≡ l.line.items) × (l.call ≤ length given);
   held : l.self ≡ [];
   feedless : HasNoLineFeed l.line.items;
-  within : length l.line.items ≤ l.most;
+  within : length l.line.items ≤ l.limit;
   calls : CallsMade l.call l.initial.reader.calls l.reader.calls;
   faults : l.reader.faults ≡ l.initial.reader.faults;
 }

@@ -27,5 +27,5 @@ returns-in-Err-clause-fails c =
     let before : HasNoLineFeed (take count held) = c.in-Some.ensures.1 in
     let fits : b.start + count ≤ b.end = omega (arith, length-take (b.end - b.start) (drop b.start b.chunk)) in
     let cut = sym c.self.view_is ∙ range_cut b.chunk b.start count b.end fits in
-    let stops = subst (λ l. StopsLine c.args.most c.in-Err.fault (length c.args.line.now.items + length l)) (range_front b.chunk b.start count b.end fits) c.in-Err.ensures.fails in
+    let stops = subst (λ l. StopsLine c.args.limit c.in-Err.fault (length c.args.line.now.items + length l)) (range_front b.chunk b.start count b.end fits) c.in-Err.ensures.fails in
     (take count held, cut, before, stops)
