@@ -9,13 +9,13 @@ use Rattle.rule_sentences.specs.declared.sentence.Derived.{Derived}
 use Rattle.rule_sentences.specs.declared.sentence.Derived.TheVariants.{Legal, Terminal}
 use Rattle.ground_rules.specs.declared.names.TermKind.TheVariants.{State, Move}
 use Rattle.ground_rules.specs.declared.lookups.StateHead.TheVariants.{Init as InitHead, Next as NextHead}
-use Rattle.ground_rules.specs.Internal.Bools.{and-left, and-right, or-left}
-use Rattle.ground_rules.specs.Internal.Names.{text-same}
-use Rattle.ground_rules.specs.Internal.TermTexts.{are_terms_in_any}
+use Rattle.ground_rules.specs.Lawfulness.Bools.{and-left, and-right, or-left}
+use Rattle.ground_rules.specs.Lawfulness.Names.{text-same}
+use Rattle.ground_rules.specs.Lawfulness.TermTexts.{are_terms_in_any}
 use Rattle.rule_sentences.specs.Descriptions.{Description, is_among, role_names, are_different}
 use Rattle.ground_rules.specs.Described.{IsGameOf}
 use Rattle.ground_rules.specs.Roles.{RoleTable}
-use Rattle.ground_rules.specs.Internal.TableTests.{are_roles, names}
+use Rattle.ground_rules.specs.Lawfulness.TableTests.{are_roles, names}
 use Rattle.rule_sentences.specs.Sizes.{have_few_moves}
 use Rattle.ground_rules.specs.Internal.Resolved.{NameTable, atom_number, role_table, state_mentions, head_terms}
 use Rattle.ground_rules.specs.LoadedGame.{GameTables, loaded_game}

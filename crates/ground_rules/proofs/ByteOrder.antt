@@ -6,10 +6,10 @@ use Rattle.std.specs.Cmp.Lexicographic.{slice_cmp, nat_list_cmp_total}
 use Rattle.std.proofs.lemmas.Bool.{cases_order}
 use Rattle.std.proofs.lemmas.Bool.Decides.{Decides-ltb}
 use Rattle.std.proofs.lemmas.List.Sorted.{sorted_far, ranks_by, Contains-permutation, IsPermutation-sym}
-use Rattle.ground_rules.specs.Internal.Bools.{and-both, or-left, or-right, bool-same}
-use Rattle.ground_rules.specs.Internal.Names.{text-sound, text-same, number-same}
+use Rattle.ground_rules.specs.Lawfulness.Bools.{and-both, or-left, or-right, bool-same}
+use Rattle.ground_rules.specs.Lawfulness.Names.{text-sound, text-same, number-same}
 use Rattle.rule_sentences.specs.Descriptions.{is_among, with_new, with_all_new}
-use Rattle.ground_rules.specs.Internal.TableTests.{comes_before, comes_before_all, are_in_order}
+use Rattle.ground_rules.specs.Lawfulness.TableTests.{comes_before, comes_before_all, are_in_order}
 use Rattle.ground_rules.proofs.NameLists.{among-any}
 
 is-false : (b : Bool) → (b ≡ true → ⊥) → b ≡ false

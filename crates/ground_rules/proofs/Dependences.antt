@@ -5,8 +5,8 @@ use Rattle.std.specs.List.Sorted.{IsPermutation}
 use Rattle.std.proofs.lemmas.List.Sorted.{IsPermutation-map}
 use Rattle.rule_sentences.specs.declared.sentence.Derived.{Derived}
 use Rattle.rule_sentences.specs.declared.sentence.Derived.TheVariants.{Role, Init, Next, Legal, Goal, Terminal, Other}
-use Rattle.ground_rules.specs.Internal.Bools.{and-left, and-right, and-both, or-left, or-right}
-use Rattle.ground_rules.specs.Internal.Names.{number-sound, number-same, derived-sound}
+use Rattle.ground_rules.specs.Lawfulness.Bools.{and-left, and-right, and-both, or-left, or-right}
+use Rattle.ground_rules.specs.Lawfulness.Names.{number-sound, number-same, derived-sound}
 use Rattle.numbered_rules.specs.Literals.{Literal, Literals, Holds, InState, Does, Distinct, Not, Or, End, More, Rule, AtomsAre, AllAtomsAre}
 use Rattle.rule_sentences.specs.Sentences.{TextLiteral, TextLiterals, TextRule}
 use Rattle.numbered_rules.specs.Fit.{truth, any_true, derived, Fits}

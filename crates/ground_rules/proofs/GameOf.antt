@@ -13,8 +13,8 @@ use Rattle.ground_rules.specs.declared.tables.GroundMove.{GroundMove}
 use Rattle.ground_rules.specs.declared.tables.Mention.{Mention}
 use Rattle.ground_rules.specs.declared.tables.GoalHead.{GoalHead}
 use Rattle.ground_rules.specs.declared.lookups.StateHead.TheVariants.{Init as InitHead, Next as NextHead}
-use Rattle.ground_rules.specs.Internal.Bools.{or-left, or-right, bool-same}
-use Rattle.ground_rules.specs.Internal.Names.{text-sound, text-same, derived-sound}
+use Rattle.ground_rules.specs.Lawfulness.Bools.{or-left, or-right, bool-same}
+use Rattle.ground_rules.specs.Lawfulness.Names.{text-sound, text-same, derived-sound}
 use Rattle.numbered_rules.specs.Literals.{Rule}
 use Rattle.numbered_rules.specs.Fit.{Situation, all_true, Fits}
 use Rattle.ground_rules.specs.Acyclic.{IsAcyclic}
@@ -24,10 +24,10 @@ use Rattle.ground_rules.specs.Roles.{RoleTable, no_role}
 use Rattle.numbered_rules.specs.Numbered.{bit, numbered, row_after, unset, is_number}
 use Rattle.ground_rules.specs.Internal.Ranked.{AreRankedFrom}
 use Rattle.ground_rules.specs.Tables.{marked, chosen, only, only_goal, picked}
-use Rattle.ground_rules.specs.Internal.TableTests.{are_in_order, names}
+use Rattle.ground_rules.specs.Lawfulness.TableTests.{are_in_order, names}
 use Rattle.ground_rules.specs.States.{StateRows}
 use Rattle.ground_rules.specs.LoadedGame.{GameTables, loaded_game, kept_row, turn_row, settled, role_at, terms_of, IsSettled}
-use Rattle.ground_rules.specs.Internal.LoadedGameLaws.{ordered-different, marked-size}
+use Rattle.ground_rules.specs.Lawfulness.LoadedGameLaws.{ordered-different, marked-size}
 use Rattle.ground_rules.specs.Internal.Resolved.{NameTable, atom_number, state_number, move_number, role_number, resolved_rules, terms_in, head_terms, role_table, mentions_by, state_term, state_mentions, legal_mentions, goal_heads, place}
 use Rattle.ground_rules.proofs.NameLists.{among-any, among-left, among-right}
 use Rattle.ground_rules.proofs.Pass.{bit-unset}

@@ -4,8 +4,8 @@ use Rattle.std.specs.List.{list_any}
 use Rattle.rule_sentences.specs.declared.sentence.Derived.{Derived}
 use Rattle.rule_sentences.specs.declared.sentence.Derived.TheVariants.{Role, Init, Next, Legal, Goal, Terminal, Other}
 use Rattle.ground_rules.specs.declared.tables.GoalHead.{GoalHead}
-use Rattle.ground_rules.specs.Internal.Bools.{and-left, and-right}
-use Rattle.ground_rules.specs.Internal.Names.{text-sound, text-same, number-sound}
+use Rattle.ground_rules.specs.Lawfulness.Bools.{and-left, and-right}
+use Rattle.ground_rules.specs.Lawfulness.Names.{text-sound, text-same, number-sound}
 use Rattle.rule_sentences.specs.Descriptions.{same_derived}
 use Rattle.ground_rules.specs.Described.{IsGoalAnswer}
 use Rattle.ground_rules.specs.Tables.{only, only_goal}

@@ -4,7 +4,7 @@ use Rattle.std.specs.List.{list_any}
 use Rattle.std.proofs.lemmas.Bool.{cases_order}
 use Rattle.std.proofs.lemmas.List.{get_or_append_left, get_or_push}
 use Rattle.rule_sentences.specs.declared.sentence.Derived.{Derived}
-use Rattle.ground_rules.specs.Internal.Bools.{or-left, or-right}
+use Rattle.ground_rules.specs.Lawfulness.Bools.{or-left, or-right}
 use Rattle.rule_sentences.specs.Descriptions.{Description, same_derived, with_new, with_all_new, heads}
 use Rattle.ground_rules.specs.Internal.Resolved.{NameTable, place}
 use Rattle.ground_rules.proofs.TablePlaces.{Decides, place-within}

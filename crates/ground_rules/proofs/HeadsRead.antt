@@ -15,10 +15,10 @@ use Rattle.rule_sentences.specs.declared.sentence.Atomic.{Atomic}
 use Rattle.rule_sentences.specs.declared.sentence.Atomic.TheVariants.{Derived as IsDerived, InState as IsInState, Does as IsDoes}
 use Rattle.rule_sentences.specs.declared.words.Word.{Word}
 use Rattle.rule_sentences.specs.declared.words.Word.TheVariants.{Role as RoleWord, Init as InitWord, True as TrueWord, Next as NextWord, Does as DoesWord, Legal as LegalWord, Goal as GoalWord, Terminal as TerminalWord, If as IfWord, Not as NotWord, Or as OrWord, Distinct as DistinctWord, And as AndWord, Plain as PlainWord}
-use Rattle.ground_rules.specs.Internal.Bools.{and-both, or-left, or-right}
-use Rattle.ground_rules.specs.Internal.Names.{text-same}
+use Rattle.ground_rules.specs.Lawfulness.Bools.{and-both, or-left, or-right}
+use Rattle.ground_rules.specs.Lawfulness.Names.{text-same}
 use Rattle.rule_sentences.specs.Terms.{is_ground_term, term_text}
-use Rattle.ground_rules.specs.Internal.TermTexts.{is_term_in, is_term_in_any}
+use Rattle.ground_rules.specs.Lawfulness.TermTexts.{is_term_in, is_term_in_any}
 use Rattle.rule_sentences.specs.Words.{word_of}
 use Rattle.rule_sentences.specs.Sentences.{TextLiterals, TextRule, Sentence}
 use Rattle.rule_sentences.specs.Reading.{both, goal_value, one_argument, two_arguments, head_word, read_relation, read_alone, read_atomic, read_literals, sentence, fact, read_rule, read_list, read_form, read_sentence}

@@ -8,11 +8,11 @@ use Rattle.rule_sentences.specs.declared.sentence.Derived.TheVariants.{Role, Ini
 use Rattle.ground_rules.specs.declared.names.TermKind.{TermKind}
 use Rattle.ground_rules.specs.declared.names.TermKind.TheVariants.{State, Move}
 use Rattle.ground_rules.specs.declared.tables.GoalHead.{GoalHead}
-use Rattle.ground_rules.specs.Internal.Bools.{and-both, or-elim, or-left, or-right, not-false}
-use Rattle.ground_rules.specs.Internal.Names.{number-sound, text-same, text-sound}
-use Rattle.ground_rules.specs.Internal.TermTexts.{is_term_in_any, are_terms_in_any}
+use Rattle.ground_rules.specs.Lawfulness.Bools.{and-both, or-elim, or-left, or-right, not-false}
+use Rattle.ground_rules.specs.Lawfulness.Names.{number-sound, text-same, text-sound}
+use Rattle.ground_rules.specs.Lawfulness.TermTexts.{is_term_in_any, are_terms_in_any}
 use Rattle.rule_sentences.specs.Descriptions.{Description, is_among, role_names, name_in}
-use Rattle.ground_rules.specs.Internal.TableTests.{has_term, have_distinct_terms, are_goals, are_roles}
+use Rattle.ground_rules.specs.Lawfulness.TableTests.{has_term, have_distinct_terms, are_goals, are_roles}
 use Rattle.ground_rules.specs.Internal.Resolved.{NameTable, atom_number, goal_heads, role_table, terms_in, head_terms, with_mention, mentions_by, place}
 use Rattle.ground_rules.proofs.TablePlaces.{place-one}
 use Rattle.ground_rules.proofs.Situations.{text-decides}

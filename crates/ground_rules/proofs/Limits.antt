@@ -3,7 +3,7 @@ use Rattle.std.proofs.Common.{◌≡◌, ℕ, ◌<◌, ◌≤◌, Bool, true, fa
 use Rattle.std.proofs.lemmas.Bool.Decides.{nat_tests}
 use Rattle.game_core.specs.Play.{max_roles}
 use Rattle.rule_sentences.specs.declared.sentence.Derived.{Derived}
-use Rattle.ground_rules.specs.Internal.Bools.{and-both}
+use Rattle.ground_rules.specs.Lawfulness.Bools.{and-both}
 use Rattle.rule_sentences.specs.Descriptions.{Description, each_once, role_names, heads, moves_in}
 use Rattle.rule_sentences.specs.Sizes.{max_sentences, max_atomic_sentences, max_moves, same_atomic, atomics, have_few_moves, is_small}
 use Rattle.ground_rules.specs.Internal.GameParts.{is_small_so_far, have_few_moves_by}

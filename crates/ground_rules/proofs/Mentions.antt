@@ -7,8 +7,8 @@ use Rattle.rule_sentences.specs.declared.sentence.Derived.{Derived}
 use Rattle.rule_sentences.specs.declared.sentence.Derived.TheVariants.{Role, Init, Next, Legal, Goal, Terminal, Other}
 use Rattle.ground_rules.specs.declared.lookups.StateHead.TheVariants.{Init as InitHead, Next as NextHead}
 use Rattle.ground_rules.specs.declared.tables.Mention.{Mention}
-use Rattle.ground_rules.specs.Internal.Bools.{bool-same}
-use Rattle.ground_rules.specs.Internal.Names.{text-sound, text-same, number-sound, number-same}
+use Rattle.ground_rules.specs.Lawfulness.Bools.{bool-same}
+use Rattle.ground_rules.specs.Lawfulness.Names.{text-sound, text-same, number-sound, number-same}
 use Rattle.rule_sentences.specs.Descriptions.{moves_in}
 use Rattle.ground_rules.specs.Tables.{marked, chosen}
 use Rattle.numbered_rules.specs.Numbered.{bit, unset}

@@ -1,8 +1,8 @@
 -- Lists of names, one after another.
 use Rattle.std.proofs.Common.{◌≡◌, ◌≢◌, ℕ, ◌+◌, ◌<◌, Bool, true, false, not, ◌&&◌, ◌||◌, bytes_eq, List, [], ◌∷◌, ◌++◌, drop, length, get_or, drop-cons, add-one, refl, sym, ap, ◌∙◌, append_assoc, append-nil}
 use Rattle.std.specs.List.{list_any}
-use Rattle.ground_rules.specs.Internal.Bools.{and-left, and-right, and-both, not-true, not-false, or-left, or-right, or-false-left, or-false-right, bool-same}
-use Rattle.ground_rules.specs.Internal.Names.{text-sound, text-same}
+use Rattle.ground_rules.specs.Lawfulness.Bools.{and-left, and-right, and-both, not-true, not-false, or-left, or-right, or-false-left, or-false-right, bool-same}
+use Rattle.ground_rules.specs.Lawfulness.Names.{text-sound, text-same}
 use Rattle.rule_sentences.specs.Descriptions.{is_among, with_new, role_names, name_in, are_different}
 use Rattle.rule_sentences.specs.SentenceViews.{rule_of, rules_of}
 use Rattle.rule_sentences.specs.declared.sentence.Rule.{Rule as CodeRule}

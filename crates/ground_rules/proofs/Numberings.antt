@@ -10,7 +10,7 @@ use Rattle.numbered_rules.specs.Literals.{Literal, Literals, Holds, InState, Doe
 use Rattle.rule_sentences.specs.Sentences.{TextLiteral, TextLiterals}
 use Rattle.ground_rules.specs.Acyclic.{IsNumbering, IsAcyclic}
 use Rattle.rule_sentences.specs.Descriptions.{Description, same_derived}
-use Rattle.ground_rules.specs.Internal.Names.{number-sound}
+use Rattle.ground_rules.specs.Lawfulness.Names.{number-sound}
 use Rattle.numbered_rules.specs.Numbered.{known, rule_of, rules_of}
 use Rattle.ground_rules.specs.Internal.Ranked.{AreRankedFrom}
 use Rattle.numbered_rules.specs.Order.{IsGraph, IsGraphAcyclic, IsRanking, needs_at}

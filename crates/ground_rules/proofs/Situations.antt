@@ -2,8 +2,8 @@
 use Rattle.std.proofs.Common.{◌≡◌, ℕ, zero, suc, ◌<◌, Bool, true, false, not, ◌&&◌, ◌||◌, if◌then◌else◌, nat_eq, bytes_eq, List, [], ◌∷◌, length, get_or, map, refl, sym, ap, ◌∙◌, arith}
 use Rattle.std.specs.Prelude.{slice_get}
 use Rattle.ground_rules.specs.declared.tables.GroundMove.{GroundMove}
-use Rattle.ground_rules.specs.Internal.Bools.{and-left, and-right, not-true, bool-same, or-false-left, or-false-right}
-use Rattle.ground_rules.specs.Internal.Names.{text-sound, text-same}
+use Rattle.ground_rules.specs.Lawfulness.Bools.{and-left, and-right, not-true, bool-same, or-false-left, or-false-right}
+use Rattle.ground_rules.specs.Lawfulness.Names.{text-sound, text-same}
 use Rattle.rule_sentences.specs.Descriptions.{is_among, are_different}
 use Rattle.ground_rules.specs.Described.{makes}
 use Rattle.ground_rules.specs.Tables.{picked}

@@ -2,8 +2,8 @@
 use Rattle.std.proofs.Common.{◌≡◌, ℕ, suc, ◌<◌, Bool, true, false, ◌||◌, if◌then◌else◌, List, [], ◌∷◌, length, get_or, refl, sym, ap, ◌∙◌, arith, nat_eq, nat_lt, not, ◌+◌, Some, None, unwrap_or}
 use Rattle.std.specs.List.{list_any, prefix_len, position}
 use Rattle.std.proofs.lemmas.Bool.Decides.{nat_tests}
-use Rattle.ground_rules.specs.Internal.Bools.{bool-same}
-use Rattle.ground_rules.specs.Internal.Names.{number-sound, number-same}
+use Rattle.ground_rules.specs.Lawfulness.Bools.{bool-same}
+use Rattle.ground_rules.specs.Lawfulness.Names.{number-sound, number-same}
 use Rattle.ground_rules.specs.Internal.Resolved.{place}
 
 -- a test that decides equality

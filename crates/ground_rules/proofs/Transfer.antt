@@ -4,8 +4,8 @@ use Rattle.std.specs.List.{Contains}
 use Rattle.std.specs.List.Sorted.{IsPermutation}
 use Rattle.std.proofs.lemmas.List.Sorted.{Contains-permutation, IsPermutation-sym}
 use Rattle.rule_sentences.specs.declared.sentence.Derived.{Derived}
-use Rattle.ground_rules.specs.Internal.Bools.{bool-same, or-left, or-right}
-use Rattle.ground_rules.specs.Internal.Names.{derived-sound, derived-same}
+use Rattle.ground_rules.specs.Lawfulness.Bools.{bool-same, or-left, or-right}
+use Rattle.ground_rules.specs.Lawfulness.Names.{derived-sound, derived-same}
 use Rattle.numbered_rules.specs.Literals.{Holds, InState, Does, Distinct, Not, Or, End, More, Rule}
 use Rattle.rule_sentences.specs.Sentences.{TextLiteral, TextLiterals}
 use Rattle.numbered_rules.specs.Fit.{Situation, truth, any_true, all_true, derived, Fits}

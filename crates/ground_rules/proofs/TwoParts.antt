@@ -4,8 +4,8 @@ use Rattle.std.proofs.lemmas.List.Sorted.{IsPermutation-filter_both, IsPermutati
 use Rattle.rule_sentences.specs.declared.sentence.Derived.{Derived}
 use Rattle.rule_sentences.specs.declared.sentence.Derived.TheVariants.{Role, Init, Next, Legal, Goal, Terminal, Other}
 use Rattle.numbered_rules.specs.declared.numbered.Rule.{Rule as CodeRule}
-use Rattle.ground_rules.specs.Internal.Bools.{or-false-left, or-false-right}
-use Rattle.ground_rules.specs.Internal.Names.{number-same}
+use Rattle.ground_rules.specs.Lawfulness.Bools.{or-false-left, or-false-right}
+use Rattle.ground_rules.specs.Lawfulness.Names.{number-same}
 use Rattle.numbered_rules.specs.Literals.{Literal, Literals, Holds, InState, Does, Distinct, Not, Or, End, More, Rule, AtomsAre, AllAtomsAre}
 use Rattle.numbered_rules.specs.Fit.{truth, any_true, derived, Fits}
 use Rattle.ground_rules.specs.Acyclic.{IsAcyclic}

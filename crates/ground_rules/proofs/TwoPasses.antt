@@ -1,6 +1,6 @@
 -- A pass in two parts: what no move bears on, and the rest.
 use Rattle.std.proofs.Common.{ℕ, ◌≡◌, Bool, true, false, not, if◌then◌else◌, List, [], ◌∷◌, ◌++◌, refl, ap, ◌∙◌, set, get_or-set_other}
-use Rattle.ground_rules.specs.Internal.Bools.{or-false-left, or-false-right}
+use Rattle.ground_rules.specs.Lawfulness.Bools.{or-false-left, or-false-right}
 use Rattle.numbered_rules.specs.Literals.{Literal, Literals, Holds, InState, Does, Distinct, Not, Or, End, More, Rule}
 use Rattle.numbered_rules.specs.Fit.{Situation, truth, any_true, all_true}
 use Rattle.ground_rules.specs.Dependence.{speaks_of_given, any_speaks_of_given}

@@ -20,4 +20,5 @@ pub mod Tables
 pub mod States
 pub mod LoadedGame
 pub mod GroundGames
+pub mod Lawfulness
 pub mod Internal

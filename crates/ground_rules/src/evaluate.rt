@@ -36,7 +36,8 @@ fn any_holds(literals: &Vec<Literal>, row: &Row, state: &Row, joint: &[usize]) -
     false
 }
 
-fn makes(joint: &[usize], role: usize, term: usize) -> bool
+/// Whether this role makes the move with this term. `joint` has the term of each role's move.
+pub fn makes(joint: &[usize], role: usize, term: usize) -> bool
     ensures { result ≡ (numbered [] joint.now).does role term }
 {
     if role < joint.len() {

@@ -23,7 +23,7 @@ pub struct GroundGame {
 impl Game for GroundGame {
     ghost use Rattle.ground_rules.specs.LoadedGame.{loaded_game};
     ghost use Rattle.ground_rules.specs.GroundGames.{tables_of};
-    ghost use Rattle.ground_rules.specs.Internal.LoadedGameLaws.{loaded_game_laws};
+    ghost use Rattle.ground_rules.specs.Lawfulness.LoadedGameLaws.{loaded_game_laws};
 
     type State = GroundState;
 

@@ -21,6 +21,7 @@ mod resolve;
 pub mod tables;
 pub mod vocabulary;
 
+pub use evaluate::makes;
 pub use ground_game::GroundGame;
 pub use load_game::load;
 pub use rule_sentences::LoadFault;

@@ -5,7 +5,7 @@ ghost use Rattle.rule_sentences.specs.SentenceViews.{rules_of};
 ghost use Rattle.rule_sentences.specs.Descriptions.{with_new, same_derived, role_names, name_in, heads, is_among, are_different};
 ghost use Rattle.std.specs.List.{list_any};
 ghost use Rattle.std.specs.Option.{option_copied, option_to_list};
-ghost use Rattle.ground_rules.specs.Internal.TableTests.{are_in_order};
+ghost use Rattle.ground_rules.specs.Lawfulness.TableTests.{are_in_order};
 ghost use Rattle.ground_rules.specs.Internal.Resolved.{head_terms, place};
 ghost use Rattle.ground_rules.specs.Loading.{IsDescriptionFault};
 

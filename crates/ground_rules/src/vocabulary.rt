@@ -4,8 +4,8 @@ ghost use Rattle.game_core.specs.Play.{max_roles};
 ghost use Rattle.kif_text.specs.View.{view as expression, views};
 ghost use Rattle.rule_sentences.specs.Descriptions.{are_different};
 ghost use Rattle.rule_sentences.specs.SentenceFaults.{description_of};
-ghost use Rattle.ground_rules.specs.Internal.TableTests.{are_roles, are_in_order, names};
-ghost use Rattle.ground_rules.specs.Internal.TermTexts.{are_terms_in_any};
+ghost use Rattle.ground_rules.specs.Lawfulness.TableTests.{are_roles, are_in_order, names};
+ghost use Rattle.ground_rules.specs.Lawfulness.TermTexts.{are_terms_in_any};
 ghost use Rattle.ground_rules.specs.Internal.Resolved.{table_of};
 ghost use Rattle.ground_rules.specs.Internal.GameParts.{AreNamesOf};
 

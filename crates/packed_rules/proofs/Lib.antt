@@ -1,2 +1,3 @@
 pub mod BitRows
 pub mod PackedPasses
+mod PickedTexts

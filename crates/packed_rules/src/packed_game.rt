@@ -24,7 +24,7 @@ pub struct PackedGame {
 
 impl Game for PackedGame {
     ghost use Rattle.ground_rules.specs.LoadedGame.{loaded_game};
-    ghost use Rattle.ground_rules.specs.Internal.LoadedGameLaws.{loaded_game_laws};
+    ghost use Rattle.ground_rules.specs.Lawfulness.LoadedGameLaws.{loaded_game_laws};
     ghost use Rattle.packed_rules.specs.PackedGames.{tables_of};
 
     type State = PackedState;

@@ -1,5 +1,5 @@
 //! The pass over rules by places.
-ghost use Rattle.std.specs.Prelude.{◌≡◌, ◌≤◌, ◌*◌, [], length, take, drop};
+ghost use Rattle.std.specs.Prelude.{◌≡◌, ◌≤◌, ◌*◌, length, take, drop};
 ghost use Rattle.ground_rules.specs.Fit.{truth, any_true, all_true};
 ghost use Rattle.ground_rules.specs.Numbered.{bit, numbered, view, views};
 ghost use Rattle.packed_rules.specs.Bits.{bits_of};
@@ -9,6 +9,7 @@ ghost use Rattle.packed_rules.specs.Internal.PackedPass.{all_pass, all_agree, al
 use crate::bits::{BitRow, is_on, is_on_after, is_on_before, turn_on_after};
 use crate::rule_table::RuleTable;
 use crate::rules::{MoveTest, RuleSize, Test};
+use ground_rules::makes;
 use numbered_rules::numbered::Literal;
 
 /// Whether the literal is true. The row has `size` values: `terms` terms, and behind them the derived
@@ -45,16 +46,6 @@ fn any_holds(
         }
     }
     false
-}
-
-fn makes(joint: &[usize], role: usize, term: usize) -> bool
-    ensures { result ≡ (numbered [] joint.now).does role term }
-{
-    if role < joint.len() {
-        joint[role] == term
-    } else {
-        false
-    }
 }
 
 fn all_hold(literals: &[Literal], words: &[u64], size: usize, terms: usize, joint: &[usize]) -> bool

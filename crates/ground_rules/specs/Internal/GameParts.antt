@@ -6,7 +6,7 @@ use Rattle.game_core.specs.Play.{max_roles}
 use Rattle.ground_rules.specs.declared.names.TermKind.TheVariants.{State, Move}
 use Rattle.numbered_rules.specs.Literals.{Rule}
 use Rattle.rule_sentences.specs.Descriptions.{Description, is_among, role_names, heads, each_once}
-use Rattle.ground_rules.specs.Internal.TableTests.{are_in_order}
+use Rattle.ground_rules.specs.Lawfulness.TableTests.{are_in_order}
 use Rattle.rule_sentences.specs.Sizes.{max_sentences, max_atomic_sentences, max_moves, same_atomic, atomics}
 use Rattle.ground_rules.specs.Roles.{RoleTable}
 use Rattle.ground_rules.specs.Internal.Ranked.{AreRankedFrom}

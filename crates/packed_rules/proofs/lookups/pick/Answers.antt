@@ -2,7 +2,7 @@ use Rattle.std.proofs.Common.{◌<◌, ◌∙◌, sym, ap, map, length, arith}
 use Rattle.std.specs.Cow.{cow_slice_items}
 use Rattle.std.proofs.lemmas.List.{map-append}
 use Rattle.ground_rules.specs.Tables.{picked}
-use Rattle.ground_rules.proofs.Picked.{picked-true, picked-false, text-read}
+use Rattle.packed_rules.proofs.PickedTexts.{picked-true, picked-false, text-read}
 use Rattle.packed_rules.proofs.lookups.pick.Goals as goal
 use Rattle.packed_rules.proofs.lookups.pick.Goals.{then-has_term+in_ok-push, else-has_term}
 

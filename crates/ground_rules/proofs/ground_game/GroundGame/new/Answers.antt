@@ -6,7 +6,7 @@ use Rattle.numbered_rules.specs.Numbered.{rules_of}
 use Rattle.ground_rules.specs.declared.ground_game.GroundGame.{GroundGame}
 use Rattle.ground_rules.specs.Internal.Resolved.{NameTable, table_of}
 use Rattle.ground_rules.specs.GroundGames.{tables_of}
-use Rattle.ground_rules.specs.Internal.LoadedGameLaws.{loaded_game_laws}
+use Rattle.ground_rules.specs.Lawfulness.LoadedGameLaws.{loaded_game_laws}
 use Rattle.ground_rules.specs.Internal.Vocabularies.{IsVocabularyOf}
 use Rattle.rule_sentences.specs.SentenceFaults.{AreSentences, description_of}
 use Rattle.ground_rules.specs.Loaded.{IsLoaded}

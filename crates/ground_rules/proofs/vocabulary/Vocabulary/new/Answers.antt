@@ -1,6 +1,6 @@
 use Rattle.std.proofs.Common.{◌∙◌, ap, refl, map, length}
 use Rattle.kif_text.specs.View.{view as expression}
-use Rattle.ground_rules.specs.Internal.TableTests.{are_in_order}
+use Rattle.ground_rules.specs.Lawfulness.TableTests.{are_in_order}
 use Rattle.ground_rules.specs.declared.lookups.StateHead.TheVariants.{Init as InitHead, Next as NextHead}
 use Rattle.ground_rules.specs.Internal.Resolved.{table_of, state_mentions}
 use Rattle.rule_sentences.specs.SentenceFaults.{description_of}

@@ -5,8 +5,8 @@ use Rattle.std.proofs.lemmas.Bool.Decides.{nat_tests}
 use Rattle.game_core.specs.Bytes.{is_atom_byte, lower}
 use Rattle.game_core.specs.Expression.{Expression, atom, list, Expressions, none, more, folded, all_folded, AreAtomBytes, IsAtom, HasAtoms, AllHaveAtoms}
 use Rattle.game_core.specs.Canonical.{canonical, IsFoldedText}
-use Rattle.ground_rules.specs.Internal.Bools.{and-left, and-right, not-true}
-use Rattle.ground_rules.specs.Internal.Names.{text-sound, number-sound}
+use Rattle.ground_rules.specs.Lawfulness.Bools.{and-left, and-right, not-true}
+use Rattle.ground_rules.specs.Lawfulness.Names.{text-sound, number-sound}
 use Rattle.rule_sentences.specs.Terms.{question_mark, are_small_atom_bytes, is_word, begins_with_atom, is_term, are_terms, is_ground_term}
 
 -- whether the text is that of a term without variables in the expression

@@ -6,7 +6,7 @@ use Rattle.std.proofs.lemmas.Bool.Decides.{Decides-eqb}
 use Rattle.rule_sentences.specs.declared.sentence.Derived.{Derived}
 use Rattle.rule_sentences.specs.declared.sentence.Derived.TheVariants.{Role, Init, Next, Legal, Goal, Terminal, Other}
 use Rattle.rule_sentences.specs.Descriptions.{same_derived}
-use Rattle.ground_rules.specs.Internal.Bools.{and-left, and-right, and-both}
+use Rattle.ground_rules.specs.Lawfulness.Bools.{and-left, and-right, and-both}
 
 pub text-sound : (a b : List ℕ) → bytes_eq a b ≡ true → a ≡ b
 text-sound a b e = (bytes_eq-Decides a b).0 e
