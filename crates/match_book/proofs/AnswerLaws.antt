@@ -3,8 +3,7 @@ use Rattle.std.proofs.Common.{◌≡◌, ◌≢◌, ℕ, zero, suc, ◌<◌, ◌
 use Rattle.std.proofs.lemmas.List.{map-append, take_all, take_more}
 use Rattle.std.proofs.lemmas.Bool.Decides.{nat_tests}
 use Rattle.std.specs.Prelude.{is_none, nat_lt, ◌==◌, if◌then◌else◌, ◌↔◌}
-use Rattle.game_core.specs.Play.{Rules, IsLawful, AreLegal}
-use Rattle.game_core.proofs.Plays.{AreLegal-push}
+use Rattle.game_core.specs.Play.{Rules, IsLawful, IsJoint, play_from, AreLegalFrom, AreLegal}
 use Rattle.match_book.specs.Roles.{every_role, blank}
 use Rattle.match_book.specs.Marks.{mark_of}
 use Rattle.match_book.specs.AnswerReading.{answer_reading}
@@ -13,7 +12,7 @@ use Rattle.match_book.specs.MatchValue.{MatchValue, state_after, joint_moves}
 use Rattle.match_book.specs.Phase.{stage, is_over, still_answers, answered_in, has_answered, round, is_live}
 use Rattle.match_book.specs.Lawful.{AreLawful, IsLawfulMatch}
 use Rattle.match_book.specs.Steps.{refusal, turn_of, parts, with_answer_in, with_answer, with_open_answer, with_abort, after_answer}
-use Rattle.match_book.specs.Laws.{NewMatchIsLawful, AnswersKeepLawful, AbortKeepsLawful, RecordedMovesAreLegal, NoErrorMeansNamed, IsPlayed, AnswersInPlay, AnswersOutOfPlay, TakenForTheRound}
+use Rattle.match_book.specs.Laws.{NewMatchIsLawful, AnswersKeepLawful, AbortKeepsLawful, RecordedMovesAreLegal, NoErrorMeansNamed, IsPlayed, AnswersInPlay, AnswersOutOfPlay, TakenForTheRound, ReadingsAreFolded}
 use Rattle.match_book.specs.declared.answer.Answer.{Answer}
 use Rattle.match_book.specs.declared.answer.Answer.TheVariants.{Text, Silent, Broken}
 use Rattle.match_book.specs.declared.answer.AnswerRefusal.{AnswerRefusal}
@@ -27,7 +26,7 @@ use Rattle.match_book.specs.declared.phase.Stage.TheVariants.{Starting, Playing,
 use Rattle.match_book.proofs.Judgements.{judgement-judged, substitute-is, first-contains, move_named-none, move_named-text}
 use Rattle.match_book.proofs.TurnParts.{some_of}
 use Rattle.match_book.proofs.Stages.{not_answered-parts}
-use Rattle.match_book.proofs.LawfulMatches.{lawful-new_match, lawful-with_start_mark, lawful-with_end_mark, lawful-with_abort, answer-judged, lawful-open_answer, lawful-recorded}
+use Rattle.match_book.proofs.LawfulMatches.{lawful-new_match, lawful-with_start_mark, lawful-with_end_mark, lawful-with_abort, answer-judged, lawful-open_answer, lawful-recorded, has_part}
 
 pub new_match_is_lawful : {S M : Type 0} (g : Rules S M) → IsLawful g → NewMatchIsLawful g
 new_match_is_lawful g laws setup players = lawful-new_match g laws setup players
@@ -65,19 +64,21 @@ pub taken_for_the_round : {S M : Type 0} (g : Rules S M) → TakenForTheRound g
 taken_for_the_round g m role n e = let parts = taken g m role n e in (parts.0, parts.1)
 
 -- a role that has not answered in play still answers
-pub still-answers : {S M : Type 0} (g : Rules S M) (m : MatchValue M) (role : ℕ) → has_answered g m role ≡ false → stage g m ≡ Playing → still_answers m role ≡ true
+still-answers : {S M : Type 0} (g : Rules S M) (m : MatchValue M) (role : ℕ) → has_answered g m role ≡ false → stage g m ≡ Playing → still_answers m role ≡ true
 still-answers g m role free playing = (not_answered-parts m role (subst (λ (x : Stage). answered_in x m role ≡ false) playing free)).0
 
-module _ {S M : Type 0} (g : Rules S M) (laws : IsLawful g) (m : MatchValue M) (lawful : IsLawfulMatch g m) (role : ℕ) (lt : role < g.roles) (answer : Answer) where
+module _ {S M : Type 0} (g : Rules S M) (laws : IsLawful g) (folded : ReadingsAreFolded) (m : MatchValue M) (lawful : IsLawfulMatch g m) (role : ℕ) (lt : role < g.roles) (answer : Answer) where
   module _ (playing : stage g m ≡ Playing) (answers : still_answers m role ≡ true) where
     played_as : (j : Judgement M) → judgement g (state_after g m.turns) role answer ≡ Some j → (all : Bool) → every_role g.roles (answered_in Playing (record m { open_answers = set m.open_answers role (Some j) })) ≡ all → (n : MatchValue M)
         → n ≡ (if all then record m { turns = m.turns ++ turn_of (parts g (record m { open_answers = set m.open_answers role (Some j) })) ∷ []; open_answers = blank g.roles } else record m { open_answers = set m.open_answers role (Some j) })
         → IsPlayed g m n role answer × IsLawfulMatch g n
     played_as j is true all n e =
-        let judged = judgement-judged g (state_after g m.turns) role answer j is in
-        (record { judged = j; is_judgement = is; opened_or_recorded = inr e }, subst (λ (x : MatchValue M). IsLawfulMatch g x) (sym e) (lawful-recorded g laws m lawful playing role lt j answers judged all))
+        let judged = judgement-judged g folded (state_after g m.turns) role answer j is in (
+          record { judged = j; is_judgement = is; opened_or_recorded = inr (e, has_part g laws m lawful playing role lt j answers judged all) },
+          subst (λ (x : MatchValue M). IsLawfulMatch g x) (sym e) (lawful-recorded g laws m lawful playing role lt j answers judged all),
+        )
     played_as j is false missing n e =
-        let judged = judgement-judged g (state_after g m.turns) role answer j is in
+        let judged = judgement-judged g folded (state_after g m.turns) role answer j is in
         (record { judged = j; is_judgement = is; opened_or_recorded = inl e }, subst (λ (x : MatchValue M). IsLawfulMatch g x) (sym e) (lawful-open_answer g laws m lawful playing role lt j answers judged missing))
 
     played : (n : MatchValue M) → n ≡ with_open_answer g m role (judgement g (state_after g m.turns) role answer) → IsPlayed g m n role answer × IsLawfulMatch g n
@@ -94,24 +95,24 @@ module _ {S M : Type 0} (g : Rules S M) (laws : IsLawful g) (m : MatchValue M) (
   with_answer-lawful : has_answered g m role ≡ false → IsLawfulMatch g (with_answer g m role answer)
   with_answer-lawful free = with_answer_in-lawful free (stage g m) refl
 
-pub answers_keep_lawful : {S M : Type 0} (g : Rules S M) → IsLawful g → AnswersKeepLawful g
-answers_keep_lawful {S} {M} g laws m role n answer lawful = step (refusal g m role n) refl
+pub answers_keep_lawful : {S M : Type 0} (g : Rules S M) → IsLawful g → ReadingsAreFolded → AnswersKeepLawful g
+answers_keep_lawful {S} {M} g laws folded m role n answer lawful = step (refusal g m role n) refl
   where
     step : (o : Option AnswerRefusal) → refusal g m role n ≡ o → IsLawfulMatch g (if is_none o then with_answer g m role answer else m)
-    step None e = let parts = taken g m role n e in with_answer-lawful g laws m lawful role parts.0 answer parts.3
+    step None e = let parts = taken g m role n e in with_answer-lawful g laws folded m lawful role parts.0 answer parts.3
     step (Some f) e = lawful
 
 taken_or_same : {M : Type 0} (o : Option AnswerRefusal) (m n : MatchValue M) → o ≡ None → (if is_none o then n else m) ≡ n
 taken_or_same None m n e = refl
 taken_or_same (Some f) m n e = absurd cc
 
-pub answers_in_play : {S M : Type 0} (g : Rules S M) → IsLawful g → AnswersInPlay g
-answers_in_play {S} {M} g laws m role n answer lawful playing none =
+pub answers_in_play : {S M : Type 0} (g : Rules S M) → IsLawful g → ReadingsAreFolded → AnswersInPlay g
+answers_in_play {S} {M} g laws folded m role n answer lawful playing none =
     let now : after_answer g m role n answer ≡ with_open_answer g m role (judgement g (state_after g m.turns) role answer) =
     taken_or_same (refusal g m role n) m (with_answer g m role answer) none ∙ ap (λ (x : Stage). with_answer_in x g m role answer) playing
     in
     let parts = taken g m role n none in
-    (played g laws m lawful role parts.0 answer playing (still-answers g m role parts.3 playing) (after_answer g m role n answer) now).0
+    (played g laws folded m lawful role parts.0 answer playing (still-answers g m role parts.3 playing) (after_answer g m role n answer) now).0
 
 pub answers_out_of_play : {S M : Type 0} (g : Rules S M) → AnswersOutOfPlay g
 answers_out_of_play {S} {M} g m role n answer out = step (refusal g m role n) (stage g m) out
@@ -124,6 +125,11 @@ answers_out_of_play {S} {M} g m role n answer out = step (refusal g m role n) (s
     step None Stopping out = (refl, refl)
     step None (Aborting c) out = (refl, refl)
 
+-- one more legal turn
+AreLegalFrom-push : {S M : Type 0} (g : Rules S M) (s : S) (turns : List (List M)) (joint : List M) → AreLegalFrom g s turns → g.terminal (play_from g s turns) ≡ false → IsJoint g (play_from g s turns) joint → AreLegalFrom g s (turns ++ joint ∷ [])
+AreLegalFrom-push g s [] joint legal goes_on is = (goes_on, is, tt)
+AreLegalFrom-push g s (x ∷ xs) joint legal goes_on is = (legal.0, legal.1, AreLegalFrom-push g (g.next s x) xs joint legal.2 goes_on is)
+
 prefix_is_legal : {S M : Type 0} (g : Rules S M) (strikes : ℕ) (turns : List (Turn M)) → AreLawful g strikes turns → (k : ℕ) (d : Turn M) → k ≤ length turns → AreLegal g (joint_moves (take k turns))
 prefix_is_legal g strikes turns lawful zero d le = tt
 prefix_is_legal {S} {M} g strikes turns lawful (suc k) d le =
@@ -131,7 +137,7 @@ prefix_is_legal {S} {M} g strikes turns lawful (suc k) d le =
     let turn = lawful k d (omega arith) in
     let more : take (suc k) turns ≡ take k turns ++ t ∷ [] = subst (λ (n : ℕ). take n turns ≡ take k turns ++ t ∷ []) (add-one k) (take_more turns k d (omega arith)) in
     let moves : joint_moves (take (suc k) turns) ≡ joint_moves (take k turns) ++ t.moves ∷ [] = ap joint_moves more ∙ map-append (λ u. u.moves) (take k turns) (t ∷ []) in
-    subst (λ (x : List (List M)). AreLegal g x) (sym moves) (AreLegal-push g (joint_moves (take k turns)) t.moves (prefix_is_legal g strikes turns lawful k d (omega arith)) turn.goes_on turn.joint)
+    subst (λ (x : List (List M)). AreLegal g x) (sym moves) (AreLegalFrom-push g g.initial (joint_moves (take k turns)) t.moves (prefix_is_legal g strikes turns lawful k d (omega arith)) turn.goes_on turn.joint)
 
 AreLawful-legal : {S M : Type 0} (g : Rules S M) (strikes : ℕ) (turns : List (Turn M)) → AreLawful g strikes turns → AreLegal g (joint_moves turns)
 AreLawful-legal g strikes [] lawful = tt

@@ -5,8 +5,9 @@ use Rattle.std.specs.Prelude.{if◌then◌else◌, nat_le, option_map}
 use Rattle.game_core.specs.Expression.{Expression, folded}
 use Rattle.game_core.specs.Canonical.{canonical, IsFoldedText}
 use Rattle.kif_text.specs.Reading.{reading}
-use Rattle.kif_text.proofs.Readings.{reading_folded, reading_under_double}
-use Rattle.match_book.specs.AnswerReading.{answer_reading, max_answer, max_reading}
+use Rattle.kif_text.specs.Laws.{ReadingIsProper, ReadingUnderDouble}
+use Rattle.match_book.specs.AnswerReading.{answer_reading, max_answer}
+use Rattle.match_book.specs.Laws.{ReadingsAreFolded}
 
 within : (text : List ℕ) → nat_le (length text) max_answer ≡ true → length text ≤ max_answer
 within text e = grind (arith, nat_tests)
@@ -23,17 +24,11 @@ read_from text x e = step (nat_le (length text) max_answer) refl (reading text) 
     step true short (Some y) read e = (within text short, y, read, cc)
     step false long o read e = absurd cc
 
--- what is read is a folded text
-pub answer_reading-folded : (text x : List ℕ) → answer_reading text ≡ Some x → IsFoldedText x
-answer_reading-folded text x e =
+-- what is read is a folded text, at most twice as long as an answer may be
+pub readings_are_folded : ReadingIsProper → ReadingUnderDouble → ReadingsAreFolded
+readings_are_folded proper under text x e =
     let from = read_from text x e in
-    subst IsFoldedText from.3 (reading_folded text from.1 from.2)
-
--- what is read is at most twice as long as an answer may be
-pub answer_reading-short : (text x : List ℕ) → answer_reading text ≡ Some x → length x ≤ max_reading
-answer_reading-short text x e =
-    let from = read_from text x e in
-    let less = (reading_under_double text from.1 from.2).1 in
+    let less = (under text from.1 from.2).1 in
     let same : length (canonical (folded from.1)) ≡ length x = ap length from.3 in
     let short = from.0 in
-    omega arith
+    (subst IsFoldedText from.3 (proper text from.1 from.2).1, omega arith)

@@ -4,13 +4,13 @@ use Rattle.std.proofs.lemmas.Slice.Eq.{bytes_eq-Decides}
 use Rattle.std.specs.Prelude.{IsSome, slice_get, bytes_eq, if◌then◌else◌, ◌==◌}
 use Rattle.game_core.specs.Play.{Rules, IsLawful}
 use Rattle.match_book.specs.AnswerReading.{answer_reading}
+use Rattle.match_book.specs.Laws.{ReadingsAreFolded}
 use Rattle.match_book.specs.Judgement.{move_named, error_text, substitute, taken_or_substituted, judged_reading, judgement, IsJudged, MayStand}
 use Rattle.match_book.specs.declared.judgement.Judgement.{Judgement}
 use Rattle.match_book.specs.declared.judgement.Substitution.{Substitution}
 use Rattle.match_book.specs.declared.judgement.Substitution.TheVariants.{TimeOut, ConnectionError, Unreadable, Illegal}
 use Rattle.match_book.specs.declared.answer.Answer.{Answer}
 use Rattle.match_book.specs.declared.answer.Answer.TheVariants.{Text, Silent, Broken}
-use Rattle.match_book.proofs.AnswerReadings.{answer_reading-folded, answer_reading-short}
 use Rattle.match_book.proofs.NamedMoves.{same_text}
 
 none_here : {M : Type 0} (b : Bool) (m : M) (o : Option M) → b ≡ true → (if b then Some m else o) ≡ None → ⊥
@@ -56,22 +56,23 @@ substitute-judged g moves why j may is =
     let parts = substitute-is moves why j is in
     (first-contains moves j.taken parts.0, inr (parts.0, (why, parts.1, may)))
 
-named-judged : {S M : Type 0} (g : Rules S M) (moves : List M) (t x : List ℕ) (j : Judgement M) (n : Option M) → answer_reading t ≡ Some x → move_named g moves x ≡ n → taken_or_substituted moves x n ≡ Some j → IsJudged g moves j.taken j.error
-named-judged g moves t x j None read none is = substitute-judged g moves (Illegal x) j (answer_reading-folded t x read, answer_reading-short t x read, move_named-none g moves x none) is
-named-judged {S} {M} g moves t x j (Some m) read found is =
-    let w : ◌≡◌ {A = Judgement M} (record { taken = m; error = [] }) j = cc in
-    (subst (λ (y : M). Contains moves y) (ap (λ (y : Judgement M). y.taken) w) (move_named-some g moves x m found), inl (sym (ap (λ (y : Judgement M). y.error) w)))
+module _ {S M : Type 0} (g : Rules S M) (folded : ReadingsAreFolded) where
+  named-judged : (moves : List M) (t x : List ℕ) (j : Judgement M) (n : Option M) → answer_reading t ≡ Some x → move_named g moves x ≡ n → taken_or_substituted moves x n ≡ Some j → IsJudged g moves j.taken j.error
+  named-judged moves t x j None read none is = let fits = folded t x read in substitute-judged g moves (Illegal x) j (fits.0, fits.1, move_named-none g moves x none) is
+  named-judged moves t x j (Some m) read found is =
+      let w : ◌≡◌ {A = Judgement M} (record { taken = m; error = [] }) j = cc in
+      (subst (λ (y : M). Contains moves y) (ap (λ (y : Judgement M). y.taken) w) (move_named-some g moves x m found), inl (sym (ap (λ (y : Judgement M). y.error) w)))
 
-text-judged : {S M : Type 0} (g : Rules S M) (moves : List M) (t : List ℕ) (j : Judgement M) (o : Option (List ℕ)) → answer_reading t ≡ o → judged_reading g moves o ≡ Some j → IsJudged g moves j.taken j.error
-text-judged g moves t j None read is = substitute-judged g moves Unreadable j tt is
-text-judged g moves t j (Some x) read is = named-judged g moves t x j (move_named g moves x) read refl is
+  text-judged : (moves : List M) (t : List ℕ) (j : Judgement M) (o : Option (List ℕ)) → answer_reading t ≡ o → judged_reading g moves o ≡ Some j → IsJudged g moves j.taken j.error
+  text-judged moves t j None read is = substitute-judged g moves Unreadable j tt is
+  text-judged moves t j (Some x) read is = named-judged moves t x j (move_named g moves x) read refl is
 
--- a judgement is a legal move without an error, or the first legal one with an error
-pub judgement-judged : {S M : Type 0} (g : Rules S M) (s : S) (r : ℕ) (a : Answer) (j : Judgement M) → judgement g s r a ≡ Some j → IsJudged g (g.legal s r) j.taken j.error
-unfolding judgement
-judgement-judged g s r (Text t) j is = text-judged g (g.legal s r) t j (answer_reading t) refl is
-judgement-judged g s r Silent j is = substitute-judged g (g.legal s r) TimeOut j tt is
-judgement-judged g s r Broken j is = substitute-judged g (g.legal s r) ConnectionError j tt is
+  -- a judgement is a legal move without an error, or the first legal one with an error
+  pub judgement-judged : (s : S) (r : ℕ) (a : Answer) (j : Judgement M) → judgement g s r a ≡ Some j → IsJudged g (g.legal s r) j.taken j.error
+  unfolding judgement
+  judgement-judged s r (Text t) j is = text-judged (g.legal s r) t j (answer_reading t) refl is
+  judgement-judged s r Silent j is = substitute-judged g (g.legal s r) TimeOut j tt is
+  judgement-judged s r Broken j is = substitute-judged g (g.legal s r) ConnectionError j tt is
 
 pub substitute-some : {M : Type 0} (moves : List M) (why : Substitution) → (length moves == 0) ≡ false → IsSome (substitute moves why)
 substitute-some [] why some = absurd cc

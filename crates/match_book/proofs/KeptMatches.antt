@@ -29,8 +29,8 @@ use Rattle.match_book.specs.declared.phase.Cause.TheVariants.{Asked}
 use Rattle.match_book.specs.declared.phase.Stage.{Stage}
 use Rattle.match_book.specs.declared.phase.Stage.TheVariants.{Starting, Playing, Stopping, Aborting}
 use Rattle.match_book.proofs.RoleTests.{below_or_at, every_role-but, every_role-at, every_role-count, at_role-set, at_role-other, count-blank, count-set, count_roles-same, count_roles-more, count_roles-none, count_roles-le, is_there-blank, of_each_role-set}
-use Rattle.match_book.proofs.StruckTurns.{retired_by-none, strikes-none, strikes-push, strikes-few, strikes-retired, strikes-count, all_retired-count}
-use Rattle.match_book.proofs.Stages.{stage-by, stage-asked, stage-starting, stage-settled, starting-missing, live-not_asked, settled-not_starting, goal_in-live, answered_in-none, answered_in-retired, not_answered-parts, playing-settled}
+use Rattle.match_book.proofs.StruckTurns.{retired_by-none, strikes-none, strikes-retired, strikes-count, all_retired-count}
+use Rattle.match_book.proofs.Stages.{stage-by, stage-asked, stage-starting, stage-settled, starting-missing, live-not_asked, settled-not_starting, goal_in-live, answered_in-none, answered_in-retired, not_answered-parts, playing_means}
 use Rattle.match_book.proofs.Judgements.{Contains-move}
 use Rattle.match_book.proofs.TurnParts.{at_role-read}
 use Rattle.match_book.proofs.LawfulTurns.{state_after-push, state_after-is_state, substitutions-few, turn_errors-few}
@@ -340,7 +340,7 @@ module _ {S M : Type 0} (g : Rules S M) (laws : IsLawful g) {m : MatchValue M} {
                 subst (λ (x : Turn M). IsLawfulMatch g (record m { turns = m.turns ++ x ∷ []; open_answers = blank g.roles })) (sym turn) (lawful-recorded g laws m kept.lawful playing_now r lt j answers judged all)
                 in
                 let wide : length (m.turns ++ t ∷ []) ≡ length m.turns + 1 = length-append m.turns (t ∷ []) in
-                kept-settled g laws (record m { turns = m.turns ++ t ∷ []; open_answers = blank g.roles }) (past ++ s ∷ []) next to retired total after lists are lawful (past-push g m.turns t past s kept.past_are kept.state_is) (live-not_asked g m (rw playing_now refl)) (playing-settled g m playing_now).0 refl
+                kept-settled g laws (record m { turns = m.turns ++ t ∷ []; open_answers = blank g.roles }) (past ++ s ∷ []) next to retired total after lists are lawful (past-push g m.turns t past s kept.past_are kept.state_is) (live-not_asked g m (rw playing_now refl)) ((playing_means g m).0 playing_now).started refl
                 (kept.lawful.ends_at_end (rw playing_now refl)) (is_next ∙ (ap (λ x. g.next x t.moves) kept.state_is ∙ sym (state_after-push g m.turns t)))
                 (is_retired ∙ strikes-count g.roles m.setup.strikes (m.turns ++ t ∷ []) after strikes_are) (is_to ∙ ap (λ n. settled g n (retired == g.roles) next) (sym wide))
                 (is_total ∙ (ap (λ n. n + count_by is_error t.errors) kept.substituted_is ∙ sym (sum_by_push (λ u. count_by is_error u.errors) m.turns t))) strikes_are moves goals_are

@@ -1,15 +1,15 @@
 -- A lawful match stays lawful.
-use Rattle.std.proofs.Common.{◌≡◌, ◌≢◌, ℕ, ◌+◌, ◌<◌, ◌≤◌, Bool, true, false, eqb, Option, Some, None, List, [], ◌∷◌, ◌++◌, length, set, refl, arith, ap, sym, ◌∙◌, subst, inl, inr, ◌⊎◌, Contains, length-append, length-set}
+use Rattle.std.proofs.Common.{◌≡◌, ℕ, ◌+◌, ◌<◌, ◌≤◌, Bool, true, false, Option, Some, None, List, [], ◌∷◌, ◌++◌, length, set, refl, arith, ap, sym, ◌∙◌, subst, inl, inr, Contains, length-append, length-set}
 use Rattle.std.proofs.lemmas.List.{length-map, length-replicate}
-use Rattle.std.proofs.lemmas.Bool.Decides.{nat_tests}
-use Rattle.std.specs.Prelude.{IsSome, is_some, nat_le, slice_get, not, if◌then◌else◌}
+use Rattle.std.specs.Prelude.{IsSome, is_some, not, if◌then◌else◌}
 use Rattle.game_core.specs.Play.{Rules, IsLawful}
-use Rattle.match_book.specs.Roles.{every_role, lowest_role, at_role, is_there, blank, present}
+use Rattle.match_book.specs.Roles.{every_role, at_role, is_there, blank, present}
 use Rattle.match_book.specs.Judgement.{judgement, substitute, IsJudged, IsPart}
-use Rattle.match_book.specs.Retirement.{is_retired, are_all_retired}
+use Rattle.match_book.specs.Retirement.{is_retired}
 use Rattle.match_book.specs.MatchValue.{MatchValue, state_after}
-use Rattle.match_book.specs.Phase.{stage, settled, still_answers, answered_in, is_live, max_turns, has_no_move, is_playing}
+use Rattle.match_book.specs.Phase.{stage, still_answers, answered_in, is_live, max_turns, is_playing}
 use Rattle.match_book.specs.Lawful.{IsLawfulTurn, AreLawful, IsLawfulMatch}
+use Rattle.match_book.specs.Laws.{HasPart, IsInPlay}
 use Rattle.match_book.specs.Steps.{new_match, with_abort, with_start_mark, with_end_mark, turn_of, part, parts}
 use Rattle.match_book.specs.declared.setup.Setup.{Setup}
 use Rattle.match_book.specs.declared.answer.Answer.{Answer}
@@ -19,17 +19,14 @@ use Rattle.match_book.specs.declared.judgement.Substitution.TheVariants.{Retired
 use Rattle.match_book.specs.declared.phase.Stage.{Stage}
 use Rattle.match_book.specs.declared.phase.Stage.TheVariants.{Starting, Playing, Stopping, Aborting}
 use Rattle.match_book.specs.declared.phase.Cause.TheVariants.{Asked}
-use Rattle.match_book.proofs.RoleTests.{every_role-at, every_role-same, at_role-set, at_role-other, at_role-blank, lowest_role-none, same_or_other, length-of_each_role, get-of_each_role}
+use Rattle.match_book.proofs.RoleTests.{every_role-at, at_role-set, at_role-other, at_role-blank, same_or_other, length-of_each_role, get-of_each_role}
 use Rattle.match_book.proofs.Judgements.{judgement-some, substitute-is, substitute-some, first-contains}
 use Rattle.match_book.proofs.TurnParts.{length-present, present-at, present-get, some_of}
-use Rattle.match_book.proofs.Stages.{stage-by, stage-asked, live-not_asked, starting-missing, playing-live, playing-settled, settled-playing, answered_in-retired}
+use Rattle.match_book.proofs.Stages.{stage-by, stage-asked, live-not_asked, starting-missing, playing_means, begun_rounds_are_open}
 use Rattle.match_book.proofs.LawfulTurns.{AreLawful-push}
 
 pub none_blank : {A : Type 0} (n r : ℕ) (x : A) → at_role (blank n) r ≡ Some x → ⊥
 none_blank {A} n r x e = let w : Some x ≡ None = sym e ∙ at_role-blank A n r in absurd cc
-
-less-max : (n : ℕ) → nat_le max_turns n ≡ false → n < max_turns
-less-max n e = grind (arith, nat_tests)
 
 ended-not_playing : (at : Stage) → is_live at ≡ false → is_playing at ≡ false
 ended-not_playing Starting e = absurd cc
@@ -56,11 +53,7 @@ lawful-round_begun {S} {M} g laws m players starts asked answers ends turns few 
       turns_after_start = after;
       judged = λ r j lt e. absurd (none_blank g.roles r j (rw answers at e));
       answers_in_play = λ _. answers;
-      round_is_open = λ e.
-          let playing : stage g m ≡ Playing = playing-live (stage g m) e in
-          let not_all : are_all_retired g.roles m ≡ false = (settled-playing g (length m.turns) (are_all_retired g.roles m) (state_after g m.turns) (playing-settled g m playing).1).3 in
-          let none : every_role g.roles (answered_in Playing m) ≡ false = every_role-same g.roles (is_retired m) (answered_in Playing m) (λ k lt. answered_in-retired m g.roles k answers) ∙ not_all in
-          subst (λ (at : Stage). every_role g.roles (answered_in at m) ≡ false) (sym playing) none;
+      round_is_open = λ e. begun_rounds_are_open g m e answers;
       ends_at_end = λ _. ends;
       asked_when_live = λ e. absurd cc;
     }
@@ -115,18 +108,12 @@ module _ {S M : Type 0} (g : Rules S M) (laws : IsLawful g) (m : MatchValue M) (
       }
 
   module _ (playing : stage g m ≡ Playing) (r : ℕ) (lt : r < g.roles) where
-    settles : settled g (length m.turns) (are_all_retired g.roles m) (state_after g m.turns) ≡ Playing
-    settles = (playing-settled g m playing).1
-
-    plays : (g.terminal (state_after g m.turns) ≡ false) × (nat_le max_turns (length m.turns) ≡ false) × (lowest_role g.roles (has_no_move g (state_after g m.turns)) ≡ None) × (are_all_retired g.roles m ≡ false)
-    plays = settled-playing g (length m.turns) (are_all_retired g.roles m) (state_after g m.turns) settles
-
-    has_move : (k : ℕ) → k < g.roles → has_no_move g (state_after g m.turns) k ≡ false
-    has_move k below = lowest_role-none g.roles k (has_no_move g (state_after g m.turns)) plays.2 below
+    plays : IsInPlay g m
+    plays = (playing_means g m).0 playing
 
     -- each role has a legal move, so each answer is judged
     pub answer-judged : (a : Answer) → IsSome (judgement g (state_after g m.turns) r a)
-    answer-judged a = judgement-some g (state_after g m.turns) r a (has_move r lt)
+    answer-judged a = judgement-some g (state_after g m.turns) r a (plays.moves r lt)
 
     module _ (j : Judgement M) (answers : still_answers m r ≡ true) (judged : IsJudged g (g.legal (state_after g m.turns) r) j.taken j.error) where
       -- the open answers, with this one
@@ -180,7 +167,7 @@ module _ {S M : Type 0} (g : Rules S M) (laws : IsLawful g) (m : MatchValue M) (
                 → (i : Judgement M) × ((if not b then at_role (set m.open_answers r (Some j)) k else substitute (g.legal (state_after g m.turns) k) Retired) ≡ Some i)
                 × IsGiven g b (g.legal (state_after g m.turns) k) i
             step true is there =
-                let found = some_of (substitute (g.legal (state_after g m.turns) k) Retired) (substitute-some (g.legal (state_after g m.turns) k) Retired (has_move k lt')) in
+                let found = some_of (substitute (g.legal (state_after g m.turns) k) Retired) (substitute-some (g.legal (state_after g m.turns) k) Retired (plays.moves k lt')) in
                 let first = substitute-is (g.legal (state_after g m.turns) k) Retired found.0 found.1 in
                 (found.0, found.1, record { among = first-contains (g.legal (state_after g m.turns) k) found.0.taken first.0; fits = first })
             step false is there =
@@ -205,23 +192,21 @@ module _ {S M : Type 0} (g : Rules S M) (laws : IsLawful g) (m : MatchValue M) (
             let below : k < g.roles = omega (arith, parts-wide) in
             ap is_some (parts-at k below ∙ (given k below).1)
 
-        -- a role's part stands in its place of the turn
-        pub turn-move : (q : ℕ) → q < g.roles → (i : Judgement M) → part g (record m { open_answers = set m.open_answers r (Some j) }) q ≡ Some i
-            → slice_get (turn_of (parts g (record m { open_answers = set m.open_answers r (Some j) }))).moves q ≡ Some i.taken
+        -- each role's part stands in its place of the turn
+        pub has_part : (q : ℕ) → q < g.roles → HasPart g (record m { open_answers = set m.open_answers r (Some j) }) q
         unfolding all_parts
-        turn-move q lt' i is = present-get (λ k. k.taken) all_parts q i parts-all (omega (arith, parts-wide)) (parts-at q lt' ∙ is)
-
-        pub turn-error : (q : ℕ) → q < g.roles → (i : Judgement M) → part g (record m { open_answers = set m.open_answers r (Some j) }) q ≡ Some i
-            → slice_get (turn_of (parts g (record m { open_answers = set m.open_answers r (Some j) }))).errors q ≡ Some i.error
-        unfolding all_parts
-        turn-error q lt' i is = present-get (λ k. k.error) all_parts q i parts-all (omega (arith, parts-wide)) (parts-at q lt' ∙ is)
+        has_part q lt' =
+            let found = given q lt' in
+            let at : at_role all_parts q ≡ Some found.0 = parts-at q lt' ∙ found.1 in
+            let within : q < length all_parts = omega (arith, parts-wide) in
+            record { judged = found.0; is_part = found.1; move = present-get (λ k. k.taken) all_parts q found.0 parts-all within at; error = present-get (λ k. k.error) all_parts q found.0 parts-all within at }
 
         -- the answers of all roles make a lawful turn
         pub lawful-turn : IsLawfulTurn g m.setup.strikes m.turns (turn_of (parts g (record m { open_answers = set m.open_answers r (Some j) })))
         unfolding all_parts
         lawful-turn = record {
-          goes_on = plays.0;
-          some_answer = plays.3;
+          goes_on = plays.goes_on;
+          some_answer = plays.some_answer;
           joint = record {
             width = length-map (present all_parts) (λ i. i.taken) ∙ (length-present all_parts parts-all ∙ parts-wide);
             legal = λ q d lt'.
@@ -240,8 +225,8 @@ module _ {S M : Type 0} (g : Rules S M) (laws : IsLawful g) (m : MatchValue M) (
         pub lawful-recorded : IsLawfulMatch g (record m { turns = m.turns ++ turn_of (parts g (record m { open_answers = set m.open_answers r (Some j) })) ∷ []; open_answers = blank g.roles })
         lawful-recorded =
             let t = turn_of (parts g (record m { open_answers = set m.open_answers r (Some j) })) in
-            let long : length m.turns < max_turns = less-max (length m.turns) plays.1 in
+            let few = plays.few in
             let wide : length (m.turns ++ t ∷ []) ≡ length m.turns + 1 = length-append m.turns (t ∷ []) in
-            let started : every_role g.roles (is_there m.start_marks) ≡ true = (playing-settled g m playing).0 in
+            let started : every_role g.roles (is_there m.start_marks) ≡ true = plays.started in
             lawful-round_begun g laws (record m { turns = m.turns ++ t ∷ []; open_answers = blank g.roles }) lawful.one_player lawful.one_start_mark (live-not_asked g m (rw playing refl)) refl
             (lawful.ends_at_end (rw playing refl)) (AreLawful-push g m.setup.strikes m.turns t lawful.turns lawful-turn) (omega arith) (λ e. absurd (let w : true ≡ false = sym started ∙ e in cc))

@@ -5,19 +5,23 @@ use Rattle.std.proofs.lemmas.List.Sums.{count_by-le-length, sum_by-le}
 use Rattle.std.proofs.lemmas.Option.{slice_get_read, slice_get_within, get_or_from_slice_get}
 use Rattle.std.proofs.Math.Seq.{take-append_seam, get_or-append_seam}
 use Rattle.std.specs.Prelude.{All, count_by, map, slice_get, Some, None, ◌-◌}
-use Rattle.game_core.specs.Play.{Rules, IsLawful, IsJoint, play, max_roles}
+use Rattle.game_core.specs.Play.{Rules, IsLawful, IsJoint, play_from, play, max_roles}
 use Rattle.match_book.specs.Judgement.{IsJudged, IsPart}
 use Rattle.match_book.proofs.StruckTurns.{retired_by-never, all_retired-never}
-use Rattle.game_core.proofs.Plays.{play-push}
 use Rattle.match_book.specs.MatchValue.{state_after, substitutions, move_at, error_at, joint_moves, is_error}
 use Rattle.match_book.specs.Due.{last_move_texts}
 use Rattle.match_book.specs.Lawful.{IsLawfulTurn, AreLawful}
+use Rattle.match_book.specs.Laws.{TurnsLeadToStates, TurnsHaveMoves, OneMoreTurn}
 use Rattle.match_book.specs.declared.turn.Turn.{Turn}
 use Rattle.match_book.proofs.RoleTests.{below_or_at}
 use Rattle.match_book.proofs.Judgements.{Contains-move}
 
+play_from-push : {S M : Type 0} (g : Rules S M) (s : S) (turns : List (List M)) (joint : List M) → play_from g s (turns ++ joint ∷ []) ≡ g.next (play_from g s turns) joint
+play_from-push g s [] joint = refl
+play_from-push g s (x ∷ xs) joint = play_from-push g (g.next s x) xs joint
+
 pub state_after-push : {S M : Type 0} (g : Rules S M) (turns : List (Turn M)) (t : Turn M) → state_after g (turns ++ t ∷ []) ≡ g.next (state_after g turns) t.moves
-state_after-push g turns t = ap (play g) (map-append (λ u. u.moves) turns (t ∷ [])) ∙ play-push g (joint_moves turns) t.moves
+state_after-push g turns t = ap (play g) (map-append (λ u. u.moves) turns (t ∷ [])) ∙ play_from-push g g.initial (joint_moves turns) t.moves
 
 -- one lawful turn more
 pub AreLawful-push : {S M : Type 0} (g : Rules S M) (strikes : ℕ) (turns : List (Turn M)) (t : Turn M) → AreLawful g strikes turns → IsLawfulTurn g strikes turns t → AreLawful g strikes (turns ++ t ∷ [])
@@ -31,6 +35,9 @@ AreLawful-push {S} {M} g strikes turns t lawful turn k d lt =
           subst (λ (x : List (Turn M)). IsLawfulTurn g strikes x (slice_index_or (turns ++ t ∷ []) k d)) (sym (take-append-le k turns (t ∷ []) (omega arith)))
           (subst (λ (x : Turn M). IsLawfulTurn g strikes (take k turns) x) (sym (get_or_append_left turns (t ∷ []) d k below)) (lawful k d below))
     ]
+
+pub one_more_turn : {S M : Type 0} (g : Rules S M) → OneMoreTurn g
+one_more_turn g strikes turns t lawful turn = (AreLawful-push g strikes turns t lawful turn, state_after-push g turns t)
 
 prefix_is_state : {S M : Type 0} (g : Rules S M) → IsLawful g → {strikes : ℕ} → (turns : List (Turn M)) → AreLawful g strikes turns → (k : ℕ) (d : Turn M) → k ≤ length turns → g.IsState (state_after g (take k turns))
 prefix_is_state g laws {strikes} turns lawful zero d le = laws.initial_is_state
@@ -52,6 +59,9 @@ pub state_after-is_state : {S M : Type 0} (g : Rules S M) → IsLawful g → {st
 state_after-is_state {S} {M} g laws {strikes} turns lawful =
     subst (λ (x : List (Turn M)). g.IsState (state_after g x)) (take_all (length turns) turns (omega arith)) (prefix-is_state g laws {strikes = strikes} turns lawful (length turns) (omega arith))
 
+pub turns_lead_to_states : {S M : Type 0} (g : Rules S M) → IsLawful g → TurnsLeadToStates g
+turns_lead_to_states g laws strikes turns lawful = state_after-is_state g laws {strikes = strikes} turns lawful
+
 -- each turn has one move for each role, and one error
 pub turn-width : {S M : Type 0} (g : Rules S M) {strikes : ℕ} (turns : List (Turn M)) (k : ℕ) (t : Turn M) → AreLawful g strikes turns → k < length turns → t ≡ slice_index_or turns k t → (length t.moves ≡ g.roles) × (length t.errors ≡ g.roles)
 turn-width {S} {M} g {strikes} turns k t lawful lt read =
@@ -59,14 +69,15 @@ turn-width {S} {M} g {strikes} turns k t lawful lt read =
     subst (λ (x : Turn M). (length x.moves ≡ g.roles) × (length x.errors ≡ g.roles)) (sym read) (turn.joint.width, turn.one_error)
 
 -- each recorded move is of the game
-pub turn-moves : {S M : Type 0} (g : Rules S M) → IsLawful g → {strikes : ℕ} (turns : List (Turn M)) (k : ℕ) (t : Turn M) → AreLawful g strikes turns → k < length turns → t ≡ slice_index_or turns k t → All (λ m. g.IsMove m) t.moves
-turn-moves {S} {M} g laws {strikes} turns k t lawful lt read =
+pub turns_have_moves : {S M : Type 0} (g : Rules S M) → IsLawful g → TurnsHaveMoves g
+turns_have_moves {S} {M} g laws strikes turns lawful k t lt i d within =
     let turn = lawful k t lt in
     let state = prefix_is_state g laws {strikes = strikes} turns lawful k t (omega arith) in
-    subst (λ (x : Turn M). All (λ m. g.IsMove m) x.moves) (sym read)
-    (λ i d within.
     let role : i < g.roles = omega (arith, turn.joint.width) in
-    Contains-move g laws (state_after g (take k turns)) i (slice_index_or (slice_index_or turns k t).moves i d) state role (turn.joint.legal i d role))
+    Contains-move g laws (state_after g (take k turns)) i (slice_index_or (slice_index_or turns k t).moves i d) state role (turn.joint.legal i d role)
+
+pub turn-moves : {S M : Type 0} (g : Rules S M) → IsLawful g → {strikes : ℕ} (turns : List (Turn M)) (k : ℕ) (t : Turn M) → AreLawful g strikes turns → k < length turns → t ≡ slice_index_or turns k t → All (λ m. g.IsMove m) t.moves
+turn-moves {S} {M} g laws {strikes} turns k t lawful lt read = subst (λ (x : Turn M). All (λ m. g.IsMove m) x.moves) (sym read) (turns_have_moves g laws strikes turns lawful k t lt)
 
 pub turn_errors-few : {S M : Type 0} (g : Rules S M) → IsLawful g → {strikes : ℕ} (before : List (Turn M)) (t : Turn M) → IsLawfulTurn g strikes before t → count_by is_error t.errors ≤ max_roles
 turn_errors-few g laws {strikes} before t turn =

@@ -6,7 +6,7 @@ use Rattle.std.proofs.lemmas.Option.{get_or_from_slice_get}
 use Rattle.std.proofs.lemmas.Slice.Eq.{bytes_eq-Decides}
 use Rattle.game_core.specs.Canonical.{canonical}
 use Rattle.game_core.specs.Play.{Rules, IsLawful}
-use Rattle.kif_text.proofs.Readings.{folded_text_reads_back}
+use Rattle.kif_text.specs.Laws.{FoldedTextReadsBack}
 use Rattle.match_book.specs.AnswerReading.{answer_reading, max_answer}
 use Rattle.match_book.specs.Judgement.{move_named, NamesNone, IsPlaceOf, judged_reading}
 
@@ -31,20 +31,21 @@ place_some g (m ∷ ms) x (suc p) (within, named, first) =
     rw (other_text (g.move_text m) x (first 0 m (omega arith) (omega arith)))
     (place_some g ms x p (omega arith, named, λ k d low lt. first (suc k) d (omega arith) (omega arith)))
 
--- a move's text that is within the limit of an answer is read as itself
-pub move_text_reads : {S M : Type 0} (g : Rules S M) → IsLawful g → (m : M) → g.IsMove m → length (g.move_text m) ≤ max_answer → answer_reading (g.move_text m) ≡ Some (g.move_text m)
-unfolding answer_reading
-move_text_reads g laws m is short =
-    let back = folded_text_reads_back (g.move_text m) (laws.move_texts_folded m is) (omega (arith, short)) in
-    let within : nat_le (length (g.move_text m)) max_answer ≡ true = grind (arith, nat_tests) in
-    rw (within, back.1) (ap Some (ap canonical back.3 ∙ sym back.4))
+module _ {S M : Type 0} (g : Rules S M) (laws : IsLawful g) (reads_back : FoldedTextReadsBack) where
+  -- a move's text that is within the limit of an answer is read as itself
+  move_text_reads : (m : M) → g.IsMove m → length (g.move_text m) ≤ max_answer → answer_reading (g.move_text m) ≡ Some (g.move_text m)
+  unfolding answer_reading
+  move_text_reads m is short =
+      let back = reads_back (g.move_text m) (laws.move_texts_folded m is) (omega (arith, short)) in
+      let within : nat_le (length (g.move_text m)) max_answer ≡ true = grind (arith, nat_tests) in
+      rw (within, back.1) (ap Some (ap canonical back.3 ∙ sym back.4))
 
--- an answer with the text of the move at a place counts as this move
-pub named_as_it_stands : {S M : Type 0} (g : Rules S M) → IsLawful g → (moves : List M) (x : List ℕ) (p : ℕ) (m : M) → All (λ n. g.IsMove n) moves → length x ≤ max_answer → IsPlaceOf g moves x (Some p) → slice_get moves p ≡ Some m
-    → Some (record { taken = m; error = [] }) ≡ judged_reading g moves (answer_reading x)
-named_as_it_stands g laws moves x p m are short place at =
-    let here = get_or_from_slice_get moves p m m at in
-    let is = subst (λ n. g.IsMove n) here (are p m place.0) in
-    let text = subst (λ n. g.move_text n ≡ x) here (place.1 m) in
-    let reads = subst (λ t. answer_reading t ≡ Some t) text (move_text_reads g laws m is (omega (arith, short, ap length text))) in
-    rw (reads, place_some g moves x p place, at) refl
+  -- an answer with the text of the move at a place counts as this move
+  pub named_as_it_stands : (moves : List M) (x : List ℕ) (p : ℕ) (m : M) → All (λ n. g.IsMove n) moves → length x ≤ max_answer → IsPlaceOf g moves x (Some p) → slice_get moves p ≡ Some m
+      → Some (record { taken = m; error = [] }) ≡ judged_reading g moves (answer_reading x)
+  named_as_it_stands moves x p m are short place at =
+      let here = get_or_from_slice_get moves p m m at in
+      let is = subst (λ n. g.IsMove n) here (are p m place.0) in
+      let text = subst (λ n. g.move_text n ≡ x) here (place.1 m) in
+      let reads = subst (λ t. answer_reading t ≡ Some t) text (move_text_reads m is (omega (arith, short, ap length text))) in
+      rw (reads, place_some g moves x p place, at) refl

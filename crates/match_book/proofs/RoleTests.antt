@@ -23,6 +23,10 @@ same_or_other k r = step (eqb k r) refl
 pub lowest_role-more : (n : ℕ) (p : ℕ → Bool) → lowest_role n p ≡ None → p n ≡ false → lowest_role (n + 1) p ≡ None
 lowest_role-more n p none not' = rw (add-one, none, not') refl
 
+pub lowest_role-all : (n : ℕ) (p : ℕ → Bool) → ((k : ℕ) → k < n → p k ≡ false) → lowest_role n p ≡ None
+lowest_role-all zero p none = refl
+lowest_role-all (suc n) p none = rw (lowest_role-all n p (λ k lt. none k (omega arith)), none n (omega arith)) refl
+
 some_first : (n k : ℕ) (p : ℕ → Bool) (o : Option ℕ) → o ≡ Some k → option_or o (if p n then Some n else None) ≡ Some k
 some_first n k p o e = rw e refl
 

@@ -1,15 +1,17 @@
 -- What a match is doing.
-use Rattle.std.proofs.Common.{◌≡◌, ◌≢◌, ℕ, Bool, true, false, Option, Some, None, length, refl, ap, ◌∙◌}
+use Rattle.std.proofs.Common.{◌≡◌, ◌≢◌, ℕ, ◌<◌, Bool, true, false, Option, Some, None, length, refl, arith, ap, sym, subst, ◌∙◌}
+use Rattle.std.proofs.lemmas.Bool.Decides.{nat_tests}
 use Rattle.std.specs.Prelude.{if◌then◌else◌, nat_le, not}
 use Rattle.game_core.specs.Play.{Rules}
 use Rattle.match_book.specs.Roles.{every_role, lowest_role, is_there, blank}
 use Rattle.match_book.specs.MatchValue.{MatchValue, state_after}
 use Rattle.match_book.specs.Phase.{stage, settled, after_the_end, before_the_end, still_answers, answered_in, goal_in, is_live, max_turns, has_no_goal, has_no_move, is_playing}
 use Rattle.match_book.specs.Retirement.{is_retired, are_all_retired}
+use Rattle.match_book.specs.Laws.{StartingMeans, IsInPlay, PlayingMeans, HasStopped, StoppingMeans, BegunRoundsAreOpen}
 use Rattle.match_book.specs.declared.phase.Cause.TheVariants.{Asked, TooLong}
 use Rattle.match_book.specs.declared.phase.Stage.{Stage}
 use Rattle.match_book.specs.declared.phase.Stage.TheVariants.{Starting, Playing, Stopping, Aborting}
-use Rattle.match_book.proofs.RoleTests.{is_there-blank}
+use Rattle.match_book.proofs.RoleTests.{is_there-blank, lowest_role-all, lowest_role-none, every_role-same}
 
 -- the stage depends on the setup, the turns, the START marks and whether an abort was asked
 pub stage-by : {S M : Type 0} (g : Rules S M) (m n : MatchValue M) → n.setup ≡ m.setup → n.abort_asked ≡ m.abort_asked → n.start_marks ≡ m.start_marks → n.turns ≡ m.turns → stage g n ≡ stage g m
@@ -58,19 +60,21 @@ starting-missing g m e = step m.abort_asked (every_role g.roles (is_there m.star
     step false true is rest ne e = absurd (ne e)
     step false false is rest ne e = is
 
--- a match that plays has all START marks, and the settling rule says so
-pub playing-settled : {S M : Type 0} (g : Rules S M) (m : MatchValue M) → stage g m ≡ Playing → (every_role g.roles (is_there m.start_marks) ≡ true) × (settled g (length m.turns) (are_all_retired g.roles m) (state_after g m.turns) ≡ Playing)
+-- a match that neither starts nor is aborted as it was asked has all START marks, and the settling rule says its stage
+stage-parts : {S M : Type 0} (g : Rules S M) (m : MatchValue M) (at : Stage) → at ≢ Starting → at ≢ Aborting Asked → stage g m ≡ at
+    → (m.abort_asked ≡ false) × (every_role g.roles (is_there m.start_marks) ≡ true) × (settled g (length m.turns) (are_all_retired g.roles m) (state_after g m.turns) ≡ at)
 unfolding stage
-playing-settled g m e = step m.abort_asked (every_role g.roles (is_there m.start_marks)) refl (settled g (length m.turns) (are_all_retired g.roles m) (state_after g m.turns)) refl e
+stage-parts g m at not_start not_asked e = step m.abort_asked refl (every_role g.roles (is_there m.start_marks)) refl (settled g (length m.turns) (are_all_retired g.roles m) (state_after g m.turns)) refl e
   where
-    step : (a all : Bool) → every_role g.roles (is_there m.start_marks) ≡ all → (rest : Stage) → settled g (length m.turns) (are_all_retired g.roles m) (state_after g m.turns) ≡ rest → (if a then Aborting Asked else (if all then rest else Starting)) ≡ Playing
-        → (every_role g.roles (is_there m.start_marks) ≡ true) × (settled g (length m.turns) (are_all_retired g.roles m) (state_after g m.turns) ≡ Playing)
-    step true all is rest same e = absurd cc
-    step false true is rest same e = (is, same ∙ e)
-    step false false is rest same e = absurd cc
+    step : (a : Bool) → m.abort_asked ≡ a → (all : Bool) → every_role g.roles (is_there m.start_marks) ≡ all → (rest : Stage) → settled g (length m.turns) (are_all_retired g.roles m) (state_after g m.turns) ≡ rest
+        → (if a then Aborting Asked else (if all then rest else Starting)) ≡ at
+        → (m.abort_asked ≡ false) × (every_role g.roles (is_there m.start_marks) ≡ true) × (settled g (length m.turns) (are_all_retired g.roles m) (state_after g m.turns) ≡ at)
+    step true asked all is rest same e = absurd (not_asked (sym e))
+    step false asked true is rest same e = (asked, is, same ∙ e)
+    step false asked false is rest same e = absurd (not_start (sym e))
 
 -- play goes on if the state is not terminal, there are fewer than 10,000 turns, each role has a legal move and not all are retired
-pub settled-playing : {S M : Type 0} (g : Rules S M) (t : ℕ) (all_retired : Bool) (s : S) → settled g t all_retired s ≡ Playing
+settled-playing : {S M : Type 0} (g : Rules S M) (t : ℕ) (all_retired : Bool) (s : S) → settled g t all_retired s ≡ Playing
     → (g.terminal s ≡ false) × (nat_le max_turns t ≡ false) × (lowest_role g.roles (has_no_move g s) ≡ None) × (all_retired ≡ false)
 unfolding settled
 settled-playing g t all_retired s e = step (g.terminal s) (nat_le max_turns t) (lowest_role g.roles (has_no_goal g s)) (lowest_role g.roles (has_no_move g s)) all_retired e
@@ -83,6 +87,27 @@ settled-playing g t all_retired s e = step (g.terminal s) (nat_le max_turns t) (
     step false false goals None true e = absurd cc
     step false false goals None false e = (refl, refl, refl, refl)
     step false false goals (Some r) all e = absurd cc
+
+settled-plays : {S M : Type 0} (g : Rules S M) (t : ℕ) (all_retired : Bool) (s : S) → g.terminal s ≡ false → nat_le max_turns t ≡ false → lowest_role g.roles (has_no_move g s) ≡ None → all_retired ≡ false → settled g t all_retired s ≡ Playing
+unfolding settled
+settled-plays g t all_retired s goes_on few moves some = rw (goes_on, few, moves, some) refl
+
+-- a match stops in a terminal state in which each role has a goal
+settled-stopping : {S M : Type 0} (g : Rules S M) (t : ℕ) (all_retired : Bool) (s : S) → settled g t all_retired s ≡ Stopping → (g.terminal s ≡ true) × (lowest_role g.roles (has_no_goal g s) ≡ None)
+unfolding settled
+settled-stopping g t all_retired s e = step (g.terminal s) (nat_le max_turns t) (lowest_role g.roles (has_no_goal g s)) (lowest_role g.roles (has_no_move g s)) all_retired e
+  where
+    step : (over long : Bool) (goals moves : Option ℕ) (all : Bool) → (if over then after_the_end goals else (if long then Aborting TooLong else before_the_end moves all)) ≡ Stopping → (over ≡ true) × (goals ≡ None)
+    step true long None moves all e = (refl, refl)
+    step true long (Some r) moves all e = absurd cc
+    step false true goals moves all e = absurd cc
+    step false false goals None true e = absurd cc
+    step false false goals None false e = absurd cc
+    step false false goals (Some r) all e = absurd cc
+
+settled-stops : {S M : Type 0} (g : Rules S M) (t : ℕ) (all_retired : Bool) (s : S) → g.terminal s ≡ true → lowest_role g.roles (has_no_goal g s) ≡ None → settled g t all_retired s ≡ Stopping
+unfolding settled
+settled-stops g t all_retired s ended goals = rw (ended, goals) refl
 
 -- no goals are given before a match stops
 pub goal_in-live : {S M : Type 0} (g : Rules S M) (at : Stage) (s : S) (r : ℕ) → is_live at ≡ true → goal_in at g s r ≡ None
@@ -114,8 +139,60 @@ not_answered-parts m k free = step (still_answers m k) refl free
     step true is free = (is, free)
     step false is free = absurd cc
 
-pub playing-live : (at : Stage) → is_playing at ≡ true → at ≡ Playing
+playing-live : (at : Stage) → is_playing at ≡ true → at ≡ Playing
 playing-live Starting e = absurd cc
 playing-live Playing e = refl
 playing-live Stopping e = absurd cc
 playing-live (Aborting c) e = absurd cc
+
+less-max : (n : ℕ) → nat_le max_turns n ≡ false → n < max_turns
+less-max n e = grind (arith, nat_tests)
+
+not-max : (n : ℕ) → n < max_turns → nat_le max_turns n ≡ false
+not-max n lt = grind (arith, nat_tests)
+
+pub starting_means : {S M : Type 0} (g : Rules S M) → StartingMeans g
+starting_means g m = (λ is. (live-not_asked g m (ap is_live is), starting-missing g m is), λ parts. stage-starting g m parts.0 parts.1)
+
+pub playing_means : {S M : Type 0} (g : Rules S M) → PlayingMeans g
+playing_means g m = (to, from)
+  where
+    to : stage g m ≡ Playing → IsInPlay g m
+    to is =
+        let parts = stage-parts g m Playing (λ w. cc) (λ w. cc) is in
+        let plays = settled-playing g (length m.turns) (are_all_retired g.roles m) (state_after g m.turns) parts.2 in
+        record {
+          not_asked = parts.0;
+          started = parts.1;
+          goes_on = plays.0;
+          few = less-max (length m.turns) plays.1;
+          moves = λ r lt. lowest_role-none g.roles r (has_no_move g (state_after g m.turns)) plays.2 lt;
+          some_answer = plays.3;
+        }
+
+    from : IsInPlay g m → stage g m ≡ Playing
+    from in_play =
+        stage-settled g m in_play.not_asked in_play.started
+        ∙ settled-plays g (length m.turns) (are_all_retired g.roles m) (state_after g m.turns) in_play.goes_on (not-max (length m.turns) in_play.few)
+        (lowest_role-all g.roles (has_no_move g (state_after g m.turns)) in_play.moves) in_play.some_answer
+
+pub stopping_means : {S M : Type 0} (g : Rules S M) → StoppingMeans g
+stopping_means g m = (to, from)
+  where
+    to : stage g m ≡ Stopping → HasStopped g m
+    to is =
+        let parts = stage-parts g m Stopping (λ w. cc) (λ w. cc) is in
+        let stops = settled-stopping g (length m.turns) (are_all_retired g.roles m) (state_after g m.turns) parts.2 in
+        record { not_asked = parts.0; started = parts.1; ended = stops.0; goals = λ r lt. lowest_role-none g.roles r (has_no_goal g (state_after g m.turns)) stops.1 lt }
+
+    from : HasStopped g m → stage g m ≡ Stopping
+    from stopped =
+        stage-settled g m stopped.not_asked stopped.started
+        ∙ settled-stops g (length m.turns) (are_all_retired g.roles m) (state_after g m.turns) stopped.ended (lowest_role-all g.roles (has_no_goal g (state_after g m.turns)) stopped.goals)
+
+-- in a round of play that has just begun, only the retired roles have answered
+pub begun_rounds_are_open : {S M : Type 0} (g : Rules S M) → BegunRoundsAreOpen g
+begun_rounds_are_open g m playing answers =
+    let is : stage g m ≡ Playing = playing-live (stage g m) playing in
+    let none : every_role g.roles (answered_in Playing m) ≡ false = every_role-same g.roles (is_retired m) (answered_in Playing m) (λ k lt. answered_in-retired m g.roles k answers) ∙ ((playing_means g m).0 is).some_answer in
+    subst (λ (at : Stage). every_role g.roles (answered_in at m) ≡ false) (sym is) none

@@ -1,18 +1,25 @@
 -- Laws of the definitions, for a lawful game.
-use Rattle.std.specs.Prelude.{◌≡◌, ◌≢◌, ◌↔◌, ◌⊎◌, ℕ, ◌<◌, [], ◌∷◌, ◌++◌, length, Some, None, slice_set}
+use Rattle.std.specs.Prelude.{◌≡◌, ◌≢◌, ◌↔◌, ◌⊎◌, ℕ, ◌<◌, ◌≤◌, true, false, List, [], ◌∷◌, ◌++◌, length, Some, None, All, replicate, slice_get, slice_index_or, slice_set}
+use Rattle.game_core.specs.Canonical.{IsFoldedText}
+use Rattle.game_core.specs.Expression.{IsAtom}
 use Rattle.game_core.specs.Play.{Rules, AreLegal}
-use Rattle.match_book.specs.Roles.{blank}
-use Rattle.match_book.specs.AnswerReading.{answer_reading}
+use Rattle.match_book.specs.Roles.{every_role, is_there, blank}
+use Rattle.match_book.specs.AnswerReading.{answer_reading, max_reading}
 use Rattle.match_book.specs.Judgement.{judgement}
-use Rattle.match_book.specs.MatchValue.{MatchValue, state_after, joint_moves}
-use Rattle.match_book.specs.Phase.{stage, round}
-use Rattle.match_book.specs.Lawful.{IsLawfulMatch}
-use Rattle.match_book.specs.Steps.{new_match, refusal, turn_of, parts, after_answer, after_abort}
+use Rattle.match_book.specs.MatchValue.{MatchValue, state_after, joint_moves, is_error}
+use Rattle.match_book.specs.Retirement.{are_all_retired}
+use Rattle.match_book.specs.RoleStrikes.{AreStrikes, after_turn, unstruck}
+use Rattle.match_book.specs.Phase.{stage, round, has_answered, has_no_goal, has_no_move, is_playing, max_turns}
+use Rattle.match_book.specs.Lawful.{IsLawfulTurn, AreLawful, IsLawfulMatch}
+use Rattle.match_book.specs.Names.{is_name}
+use Rattle.match_book.specs.Steps.{new_match, refusal, turn_of, part, parts, after_answer, after_abort}
 use Rattle.match_book.specs.declared.setup.Setup.{Setup}
 use Rattle.match_book.specs.declared.answer.Answer.{Answer}
 use Rattle.match_book.specs.declared.answer.Answer.TheVariants.{Text, Silent, Broken}
 use Rattle.match_book.specs.declared.judgement.Judgement.{Judgement}
-use Rattle.match_book.specs.declared.phase.Stage.TheVariants.{Playing}
+use Rattle.match_book.specs.declared.retirement.RoleStrikes.{RoleStrikes}
+use Rattle.match_book.specs.declared.turn.Turn.{Turn}
+use Rattle.match_book.specs.declared.phase.Stage.TheVariants.{Starting, Playing, Stopping}
 
 -- a match with nothing in it is lawful
 abbrev pub NewMatchIsLawful : {S M : Type 0} → Rules S M → Type 0
@@ -39,12 +46,20 @@ Names g Broken m = ⊥
 abbrev pub NoErrorMeansNamed : {S M : Type 0} → Rules S M → Type 0
 NoErrorMeansNamed {S} {M} g = (s : S) (role : ℕ) (answer : Answer) (j : Judgement M) → judgement g s role answer ≡ Some j → (j.error ≡ []) ↔ Names g answer j.taken
 
+-- The role's part of the turn that the open answers make is a judgement, whose move and error stand in the role's place.
+pub record HasPart {S M : Type 0} (g : Rules S M) (m : MatchValue M) (r : ℕ) : Type 0 where
+  pub judged : Judgement M
+  pub is_part : part g m r ≡ Some judged
+  pub move : slice_get (turn_of (parts g m)).moves r ≡ Some judged.taken
+  pub error : slice_get (turn_of (parts g m)).errors r ≡ Some judged.error
+
 -- What an answer that is taken in play does, by the role's judgement: it stays open, or is recorded with the others.
 pub record IsPlayed {S M : Type 0} (g : Rules S M) (m n : MatchValue M) (role : ℕ) (answer : Answer) : Type 0 where
   pub judged : Judgement M
   pub is_judgement : judgement g (state_after g m.turns) role answer ≡ Some judged
   pub opened_or_recorded : (n ≡ record m { open_answers = slice_set m.open_answers role (Some judged) })
-      ⊎ (n ≡ record m { turns = m.turns ++ turn_of (parts g (record m { open_answers = slice_set m.open_answers role (Some judged) })) ∷ []; open_answers = blank g.roles })
+      ⊎ ((n ≡ record m { turns = m.turns ++ turn_of (parts g (record m { open_answers = slice_set m.open_answers role (Some judged) })) ∷ []; open_answers = blank g.roles })
+      × ((r : ℕ) → r < g.roles → HasPart g (record m { open_answers = slice_set m.open_answers role (Some judged) }) r))
 
 abbrev pub AnswersInPlay : {S M : Type 0} → Rules S M → Type 0
 AnswersInPlay {S} {M} g = (m : MatchValue M) (role round : ℕ) (answer : Answer) → IsLawfulMatch g m → stage g m ≡ Playing → refusal g m role round ≡ None → IsPlayed g m (after_answer g m role round answer) role answer
@@ -57,3 +72,69 @@ AnswersOutOfPlay {S} {M} g = (m : MatchValue M) (role round : ℕ) (answer : Ans
 -- an answer is taken only for the present round, and only from a role of the game
 abbrev pub TakenForTheRound : {S M : Type 0} → Rules S M → Type 0
 TakenForTheRound {S} {M} g = (m : MatchValue M) (role n : ℕ) → refusal g m role n ≡ None → (role < g.roles) × (n ≡ round g m)
+
+-- lawful turns lead to a state of the game
+abbrev pub TurnsLeadToStates : {S M : Type 0} → Rules S M → Type 0
+TurnsLeadToStates {S} {M} g = (strikes : ℕ) (turns : List (Turn M)) → AreLawful g strikes turns → g.IsState (state_after g turns)
+
+-- each move of lawful turns is of the game
+abbrev pub TurnsHaveMoves : {S M : Type 0} → Rules S M → Type 0
+TurnsHaveMoves {S} {M} g = (strikes : ℕ) (turns : List (Turn M)) → AreLawful g strikes turns → All (λ t. All (λ m. g.IsMove m) t.moves) turns
+
+-- lawful turns and one that may follow them are lawful, and lead to the next state
+abbrev pub OneMoreTurn : {S M : Type 0} → Rules S M → Type 0
+OneMoreTurn {S} {M} g = (strikes : ℕ) (turns : List (Turn M)) (t : Turn M) → AreLawful g strikes turns → IsLawfulTurn g strikes turns t
+    → AreLawful g strikes (turns ++ t ∷ []) × (state_after g (turns ++ t ∷ []) ≡ g.next (state_after g turns) t.moves)
+
+-- before the first turn no role has a strike
+abbrev pub StrikesBegin : Type 0 → Type 0
+StrikesBegin M = (roles strikes : ℕ) → AreStrikes {M = M} roles strikes [] (replicate roles unstruck)
+
+-- each role's strikes after one more turn follow from those before it, and from the turn's errors
+abbrev pub StrikesOfOneMore : Type 0 → Type 0
+StrikesOfOneMore M = (roles strikes : ℕ) (turns : List (Turn M)) (t : Turn M) (kept after : List RoleStrikes) → AreStrikes roles strikes turns kept → length after ≡ length kept
+    → ((r : ℕ) (d : RoleStrikes) → r < length kept → slice_index_or after r d ≡ after_turn strikes (slice_index_or kept r unstruck) (is_error (slice_index_or t.errors r [])))
+    → AreStrikes roles strikes (turns ++ t ∷ []) after
+
+-- no more turns than a match has give no more strikes in a row
+abbrev pub FewStrikes : Type 0 → Type 0
+FewStrikes M = (roles strikes : ℕ) (turns : List (Turn M)) (kept : List RoleStrikes) → AreStrikes roles strikes turns kept → length turns ≤ max_turns → All (λ s. s.in_a_row ≤ max_turns) kept
+
+-- a match starts if and only if no abort was asked and a START mark is missing
+abbrev pub StartingMeans : {S M : Type 0} → Rules S M → Type 0
+StartingMeans {S} {M} g = (m : MatchValue M) → (stage g m ≡ Starting) ↔ ((m.abort_asked ≡ false) × (every_role g.roles (is_there m.start_marks) ≡ false))
+
+-- No abort was asked and no START mark is missing. The state is not terminal, there are fewer turns than the limit, each role has a
+-- legal move, and not all roles are retired.
+pub record IsInPlay {S M : Type 0} (g : Rules S M) (m : MatchValue M) : Type 0 where
+  pub not_asked : m.abort_asked ≡ false
+  pub started : every_role g.roles (is_there m.start_marks) ≡ true
+  pub goes_on : g.terminal (state_after g m.turns) ≡ false
+  pub few : length m.turns < max_turns
+  pub moves : (r : ℕ) → r < g.roles → has_no_move g (state_after g m.turns) r ≡ false
+  pub some_answer : are_all_retired g.roles m ≡ false
+
+abbrev pub PlayingMeans : {S M : Type 0} → Rules S M → Type 0
+PlayingMeans {S} {M} g = (m : MatchValue M) → (stage g m ≡ Playing) ↔ IsInPlay g m
+
+-- No abort was asked and no START mark is missing. The state is terminal, and each role has a goal.
+pub record HasStopped {S M : Type 0} (g : Rules S M) (m : MatchValue M) : Type 0 where
+  pub not_asked : m.abort_asked ≡ false
+  pub started : every_role g.roles (is_there m.start_marks) ≡ true
+  pub ended : g.terminal (state_after g m.turns) ≡ true
+  pub goals : (r : ℕ) → r < g.roles → has_no_goal g (state_after g m.turns) r ≡ false
+
+abbrev pub StoppingMeans : {S M : Type 0} → Rules S M → Type 0
+StoppingMeans {S} {M} g = (m : MatchValue M) → (stage g m ≡ Stopping) ↔ HasStopped g m
+
+-- in a round of play that has just begun, some role has not answered
+abbrev pub BegunRoundsAreOpen : {S M : Type 0} → Rules S M → Type 0
+BegunRoundsAreOpen {S} {M} g = (m : MatchValue M) → is_playing (stage g m) ≡ true → m.open_answers ≡ blank g.roles → every_role g.roles (has_answered g m) ≡ false
+
+-- what is read of an answer is a folded text within the limit
+abbrev pub ReadingsAreFolded : Type 0
+ReadingsAreFolded = (text x : List ℕ) → answer_reading text ≡ Some x → IsFoldedText x × (length x ≤ max_reading)
+
+-- a lawful id, or name of a player, is an atom
+abbrev pub NamesAreAtoms : Type 0
+NamesAreAtoms = (w : List ℕ) → is_name w ≡ true → IsAtom w

@@ -7,6 +7,7 @@ ghost use Rattle.match_book.specs.Judgement.{error_text, substitute, move_named,
 use crate::answer::{LentAnswer, Mark};
 use crate::answer_text::{MAX_ANSWER, read_answer};
 use game_core::{Game, Text};
+use kif_text::laws::folded_text_reads_back;
 use std::alloc::{AllocError, Global};
 
 /// The error of an answer that is too long, or does not spell exactly one expression.
@@ -131,6 +132,7 @@ fn judge_text<G: Game>(
     requires { All (λ m. (G.rules game.now).IsMove m) moves.now }
     ensures { IfOk result (λ o. o ≡ judged_reading (G.rules game.now) moves.now (answer_reading answered.now)) }
 {
+    folded_text_reads_back();
     if answered.len() <= MAX_ANSWER {
         if let Some(place) = place_of(game, moves, answered) {
             return take_named(alloc, game, &moves[place]);

@@ -15,6 +15,7 @@ ghost use Rattle.match_book.specs.Steps.{new_match, turn_of, parts, after_abort,
 use crate::answer::{AbortFault, Answer, AnswerFault, AnswerRefusal, LentAnswer, Mark};
 use crate::due::{Due, Owed, OwedFault};
 use crate::judgement::{Judgement, judge};
+use crate::laws::readings_are_folded;
 use crate::phase::{Cause, Stage, Status};
 use crate::places::{are_all_there, blank, clear};
 use crate::retirement::{
@@ -375,6 +376,7 @@ impl<G: Game> Match<G> {
         match self.stage() {
             Stage::Starting => self.take_start_mark(alloc, game, role, answer.mark())?,
             Stage::Playing => {
+                readings_are_folded();
                 let judged = self.judged(alloc, game, role, answer)?;
                 self.take_open_answer(alloc, game, role, judged)?;
             }

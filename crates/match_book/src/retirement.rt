@@ -1,7 +1,8 @@
 //! Which roles are retired, because their moves were substituted too often in a row.
-ghost use Rattle.std.specs.Prelude.{◌≡◌, ◌<◌, ◌≤◌, ℕ, All, IfOk, List, length, replicate, slice_index_or, []};
+ghost use Rattle.std.specs.Prelude.{◌≡◌, ◌==◌, ◌<◌, ◌≤◌, ℕ, All, IfOk, List, length, replicate, slice_index_or, []};
 ghost use Rattle.match_book.specs.MatchValue.{is_error};
 ghost use Rattle.match_book.specs.Phase.{max_turns};
+ghost use Rattle.match_book.specs.Roles.{every_role};
 ghost use Rattle.match_book.specs.RoleStrikes.{after_turn, unstruck, is_retired_in, answered_at_first, count_roles};
 
 use crate::phase::Stage;
@@ -82,9 +83,10 @@ pub fn is_retired_at(kept: &[RoleStrikes], role: usize) -> bool
     kept[role].is_retired
 }
 
-/// How many roles are retired.
+/// How many roles are retired. All are if this is the number of roles.
 pub fn count_retired(kept: &[RoleStrikes]) -> usize
-    ensures { result ≡ count_roles (length kept.now) (is_retired_in kept.now) }
+    ensures count { result ≡ count_roles (length kept.now) (is_retired_in kept.now) }
+    ensures all { every_role (length kept.now) (is_retired_in kept.now) ≡ (result == length kept.now) }
 {
     let mut count = 0;
     for role in 0..kept.len() {

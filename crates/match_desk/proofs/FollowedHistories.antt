@@ -3,18 +3,17 @@ use Rattle.std.proofs.Common.{◌≡◌, ◌≢◌, ℕ, zero, suc, ◌<◌, Boo
 use Rattle.std.proofs.lemmas.List.Elements.{All-push, All-map}
 use Rattle.std.proofs.lemmas.Slice.Eq.{bytes_eq-Decides}
 use Rattle.std.proofs.lemmas.Bool.Decides.{nat_tests}
-use Rattle.std.specs.Prelude.{IfOk, sum, All, AllPairs, map, find, is_none, slice_get, option_map, option_and_then, option_to_list, unwrap_or, bytes_eq, if◌then◌else◌, ◌&&◌, ◌==◌, nat_lt}
-use Rattle.game_core.specs.Play.{Rules, IsLawful}
+use Rattle.std.specs.Prelude.{IfOk, sum, All, AllPairs, map, find, is_none, slice_get, option_map, option_and_then, option_to_list, unwrap_or, bytes_eq, if◌then◌else◌, ◌&&◌, ◌==◌}
+use Rattle.game_core.specs.Play.{Rules}
 use Rattle.match_book.specs.MatchValue.{MatchValue, GameMatch}
 use Rattle.match_book.specs.Lawful.{IsLawfulMatch}
-use Rattle.match_book.specs.Phase.{is_over, has_answered, round}
+use Rattle.match_book.specs.Phase.{round}
 use Rattle.match_book.specs.Steps.{new_match, refusal, with_answer, after_answer, after_abort}
 use Rattle.match_book.specs.declared.setup.Setup.{Setup}
 use Rattle.match_book.specs.declared.answer.Answer.{Answer}
 use Rattle.match_book.specs.declared.answer.Answer.TheVariants.{Text}
 use Rattle.match_book.specs.declared.answer.AnswerRefusal.{AnswerRefusal}
 use Rattle.match_book.specs.declared.answer.AnswerRefusal.TheVariants.{NoRole, Over, Stale, Twice}
-use Rattle.match_book.proofs.AnswerLaws.{taken_for_the_round, recorded_moves_are_legal}
 use Rattle.call_history.specs.History.{run, IsLegalHistory, IsReplay}
 use Rattle.call_history.specs.declared.journal.Entry.{Entry}
 use Rattle.match_desk.specs.ManagerValue.{DeskMatch, ManagerValue, opening, has_id, match_of, game_of, game_match, match_with_id, IsLawfulManager}
@@ -22,6 +21,7 @@ use Rattle.match_desk.specs.Open.{open_refusal, with_new_match, after_open}
 use Rattle.match_desk.specs.Steps.{setup_of, missed, answer_refused, refused_or, answer_reply, reply_of, reply, changed_match, with_change, after}
 use Rattle.match_desk.specs.Accepted.{answer_if, is_taken, taken_answer, taken_answers, AreAccounted}
 use Rattle.match_desk.specs.Headline.{ArePlayedLegally, HasHeadline}
+use Rattle.match_desk.specs.Internal.MatchLaws.{MatchLaws}
 use Rattle.match_desk.specs.declared.call.Call.{Call}
 use Rattle.match_desk.specs.declared.call.Call.TheVariants.{Open, Next, Submit, Miss, Query, Abort}
 use Rattle.match_desk.specs.declared.call.Reply.{Reply}
@@ -84,7 +84,7 @@ record IsFollowedManager {G S M : Type 0} (rules : G → Rules S M) (d : Manager
   matches : All (IsFollowedMatch rules d.games history) d.matches
   unused : (id : List ℕ) → match_of d id ≡ None → (role n : ℕ) → taken_answers id role n history ≡ []
 
-module _ {G S M : Type 0} (rules : G → Rules S M) (laws : (g : G) → IsLawful (rules g)) (d : ManagerValue G M) (history : List (Entry Call Reply)) (followed : IsFollowedManager rules d history) (e : Entry Call Reply) where
+module _ {G S M : Type 0} (rules : G → Rules S M) (laws : (g : G) → MatchLaws (rules g)) (d : ManagerValue G M) (history : List (Entry Call Reply)) (followed : IsFollowedManager rules d history) (e : Entry Call Reply) where
   -- an entry that gives no answer, and changes nothing
   followed-unchanged : ((id : List ℕ) (role n : ℕ) → taken_answer id role n e ≡ []) → IsFollowedManager rules d (history ++ e ∷ [])
   followed-unchanged quiet = record {
@@ -209,7 +209,7 @@ and-true true false c p q r = absurd cc
 and-true false b c p q r = absurd cc
 
 -- an entry that answers for a role, for a round
-module _ {G S M : Type 0} (rules : G → Rules S M) (laws : (g : G) → IsLawful (rules g)) (d : ManagerValue G M) (history : List (Entry Call Reply)) (followed : IsFollowedManager rules d history)
+module _ {G S M : Type 0} (rules : G → Rules S M) (laws : (g : G) → MatchLaws (rules g)) (d : ManagerValue G M) (history : List (Entry Call Reply)) (followed : IsFollowedManager rules d history)
     (id : List ℕ) (role round' : ℕ) (answer : Answer) (e : Entry Call Reply) (is : e.reply ≡ reply_of rules d id (answer_reply role round'))
     (gives : (i : List ℕ) (r n : ℕ) → taken_answer i r n e ≡ (if is_taken e.reply then option_to_list (answer_if (bytes_eq id i && role == r && round' == n) answer) else []))
     (lawful : IsLawfulManager rules (with_change rules d id (λ g m. after_answer g m role round' answer))) where
@@ -248,7 +248,7 @@ module _ {G S M : Type 0} (rules : G → Rules S M) (laws : (g : G) → IsLawful
           followed-same (rules g) m.value (λ r n. taken_answers mid r n history) (λ r n. taken_answers mid r n (history ++ e ∷ []))
           (λ r n. quiet-same mid r n history e (gives mid r n ∙ not_taken e.reply (bytes_eq id mid && role == r && round' == n) answer quiet)) follows
       step None free =
-          let present : round' ≡ round (rules g) m.value = (taken_for_the_round (rules g) m.value role round' free).1 in
+          let present : round' ≡ round (rules g) m.value = ((laws g).for_round m.value role round' free).1 in
           let accepted : is_taken e.reply ≡ true = ap is_taken (replied ∙ ap (λ o. refused_or (answer_refused o) Taken) free) in
           let free' : refusal (rules g) m.value role (round (rules g) m.value) ≡ None = subst (λ (k : ℕ). refusal (rules g) m.value role k ≡ None) present free in
           let here : taken_answers mid role (round (rules g) m.value) (history ++ e ∷ []) ≡ taken_answers mid role (round (rules g) m.value) history ++ answer ∷ [] =
@@ -269,11 +269,11 @@ module _ {G S M : Type 0} (rules : G → Rules S M) (laws : (g : G) → IsLawful
 
   followed-answer : IsFollowedManager rules (with_change rules d id (λ g m. after_answer g m role round' answer)) (history ++ e ∷ [])
   followed-answer =
-      followed-change rules laws d history followed e id (λ g m. after_answer g m role round' answer) (keeps-answer rules laws role round' answer) lawful mine
+      followed-change rules laws d history followed e id (λ g m. after_answer g m role round' answer) (keeps-answer rules (λ g. (laws g).answers) role round' answer) lawful mine
       (λ i other r n. gives i r n ∙ no_answer (is_taken e.reply) (bytes_eq id i && role == r && round' == n) answer (false-and (bytes_eq id i && role == r) (round' == n) (false-and (bytes_eq id i) (role == r) other)))
       (λ none r n. gives id r n ∙ not_taken e.reply (bytes_eq id id && role == r && round' == n) answer (reply-none none))
 
-module _ {G S M : Type 0} (rules : G → Rules S M) (laws : (g : G) → IsLawful (rules g)) where
+module _ {G S M : Type 0} (rules : G → Rules S M) (laws : (g : G) → MatchLaws (rules g)) where
   -- an entry that opens a match
   followed-open : (d : ManagerValue G M) (history : List (Entry Call Reply)) → IsFollowedManager rules d history → (e : Entry Call Reply) → ((id : List ℕ) (role n : ℕ) → taken_answer id role n e ≡ [])
       → (game : ℕ) (setup : Setup) → IsLawfulManager rules (after_open rules d game setup) → IsFollowedManager rules (after_open rules d game setup) (history ++ e ∷ [])
@@ -311,7 +311,7 @@ module _ {G S M : Type 0} (rules : G → Rules S M) (laws : (g : G) → IsLawful
       followed-answer rules laws d history followed id role n (missed broken) (record { line = line; call = Miss id role n broken; reply = r }) is (λ i role' k. refl) (lawful-after rules laws d followed.lawful (Miss id role n broken))
   followed-step d history followed line (Query id) r is = followed-unchanged rules laws d history followed (record { line = line; call = Query id; reply = r }) (λ i role' n. nothing (is_taken r))
   followed-step d history followed line (Abort id) r is =
-      followed-change rules laws d history followed (record { line = line; call = Abort id; reply = r }) id after_abort (keeps-abort rules laws) (lawful-after rules laws d followed.lawful (Abort id))
+      followed-change rules laws d history followed (record { line = line; call = Abort id; reply = r }) id after_abort (keeps-abort rules (λ g. (laws g).aborts)) (lawful-after rules laws d followed.lawful (Abort id))
       (λ m g found is_game has lawful follows.
       followed-same (rules g) (after_abort (rules g) m.value) (λ role n. taken_answers m.value.setup.id role n history) (λ role n. taken_answers m.value.setup.id role n (history ++ (record { line = line; call = Abort id; reply = r }) ∷ []))
       (λ role n. quiet-same m.value.setup.id role n history (record { line = line; call = Abort id; reply = r }) (nothing (is_taken r)))
@@ -341,7 +341,7 @@ module _ {G S M : Type 0} (rules : G → Rules S M) (laws : (g : G) → IsLawful
     run-lawful = all.lawful
 
 -- the same, from a manager without a match
-module _ {G S M : Type 0} (rules : G → Rules S M) (laws : (g : G) → IsLawful (rules g)) (d : ManagerValue G M) (empty : d.matches ≡ []) (history : List (Entry Call Reply)) (legal : IsLegalHistory (reply rules) (after rules) d history) where
+module _ {G S M : Type 0} (rules : G → Rules S M) (laws : (g : G) → MatchLaws (rules g)) (d : ManagerValue G M) (empty : d.matches ≡ []) (history : List (Entry Call Reply)) (legal : IsLegalHistory (reply rules) (after rules) d history) where
   opens : d ≡ record { games = d.games; matches = [] }
   opens = let put : List (DeskMatch M) → ManagerValue G M = λ ms. record { games = d.games; matches = ms } in ap put empty
 
@@ -356,7 +356,7 @@ module _ {G S M : Type 0} (rules : G → Rules S M) (laws : (g : G) → IsLawful
       (run-lawful rules laws d.games history (subst (λ (x : ManagerValue G M). IsLegalHistory (reply rules) (after rules) x history) opens legal))
 
 -- a manager with the history that replays to it
-module _ {G S M : Type 0} (rules : G → Rules S M) (laws : (g : G) → IsLawful (rules g)) (d : ManagerValue G M) (history : List (Entry Call Reply)) (replay : IsReplay (reply rules) (after rules) opening d history) where
+module _ {G S M : Type 0} (rules : G → Rules S M) (laws : (g : G) → MatchLaws (rules g)) (d : ManagerValue G M) (history : List (Entry Call Reply)) (replay : IsReplay (reply rules) (after rules) opening d history) where
   replay-lawful : IsLawfulManager rules d
   replay-lawful = subst (λ (x : ManagerValue G M). IsLawfulManager rules x) (sym replay.leaves) (run-lawful rules laws d.games history replay.legal)
 
@@ -366,7 +366,7 @@ module _ {G S M : Type 0} (rules : G → Rules S M) (laws : (g : G) → IsLawful
   replay-legal : ArePlayedLegally rules d
   replay-legal k x lt =
       let m = replay-lawful.matches k x lt in
-      record { game = m.game; is_game = m.is_game; legal = recorded_moves_are_legal (rules m.game) (slice_index_or d.matches k x).value m.lawful }
+      record { game = m.game; is_game = m.is_game; legal = (laws m.game).legal (slice_index_or d.matches k x).value m.lawful }
 
   pub replay-headline : (lines : ℕ) (made : List ℕ) → length made ≡ lines → sum made ≡ length history → HasHeadline rules lines d history made
   replay-headline lines made one_each counted = record {
@@ -379,7 +379,7 @@ module _ {G S M : Type 0} (rules : G → Rules S M) (laws : (g : G) → IsLawful
   }
 
 -- the same for a closed desk
-pub closed-headline : {G S M X U : Type 0} (rules : G → Rules S M) (laws : (g : G) → IsLawful (rules g)) (lines : ℕ) (object : X → ManagerValue G M) (history : X → List (Entry Call Reply)) (made : X → List ℕ) (r : Result X U)
+pub closed-headline : {G S M X U : Type 0} (rules : G → Rules S M) (laws : (g : G) → MatchLaws (rules g)) (lines : ℕ) (object : X → ManagerValue G M) (history : X → List (Entry Call Reply)) (made : X → List ℕ) (r : Result X U)
     → IfOk r (λ c. IsReplay (reply rules) (after rules) opening (object c) (history c)) → IfOk r (λ c. length (made c) ≡ lines) → IfOk r (λ c. sum (made c) ≡ length (history c))
     → IfOk r (λ c. HasHeadline rules lines (object c) (history c) (made c))
 closed-headline rules laws lines object history made (Ok c) replay one_each counted = replay-headline rules laws (object c) (history c) replay lines (made c) one_each counted

@@ -1,9 +1,10 @@
 -- The answers that were taken for one match, from its opening on.
-use Rattle.std.proofs.Common.{◌≡◌, ◌≢◌, ℕ, zero, suc, ◌+◌, ◌<◌, ◌≤◌, Bool, true, false, Option, Some, None, List, [], ◌∷◌, ◌++◌, length, set, take, refl, arith, ap, sym, ◌∙◌, subst, length-append, length-set, ◌⊎◌, inl, inr}
+use Rattle.std.proofs.Common.{◌≡◌, ◌≢◌, ℕ, zero, suc, ◌+◌, ◌<◌, ◌≤◌, Bool, true, false, eqb, Option, Some, None, List, [], ◌∷◌, ◌++◌, length, set, take, refl, arith, ap, sym, ◌∙◌, subst, length-append, ◌⊎◌, inl, inr}
 use Rattle.std.proofs.lemmas.List.{take-append-le}
+use Rattle.std.proofs.lemmas.Bool.Decides.{nat_tests}
 use Rattle.std.proofs.Math.Seq.{take-append_seam}
-use Rattle.std.specs.Prelude.{is_none, is_some, IsSome, nat_lt, ◌==◌, if◌then◌else◌, not, slice_get}
-use Rattle.game_core.specs.Play.{Rules, IsLawful}
+use Rattle.std.specs.Prelude.{is_none, is_some, nat_lt, ◌==◌, if◌then◌else◌, not, slice_get}
+use Rattle.game_core.specs.Play.{Rules}
 use Rattle.match_book.specs.Roles.{every_role, at_role, is_there, blank}
 use Rattle.match_book.specs.Judgement.{judgement, substitute}
 use Rattle.match_book.specs.Retirement.{retired_by, is_retired}
@@ -11,25 +12,73 @@ use Rattle.match_book.specs.declared.judgement.Substitution.TheVariants.{Retired
 use Rattle.match_book.specs.MatchValue.{MatchValue, state_after, move_at, error_at}
 use Rattle.match_book.specs.Phase.{stage, is_over, is_live, is_playing, still_answers, has_answered, answered_in, round, round_in}
 use Rattle.match_book.specs.Lawful.{IsLawfulMatch}
-use Rattle.match_book.specs.Steps.{new_match, refusal, turn_of, part, parts, with_answer_in, with_open_answer, with_abort, with_end_mark, after_answer, after_abort}
+use Rattle.match_book.specs.Laws.{HasPart, StartingMeans}
+use Rattle.match_book.specs.Steps.{new_match, refusal, turn_of, parts, with_answer_in, with_abort, with_end_mark, after_answer, after_abort}
 use Rattle.match_book.specs.declared.setup.Setup.{Setup}
 use Rattle.match_book.specs.declared.answer.Answer.{Answer}
 use Rattle.match_book.specs.Marks.{mark_of}
 use Rattle.match_book.specs.declared.answer.Mark.{Mark}
-use Rattle.match_book.specs.declared.answer.AnswerRefusal.{AnswerRefusal}
 use Rattle.match_book.specs.declared.answer.AnswerRefusal.TheVariants.{NoRole, Over, Stale, Twice}
 use Rattle.match_book.specs.declared.judgement.Judgement.{Judgement}
 use Rattle.match_book.specs.declared.turn.Turn.{Turn}
 use Rattle.match_book.specs.declared.phase.Cause.TheVariants.{Asked, NoLegal, NoGoal, TooLong, AllRetired}
 use Rattle.match_book.specs.declared.phase.Stage.{Stage}
 use Rattle.match_book.specs.declared.phase.Stage.TheVariants.{Starting, Playing, Stopping, Aborting}
-use Rattle.match_book.proofs.RoleTests.{every_role-at, at_role-set, at_role-other, same_or_other}
-use Rattle.match_book.proofs.Stages.{stage-by, stage-asked, starting-missing, playing-settled, not_answered-parts}
-use Rattle.match_book.proofs.TurnParts.{some_of}
-use Rattle.match_book.proofs.LawfulMatches.{none_blank, answer-judged, turn-move, turn-error}
-use Rattle.match_book.proofs.Judgements.{judgement-judged}
-use Rattle.match_book.proofs.AnswerLaws.{taken_for_the_round, no_error_means_named, still-answers}
-use Rattle.match_desk.specs.Accepted.{IsAnswered, AreTaken}
+use Rattle.match_desk.specs.Accepted.{AreTaken}
+use Rattle.match_desk.specs.Internal.MatchLaws.{MatchLaws}
+
+-- ---- lists with a place for each role
+
+same_or_other : (k r : ℕ) → (k ≡ r) ⊎ (k ≢ r)
+same_or_other k r = step (eqb k r) refl
+  where
+    same : (k r : ℕ) → eqb k r ≡ true → k ≡ r
+    same k r e = grind (arith, nat_tests)
+
+    other : (k r : ℕ) → eqb k r ≡ false → k ≢ r
+    other k r e = grind (arith, nat_tests)
+
+    step : (b : Bool) → eqb k r ≡ b → (k ≡ r) ⊎ (k ≢ r)
+    step true e = inl (same k r e)
+    step false e = inr (other k r e)
+
+none_blank : {A : Type 0} (n r : ℕ) (x : A) → at_role (blank n) r ≡ Some x → ⊥
+none_blank zero r x e = cc
+none_blank (suc n) zero x e = cc
+none_blank (suc n) (suc r) x e = none_blank n r x e
+
+at_role-set : {A : Type 0} (xs : List (Option A)) (r : ℕ) (x : Option A) → r < length xs → at_role (set xs r x) r ≡ x
+at_role-set [] r x lt = absurd (omega arith)
+at_role-set (y ∷ ys) zero x lt = refl
+at_role-set (y ∷ ys) (suc r) x lt = at_role-set ys r x (omega arith)
+
+at_role-other : {A : Type 0} (xs : List (Option A)) (r k : ℕ) (x : Option A) → k ≢ r → at_role (set xs r x) k ≡ at_role xs k
+at_role-other [] r k x ne = refl
+at_role-other (y ∷ ys) zero zero x ne = absurd (ne refl)
+at_role-other (y ∷ ys) zero (suc k) x ne = refl
+at_role-other (y ∷ ys) (suc r) zero x ne = refl
+at_role-other (y ∷ ys) (suc r) (suc k) x ne = at_role-other ys r k x (λ e. ne (ap suc e))
+
+-- ---- the stage and the round of a match
+
+-- the stage depends on the setup, the turns, the START marks and whether an abort was asked
+stage-by : {S M : Type 0} (g : Rules S M) (m n : MatchValue M) → n.setup ≡ m.setup → n.abort_asked ≡ m.abort_asked → n.start_marks ≡ m.start_marks → n.turns ≡ m.turns → stage g n ≡ stage g m
+unfolding stage
+stage-by g m n setup asked starts turns = rw (setup, asked, starts, turns) refl
+
+stage-asked : {S M : Type 0} (g : Rules S M) (m : MatchValue M) → m.abort_asked ≡ true → stage g m ≡ Aborting Asked
+unfolding stage
+stage-asked g m asked = rw asked refl
+
+-- a role that has not answered in play still answers, and has no open answer
+not_answered-parts : {M : Type 0} (m : MatchValue M) (k : ℕ) → answered_in Playing m k ≡ false → (still_answers m k ≡ true) × (is_there m.open_answers k ≡ false)
+not_answered-parts m k free = step (still_answers m k) refl free
+  where
+    step : (b : Bool) → still_answers m k ≡ b → (if b then is_there m.open_answers k else true) ≡ false → (still_answers m k ≡ true) × (is_there m.open_answers k ≡ false)
+    step true is free = (is, free)
+    step false is free = absurd cc
+
+-- ---- the answers of a match
 
 -- The answers that were taken for a match, by role and round: one for each role in each recorded turn, retired roles apart, and one
 -- for each open answer, and none for a later round.
@@ -68,16 +117,16 @@ round_in-past (Aborting TooLong) t ne = omega arith
 round_in-past (Aborting AllRetired) t ne = omega arith
 
 -- once all START marks are there, the round is past the recorded turns
-round-past : {S M : Type 0} (g : Rules S M) (m : MatchValue M) → every_role g.roles (is_there m.start_marks) ≡ true → length m.turns + 1 ≤ round g m
-round-past g m all =
-    let not_start : stage g m ≢ Starting = λ e. let w : true ≡ false = sym all ∙ starting-missing g m e in absurd cc in
+round-past : {S M : Type 0} (g : Rules S M) → StartingMeans g → (m : MatchValue M) → every_role g.roles (is_there m.start_marks) ≡ true → length m.turns + 1 ≤ round g m
+round-past g starting m all =
+    let not_start : stage g m ≢ Starting = λ e. let w : true ≡ false = sym all ∙ ((starting m).0 e).1 in absurd cc in
     subst (λ (b : Bool). length m.turns + 1 ≤ round_in (stage g m) b (length m.turns)) (sym all) (round_in-past (stage g m) (length m.turns) not_start)
 
-round-turns : {S M : Type 0} (g : Rules S M) (m : MatchValue M) → IsLawfulMatch g m → (turn : ℕ) → turn < length m.turns → turn + 1 < round g m
-round-turns g m lawful turn lt = step (every_role g.roles (is_there m.start_marks)) refl
+round-turns : {S M : Type 0} (g : Rules S M) → StartingMeans g → (m : MatchValue M) → IsLawfulMatch g m → (turn : ℕ) → turn < length m.turns → turn + 1 < round g m
+round-turns g starting m lawful turn lt = step (every_role g.roles (is_there m.start_marks)) refl
   where
     step : (b : Bool) → every_role g.roles (is_there m.start_marks) ≡ b → turn + 1 < round g m
-    step true is = let past = round-past g m is in omega arith
+    step true is = let past = round-past g starting m is in omega arith
     step false is = let none = lawful.turns_after_start is in absurd (omega (arith, ap length none))
 
 round-playing : {S M : Type 0} (g : Rules S M) (m : MatchValue M) → stage g m ≡ Playing → round g m ≡ length m.turns + 1
@@ -120,7 +169,7 @@ error_at-last (x ∷ xs) t role = error_at-last xs t role
 below_or_last : (k n : ℕ) → k < n + 1 → (k ≡ n) ⊎ (k < n)
 below_or_last k n lt = grind arith
 
-module _ {S M : Type 0} (g : Rules S M) (laws : IsLawful g) (m : MatchValue M) (lawful : IsLawfulMatch g m) (taken : ℕ → ℕ → List Answer) (follows : IsFollowed g m taken) where
+module _ {S M : Type 0} (g : Rules S M) (laws : MatchLaws g) (m : MatchValue M) (lawful : IsLawfulMatch g m) (taken : ℕ → ℕ → List Answer) (follows : IsFollowed g m taken) where
   -- An abort drops the open answers.
   pub followed-after_abort : IsFollowed g (after_abort g m) taken
   followed-after_abort = step (is_live (stage g m)) refl
@@ -131,7 +180,7 @@ module _ {S M : Type 0} (g : Rules S M) (laws : IsLawful g) (m : MatchValue M) (
       past : (at : Stage) → stage g m ≡ at → is_live at ≡ true → (b : Bool) → every_role g.roles (is_there m.start_marks) ≡ b → round_in at b (length m.turns) ≤ round_in (Aborting Asked) b (length m.turns)
       past Starting is live b all = omega arith
       past Playing is live true all = omega arith
-      past Playing is live false all = let w : true ≡ false = sym (playing-settled g m is).0 ∙ all in absurd cc
+      past Playing is live false all = let w : true ≡ false = sym ((laws.playing m).0 is).started ∙ all in absurd cc
       past Stopping is live b all = absurd cc
       past (Aborting c) is live b all = absurd cc
 
@@ -152,12 +201,12 @@ module _ {S M : Type 0} (g : Rules S M) (laws : IsLawful g) (m : MatchValue M) (
   module _ (role : ℕ) (answer : Answer) (free : refusal g m role (round g m) ≡ None) (new : ℕ → ℕ → List Answer) (here : new role (round g m) ≡ taken role (round g m) ++ answer ∷ [])
       (others : (r n : ℕ) → (r ≢ role) ⊎ (n ≢ round g m) → new r n ≡ taken r n) where
     is_role : role < g.roles
-    is_role = (taken_for_the_round g m role (round g m) free).0
+    is_role = (laws.for_round m role (round g m) free).0
 
     -- the recorded turns keep their answers
     recorded-same : (turn r : ℕ) → turn < length m.turns → r < g.roles → AreTaken (retired_by m.setup.strikes (take turn m.turns) r) g m.turns turn r (new r (turn + 1))
     recorded-same turn r lt within =
-        let before = round-turns g m lawful turn lt in
+        let before = round-turns g laws.starting m lawful turn lt in
         subst (λ (l : List Answer). AreTaken (retired_by m.setup.strikes (take turn m.turns) r) g m.turns turn r l) (sym (others r (turn + 1) (inr (λ e. omega arith)))) (follows.recorded turn r lt within)
 
     later-same : (r n : ℕ) → round g m < n → new r n ≡ []
@@ -182,11 +231,11 @@ module _ {S M : Type 0} (g : Rules S M) (laws : IsLawful g) (m : MatchValue M) (
       round_is : round g m ≡ length m.turns + 1
       round_is = round-playing g m playing
 
-      open_here : at_role m.open_answers role ≡ None
-      open_here = is_none-none (at_role m.open_answers role) (not_answered-parts m role (subst (λ (x : Stage). answered_in x m role ≡ false) playing (not_answered g m role (round g m) free))).1
+      unanswered : (still_answers m role ≡ true) × (is_there m.open_answers role ≡ false)
+      unanswered = not_answered-parts m role (subst (λ (x : Stage). answered_in x m role ≡ false) playing (not_answered g m role (round g m) free))
 
-      still : still_answers m role ≡ true
-      still = still-answers g m role (not_answered g m role (round g m) free) playing
+      open_here : at_role m.open_answers role ≡ None
+      open_here = is_none-none (at_role m.open_answers role) unanswered.1
 
       none_before : taken role (length m.turns + 1) ≡ []
       none_before = follows.open_none playing role is_role open_here
@@ -224,28 +273,19 @@ module _ {S M : Type 0} (g : Rules S M) (laws : IsLawful g) (m : MatchValue M) (
               later-same r k (subst (λ (x : Stage). round_in x (every_role g.roles (is_there m.start_marks)) (length m.turns) < k) same after);
         })
 
-        module _ (all : every_role g.roles (answered_in Playing (record m { open_answers = set m.open_answers role (Some j) })) ≡ true) where
+        module _ (has_part : (r : ℕ) → r < g.roles → HasPart g (record m { open_answers = set m.open_answers role (Some j) }) r) where
           t : Turn M
           t = turn_of (parts g (record m { open_answers = set m.open_answers role (Some j) }))
 
           -- a retired role has no open answer, and none was taken
           retired-none : (r : ℕ) → r < g.roles → is_retired m r ≡ true → new r (length m.turns + 1) ≡ []
           retired-none r within out =
-              let other : r ≢ role = λ e. let w : false ≡ true = sym (ap not (subst (λ (k : ℕ). is_retired m k ≡ true) e out)) ∙ still in cc in
+              let other : r ≢ role = λ e. let w : false ≡ true = sym (ap not (subst (λ (k : ℕ). is_retired m k ≡ true) e out)) ∙ unanswered.0 in cc in
               others r (length m.turns + 1) (inl other) ∙ follows.open_none playing r within (none (at_role m.open_answers r) refl)
             where
               none : (o : Option (Judgement M)) → at_role m.open_answers r ≡ o → at_role m.open_answers r ≡ None
               none None e = e
               none (Some i) e = absurd (let w : false ≡ true = sym (ap not out) ∙ (lawful.judged r i within e).0 in cc)
-
-          -- a role that is not retired has an open answer
-          more-there : (r : ℕ) → r < g.roles → is_retired m r ≡ false → is_there more r ≡ true
-          unfolding more
-          more-there r within in' = step (is_retired m r) in' (every_role-at g.roles r (answered_in Playing (record m { open_answers = set m.open_answers role (Some j) })) all within)
-            where
-              step : (b : Bool) → b ≡ false → (if not b then is_there (set m.open_answers role (Some j)) r else true) ≡ true → is_there (set m.open_answers role (Some j)) r ≡ true
-              step true e there = absurd cc
-              step false e there = there
 
           -- each role of the new turn
           last-answered : (r : ℕ) → r < g.roles → AreTaken (retired_by m.setup.strikes (take (length m.turns) (m.turns ++ t ∷ [])) r) g (m.turns ++ t ∷ []) (length m.turns) r (new r (length m.turns + 1))
@@ -257,21 +297,20 @@ module _ {S M : Type 0} (g : Rules S M) (laws : IsLawful g) (m : MatchValue M) (
                   → AreTaken b g (m.turns ++ turn_of (parts g (record m { open_answers = set m.open_answers role (Some j) })) ∷ []) (length m.turns) r (new r (length m.turns + 1))
               step true out = retired-none r within out
               step false in' =
-                  let found = some_of (at_role (set m.open_answers role (Some j)) r) (more-there r within in') in
-                  let one = more-one r found.0 within found.1 in
-                  let before : take (length m.turns) (m.turns ++ t ∷ []) ≡ m.turns = take-append_seam m.turns (t ∷ []) in
-                  let given : part g (record m { open_answers = set m.open_answers role (Some j) }) r ≡ Some found.0 =
-                  ap (λ b. if not b then at_role (set m.open_answers role (Some j)) r else substitute (g.legal (state_after g m.turns) r) Retired) in' ∙ found.1
+                  let here = has_part r within in
+                  let open' : at_role (set m.open_answers role (Some j)) r ≡ Some here.judged =
+                  sym (ap (λ b. if not b then at_role (set m.open_answers role (Some j)) r else substitute (g.legal (state_after g m.turns) r) Retired) in') ∙ here.is_part
                   in
-                  let judged = judgement-judged g (state_after g m.turns) role answer j is in
+                  let one = more-one r here.judged within open' in
+                  let before : take (length m.turns) (m.turns ++ t ∷ []) ≡ m.turns = take-append_seam m.turns (t ∷ []) in
                   record {
                     answer = one.0;
                     one = one.1;
-                    judged = found.0;
+                    judged = here.judged;
                     is_judgement = ap (λ (l : List (Turn M)). judgement g (state_after g l) r one.0) before ∙ one.2;
-                    move_is = move_at-last m.turns t r ∙ turn-move g laws m lawful playing role is_role j still judged all r within found.0 given;
-                    error_is = error_at-last m.turns t r ∙ turn-error g laws m lawful playing role is_role j still judged all r within found.0 given;
-                    no_error = no_error_means_named g (state_after g m.turns) r one.0 found.0 one.2;
+                    move_is = move_at-last m.turns t r ∙ here.move;
+                    error_is = error_at-last m.turns t r ∙ here.error;
+                    no_error = laws.named (state_after g m.turns) r one.0 here.judged one.2;
                   }
 
           before-answered : (turn r : ℕ) → turn < length m.turns → r < g.roles → AreTaken (retired_by m.setup.strikes (take turn (m.turns ++ t ∷ [])) r) g (m.turns ++ t ∷ []) turn r (new r (turn + 1))
@@ -295,8 +334,8 @@ module _ {S M : Type 0} (g : Rules S M) (laws : IsLawful g) (m : MatchValue M) (
           followed-turn : (n : MatchValue M) → n ≡ record m { turns = m.turns ++ t ∷ []; open_answers = blank g.roles } → IsFollowed g n new
           followed-turn n now =
               let long : length (m.turns ++ t ∷ []) ≡ length m.turns + 1 = length-append m.turns (t ∷ []) in
-              let started : every_role g.roles (is_there m.start_marks) ≡ true = (playing-settled g m playing).0 in
-              let past = round-past g (record m { turns = m.turns ++ t ∷ []; open_answers = blank g.roles }) started in
+              let started : every_role g.roles (is_there m.start_marks) ≡ true = ((laws.playing m).0 playing).started in
+              let past = round-past g laws.starting (record m { turns = m.turns ++ t ∷ []; open_answers = blank g.roles }) started in
               subst (λ (x : MatchValue M). IsFollowed g x new) (sym now) (record {
                 recorded = λ turn r lt within.
                     elim (below_or_last turn (length m.turns) (omega arith)) [
@@ -308,16 +347,6 @@ module _ {S M : Type 0} (g : Rules S M) (laws : IsLawful g) (m : MatchValue M) (
                 later = λ r k after. later-same r k (omega (arith, round_is));
               })
 
-      followed-judged : (o : Option (Judgement M)) → judgement g (state_after g m.turns) role answer ≡ o → IsSome o → IsFollowed g (with_open_answer g m role o) new
-      unfolding t
-      followed-judged None is some = absurd cc
-      followed-judged (Some j) is some = step (every_role g.roles (answered_in Playing (record m { open_answers = set m.open_answers role (Some j) }))) refl
-        where
-          step : (all : Bool) → every_role g.roles (answered_in Playing (record m { open_answers = set m.open_answers role (Some j) })) ≡ all
-              → IsFollowed g (if all then record m { turns = m.turns ++ turn_of (parts g (record m { open_answers = set m.open_answers role (Some j) })) ∷ []; open_answers = blank g.roles } else record m { open_answers = set m.open_answers role (Some j) }) new
-          step true all = followed-turn j is all (record m { turns = m.turns ++ turn_of (parts g (record m { open_answers = set m.open_answers role (Some j) })) ∷ []; open_answers = blank g.roles }) refl
-          step false missing = followed-open j is (record m { open_answers = set m.open_answers role (Some j) }) refl
-
     -- an answer to STOP or ABORT
     followed-end : (mark : Mark) → stage g m ≢ Playing → is_playing (stage g m) ≡ false → IsFollowed g (with_end_mark m role mark) new
     followed-end mark out not_playing =
@@ -325,26 +354,31 @@ module _ {S M : Type 0} (g : Rules S M) (laws : IsLawful g) (m : MatchValue M) (
         let rounds : round g (with_end_mark m role mark) ≡ round g m = ap (λ (x : Stage). round_in x (every_role g.roles (is_there m.start_marks)) (length m.turns)) same in
         followed-mark (with_end_mark m role mark) refl refl (lawful.answers_in_play not_playing) (omega (arith, rounds)) (λ e. absurd (out (sym same ∙ e)))
 
-    -- by what the match is doing
-    followed-in : (at : Stage) → stage g m ≡ at → IsFollowed g (with_answer_in at g m role answer) new
-    followed-in Starting is =
-        followed-mark (with_answer_in Starting g m role answer) refl refl (lawful.answers_in_play (ap is_playing is)) (starts is) (λ _. starts-below is)
-      where
-        starts-zero : stage g m ≡ Starting → round g m ≡ 0
-        starts-zero e = ap (λ (x : Stage). round_in x (every_role g.roles (is_there m.start_marks)) (length m.turns)) e
+    -- an answer to START
+    followed-start : stage g m ≡ Starting → IsFollowed g (with_answer_in Starting g m role answer) new
+    followed-start is =
+        let first : round g m ≡ 0 = ap (λ (x : Stage). round_in x (every_role g.roles (is_there m.start_marks)) (length m.turns)) is in
+        followed-mark (with_answer_in Starting g m role answer) refl refl (lawful.answers_in_play (ap is_playing is)) (omega (arith, first)) (λ _. omega (arith, first))
 
-        starts : stage g m ≡ Starting → round g m ≤ round g (with_answer_in Starting g m role answer)
-        starts e = omega (arith, starts-zero e)
-
-        starts-below : stage g m ≡ Starting → round g m < length m.turns + 1
-        starts-below e = omega (arith, starts-zero e)
-    followed-in Playing is = followed-judged is (judgement g (state_after g m.turns) role answer) refl (answer-judged g laws m lawful is role is_role answer)
-    followed-in Stopping is = followed-end (mark_of answer) (λ e. let w : Stopping ≡ Playing = sym is ∙ e in absurd cc) (ap is_playing is)
-    followed-in (Aborting c) is = followed-end (mark_of answer) (λ e. let w : Aborting c ≡ Playing = sym is ∙ e in absurd cc) (ap is_playing is)
+    -- the match after the answer, by what it is doing
+    after_is : (at : Stage) → stage g m ≡ at → IsFollowed g (with_answer_in at g m role answer) new → IsFollowed g (after_answer g m role (round g m) answer) new
+    after_is at is followed =
+        let now : after_answer g m role (round g m) answer ≡ with_answer_in at g m role answer =
+        ap (λ o. if is_none o then with_answer_in (stage g m) g m role answer else m) free ∙ ap (λ (x : Stage). with_answer_in x g m role answer) is
+        in
+        subst (λ (x : MatchValue M). IsFollowed g x new) (sym now) followed
 
     pub followed-after_answer : IsFollowed g (after_answer g m role (round g m) answer) new
-    followed-after_answer = step (refusal g m role (round g m)) free
+    unfolding t
+    followed-after_answer = by (stage g m) refl
       where
-        step : (o : Option AnswerRefusal) → o ≡ None → IsFollowed g (if is_none o then with_answer_in (stage g m) g m role answer else m) new
-        step None e = followed-in (stage g m) refl
-        step (Some f) e = absurd cc
+        by : (at : Stage) → stage g m ≡ at → IsFollowed g (after_answer g m role (round g m) answer) new
+        by Starting is = after_is Starting is (followed-start is)
+        by Playing is =
+            let played = laws.in_play m role (round g m) answer lawful is free in
+            elim played.opened_or_recorded [
+              | inl opened ↦ followed-open is played.judged played.is_judgement (after_answer g m role (round g m) answer) opened
+              | inr recorded ↦ followed-turn is played.judged played.is_judgement recorded.1 (after_answer g m role (round g m) answer) recorded.0
+            ]
+        by Stopping is = after_is Stopping is (followed-end (mark_of answer) (λ e. let w : Stopping ≡ Playing = sym is ∙ e in absurd cc) (ap is_playing is))
+        by (Aborting c) is = after_is (Aborting c) is (followed-end (mark_of answer) (λ e. let w : Aborting c ≡ Playing = sym is ∙ e in absurd cc) (ap is_playing is))

@@ -4,7 +4,7 @@ use Rattle.std.proofs.lemmas.List.{length-map}
 use Rattle.std.proofs.lemmas.List.Elements.{All-map}
 use Rattle.std.specs.Prelude.{map, is_none, slice_set, option_map, unwrap_or, if◌then◌else◌}
 use Rattle.std.specs.Global.{Global}
-use Rattle.game_core.specs.Play.{Rules, IsLawful}
+use Rattle.game_core.specs.Play.{Rules}
 use Rattle.match_book.specs.MatchValue.{MatchValue, state_after}
 use Rattle.match_book.specs.Lawful.{IsLawfulMatch}
 use Rattle.match_book.specs.Roles.{every_role, blank}
@@ -15,7 +15,7 @@ use Rattle.match_book.specs.declared.phase.Stage.{Stage}
 use Rattle.match_book.specs.declared.phase.Stage.TheVariants.{Starting, Playing, Stopping, Aborting}
 use Rattle.match_book.specs.declared.setup.Setup.{Setup}
 use Rattle.match_book.specs.declared.answer.Answer.{Answer}
-use Rattle.match_book.proofs.AnswerLaws.{answers_keep_lawful, abort_keeps_lawful}
+use Rattle.match_book.specs.Laws.{AnswersKeepLawful, AbortKeepsLawful}
 use Rattle.match_desk.specs.ManagerValue.{DeskMatch, ManagerValue, has_id, game_of, IsMatchOf, IsLawfulManager}
 use Rattle.match_book.specs.Names.{IsLawfulSetup}
 use Rattle.match_desk.specs.Internal.Slots.{AreKept}
@@ -69,15 +69,15 @@ pub record IsKeptBy {S M : Type 0} (g : Rules S M) (f : Rules S M → MatchValue
   pub lawful : (m : MatchValue M) → IsLawfulMatch g m → IsLawfulMatch g (f g m)
   pub setup : (m : MatchValue M) → (f g m).setup ≡ m.setup
 
-pub keeps-answer : {G S M : Type 0} (rules : G → Rules S M) → ((g : G) → IsLawful (rules g)) → (role round : ℕ) (answer : Answer) (g : G) → IsKeptBy (rules g) (λ r m. after_answer r m role round answer)
-keeps-answer rules laws role round answer g = record {
-  lawful = λ m lawful. answers_keep_lawful (rules g) (laws g) m role round answer lawful;
+pub keeps-answer : {G S M : Type 0} (rules : G → Rules S M) → ((g : G) → AnswersKeepLawful (rules g)) → (role round : ℕ) (answer : Answer) (g : G) → IsKeptBy (rules g) (λ r m. after_answer r m role round answer)
+keeps-answer rules keep role round answer g = record {
+  lawful = λ m lawful. keep g m role round answer lawful;
   setup = λ m. after_answer-setup (rules g) m role round answer;
 }
 
-pub keeps-abort : {G S M : Type 0} (rules : G → Rules S M) → ((g : G) → IsLawful (rules g)) → (g : G) → IsKeptBy (rules g) after_abort
-keeps-abort rules laws g = record {
-  lawful = λ m lawful. abort_keeps_lawful (rules g) (laws g) m lawful;
+pub keeps-abort : {G S M : Type 0} (rules : G → Rules S M) → ((g : G) → AbortKeepsLawful (rules g)) → (g : G) → IsKeptBy (rules g) after_abort
+keeps-abort rules keep g = record {
+  lawful = λ m lawful. keep g m lawful;
   setup = λ m. after_abort-setup (rules g) m;
 }
 

@@ -7,8 +7,9 @@ use Rattle.std.proofs.lemmas.Bool.Decides.{nat_tests}
 use Rattle.std.specs.Prelude.{All, nat_le, is_none, slice_get, option_map, bytes_eq, if◌then◌else◌}
 use Rattle.std.specs.Global.{Global}
 use Rattle.std.specs.Map.{lookup}
-use Rattle.game_core.specs.Play.{Rules, IsLawful}
+use Rattle.game_core.specs.Play.{Rules}
 use Rattle.match_book.specs.MatchValue.{GameMatch}
+use Rattle.match_book.specs.Laws.{NewMatchIsLawful}
 use Rattle.match_book.specs.Names.{max_strikes}
 use Rattle.match_book.specs.Steps.{new_match}
 use Rattle.match_book.specs.declared.setup.Setup.{Setup}
@@ -23,7 +24,7 @@ use Rattle.match_desk.proofs.LawfulSteps.{lawful-after_open}
 at_most : (m n : ℕ) → nat_le m n ≡ true → m ≤ n
 at_most m n e = grind (arith, nat_tests)
 
-module _ {G S M : Type 0} (rules : G → Rules S M) (laws : (g : G) → IsLawful (rules g)) (games : List G) (entries : List (Vec ℕ Global × Slot G S M)) (kept : AreKept rules games entries)
+module _ {G S M : Type 0} (rules : G → Rules S M) (games : List G) (entries : List (Vec ℕ Global × Slot G S M)) (kept : AreKept rules games entries)
     (d : ManagerValue G M) (view : ◌≡◌ {A = ManagerValue G M} (record { games = games; matches = desk_matches entries }) d) (game : ℕ) (setup : Setup) (opens : open_refusal rules d game setup ≡ None) where
   pub is_openable : IsOpenable rules d game setup
   is_openable = openable rules d game setup opens
@@ -76,13 +77,13 @@ module _ {G S M : Type 0} (rules : G → Rules S M) (laws : (g : G) → IsLawful
         ∙ (ap (λ (x : ManagerValue G M). with_new_match rules x game setup (slice_get x.games game)) view
         ∙ sym (ap (λ o. if is_none o then with_new_match rules d game setup (slice_get d.games game) else d) opens)))
 
-    pub kept-opened : AreKept rules games entries'
-    kept-opened = record {
+    pub kept-opened : ((x : G) → NewMatchIsLawful (rules x)) → AreKept rules games entries'
+    kept-opened new = record {
       slots = subst (λ (l : List (Vec ℕ Global × Slot G S M)). All (IsSlotOf games) l) (sym written)
           (All-push (IsSlotOf games) entries (key, record { game = game; held = held }) kept.slots (record {
             id_is = key_is ∙ ap (λ (x : GameMatch G M). x.value.setup.id) (sym held_is);
             game_is = sym read ∙ ap (λ (x : GameMatch G M). Some x.game) (sym held_is);
           }));
       lawful = subst (λ (x : ManagerValue G M). IsLawfulManager rules x) (sym value-opened)
-          (lawful-after_open rules laws d (subst (λ (x : ManagerValue G M). IsLawfulManager rules x) view kept.lawful) game setup);
+          (lawful-after_open rules new d (subst (λ (x : ManagerValue G M). IsLawfulManager rules x) view kept.lawful) game setup);
     }

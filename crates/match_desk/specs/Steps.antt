@@ -32,6 +32,10 @@ is_refused (Refused reason) = true
 abbrev pub setup_of : List ℕ → ℕ → ℕ → ℕ → List (List ℕ) → Setup
 setup_of id start play strikes players = record { id = id; start = start; play = play; strikes = strikes; players = players }
 
+-- the `Open` that asks for this setup
+abbrev pub open_call : ℕ → Setup → Call
+open_call game setup = Open setup.id game setup.start setup.play setup.strikes setup.players
+
 -- the answer that a `Miss` stands for
 abbrev pub missed : Bool → Answer
 missed broken = if broken then Broken else Silent

@@ -1,8 +1,8 @@
 //! The setup that an `Open` carries.
 ghost use Rattle.std.specs.Prelude.{◌≡◌, ◌≤◌, IfOk};
 ghost use Rattle.match_book.specs.Names.{max_strikes};
-ghost use Rattle.match_desk.specs.Internal.AskedSetups.{asked_setup};
-ghost use Rattle.match_desk.specs.declared.call.Call.TheVariants.{Open};
+ghost use Rattle.match_desk.specs.Steps.{open_call};
+ghost use Rattle.match_desk.specs.Internal.AskedSetups.{asked_setup, IsOpen};
 
 use crate::call::Call;
 use game_core::{Text, Texts};
@@ -31,30 +31,49 @@ pub fn copy_texts(alloc: Global, texts: &[Text]) -> Result<Texts, AllocError>
     Ok(Texts { items })
 }
 
+/// The `Open` that asks for a match of the game with this number, with this setup.
+pub fn open_call(game: usize, setup: Setup) -> Call
+    ensures { result ≡ open_call game setup }
+{
+    Call::Open {
+        id: setup.id,
+        game,
+        start: setup.start,
+        play: setup.play,
+        strikes: u32::from(setup.strikes),
+        players: setup.players,
+    }
+}
+
 impl<'a> AskedSetup<'a> {
-    pub fn new(
-        id: &'a Text,
-        game: usize,
-        start: u32,
-        play: u32,
-        strikes: u32,
-        players: &'a Texts,
-    ) -> AskedSetup<'a>
-        ensures { result ≡ record { id = id.entry; game = game; start = start; play = play; strikes = strikes; players = players.entry } }
+    /// The setup that the call asks for.
+    pub fn of(call: &'a Call) -> AskedSetup<'a>
+        requires { IsOpen call.now }
+        ensures { call.now ≡ open_call result.game (asked_setup result) }
     {
-        AskedSetup {
-            id,
-            game,
-            start,
-            play,
-            strikes,
-            players,
+        match call {
+            Call::Open {
+                id,
+                game,
+                start,
+                play,
+                strikes,
+                players,
+            } => AskedSetup {
+                id,
+                game: *game,
+                start: *start,
+                play: *play,
+                strikes: *strikes,
+                players,
+            },
+            _ => unreachable!(),
         }
     }
 
     /// An `Open` that asks for this setup, with copies of the texts.
     pub fn to_call(&self, alloc: Global) -> Result<Call, AllocError>
-        ensures { IfOk result (λ call. call ≡ Open self.now.id.now self.now.game self.now.start self.now.play self.now.strikes self.now.players.now) }
+        ensures { IfOk result (λ call. call ≡ open_call self.now.game (asked_setup self.now)) }
     {
         let AskedSetup {
             id,

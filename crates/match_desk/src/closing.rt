@@ -5,6 +5,7 @@ ghost use Rattle.call_history.specs.RingLines.{AreEndsOf};
 ghost use Rattle.call_history.specs.RingClosing.{IsClosed, IsCauseOf, HandsBack};
 ghost use Rattle.match_desk.specs.Headline.{HasHeadline};
 
+use crate::laws::match_laws;
 use crate::manager::Manager;
 use call_history::{
     CloseFault, Closed, LineEnd, LockDesk, LockLine, RingDesk, RingUnclosed, Unclosed,
@@ -32,6 +33,7 @@ pub fn close_desk<G: Game, L: Ledger>(
     ensures missing { IfErr result (λ u. (n : ℕ) × (u.cause ≡ CloseFault.MissingLine n) × IsLowestMissing (numbers lines.items) desk.lines n) }
     ensures back { IfErr result (λ u. (u.desk ≡ desk) × (u.lines ≡ lines)) }
 {
+    match_laws::<G>();
     desk.close(lines)
 }
 
@@ -52,5 +54,6 @@ pub fn close_rings<G: Game>(
     ensures cause { IfErr result (λ u. IsCauseOf u.desk u.ends.items u.cause) }
     ensures back { IfErr result (λ u. HandsBack desk u.desk ends.items u.ends.items) }
 {
+    match_laws::<G>();
     desk.close(ends)
 }

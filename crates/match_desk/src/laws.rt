@@ -1,7 +1,9 @@
 //! Laws of the definitions.
 ghost use Rattle.call_history.specs.History.{run, IsLegalHistory};
 ghost use Rattle.std.specs.Prelude.{◌≡◌, []};
+ghost use Rattle.game_core.specs.Play.{Rules};
 ghost use Rattle.match_desk.specs.ManagerValue.{IsLawfulManager};
+ghost use Rattle.match_desk.specs.Internal.MatchLaws.{MatchLaws};
 ghost use Rattle.match_desk.specs.Steps.{reply, after};
 ghost use Rattle.match_desk.specs.Accepted.{AreAccounted};
 
@@ -9,6 +11,24 @@ use crate::call::{Call, Reply};
 use crate::manager::Manager;
 use call_history::Entry;
 use game_core::Game;
+use match_book::laws::{
+    abort_keeps_lawful, answers_in_play, answers_keep_lawful, new_match_is_lawful,
+    no_error_means_named, recorded_moves_are_legal, stages_are_settled, taken_for_the_round,
+};
+
+/// What is known of each match of a game of this type.
+pub(crate) fn match_laws<G: Game>()
+    ensures { (game : G) → MatchLaws (G.rules game) }
+{
+    new_match_is_lawful::<G>();
+    answers_keep_lawful::<G>();
+    abort_keeps_lawful::<G>();
+    recorded_moves_are_legal::<G>();
+    no_error_means_named::<G>();
+    answers_in_play::<G>();
+    taken_for_the_round::<G>();
+    stages_are_settled::<G>();
+}
 
 /// The accepted-answer law. Take a history that is legal from an opening, a recorded turn of a match, and a role that the earlier
 /// turns do not retire. Exactly one entry is a taken answer for them: a `Submit` or a `Miss` for the match's id, the role and the
@@ -18,7 +38,9 @@ pub fn answers_are_accounted<G: Game>(opening: &Manager<G>, history: &[Entry<Cal
     requires opening { opening.now.matches ≡ [] }
     requires legal { IsLegalHistory (reply G.rules) (after G.rules) opening.now history.now }
     ensures { AreAccounted G.rules (run (after G.rules) opening.now history.now) history.now }
-{}
+{
+    match_laws::<G>();
+}
 
 /// A legal history from an opening leaves a lawful manager: each match is a lawful match of its game, with a setup that can be
 /// opened and an id of its own.
@@ -26,4 +48,6 @@ pub fn matches_are_lawful<G: Game>(opening: &Manager<G>, history: &[Entry<Call, 
     requires opening { opening.now.matches ≡ [] }
     requires legal { IsLegalHistory (reply G.rules) (after G.rules) opening.now history.now }
     ensures { IsLawfulManager G.rules (run (after G.rules) opening.now history.now) }
-{}
+{
+    match_laws::<G>();
+}

@@ -12,6 +12,7 @@ pub mod laws;
 mod manager;
 mod slot;
 
+pub use asked_setup::open_call;
 pub use call::{Call, Refusal, Reply};
 pub use closing::{close_desk, close_rings};
 pub use manager::Manager;

@@ -15,6 +15,7 @@ use crate::slot::{self, Slot};
 use call_history::Object;
 use game_core::Game;
 use indexmap::IndexMap;
+use match_book::laws::{abort_keeps_lawful, answers_keep_lawful, new_match_is_lawful};
 use match_book::{LentAnswer, Match, are_clocks, are_names, is_name, is_strikes};
 use std::alloc::{AllocError, Global};
 use std::marker::Model;
@@ -159,6 +160,7 @@ impl<G: Game> Manager<G> {
         ensures err { OnErr result (self.new ≡ self.old) }
         ensures accepted { OnErr result (open_refusal G.rules self.old asked.now.game (asked_setup asked.now) ≡ None) }
     {
+        new_match_is_lawful::<G>();
         if self.open_refusal(asked).is_some() {
             return Ok(());
         }
@@ -231,6 +233,7 @@ impl<G: Game> Manager<G> {
         ensures accepted { OnErr result (is_refused (reply_of G.rules self.old id.now (answer_reply role round)) ≡ false) }
         ensures memory { OnErr result (AnswerWantsMemory G.rules self.old id.now role) }
     {
+        answers_keep_lawful::<G>();
         let Some(slot) = self.matches.get_mut(id) else {
             return Ok(());
         };
@@ -242,6 +245,7 @@ impl<G: Game> Manager<G> {
     fn take_abort(&mut self, id: &[u8])
         ensures { self.new ≡ with_change G.rules self.old id.now after_abort }
     {
+        abort_keeps_lawful::<G>();
         let Some(slot) = self.matches.get_mut(id) else {
             return;
         };
@@ -272,14 +276,7 @@ impl<G: Game> Object for Manager<G> {
         ensures memory { OnErr result (CarriesTexts (reply G.rules self.now call.now)) }
     {
         match call {
-            Call::Open {
-                id,
-                game,
-                start,
-                play,
-                strikes,
-                players,
-            } => Ok(self.open_reply(&AskedSetup::new(id, *game, *start, *play, *strikes, players))),
+            Call::Open { .. } => Ok(self.open_reply(&AskedSetup::of(call))),
             Call::Next { id, role } => self.next_reply(alloc, id.as_slice(), *role),
             Call::Submit {
                 id,
@@ -307,17 +304,7 @@ impl<G: Game> Object for Manager<G> {
         ensures memory { OnErr result (WantsMemory G.rules self.old call.now) }
     {
         match call {
-            Call::Open {
-                id,
-                game,
-                start,
-                play,
-                strikes,
-                players,
-            } => self.open(
-                alloc,
-                &AskedSetup::new(id, *game, *start, *play, *strikes, players),
-            ),
+            Call::Open { .. } => self.open(alloc, &AskedSetup::of(call)),
             Call::Submit {
                 id,
                 role,
@@ -346,14 +333,7 @@ impl<G: Game> Object for Manager<G> {
 
     fn copy_call(alloc: Global, call: &Call) -> Result<Call, AllocError> {
         Ok(match call {
-            Call::Open {
-                id,
-                game,
-                start,
-                play,
-                strikes,
-                players,
-            } => AskedSetup::new(id, *game, *start, *play, *strikes, players).to_call(alloc)?,
+            Call::Open { .. } => AskedSetup::of(call).to_call(alloc)?,
             Call::Next { id, role } => Call::Next {
                 id: id.copy(alloc)?,
                 role: *role,

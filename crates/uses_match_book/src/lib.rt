@@ -8,7 +8,7 @@ ghost use Rattle.match_book.specs.Phase.{stage, is_live, round};
 ghost use Rattle.uses_match_book.specs.Endings.{EndsWith};
 
 use game_core::Game;
-use match_book::laws::{recorded_moves_are_legal, taken_for_the_round};
+use match_book::laws::{recorded_moves_are_legal, stages_are_settled, taken_for_the_round};
 use match_book::{LentAnswer, Match};
 use std::alloc::{AllocError, Global};
 
@@ -17,7 +17,7 @@ pub fn reached<'a, G: Game>(game: &G, held: &'a Match<G>) -> &'a G::State
     requires { held.now.game ≡ game.now }
     ensures { IsAt (G.rules game.now) (joint_moves held.now.value.turns) result.now }
 {
-    recorded_moves_are_legal(game);
+    recorded_moves_are_legal::<G>();
     held.state()
 }
 
@@ -27,7 +27,8 @@ pub fn final_goal<G: Game>(game: &G, held: &Match<G>, role: usize) -> Option<u8>
     requires role { role < (G.rules game.now).roles }
     ensures { IfSome result (EndsWith (G.rules game.now) (joint_moves held.now.value.turns) role) }
 {
-    recorded_moves_are_legal(game);
+    recorded_moves_are_legal::<G>();
+    stages_are_settled::<G>();
     // This reader says that the match is lawful.
     let _state = held.state();
     held.goal_of(role)
@@ -49,7 +50,7 @@ pub fn hand_in<G: Game>(
     ensures refused { IfOk result (λ counts. counts ≡ false → held.new ≡ held.old) }
     ensures err { OnErr result (held.new ≡ held.old) }
 {
-    taken_for_the_round(game);
+    taken_for_the_round::<G>();
     let refusal = held.offer(alloc, game, role, for_round, said)?;
     Ok(refusal.is_none())
 }

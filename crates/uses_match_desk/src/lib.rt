@@ -10,7 +10,7 @@ ghost use Rattle.uses_match_desk.specs.Endings.{CanEndWith};
 
 use call_history::{Closed, LockDesk, LockLine, Object};
 use game_core::{Countdown, Game};
-use match_book::laws::recorded_moves_are_legal;
+use match_book::laws::{recorded_moves_are_legal, stages_are_settled};
 use match_desk::{Call, Manager, Reply, close_desk};
 use std::alloc::{AllocError, Global};
 use std::sync::ledger::Ledger;
@@ -45,7 +45,8 @@ pub fn goal_after(
     requires role { role < 2 }
     ensures { IfOk result (λ goal. IfSome goal (CanEndWith (countdown game.now.size) role)) }
 {
-    recorded_moves_are_legal(game);
+    recorded_moves_are_legal::<Countdown>();
+    stages_are_settled::<Countdown>();
     for call in calls {
         let _reply = make(alloc, manager, call)?;
     }

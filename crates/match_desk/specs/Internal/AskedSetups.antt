@@ -2,7 +2,18 @@
 use Rattle.match_book.specs.declared.setup.Setup.{Setup}
 use Rattle.match_desk.specs.Steps.{setup_of}
 use Rattle.match_desk.specs.declared.asked_setup.AskedSetup.{AskedSetup}
+use Rattle.match_desk.specs.declared.call.Call.{Call}
+use Rattle.match_desk.specs.declared.call.Call.TheVariants.{Open, Next, Submit, Miss, Query, Abort}
 
 -- the setup that is asked for
 abbrev pub asked_setup : AskedSetup → Setup
 asked_setup asked = setup_of asked.id.now asked.start asked.play asked.strikes asked.players.now
+
+-- the call is an `Open`
+abbrev pub IsOpen : Call → Type 0
+IsOpen (Open id game start play strikes players) = Unit {0}
+IsOpen (Next id role) = ⊥
+IsOpen (Submit id role round text) = ⊥
+IsOpen (Miss id role round broken) = ⊥
+IsOpen (Query id) = ⊥
+IsOpen (Abort id) = ⊥

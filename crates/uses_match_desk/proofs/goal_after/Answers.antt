@@ -1,16 +1,13 @@
-use Rattle.std.proofs.Common.{◌≡◌, ℕ, zero, suc, Bool, true, false, List, [], ◌∷◌, length, Option, Some, None, refl, sym, ap, subst, ◌∙◌}
-use Rattle.std.specs.Prelude.{if◌then◌else◌, IfSome, nat_le, slice_get, option_map}
+use Rattle.std.proofs.Common.{◌≡◌, ℕ, zero, suc, List, [], ◌∷◌, Option, Some, None, refl, sym, ap, subst, ◌∙◌}
+use Rattle.std.specs.Prelude.{IfSome, slice_get, option_map}
 use Rattle.std.proofs.lemmas.Option.{option_and_then_some}
 use Rattle.game_core.specs.Countdown.{countdown}
 use Rattle.game_core.specs.declared.countdown.Countdown.{Countdown}
 use Rattle.game_core.specs.Play.{Rules, AreLegal}
-use Rattle.match_book.specs.Laws.{RecordedMovesAreLegal}
+use Rattle.match_book.specs.Laws.{RecordedMovesAreLegal, StoppingMeans}
 use Rattle.match_book.specs.Lawful.{IsLawfulMatch}
 use Rattle.match_book.specs.MatchValue.{MatchValue, GameMatch, state_after, joint_moves}
-use Rattle.match_book.specs.Roles.{every_role, lowest_role, is_there}
-use Rattle.match_book.specs.Retirement.{are_all_retired}
-use Rattle.match_book.specs.Phase.{stage, settled, goal_in, goal_of, after_the_end, before_the_end, has_no_goal, has_no_move, max_turns}
-use Rattle.match_book.specs.declared.phase.Cause.TheVariants.{Asked, TooLong}
+use Rattle.match_book.specs.Phase.{stage, goal_in, goal_of}
 use Rattle.match_book.specs.declared.phase.Stage.{Stage}
 use Rattle.match_book.specs.declared.phase.Stage.TheVariants.{Starting, Playing, Stopping, Aborting}
 use Rattle.match_desk.specs.ManagerValue.{ManagerValue, DeskMatch, match_of, game_match, match_with_id}
@@ -35,39 +32,22 @@ given_at_the_end Playing g s role v given = absurd cc
 given_at_the_end Stopping g s role v given = (refl, given)
 given_at_the_end (Aborting c) g s role v given = absurd cc
 
--- of the stages of a match only one after the end is that in which it stops
-stopping : (asked started over long retired : Bool) (no_move : Option ℕ) (after : Stage)
-    → (if asked then Aborting Asked else (if started then (if over then after else (if long then Aborting TooLong else before_the_end no_move retired)) else Starting)) ≡ Stopping → over ≡ true
-stopping true started over long retired no_move after is = absurd cc
-stopping false false over long retired no_move after is = absurd cc
-stopping false true true long retired no_move after is = refl
-stopping false true false true retired no_move after is = absurd cc
-stopping false true false false true None after is = absurd cc
-stopping false true false false false None after is = absurd cc
-stopping false true false false retired (Some r) after is = absurd cc
-
-stops_at_the_end : {S M : Type 0} (g : Rules S M) (m : MatchValue M) → stage g m ≡ Stopping → g.terminal (state_after g m.turns) ≡ true
-unfolding stage settled
-stops_at_the_end g m is =
-    let s = state_after g m.turns in
-    stopping m.abort_asked (every_role g.roles (is_there m.start_marks)) (g.terminal s) (nat_le max_turns (length m.turns)) (are_all_retired g.roles m) (lowest_role g.roles (has_no_move g s)) (after_the_end (lowest_role g.roles (has_no_goal g s))) is
-
-can_end_with : {S M : Type 0} (g : Rules S M) (m : MatchValue M) (role : ℕ) (goal : Option ℕ) → AreLegal g (joint_moves m.turns) → goal ≡ goal_of g m role → IfSome goal (CanEndWith g role)
-can_end_with g m role None legal is = tt
-can_end_with g m role (Some v) legal is =
+can_end_with : {S M : Type 0} (g : Rules S M) → StoppingMeans g → (m : MatchValue M) (role : ℕ) (goal : Option ℕ) → AreLegal g (joint_moves m.turns) → goal ≡ goal_of g m role → IfSome goal (CanEndWith g role)
+can_end_with g stopping m role None legal is = tt
+can_end_with g stopping m role (Some v) legal is =
     let given = given_at_the_end (stage g m) g (state_after g m.turns) role v (sym is) in
-    record { turns = joint_moves m.turns; legal = legal; ended = stops_at_the_end g m given.0; is_goal = given.1 }
+    record { turns = joint_moves m.turns; legal = legal; ended = ((stopping m).0 given.0).ended; is_goal = given.1 }
 
 -- what a match on a desk of one game says of a goal
 goal_of_the_game : {G S M : Type 0} (rules : G → Rules S M) (d : ManagerValue G M) (game : G) (id : List ℕ) (held : GameMatch G M) (role : ℕ) (goal : Option ℕ)
-    → RecordedMovesAreLegal (rules game) → d.games ≡ game ∷ [] → match_with_id d id ≡ Some held → IsLawfulMatch (rules held.game) held.value → goal ≡ goal_of (rules held.game) held.value role
+    → RecordedMovesAreLegal (rules game) → StoppingMeans (rules game) → d.games ≡ game ∷ [] → match_with_id d id ≡ Some held → IsLawfulMatch (rules held.game) held.value → goal ≡ goal_of (rules held.game) held.value role
     → IfSome goal (CanEndWith (rules game) role)
-goal_of_the_game rules d game id held role goal are_legal only found lawful is =
+goal_of_the_game rules d game id held role goal are_legal stopping only found lawful is =
     let same = of_the_only_game d game id held only found in
     let legal = are_legal held.value (subst (λ x. IsLawfulMatch (rules x) held.value) same lawful) in
-    can_end_with (rules game) held.value role goal legal (subst (λ x. goal ≡ goal_of (rules x) held.value role) same is)
+    can_end_with (rules game) stopping held.value role goal legal (subst (λ x. goal ≡ goal_of (rules x) held.value role) same is)
 
 pub returns : goal.returns
 returns c =
     goal_of_the_game (λ (x : Countdown). countdown x.size) c.loop-call.manager c.args.game.now c.args.id.now c.in-Some.held.now c.args.role c.goal_of.result
-    c.recorded_moves_are_legal.ensures (c.loop-call.invariant ∙ c.requires.game) (sym c.in-Some.ensures) c.state-state.ensures.lawful c.goal_of.ensures
+    (c.recorded_moves_are_legal.ensures c.args.game.now) (c.stages_are_settled.ensures.stopping c.args.game.now) (c.loop-call.invariant ∙ c.requires.game) (sym c.in-Some.ensures) c.state-state.ensures.lawful c.goal_of.ensures

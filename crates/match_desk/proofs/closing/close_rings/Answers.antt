@@ -15,7 +15,7 @@ one_each desk ends history object made (Err u) closed = tt
 
 pub returns-clause-headline : goal.returns-clause-headline
 returns-clause-headline g c =
-    closed-headline g.G.Game.rules g.met.G.Game.laws (length c.args.desk.ports) (λ x. x.object) (λ x. x.history.items) (λ x. x.made_by_line.items) c.close.result
+    closed-headline g.G.Game.rules c.match_laws.ensures (length c.args.desk.ports) (λ x. x.object) (λ x. x.history.items) (λ x. x.made_by_line.items) c.close.result
     c.close.ensures.replay
     (one_each c.args.desk c.args.ends.items (λ x. x.history.items) (λ x. x.object) (λ x. x.made_by_line.items) c.close.result c.close.ensures.closed)
     c.close.ensures.counted

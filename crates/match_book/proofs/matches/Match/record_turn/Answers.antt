@@ -82,7 +82,7 @@ invariant_of-self-2 g c =
     c.as_slice-2.ensures.value c.as_slice-errors.ensures c.in_ok-strikes.ensures.one_each c.in_ok-strikes.ensures.each
     in
     let retired : c.count_retired-retired.result ≡ count_roles (length c.in_ok-strikes.strikes.items) (is_retired_in c.in_ok-strikes.strikes.items) =
-    c.count_retired-retired.ensures ∙ ap (λ (l : List RoleStrikes). count_roles (length l) (is_retired_in l)) c.as_slice-3.ensures.value
+    c.count_retired-retired.ensures.count ∙ ap (λ (l : List RoleStrikes). count_roles (length l) (is_retired_in l)) c.as_slice-3.ensures.value
     in
     rw (c.in_ok-go_on.ensures.turns, c.in_ok-go_on.ensures.past, c.in_ok-go_on.ensures.present, c.clear.ensures.items, c.self.invariant.lawful.one_open_answer, c.answered_at_first-self-inside.ensures)
     (

@@ -9,32 +9,33 @@ use Rattle.match_desk.proofs.manager.Manager.open.Goals as goal
 
 pub setup-requires : goal.setup-requires
 setup-requires g c =
-    few-strikes g.G.Game.rules g.met.G.Game.laws c.self.inside.games.items c.self.inside.matches.entries c.self.invariant c.args.self.now c.self.view_is c.args.asked.now.game (asked_setup c.args.asked.now)
+    few-strikes g.G.Game.rules c.self.inside.games.items c.self.inside.matches.entries c.self.invariant c.args.self.now c.self.view_is c.args.asked.now.game (asked_setup c.args.asked.now)
     (not_refused c.open_refusal.result (open_refusal g.G.Game.rules c.args.self.now c.args.asked.now.game (asked_setup c.args.asked.now)) c.if-is_some.ensures c.open_refusal.ensures)
 
 pub new-requires : goal.new-requires
 new-requires g c =
-    one_each g.G.Game.rules g.met.G.Game.laws c.self.inside.games.items c.self.inside.matches.entries c.self.invariant c.args.self.now c.self.view_is c.args.asked.now.game (asked_setup c.args.asked.now)
+    one_each g.G.Game.rules c.self.inside.games.items c.self.inside.matches.entries c.self.invariant c.args.self.now c.self.view_is c.args.asked.now.game (asked_setup c.args.asked.now)
     (not_refused c.open_refusal.result (open_refusal g.G.Game.rules c.args.self.now c.args.asked.now.game (asked_setup c.args.asked.now)) c.if-is_some.ensures c.open_refusal.ensures)
     c.index.result.now c.in_ok-setup.setup c.index.ensures c.in_ok-setup.ensures
 
 pub invariant_of-self-2 : goal.invariant_of-self-2
 invariant_of-self-2 g c =
-    kept-opened g.G.Game.rules g.met.G.Game.laws c.self.inside.games.items c.self.inside.matches.entries c.self.invariant c.args.self.now c.self.view_is c.args.asked.now.game (asked_setup c.args.asked.now)
+    kept-opened g.G.Game.rules c.self.inside.games.items c.self.inside.matches.entries c.self.invariant c.args.self.now c.self.view_is c.args.asked.now.game (asked_setup c.args.asked.now)
     (not_refused c.open_refusal.result (open_refusal g.G.Game.rules c.args.self.now c.args.asked.now.game (asked_setup c.args.asked.now)) c.if-is_some.ensures c.open_refusal.ensures)
     c.index.result.now c.index.ensures c.in_ok-id.id (c.in_ok-id.ensures.items ∙ c.as_slice.ensures) c.in_ok-setup.setup c.in_ok-setup.ensures c.in_ok-held.held c.in_ok-held.ensures c.insert.new.self.entries
     (c.in_ok-insert.ensures.entries ∙ insert_entry-new (λ x y. bytes_eq x.items y.items) c.self.inside.matches c.in_ok-id.id (record { game = c.args.asked.now.game; held = c.in_ok-held.held })
-    (index-none g.G.Game.rules g.met.G.Game.laws c.self.inside.games.items c.self.inside.matches.entries c.self.invariant c.args.self.now c.self.view_is c.args.asked.now.game (asked_setup c.args.asked.now)
+    (index-none g.G.Game.rules c.self.inside.games.items c.self.inside.matches.entries c.self.invariant c.args.self.now c.self.view_is c.args.asked.now.game (asked_setup c.args.asked.now)
     (not_refused c.open_refusal.result (open_refusal g.G.Game.rules c.args.self.now c.args.asked.now.game (asked_setup c.args.asked.now)) c.if-is_some.ensures c.open_refusal.ensures)
     c.in_ok-id.id.items (c.in_ok-id.ensures.items ∙ c.as_slice.ensures)))
+    c.new_match_is_lawful.ensures
 
 pub returns-clause-ok : goal.returns-clause-ok
 returns-clause-ok g c =
-    value-opened g.G.Game.rules g.met.G.Game.laws c.self.inside.games.items c.self.inside.matches.entries c.self.invariant c.args.self.now c.self.view_is c.args.asked.now.game (asked_setup c.args.asked.now)
+    value-opened g.G.Game.rules c.self.inside.games.items c.self.inside.matches.entries c.self.invariant c.args.self.now c.self.view_is c.args.asked.now.game (asked_setup c.args.asked.now)
     (not_refused c.open_refusal.result (open_refusal g.G.Game.rules c.args.self.now c.args.asked.now.game (asked_setup c.args.asked.now)) c.if-is_some.ensures c.open_refusal.ensures)
     c.index.result.now c.index.ensures c.in_ok-id.id (c.in_ok-id.ensures.items ∙ c.as_slice.ensures) c.in_ok-setup.setup c.in_ok-setup.ensures c.in_ok-held.held c.in_ok-held.ensures c.insert.new.self.entries
     (c.in_ok-insert.ensures.entries ∙ insert_entry-new (λ x y. bytes_eq x.items y.items) c.self.inside.matches c.in_ok-id.id (record { game = c.args.asked.now.game; held = c.in_ok-held.held })
-    (index-none g.G.Game.rules g.met.G.Game.laws c.self.inside.games.items c.self.inside.matches.entries c.self.invariant c.args.self.now c.self.view_is c.args.asked.now.game (asked_setup c.args.asked.now)
+    (index-none g.G.Game.rules c.self.inside.games.items c.self.inside.matches.entries c.self.invariant c.args.self.now c.self.view_is c.args.asked.now.game (asked_setup c.args.asked.now)
     (not_refused c.open_refusal.result (open_refusal g.G.Game.rules c.args.self.now c.args.asked.now.game (asked_setup c.args.asked.now)) c.if-is_some.ensures c.open_refusal.ensures)
     c.in_ok-id.id.items (c.in_ok-id.ensures.items ∙ c.as_slice.ensures)))
 

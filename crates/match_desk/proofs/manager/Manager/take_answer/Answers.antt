@@ -10,7 +10,7 @@ use Rattle.match_desk.proofs.manager.Manager.take_answer.Goals as goal
 pub returns-in_default-clause-ok : goal.returns-in_default-clause-ok
 returns-in_default-clause-ok g c =
     value-none g.G.Game.rules c.self.inside.games.items c.self.inside.matches.entries c.self.invariant c.args.id.now (λ r m. after_answer r m c.args.role c.args.round (answer_lent c.args.given.now))
-    (keeps-answer g.G.Game.rules g.met.G.Game.laws c.args.role c.args.round (answer_lent c.args.given.now)) c.args.self.now c.self.view_is (sym c.in_default.ensures.value) c.get_mut.follows.lender-at-none.entries (ap (λ m. m.entries) c.get_mut.follows.holds-at-none)
+    (keeps-answer g.G.Game.rules c.answers_keep_lawful.ensures c.args.role c.args.round (answer_lent c.args.given.now)) c.args.self.now c.self.view_is (sym c.in_default.ensures.value) c.get_mut.follows.lender-at-none.entries (ap (λ m. m.entries) c.get_mut.follows.holds-at-none)
 
 pub index-game-requires : goal.index-game-requires
 index-game-requires g c = omega (arith, c.self.inside.games.ok.0, lookup-within c.self.inside.games.items c.args.id.now c.self.inside.matches.entries c.self.invariant.slots c.in-Some.slot.now (sym c.in-Some.ensures.value))
@@ -21,19 +21,19 @@ take_answer-requires g c = lookup-read c.self.inside.games.items c.args.id.now c
 pub invariant_of-self-2 : goal.invariant_of-self-2
 invariant_of-self-2 g c =
     kept-either g.G.Game.rules c.self.inside.games.items c.self.inside.matches.entries c.self.invariant c.args.id.now (λ r m. after_answer r m c.args.role c.args.round (answer_lent c.args.given.now))
-    (keeps-answer g.G.Game.rules g.met.G.Game.laws c.args.role c.args.round (answer_lent c.args.given.now)) c.args.self.now c.self.view_is c.in-Some.slot.now (sym c.in-Some.ensures.value) c.take_answer.new.held c.take_answer.ensures.game
+    (keeps-answer g.G.Game.rules c.answers_keep_lawful.ensures c.args.role c.args.round (answer_lent c.args.given.now)) c.args.self.now c.self.view_is c.in-Some.slot.now (sym c.in-Some.ensures.value) c.take_answer.new.held c.take_answer.ensures.game
     (c.get_mut.follows.lender (record { game = c.in-Some.slot.now.game; held = c.take_answer.new.held })).entries (c.get_mut.follows.holds (record { game = c.in-Some.slot.now.game; held = c.take_answer.new.held })).0 c.take_answer.result c.take_answer.ensures.ok c.take_answer.ensures.err
 
 pub returns-clause-ok : goal.returns-clause-ok
 returns-clause-ok g c =
     value-either g.G.Game.rules c.self.inside.games.items c.self.inside.matches.entries c.self.invariant c.args.id.now (λ r m. after_answer r m c.args.role c.args.round (answer_lent c.args.given.now))
-    (keeps-answer g.G.Game.rules g.met.G.Game.laws c.args.role c.args.round (answer_lent c.args.given.now)) c.args.self.now c.self.view_is c.in-Some.slot.now (sym c.in-Some.ensures.value) c.take_answer.new.held c.take_answer.ensures.game
+    (keeps-answer g.G.Game.rules c.answers_keep_lawful.ensures c.args.role c.args.round (answer_lent c.args.given.now)) c.args.self.now c.self.view_is c.in-Some.slot.now (sym c.in-Some.ensures.value) c.take_answer.new.held c.take_answer.ensures.game
     (c.get_mut.follows.lender (record { game = c.in-Some.slot.now.game; held = c.take_answer.new.held })).entries (c.get_mut.follows.holds (record { game = c.in-Some.slot.now.game; held = c.take_answer.new.held })).0 c.take_answer.result c.take_answer.ensures.ok
 
 pub returns-clause-err : goal.returns-clause-err
 returns-clause-err g c =
     value-refused g.G.Game.rules c.self.inside.games.items c.self.inside.matches.entries c.self.invariant c.args.id.now (λ r m. after_answer r m c.args.role c.args.round (answer_lent c.args.given.now))
-    (keeps-answer g.G.Game.rules g.met.G.Game.laws c.args.role c.args.round (answer_lent c.args.given.now)) c.args.self.now c.self.view_is c.in-Some.slot.now (sym c.in-Some.ensures.value) c.take_answer.new.held c.take_answer.ensures.game
+    (keeps-answer g.G.Game.rules c.answers_keep_lawful.ensures c.args.role c.args.round (answer_lent c.args.given.now)) c.args.self.now c.self.view_is c.in-Some.slot.now (sym c.in-Some.ensures.value) c.take_answer.new.held c.take_answer.ensures.game
     (c.get_mut.follows.lender (record { game = c.in-Some.slot.now.game; held = c.take_answer.new.held })).entries (c.get_mut.follows.holds (record { game = c.in-Some.slot.now.game; held = c.take_answer.new.held })).0 c.take_answer.result c.take_answer.ensures.err
 
 pub returns-clause-accepted : goal.returns-clause-accepted
