@@ -1,6 +1,6 @@
 -- For callers of desks over rings: a desk's lines stay its lines while calls are posted, taken and
 -- served.
-use Rattle.std.proofs.Common.{◌≡◌, ℕ, ◌+◌, ◌<◌, List, [], ◌∷◌, ◌++◌, length, get_or, refl, sym, ◌∙◌, ap, subst, arith, rules}
+use Rattle.std.proofs.Common.{◌≡◌, ℕ, ◌<◌, List, [], ◌∷◌, ◌++◌, length, get_or, refl, sym, ◌∙◌, subst, arith, rules}
 use Rattle.std.specs.List.{All}
 use Rattle.call_history.specs.declared.port.Port.{Port}
 use Rattle.call_history.specs.declared.ring_line.RingLine.{RingLine}

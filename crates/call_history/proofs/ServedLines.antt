@@ -1,5 +1,5 @@
 -- What serving one line does to what was served of all lines.
-use Rattle.std.proofs.Common.{◌≡◌, ℕ, ◌+◌, ◌<◌, ◌≤◌, ◌⊎◌, ◌≢◌, List, [], ◌∷◌, ◌++◌, length, get_or, set, refl, sym, subst, arith, rules, ⊎_elim, inl, inr, true, false, Result, Ok, Err, MatchResult, IfOk}
+use Rattle.std.proofs.Common.{◌≡◌, ℕ, ◌+◌, ◌<◌, ◌≤◌, ◌⊎◌, ◌≢◌, List, [], ◌∷◌, ◌++◌, length, get_or, set, refl, sym, subst, ◌∙◌, arith, rules, ⊎_elim, inl, inr, true, false, Result, Ok, Err, MatchResult, IfOk}
 use Rattle.std.proofs.lemmas.Grind.{common_steps}
 use Rattle.std.proofs.lemmas.Bool.Decides.{eqb_tells}
 use Rattle.std.proofs.lemmas.List.{get_or-set_other}
@@ -9,7 +9,7 @@ use Rattle.call_history.specs.declared.port.Port.{Port}
 use Rattle.call_history.specs.Parts.{part}
 use Rattle.call_history.specs.RingLines.{SamePort, SamePorts}
 use Rattle.std.specs.List.{All}
-use Rattle.call_history.specs.Rounds.{Serves, ServesLines, IsIdle, Gains, GainsOne, Visits}
+use Rattle.call_history.specs.Rounds.{Serves, ServesLines, IsIdle, IsPassedBy, Gains, GainsOne, Visits}
 
 pub part_other : {C R : Type 0} (i : ℕ) (h : List (Entry C R)) (e : Entry C R) → e.line ≢ i → part i (h ++ e ∷ []) ≡ part i h
 part_other i h e ne = grind (arith, common_steps)
@@ -97,43 +97,53 @@ part_grows i h more = grind (arith, common_steps)
 pub part_gains : {C R : Type 0} (i : ℕ) (h : List (Entry C R)) (e : Entry C R) → e.line ≡ i → length (part i (h ++ e ∷ [])) ≡ length (part i h) + 1
 part_gains i h e is = grind (arith, common_steps, is)
 
-pub visits_one : {C R : Type 0} (h h' h'' : List (Entry C R)) (ps : List (Port C R)) (i n : ℕ) (q : Port C R)
-    → i < length ps → Gains h h' i n → GainsOne i h' h'' → Visits h h' ps i → Visits h h'' (set ps i q) (i + 1)
-visits_one {C} {R} h h' h'' ps i n q lt gains one visited = λ j p below.
+-- the line at i was as it had been when the round began
+pub passed_by : {C R : Type 0} (ps0 ps : List (Port C R)) (i : ℕ) (old q : Port C R) → ((p : Port C R) → old ≡ get_or ps i p)
+    → ((j : ℕ) (p : Port C R) → i ≤ j → get_or ps j p ≡ get_or ps0 j p) → IsPassedBy old q → (p : Port C R) → IsPassedBy (get_or ps0 i p) q
+passed_by {C} {R} ps0 ps i old q is rest passed p = subst (λ (x : Port C R). IsPassedBy x q) (is p ∙ rest i p (omega arith)) passed
+
+-- the lines behind i are still so
+pub rest_after : {C R : Type 0} (ps0 ps : List (Port C R)) (i : ℕ) (q : Port C R) → ((j : ℕ) (p : Port C R) → i ≤ j → get_or ps j p ≡ get_or ps0 j p)
+    → (j : ℕ) (p : Port C R) → i + 1 ≤ j → get_or (set ps i q) j p ≡ get_or ps0 j p
+rest_after ps0 ps i q rest j p above = get_or-set_other ps i j q p (λ same. omega (arith, same, above)) ∙ rest j p (omega (arith, above))
+
+pub visits_one : {C R : Type 0} (h h' h'' : List (Entry C R)) (ps0 ps : List (Port C R)) (i n : ℕ) (q : Port C R)
+    → i < length ps → Gains h h' i n → GainsOne i h' h'' → Visits h h' ps0 ps i → Visits h h'' ps0 (set ps i q) (i + 1)
+visits_one {C} {R} h h' h'' ps0 ps i n q lt gains one visited = λ j p below.
     let H : List (Entry C R) → Type 0 = λ x. length (part j h) ≤ length (part j x) in
     let grown : length (part j h) ≤ length (part j h') = subst H (sym gains.behind) (part_grows j h gains.gained) in
     let G : List (Entry C R) → Type 0 = λ x. length (part j h') ≤ length (part j x) in
     let kept : length (part j h') ≤ length (part j h'') = subst G (sym one.behind) (part_grows j h' (one.entry ∷ [])) in
-    get_set (λ x. IsIdle x ⊎ (length (part j h) < length (part j h''))) ps i j q p lt
+    get_set (λ x. IsPassedBy (get_or ps0 j p) x ⊎ (length (part j h) < length (part j h''))) ps i j q p lt
     (λ at.
     let line : one.entry.line ≡ j = grind (arith, one.line_is, at) in
     let E : List (Entry C R) → Type 0 = λ x. length (part j x) ≡ length (part j h') + 1 in
     let more : length (part j h'') ≡ length (part j h') + 1 = subst E (sym one.behind) (part_gains j h' one.entry line) in
     inr (omega (arith, grown, more)))
-    (λ apart. ⊎_elim (λ idle. inl idle) (λ less. inr (omega (arith, less, kept))) (visited j p (omega (arith, below, apart))))
+    (λ apart. ⊎_elim (λ passed. inl passed) (λ less. inr (omega (arith, less, kept))) (visited j p (omega (arith, below, apart))))
 
-pub visits_idle : {C R : Type 0} (h h' h'' : List (Entry C R)) (ps : List (Port C R)) (i : ℕ) (q : Port C R)
-    → i < length ps → h'' ≡ h' → IsIdle q → Visits h h' ps i → Visits h h'' (set ps i q) (i + 1)
-visits_idle {C} {R} h h' h'' ps i q lt same idle visited =
-    let V : List (Entry C R) → Type 0 = λ x. Visits h x (set ps i q) (i + 1) in
+pub visits_idle : {C R : Type 0} (h h' h'' : List (Entry C R)) (ps0 ps : List (Port C R)) (i : ℕ) (q : Port C R)
+    → i < length ps → h'' ≡ h' → ((p : Port C R) → IsPassedBy (get_or ps0 i p) q) → Visits h h' ps0 ps i → Visits h h'' ps0 (set ps i q) (i + 1)
+visits_idle {C} {R} h h' h'' ps0 ps i q lt same passed visited =
+    let V : List (Entry C R) → Type 0 = λ x. Visits h x ps0 (set ps i q) (i + 1) in
     subst V (sym same) (λ j p below.
-    get_set (λ x. IsIdle x ⊎ (length (part j h) < length (part j h'))) ps i j q p lt
-    (λ at. inl idle)
+    get_set (λ x. IsPassedBy (get_or ps0 j p) x ⊎ (length (part j h) < length (part j h'))) ps i j q p lt
+    (λ at. inl (subst (λ (n : ℕ). IsPassedBy (get_or ps0 n p) q) (sym at) (passed p)))
     (λ apart. visited j p (omega (arith, below, apart))))
 
-pub visits_stop : {C R : Type 0} (h h' h'' : List (Entry C R)) (ps : List (Port C R)) (i : ℕ) (q : Port C R)
-    → i < length ps → h'' ≡ h' → Visits h h' ps i → Visits h h'' (set ps i q) i
-visits_stop {C} {R} h h' h'' ps i q lt same visited =
-    let V : List (Entry C R) → Type 0 = λ x. Visits h x (set ps i q) i in
+pub visits_stop : {C R : Type 0} (h h' h'' : List (Entry C R)) (ps0 ps : List (Port C R)) (i : ℕ) (q : Port C R)
+    → i < length ps → h'' ≡ h' → Visits h h' ps0 ps i → Visits h h'' ps0 (set ps i q) i
+visits_stop {C} {R} h h' h'' ps0 ps i q lt same visited =
+    let V : List (Entry C R) → Type 0 = λ x. Visits h x ps0 (set ps i q) i in
     subst V (sym same) (λ j p below.
-    get_set (λ x. IsIdle x ⊎ (length (part j h) < length (part j h'))) ps i j q p lt
+    get_set (λ x. IsPassedBy (get_or ps0 j p) x ⊎ (length (part j h) < length (part j h'))) ps i j q p lt
     (λ at. absurd (omega (arith, below, at)))
     (λ apart. visited j p below))
 
 -- a round that serves nothing leaves each line idle
-pub idle_after : {C R F : Type 0} (served : Result ℕ F) (h h' : List (Entry C R)) (ps : List (Port C R)) (bound : ℕ) (P Q : F → Type 0) → length ps ≡ bound
-    → MatchResult served (λ n. Gains h h' bound n) P → MatchResult served (λ _. Visits h h' ps bound) Q → IfOk served (λ n. n ≡ 0 → All IsIdle ps)
-idle_after (Ok n) h h' ps bound P Q count gains visited = λ none i p below.
+pub idle_after : {C R F : Type 0} (served : Result ℕ F) (h h' : List (Entry C R)) (ps0 ps : List (Port C R)) (bound : ℕ) (P Q : F → Type 0) → length ps ≡ bound
+    → MatchResult served (λ n. Gains h h' bound n) P → MatchResult served (λ _. Visits h h' ps0 ps bound) Q → IfOk served (λ n. n ≡ 0 → All IsIdle ps)
+idle_after (Ok n) h h' ps0 ps bound P Q count gains visited = λ none i p below.
     let same : length (part i h') ≡ length (part i h) = grind (arith, common_steps, gains.behind, gains.count_is, none) in
-    ⊎_elim (λ idle. idle) (λ less. absurd (omega (arith, less, same))) (visited i p (omega (arith, below, count)))
-idle_after (Err fault) h h' ps bound P Q count gains visited = tt
+    ⊎_elim (λ passed. passed.idle) (λ less. absurd (omega (arith, less, same))) (visited i p (omega (arith, below, count)))
+idle_after (Err fault) h h' ps0 ps bound P Q count gains visited = tt

@@ -47,10 +47,15 @@ pub record GainsOne {C R : Type 0} (line : ℕ) (before after : List (Entry C R)
 abbrev pub IsIdle : {C R : Type 0} → Port C R → Type 0
 IsIdle port = (known_free port.replies ≡ 0) ⊎ ((port.kept ≡ None) × (known_items port.calls ≡ []))
 
--- Each line below this bound was visited: its part of the history gained an entry, or the line is idle.
-abbrev pub Visits : {C R : Type 0} → (before after : List (Entry C R)) → List (Port C R) → ℕ → Type 0
-Visits {C} {R} before after ports bound = (i : ℕ) (p : Port C R) → i < bound
-    → IsIdle (slice_index_or ports i p) ⊎ (length (part i before) < length (part i after))
+-- The desk passed a line by: it can do nothing more for it, and has taken nothing from it.
+pub record IsPassedBy {C R : Type 0} (before after : Port C R) : Type 0 where
+  pub idle : IsIdle after
+  pub kept : after.kept ≡ before.kept
+
+-- Each line below this bound was visited: its part of the history gained an entry, or the desk passed it by.
+abbrev pub Visits : {C R : Type 0} → (before after : List (Entry C R)) → (ports ports' : List (Port C R)) → ℕ → Type 0
+Visits {C} {R} before after ports ports' bound = (i : ℕ) (p : Port C R) → i < bound
+    → IsPassedBy (slice_index_or ports i p) (slice_index_or ports' i p) ⊎ (length (part i before) < length (part i after))
 
 -- A round stopped at this line, and the desk keeps the line's call. The history was the cause if and only if it is full.
 pub record StopsAt {S C R : Type 0} (line : ℕ) (for_full : Type 0) (desk : RingDeskValue S C R) : Type 0 where

@@ -122,10 +122,10 @@ impl<O: Object> RingDesk<O> {
             (λ served. Gains self.old.journal.history self.new.journal.history (length self.old.ports) served)
             (λ fault. Gains self.old.journal.history self.new.journal.history fault.line fault.served) }
 
-        // No line is left out before the one at which it stops.
+        // No line is left out before the one at which it stops, and no call is taken from a line that is passed by.
         ensures visits { MatchResult result
-            (λ _. Visits self.old.journal.history self.new.journal.history self.new.ports (length self.old.ports))
-            (λ fault. Visits self.old.journal.history self.new.journal.history self.new.ports fault.line) }
+            (λ _. Visits self.old.journal.history self.new.journal.history self.old.ports self.new.ports (length self.old.ports))
+            (λ fault. Visits self.old.journal.history self.new.journal.history self.old.ports self.new.ports fault.line) }
         ensures idle { IfOk result (λ served. served ≡ 0 → All IsIdle self.new.ports) }
         ensures fault { IfErr result (λ fault. StopsAt fault.line (fault.cause ≡ Full) self.new) }
 

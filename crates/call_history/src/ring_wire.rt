@@ -1,5 +1,5 @@
 //! A wire over rings.
-ghost use Rattle.std.specs.Prelude.{◌≡◌, ◌⊎◌, ◌∷◌, ◌++◌, ◌≤◌, [], IfOk, IfErr, IfSome, IfNone, OnOk, OnErr, IsErr, IsTrue, IsFalse};
+ghost use Rattle.std.specs.Prelude.{◌≡◌, ◌⊎◌, ◌∷◌, ◌++◌, ◌<◌, [], IfOk, IfErr, IfSome, IfNone, OnOk, OnErr, IsErr, IsTrue, IsFalse, MatchBool};
 ghost use Rattle.call_history.specs.RingLines.{posted_calls, taken_replies, SameLine};
 
 use crate::bell::Bell;
@@ -92,11 +92,12 @@ impl<O: Object> Wire for RingWire<O> {
         }
         // The wire counts as stalled until the reply is there.
         self.has_stalled = true;
-        let Some(left) = post_within(&mut self.line, call, self.tries, &self.bell) else {
+        let mut left = self.tries;
+        if !post_within(&mut self.line, call, &mut left, &self.bell) {
             return Err(AskFault::Stalled);
-        };
+        }
         ring(&self.bell);
-        let Some(reply) = take_within(&mut self.line, left, &self.bell) else {
+        let Some(reply) = take_within(&mut self.line, &mut left, &self.bell) else {
             return Err(AskFault::Stalled);
         };
         self.has_stalled = false;
@@ -114,7 +115,10 @@ fn ring(bell: &Option<Arc<Bell>>) {
     }
 }
 
-fn has_stopped(bell: &Option<Arc<Bell>>) -> bool {
+/// Whether the desk makes no further call, as far as its bell says.
+fn has_stopped(bell: &Option<Arc<Bell>>) -> bool
+    ensures { IfNone bell.now (IsFalse result) }
+{
     match bell {
         Some(bell) => bell.has_stopped(),
         None => false,
@@ -131,44 +135,53 @@ fn pause(tried: u64) {
     }
 }
 
-/// Tries to post a call within `tries` tries, while the desk goes on. Returns how many tries are left.
+/// Tries to post a call while tries are `left` and the desk goes on. Each try takes one off. Returns whether the call is posted.
 fn post_within<O: Object>(
     line: &mut RingLine<O>,
     call: O::Call,
-    tries: u64,
+    left: &mut u64,
     bell: &Option<Arc<Bell>>,
-) -> Option<u64>
+) -> bool
     ensures line { SameLine line.old line.new }
     ensures taken { taken_replies line.new ≡ taken_replies line.old }
-    ensures some { IfSome result (λ left. (left ≤ tries) × (posted_calls line.new ≡ posted_calls line.old ++ call ∷ [])) }
-    ensures none { IfNone result (posted_calls line.new ≡ posted_calls line.old) }
+    ensures posted { MatchBool result
+        ((posted_calls line.new ≡ posted_calls line.old ++ call ∷ []) × (left.new < left.old))
+        (posted_calls line.new ≡ posted_calls line.old) }
+
+    // Without a bell it gives up only after the last try.
+    ensures gives_up { IfNone bell.now (IsFalse result → left.new ≡ 0) }
 {
     let mut call = call;
-    for tried in 0..tries {
+    for tried in 0..*left {
+        *left -= 1;
         match line.post(call) {
-            Ok(()) => return Some(tries - tried - 1),
+            Ok(()) => return true,
             Err(back) => call = back,
         }
         if has_stopped(bell) {
-            return None;
+            return false;
         }
         pause(tried);
     }
-    None
+    false
 }
 
-/// Tries to take a reply within `tries` tries, while the desk goes on.
+/// Tries to take a reply while tries are `left` and the desk goes on. Each try takes one off.
 fn take_within<O: Object>(
     line: &mut RingLine<O>,
-    tries: u64,
+    left: &mut u64,
     bell: &Option<Arc<Bell>>,
 ) -> Option<O::Reply>
     ensures line { SameLine line.old line.new }
     ensures posted { posted_calls line.new ≡ posted_calls line.old }
     ensures some { IfSome result (λ r. taken_replies line.new ≡ taken_replies line.old ++ r ∷ []) }
     ensures none { IfNone result (taken_replies line.new ≡ taken_replies line.old) }
+
+    // Without a bell it gives up only after the last try.
+    ensures gives_up { IfNone bell.now (IfNone result (left.new ≡ 0)) }
 {
-    for tried in 0..tries {
+    for tried in 0..*left {
+        *left -= 1;
         // The desk sends a reply before it stops, so the last look comes after it has stopped.
         let is_last = has_stopped(bell);
         if let Some(reply) = line.take() {

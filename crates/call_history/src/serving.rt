@@ -3,7 +3,7 @@ ghost use Rattle.std.specs.Prelude.{◌≡◌, ◌≤◌, ◌↔◌, length, IfO
 ghost use Rattle.call_history.specs.Limits.{max_lines};
 ghost use Rattle.call_history.specs.Parts.{part};
 ghost use Rattle.call_history.specs.RingLines.{SamePort, SamePorts};
-ghost use Rattle.call_history.specs.Rounds.{Serves, ServesLines, IsIdle, Gains, GainsOne, Visits, StopsAt};
+ghost use Rattle.call_history.specs.Rounds.{Serves, ServesLines, IsPassedBy, Gains, GainsOne, Visits, StopsAt};
 
 use crate::journal::{CallFault, Journal};
 use crate::object::Object;
@@ -27,7 +27,7 @@ fn serve<O: Object>(
     ensures gains { MatchResult result
         (λ did. MatchBool did (GainsOne line journal.old.history journal.new.history) (journal.new.history ≡ journal.old.history))
         (λ _. journal.new.history ≡ journal.old.history) }
-    ensures idle { IfOk result (λ did. IsFalse did → IsIdle port.new) }
+    ensures passed { IfOk result (λ did. IsFalse did → IsPassedBy port.old port.new) }
     ensures kept { OnErr result (IsSome port.new.kept) }
     ensures fault { IfErr result (λ fault. (fault ≡ CallFault.Full) ↔ (length journal.new.history ≡ journal.new.most)) }
 {
@@ -70,8 +70,8 @@ pub(crate) fn serve_round<O: Object>(
         (λ served. Gains journal.old.history journal.new.history (length ports.old.items) served)
         (λ fault. Gains journal.old.history journal.new.history fault.line fault.served) }
     ensures visits { MatchResult result
-        (λ _. Visits journal.old.history journal.new.history ports.new.items (length ports.old.items))
-        (λ fault. Visits journal.old.history journal.new.history ports.new.items fault.line) }
+        (λ _. Visits journal.old.history journal.new.history ports.old.items ports.new.items (length ports.old.items))
+        (λ fault. Visits journal.old.history journal.new.history ports.old.items ports.new.items fault.line) }
     ensures fault { IfErr result (λ fault. StopsAt fault.line (fault.cause ≡ CallFault.Full) (record { journal = journal.new; ports = ports.new.items })) }
 {
     let mut served = 0;

@@ -1,9 +1,10 @@
-use Rattle.std.proofs.Common.{◌≡◌}
+use Rattle.std.proofs.Common.{◌≡◌, ◌+◌}
 use Rattle.call_history.specs.RingLines.{posted_calls, taken_replies, SameLine}
 use Rattle.call_history.proofs.ring_wire.post_within.Given as goal
 
 abbrev pub invariant-loop-tried : goal.invariant-loop-tried
 invariant-loop-tried g l = record {
+  left : l.left + l.tried ≡ l.initial.left;
   line : SameLine l.initial.line l.line;
   call : l.call ≡ l.initial.call;
   posted : posted_calls l.line ≡ posted_calls l.initial.line;
