@@ -11,7 +11,7 @@ use Rattle.game_core.specs.Bytes.{is_atom_byte, left_parenthesis, right_parenthe
 use Rattle.game_core.specs.Expression.{Expression, atom, list, Expressions, none, more, AreAtomBytes, HasAtoms, AllHaveAtoms}
 use Rattle.game_core.specs.Canonical.{canonical, members, later, IsCanonicalText, IsFoldedText}
 use Rattle.game_core.specs.Play.{Rules}
-use Rattle.match_book.specs.Names.{is_name}
+use Rattle.match_book.specs.Names.{is_name, is_name_byte}
 use Rattle.match_book.specs.Marks.{mark_text}
 use Rattle.match_book.specs.Judgement.{IsSubstitution, IsJudged, IsPart, unreadable_text, retired_text, illegal_prefix}
 use Rattle.match_book.specs.Retirement.{retired_by}
@@ -24,7 +24,6 @@ use Rattle.match_book.specs.declared.phase.Phase.{Phase}
 use Rattle.match_book.specs.declared.phase.Phase.TheVariants.{Starting, Playing, Stopping, Finished, Aborting, Aborted}
 use Rattle.match_book.specs.declared.turn.Turn.{Turn}
 use Rattle.record_reading.specs.RecordTree.{phase_text}
-use Rattle.match_book.proofs.NamesAreAtoms.{name_is_atom}
 
 small_byte : (b : ℕ) → nat_lt b 128 ≡ true → b < 128
 small_byte b is = grind (arith, nat_tests)
@@ -69,8 +68,16 @@ folded_text_is_ascii text is = subst IsAscii (sym is.3) (canonical_is_ascii is.0
 pub canonical_texts_are_ascii : (texts : List (List ℕ)) → All IsCanonicalText texts → All IsAscii texts
 canonical_texts_are_ascii texts are k d within = canonical_text_is_ascii (slice_index_or texts k d) (are k d within)
 
+name_byte_is_small : (b : ℕ) → is_name_byte b ≡ true → b < 128
+name_byte_is_small b is = grind (arith, nat_tests)
+
+name_bytes_are_ascii : (w : List ℕ) → list_all is_name_byte w ≡ true → IsAscii w
+name_bytes_are_ascii [] is i = omega arith
+name_bytes_are_ascii (b ∷ bs) is zero = name_byte_is_small b (and_parts (is_name_byte b) (list_all is_name_byte bs) is).0
+name_bytes_are_ascii (b ∷ bs) is (suc i) = name_bytes_are_ascii bs (and_parts (is_name_byte b) (list_all is_name_byte bs) is).1 i
+
 pub name_is_ascii : (w : List ℕ) → is_name w ≡ true → IsAscii w
-name_is_ascii w is = atom_is_ascii w (name_is_atom w is).1
+name_is_ascii w is = name_bytes_are_ascii w (and_parts _ (list_all is_name_byte w) is).1
 
 pub names_are_ascii : (ws : List (List ℕ)) → list_all is_name ws ≡ true → All IsAscii ws
 names_are_ascii [] are k d within = absurd (omega arith)

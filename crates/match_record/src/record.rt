@@ -1,5 +1,6 @@
 //! The record of a match.
 ghost use Rattle.std.specs.Prelude.{◌≡◌, ◌<◌, ◌++◌, IfOk, IfSome, OnOk, Some, length, option_map, option_to_list, map, slice_get};
+ghost use mathlib.Core.List.{IsPrefix};
 ghost use Rattle.serde_json.specs.Data.{Data};
 ghost use Rattle.serde_json.specs.Read.{read};
 ghost use Rattle.match_book.specs.Lawful.{IsLawfulMatch};
@@ -24,7 +25,8 @@ use std::mem;
 fn write_start_marks<G: Game>(out: &mut Writer, game: &G, held: &Match<G>) -> Result<(), AllocError>
     requires game { held.now.game ≡ game.now }
     requires lawful { IsLawfulMatch (G.rules game.now) held.now.value }
-    ensures { OnOk result (IsWritten out.old out.new (marks_tree held.now.value.start_marks)) }
+    ensures before { out.new.before ≡ out.old.before }
+    ensures written { OnOk result (IsWritten out.old out.new (marks_tree held.now.value.start_marks)) }
 {
     out.begin_array()?;
     for role in 0..game.roles() {
@@ -38,7 +40,8 @@ fn write_start_marks<G: Game>(out: &mut Writer, game: &G, held: &Match<G>) -> Re
 fn write_end_marks<G: Game>(out: &mut Writer, game: &G, held: &Match<G>) -> Result<(), AllocError>
     requires game { held.now.game ≡ game.now }
     requires lawful { IsLawfulMatch (G.rules game.now) held.now.value }
-    ensures { OnOk result (IsWritten out.old out.new (marks_tree held.now.value.end_marks)) }
+    ensures before { out.new.before ≡ out.old.before }
+    ensures written { OnOk result (IsWritten out.old out.new (marks_tree held.now.value.end_marks)) }
 {
     out.begin_array()?;
     for role in 0..game.roles() {
@@ -50,7 +53,8 @@ fn write_end_marks<G: Game>(out: &mut Writer, game: &G, held: &Match<G>) -> Resu
 
 /// The names of the roles.
 fn write_role_names<G: Game>(out: &mut Writer, game: &G) -> Result<(), AllocError>
-    ensures { OnOk result (IsWritten out.old out.new (texts_tree (each_role (G.rules game.now).roles (G.rules game.now).role_name))) }
+    ensures before { out.new.before ≡ out.old.before }
+    ensures written { OnOk result (IsWritten out.old out.new (texts_tree (each_role (G.rules game.now).roles (G.rules game.now).role_name))) }
 {
     out.begin_array()?;
     for role in 0..game.roles() {
@@ -62,7 +66,8 @@ fn write_role_names<G: Game>(out: &mut Writer, game: &G) -> Result<(), AllocErro
 
 /// A goal, if there is one.
 fn write_goal(out: &mut Writer, goal: Option<u8>) -> Result<(), AllocError>
-    ensures { OnOk result (HasAdded out.old out.new (each_tokens (map whole_tree (option_to_list goal)))) }
+    ensures before { out.new.before ≡ out.old.before }
+    ensures written { OnOk result (HasAdded out.old out.new (each_tokens (map whole_tree (option_to_list goal)))) }
 {
     if let Some(goal) = goal {
         write_whole(out, u64::from(goal))?;
@@ -74,7 +79,8 @@ fn write_goal(out: &mut Writer, goal: Option<u8>) -> Result<(), AllocError>
 fn write_goals<G: Game>(out: &mut Writer, game: &G, held: &Match<G>) -> Result<(), AllocError>
     requires game { held.now.game ≡ game.now }
     requires lawful { IsLawfulMatch (G.rules game.now) held.now.value }
-    ensures { OnOk result (IsWritten out.old out.new (goal_values_tree (parts_of (G.rules game.now) held.now.value).goals)) }
+    ensures before { out.new.before ≡ out.old.before }
+    ensures written { OnOk result (IsWritten out.old out.new (goal_values_tree (parts_of (G.rules game.now) held.now.value).goals)) }
 {
     out.begin_array()?;
     for role in 0..game.roles() {
@@ -94,7 +100,8 @@ fn write_moves_at<G: Game>(
     requires game { held.now.game ≡ game.now }
     requires lawful { IsLawfulMatch (G.rules game.now) held.now.value }
     requires turn { turn < length held.now.value.turns }
-    ensures { OnOk result (IfSome (option_map (λ t. texts_tree (map (G.rules game.now).move_text t.moves)) (slice_get held.now.value.turns turn)) (IsWritten out.old out.new)) }
+    ensures before { out.new.before ≡ out.old.before }
+    ensures written { OnOk result (IfSome (option_map (λ t. texts_tree (map (G.rules game.now).move_text t.moves)) (slice_get held.now.value.turns turn)) (IsWritten out.old out.new)) }
 {
     out.begin_array()?;
     for role in 0..game.roles() {
@@ -114,7 +121,8 @@ fn write_errors_at<G: Game>(
     requires game { held.now.game ≡ game.now }
     requires lawful { IsLawfulMatch (G.rules game.now) held.now.value }
     requires turn { turn < length held.now.value.turns }
-    ensures { OnOk result (IfSome (option_map (λ t. texts_tree (t.errors)) (slice_get held.now.value.turns turn)) (IsWritten out.old out.new)) }
+    ensures before { out.new.before ≡ out.old.before }
+    ensures written { OnOk result (IfSome (option_map (λ t. texts_tree (t.errors)) (slice_get held.now.value.turns turn)) (IsWritten out.old out.new)) }
 {
     out.begin_array()?;
     for role in 0..game.roles() {
@@ -134,7 +142,8 @@ fn turns<G: Game>(held: &Match<G>) -> usize
 fn write_moves<G: Game>(out: &mut Writer, game: &G, held: &Match<G>) -> Result<(), AllocError>
     requires game { held.now.game ≡ game.now }
     requires lawful { IsLawfulMatch (G.rules game.now) held.now.value }
-    ensures { OnOk result (IsWritten out.old out.new (text_lists_tree (parts_of (G.rules game.now) held.now.value).moves)) }
+    ensures before { out.new.before ≡ out.old.before }
+    ensures written { OnOk result (IsWritten out.old out.new (text_lists_tree (parts_of (G.rules game.now) held.now.value).moves)) }
 {
     out.begin_array()?;
     for turn in 0..turns(held) {
@@ -148,7 +157,8 @@ fn write_moves<G: Game>(out: &mut Writer, game: &G, held: &Match<G>) -> Result<(
 fn write_errors<G: Game>(out: &mut Writer, game: &G, held: &Match<G>) -> Result<(), AllocError>
     requires game { held.now.game ≡ game.now }
     requires lawful { IsLawfulMatch (G.rules game.now) held.now.value }
-    ensures { OnOk result (IsWritten out.old out.new (text_lists_tree (parts_of (G.rules game.now) held.now.value).errors)) }
+    ensures before { out.new.before ≡ out.old.before }
+    ensures written { OnOk result (IsWritten out.old out.new (text_lists_tree (parts_of (G.rules game.now) held.now.value).errors)) }
 {
     out.begin_array()?;
     for turn in 0..turns(held) {
@@ -166,7 +176,8 @@ fn write_state<G: Game>(
     state: &G::State,
 ) -> Result<(), AllocError>
     requires { (G.rules game.now).IsState state.now }
-    ensures { OnOk result (IsWritten out.old out.new (texts_tree ((G.rules game.now).state_text state.now))) }
+    ensures before { out.new.before ≡ out.old.before }
+    ensures written { OnOk result (IsWritten out.old out.new (texts_tree ((G.rules game.now).state_text state.now))) }
 {
     let texts = game.state_text(alloc, state)?;
     write_lent_texts(out, texts.as_slice())
@@ -180,7 +191,8 @@ fn write_states<G: Game>(
     held: &Match<G>,
 ) -> Result<(), AllocError>
     requires game { held.now.game ≡ game.now }
-    ensures { OnOk result (IsWritten out.old out.new (text_lists_tree (parts_of (G.rules game.now) held.now.value).states)) }
+    ensures before { out.new.before ≡ out.old.before }
+    ensures written { OnOk result (IsWritten out.old out.new (text_lists_tree (parts_of (G.rules game.now) held.now.value).states)) }
 {
     out.begin_array()?;
     write_state(alloc, out, game, held.state_after(0))?;
@@ -202,7 +214,8 @@ fn write_value_at<G: Game>(
     requires game { held.now.game ≡ game.now }
     requires lawful { IsLawfulMatch (G.rules game.now) held.now.value }
     requires setup { IsLawfulSetup held.now.value.setup }
-    ensures { OnOk result (IsWritten out.old out.new (key_tree key (parts_of (G.rules game.now) held.now.value))) }
+    ensures before { out.new.before ≡ out.old.before }
+    ensures written { OnOk result (IsWritten out.old out.new (key_tree key (parts_of (G.rules game.now) held.now.value))) }
 {
     let setup = held.setup();
     match key {
@@ -234,7 +247,8 @@ fn write_record<G: Game>(
     requires game { held.now.game ≡ game.now }
     requires lawful { IsLawfulMatch (G.rules game.now) held.now.value }
     requires setup { IsLawfulSetup held.now.value.setup }
-    ensures { OnOk result (IsWritten out.old out.new (record_tree (G.rules game.now) held.now.value)) }
+    ensures before { out.new.before ≡ out.old.before }
+    ensures written { OnOk result (IsWritten out.old out.new (record_tree (G.rules game.now) held.now.value)) }
 {
     out.begin_object()?;
     for key in Key::ALL {
@@ -276,6 +290,8 @@ pub fn push_record<G: Game>(
 ) -> Result<(), AllocError>
     requires game { held.now.game ≡ game.now }
     requires setup { IsLawfulSetup held.now.value.setup }
+    // Also on an error: what stood there stays in front.
+    ensures kept { IsPrefix out.old.items out.new.items }
     ensures text { OnOk result (out.new.items ≡ out.old.items ++ record_text (G.rules game.now) held.now.value) }
     ensures reads_back { OnOk result (read (record_text (G.rules game.now) held.now.value) ≡ Some (record_tree (G.rules game.now) held.now.value)) }
     ensures lawful { OnOk result (IsLawfulRecord (G.rules game.now) (record_text (G.rules game.now) held.now.value)) }

@@ -16,7 +16,8 @@ use std::str::from_utf8_unchecked;
 /// A text of ASCII bytes.
 pub fn write_text(out: &mut Writer, text: &[u8]) -> Result<(), AllocError>
     requires { IsAscii text.now }
-    ensures { OnOk result (IsWritten out.old out.new (string text.now)) }
+    ensures before { out.new.before ≡ out.old.before }
+    ensures written { OnOk result (IsWritten out.old out.new (string text.now)) }
 {
     // ASCII is UTF-8, which is proved here, and so not tested.
     let text = unsafe { from_utf8_unchecked(text) };
@@ -27,7 +28,8 @@ pub fn write_text(out: &mut Writer, text: &[u8]) -> Result<(), AllocError>
 /// The text, or null where there is none.
 pub fn write_text_or_null(out: &mut Writer, text: Option<&[u8]>) -> Result<(), AllocError>
     requires { IfSome (option_copied text) IsAscii }
-    ensures { OnOk result (IsWritten out.old out.new (text_or_null (option_copied text.entry))) }
+    ensures before { out.new.before ≡ out.old.before }
+    ensures written { OnOk result (IsWritten out.old out.new (text_or_null (option_copied text.entry))) }
 {
     match text {
         Some(text) => write_text(out, text)?,
@@ -39,7 +41,8 @@ pub fn write_text_or_null(out: &mut Writer, text: Option<&[u8]>) -> Result<(), A
 /// The texts as a list.
 pub fn write_texts(out: &mut Writer, texts: &[Text]) -> Result<(), AllocError>
     requires { All IsAscii texts.now }
-    ensures { OnOk result (IsWritten out.old out.new (texts_tree texts.now)) }
+    ensures before { out.new.before ≡ out.old.before }
+    ensures written { OnOk result (IsWritten out.old out.new (texts_tree texts.now)) }
 {
     out.begin_array()?;
     for text in texts {
@@ -55,7 +58,8 @@ pub fn write_lent_texts(
     texts: &[CowSlice<'_, u8, Global>],
 ) -> Result<(), AllocError>
     requires { All IsAscii (map cow_slice_items texts.now) }
-    ensures { OnOk result (IsWritten out.old out.new (texts_tree (map cow_slice_items texts.now))) }
+    ensures before { out.new.before ≡ out.old.before }
+    ensures written { OnOk result (IsWritten out.old out.new (texts_tree (map cow_slice_items texts.now))) }
 {
     out.begin_array()?;
     for text in texts {
@@ -67,7 +71,8 @@ pub fn write_lent_texts(
 
 /// A whole number.
 pub fn write_whole(out: &mut Writer, number: u64) -> Result<(), AllocError>
-    ensures { OnOk result (IsWritten out.old out.new (whole_tree number)) }
+    ensures before { out.new.before ≡ out.old.before }
+    ensures written { OnOk result (IsWritten out.old out.new (whole_tree number)) }
 {
     out.u64(number)?;
     Ok(())
@@ -75,7 +80,8 @@ pub fn write_whole(out: &mut Writer, number: u64) -> Result<(), AllocError>
 
 /// Why the match is aborted: null where it is not.
 pub fn write_cause(alloc: Global, out: &mut Writer, cause: Option<Cause>) -> Result<(), AllocError>
-    ensures { OnOk result (IsWritten out.old out.new (cause_tree cause)) }
+    ensures before { out.new.before ≡ out.old.before }
+    ensures written { OnOk result (IsWritten out.old out.new (cause_tree cause)) }
 {
     match cause {
         None => out.null()?,

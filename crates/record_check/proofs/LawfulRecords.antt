@@ -1,24 +1,19 @@
 -- A record that is replayed without a fault is that of a lawful match, and one with a fault is not.
-use Rattle.std.proofs.Common.{◌≡◌, ◌≢◌, ℕ, zero, suc, ◌<◌, ◌≤◌, Bool, false, Some, None, List, [], ◌∷◌, length, take, map, refl, sym, ap, ◌∙◌, subst, arith, inl, inr, Contains, add-one}
+use Rattle.std.proofs.Common.{◌≡◌, ◌≢◌, ℕ, zero, suc, ◌<◌, ◌≤◌, Bool, false, Some, None, List, [], ◌∷◌, length, take, map, refl, sym, ap, ◌∙◌, subst, arith, inl, inr, Contains}
 use Rattle.std.proofs.Math.Nat.{eq-or-lt_of_le}
 use Rattle.std.specs.Prelude.{slice_index_or, slice_get, option_map, ◌==◌}
 use Rattle.std.proofs.lemmas.List.{length-map, length-replicate, take_all, get_or-map}
 use Rattle.std.proofs.lemmas.Bool.Decides.{nat_tests}
 use Rattle.std.proofs.lemmas.Option.{slice_get-map}
 use Rattle.game_core.specs.Play.{Rules, IsJoint, IsLawful}
-use Rattle.match_book.specs.Roles.{every_role, lowest_role}
+use Rattle.match_book.specs.Roles.{every_role, lowest_role, at_role, blank}
 use Rattle.match_book.specs.Judgement.{IsPart, NamesNone}
-use Rattle.match_book.specs.Retirement.{are_all_retired, is_retired, retired_by}
+use Rattle.match_book.specs.Retirement.{retired_by}
 use Rattle.match_book.specs.MatchValue.{MatchValue, state_after}
-use Rattle.match_book.specs.Phase.{stage, phase_in, answered_in, has_no_move, max_turns}
+use Rattle.match_book.specs.Phase.{stage, phase_in, has_no_move, max_turns}
 use Rattle.match_book.specs.Lawful.{IsLawfulTurn, AreLawful, IsLawfulMatch}
-use Rattle.match_book.specs.declared.phase.Stage.{Stage}
-use Rattle.match_book.specs.declared.phase.Stage.TheVariants.{Playing}
+use Rattle.match_book.specs.Laws.{BegunRoundsAreOpen, StoppingMeans, TurnsHaveMoves, TurnsLeadToStates}
 use Rattle.match_book.specs.declared.turn.Turn.{Turn}
-use Rattle.match_book.proofs.RoleTests.{every_role-same, lowest_role-more}
-use Rattle.match_book.proofs.Stages.{playing-live, playing-settled, settled-playing, answered_in-retired}
-use Rattle.match_book.proofs.LawfulMatches.{none_blank}
-use Rattle.match_book.proofs.LawfulTurns.{state_after-is_state}
 use Rattle.record_reading.specs.LawfulRecord.{AreLawfulParts}
 use Rattle.record_reading.specs.RecordParts.{prefixes, parts_of, parts_in}
 use Rattle.record_reading.specs.RecordTree.{HasShape}
@@ -59,7 +54,12 @@ same-gets (x ∷ xs) (y ∷ ys) many at =
 
 -- ---- a record without a fault
 
-module _ {S M : Type 0} (g : Rules S M) (laws : IsLawful g) (p : RecordParts) (shape : HasShape g p) (s : S) (played : IsReplayed g p s) (goals : AreGoalsIn g p.phase s p.goals) (right : IsRightEnd g p played.leads.turns) where
+none-blank : {A : Type 0} (n r : ℕ) (x : A) → at_role (blank n) r ≡ Some x → ⊥
+none-blank zero r x is = cc
+none-blank (suc n) zero x is = cc
+none-blank (suc n) (suc r) x is = none-blank n r x is
+
+module _ {S M : Type 0} (g : Rules S M) (begun : BegunRoundsAreOpen g) (p : RecordParts) (shape : HasShape g p) (s : S) (played : IsReplayed g p s) (goals : AreGoalsIn g p.phase s p.goals) (right : IsRightEnd g p played.leads.turns) where
   made : MatchValue M
   made = match_of g p played.leads.turns
 
@@ -78,13 +78,9 @@ module _ {S M : Type 0} (g : Rules S M) (laws : IsLawful g) (p : RecordParts) (s
         turns = played.leads.lawful;
         few_turns = subst (λ k. k ≤ max_turns) (sym few) (shape.keys Moves).1;
         turns_after_start = right.turns_after_start;
-        judged = λ r j lt e. absurd (none_blank g.roles r j e);
+        judged = λ r j lt e. absurd (none-blank g.roles r j e);
         answers_in_play = λ _. refl;
-        round_is_open = λ e.
-            let playing : stage g n ≡ Playing = playing-live (stage g n) e in
-            let not_all : are_all_retired g.roles n ≡ false = (settled-playing g (length n.turns) (are_all_retired g.roles n) (state_after g n.turns) (playing-settled g n playing).1).3 in
-            let none : every_role g.roles (answered_in Playing n) ≡ false = every_role-same g.roles (is_retired n) (answered_in Playing n) (λ k lt. answered_in-retired n g.roles k refl) ∙ not_all in
-            subst (λ (at : Stage). every_role g.roles (answered_in at n) ≡ false) (sym playing) none;
+        round_is_open = λ e. begun n e refl;
         ends_at_end = right.ends_at_end;
         asked_when_live = right.asked_when_live;
       }
@@ -136,7 +132,7 @@ module _ {S M : Type 0} (g : Rules S M) (laws : IsLawful g) (p : RecordParts) (s
 
 none-lowest : (n : ℕ) (test : ℕ → Bool) → ((k : ℕ) → k < n → test k ≡ false) → lowest_role n test ≡ None
 none-lowest zero test none = refl
-none-lowest (suc n) test none = rw add-one at (lowest_role-more n test (none-lowest n test (λ k lt. none k (omega arith))) (none n (omega arith)))
+none-lowest (suc n) test none = rw (none-lowest n test (λ k lt. none k (omega arith)), none n (omega arith)) refl
 
 some-move : {M : Type 0} (moves : List M) (m : M) → Contains moves m → (length moves == 0) ≡ false
 some-move [] m among = absurd (omega (arith, among.1))
@@ -145,7 +141,7 @@ some-move (x ∷ xs) m among = longer (length xs)
     longer : (n : ℕ) → (suc n == 0) ≡ false
     longer n = grind (arith, nat_tests)
 
-module _ {S M : Type 0} (g : Rules S M) (laws : IsLawful g) (p : RecordParts) (m : MatchValue M) (lawful : IsLawfulMatch g m) (shows : parts_in g p.version m ≡ p) where
+module _ {S M : Type 0} (g : Rules S M) (laws : IsLawful g) (states : TurnsLeadToStates g) (of_game : TurnsHaveMoves g) (stops : StoppingMeans g) (p : RecordParts) (m : MatchValue M) (lawful : IsLawfulMatch g m) (shows : parts_in g p.version m ≡ p) where
   turns-lawful : AreLawful g p.strikes m.turns
   turns-lawful = subst (λ (k : ℕ). AreLawful g k m.turns) (ap (λ (q : RecordParts). q.strikes) shows) lawful.turns
 
@@ -159,13 +155,13 @@ module _ {S M : Type 0} (g : Rules S M) (laws : IsLawful g) (p : RecordParts) (m
   as-many = sym (length-map m.turns (λ (u : Turn M). map g.move_text u.moves)) ∙ ap length moves-same
 
   front : (t : ℕ) (s : S) (leads : LeadsTo g p t s) → leads.turns ≡ take t m.turns
-  front t s leads = leads-front g laws p t s leads m.turns turns-lawful moves-same errors-same
+  front t s leads = leads-front g laws of_game p t s leads m.turns turns-lawful moves-same errors-same
 
   state-is : (t : ℕ) (s : S) → LeadsTo g p t s → s ≡ state_after g (take t m.turns)
   state-is t s leads = leads.state ∙ ap (state_after g) (front t s leads)
 
   is-state : (t : ℕ) (s : S) → LeadsTo g p t s → g.IsState s
-  is-state t s leads = subst (λ (x : S). g.IsState x) (sym leads.state) (state_after-is_state g laws leads.turns leads.lawful)
+  is-state t s leads = subst (λ (x : S). g.IsState x) (sym leads.state) (states p.strikes leads.turns leads.lawful)
 
   shown : (t : ℕ) (s : S) → LeadsTo g p t s → ShowsState g p t s
   shown t s leads =
@@ -252,11 +248,11 @@ module _ {S M : Type 0} (g : Rules S M) (laws : IsLawful g) (p : RecordParts) (m
   no-fault (Illegal t r) other fault = no-illegal t fault.0 fault.1 r fault.2.within fault.3
   no-fault (NotFirst t r) other fault = no-wrong_error t fault.0 fault.1 r fault.2.within fault.3
   no-fault (WrongRetired t r) other fault = no-wrong_retired t fault.0 fault.1 r fault.2.within fault.3
-  no-fault WrongGoals other fault = fault.2 (lawful-goals g m lawful p shows fault.0 (fault.1.leads.state ∙ ap (state_after g) (all-turns fault.0 fault.1.leads)))
+  no-fault WrongGoals other fault = fault.2 (lawful-goals g m lawful p shows stops fault.0 (fault.1.leads.state ∙ ap (state_after g) (all-turns fault.0 fault.1.leads)))
   no-fault WrongEnd other (inl early) = early.3 (next-turn early.0 early.1 early.2).1.goes_on
   no-fault WrongEnd other (inr late) = late.3 (subst (λ (ts : List (Turn M)). IsRightEnd g p ts) (sym (all-turns late.0 late.1.leads)) (lawful-right_end g m lawful p shows))
   no-fault Memory other fault = other refl
 
 -- a record with a fault is that of no lawful match
-pub fault-not_lawful : {S M : Type 0} (g : Rules S M) → IsLawful g → (p : RecordParts) (f : VerifyFault) → IsFirstFault g p f → f ≢ Memory → ¬ (AreLawfulParts g p)
-fault-not_lawful g laws p f fault other record' = no-fault g laws p record'.0 record'.1 record'.2 f other fault
+pub fault-not_lawful : {S M : Type 0} (g : Rules S M) → IsLawful g → TurnsLeadToStates g → TurnsHaveMoves g → StoppingMeans g → (p : RecordParts) (f : VerifyFault) → IsFirstFault g p f → f ≢ Memory → ¬ (AreLawfulParts g p)
+fault-not_lawful g laws states of_game stops p f fault other record' = no-fault g laws states of_game stops p record'.0 record'.1 record'.2 f other fault

@@ -10,12 +10,11 @@ use Rattle.match_book.specs.Roles.{every_role, lowest_role, is_there}
 use Rattle.match_book.specs.MatchValue.{MatchValue, state_after}
 use Rattle.match_book.specs.Phase.{stage, settled, after_the_end, before_the_end, phase, phase_in, cause, cause_in, goal_in, goal_of, is_live, max_turns, has_no_goal, has_no_move}
 use Rattle.match_book.specs.Lawful.{IsLawfulMatch}
+use Rattle.match_book.specs.Laws.{StoppingMeans}
 use Rattle.match_book.specs.declared.phase.Cause.TheVariants.{Asked, TooLong}
 use Rattle.match_book.specs.declared.phase.Stage.{Stage}
 use Rattle.match_book.specs.declared.phase.Stage.TheVariants.{Starting, Playing, Stopping, Aborting}
 use Rattle.match_book.specs.declared.turn.Turn.{Turn}
-use Rattle.match_book.proofs.RoleTests.{lowest_role-none}
-use Rattle.match_book.proofs.Stages.{stage-by}
 use Rattle.record_reading.specs.RecordParts.{parts_in, goals_from}
 use Rattle.record_check.specs.Replaying.{AreGoalsOf, AreGoalsIn, IsRightEnd, match_of, is_asked}
 use Rattle.record_check.specs.Internal.ReplaySteps.{stage_by, has_started, has_ended, AgreesWith, AreRetired, IsEndAnswer}
@@ -89,27 +88,6 @@ goals-in g s Stopping false some = goals-all g s (some refl)
 goals-in g s (Aborting c) true some = goals_from-none g.roles (goal_in (Aborting c) g s) (λ r. refl)
 goals-in g s (Aborting c) false some = goals_from-none g.roles (goal_in (Aborting c) g s) (λ r. refl)
 
-settled-stopping : {S M : Type 0} (g : Rules S M) (t : ℕ) (out : Bool) (s : S) → settled g t out s ≡ Stopping → lowest_role g.roles (has_no_goal g s) ≡ None
-unfolding settled
-settled-stopping g t out s e = step (g.terminal s) (nat_le max_turns t) out (lowest_role g.roles (has_no_goal g s)) (lowest_role g.roles (has_no_move g s)) e
-  where
-    step : (over long out : Bool) (goals moves : Option ℕ) → (if over then after_the_end goals else (if long then Aborting TooLong else before_the_end moves out)) ≡ Stopping → goals ≡ None
-    step true long out None moves e = refl
-    step true long out (Some r) moves e = absurd cc
-    step false true out goals moves e = absurd cc
-    step false false true goals None e = absurd cc
-    step false false false goals None e = absurd cc
-    step false false out goals (Some r) e = absurd cc
-
-stopping-settled : {S M : Type 0} (g : Rules S M) (m : MatchValue M) → stage g m ≡ Stopping → settled g (length m.turns) (are_all_retired g.roles m) (state_after g m.turns) ≡ Stopping
-unfolding stage
-stopping-settled g m e = step m.abort_asked (every_role g.roles (is_there m.start_marks)) (settled g (length m.turns) (are_all_retired g.roles m) (state_after g m.turns)) e
-  where
-    step : (a all : Bool) (rest : Stage) → (if a then Aborting Asked else (if all then rest else Starting)) ≡ Stopping → rest ≡ Stopping
-    step true all rest e = absurd cc
-    step false true rest e = e
-    step false false rest e = absurd cc
-
 -- ---- the stage of a match with these turns
 
 module _ {S M : Type 0} (g : Rules S M) (p : RecordParts) (turns : List (Turn M)) (s : S) (retired : ℕ) (many : length turns ≡ length p.moves) (at : s ≡ state_after g turns) (out : AreRetired g p turns retired) where
@@ -163,6 +141,11 @@ settled-not_asked g t out s = step (g.terminal s) (nat_le max_turns t) out (lowe
     step false false false goals None = refl
     step false false out goals (Some r) = refl
 
+-- the stage depends on the setup, the turns, the START marks and whether an abort was asked
+stage-by : {S M : Type 0} (g : Rules S M) (m n : MatchValue M) → n.setup ≡ m.setup → n.abort_asked ≡ m.abort_asked → n.start_marks ≡ m.start_marks → n.turns ≡ m.turns → stage g n ≡ stage g m
+unfolding stage
+stage-by g m n setup asked starts turns = rw (setup, asked, starts, turns) refl
+
 -- the cause tells whether an abort was asked
 asked-is : {S M : Type 0} (g : Rules S M) (m : MatchValue M) → is_asked (cause g m) ≡ m.abort_asked
 unfolding stage
@@ -207,9 +190,8 @@ module _ {S M : Type 0} (g : Rules S M) (m : MatchValue M) (lawful : IsLawfulMat
     asked_when_live = λ e. ap is_live same-unasked ∙ lawful.asked_when_live (sym asked-same ∙ e);
   }
 
-  pub lawful-goals : (s : S) → s ≡ state_after g m.turns → AreGoalsIn g p.phase s p.goals
-  lawful-goals s at =
+  pub lawful-goals : StoppingMeans g → (s : S) → s ≡ state_after g m.turns → AreGoalsIn g p.phase s p.goals
+  lawful-goals stops s at =
       let here : AreGoalsIn g (phase g m) (state_after g m.turns) (goals_from g.roles (goal_of g m)) =
-      goals-in g (state_after g m.turns) (stage g m) (every_role g.roles (is_there m.end_marks))
-      (λ stops r lt. lowest_role-none g.roles r (has_no_goal g (state_after g m.turns)) (settled-stopping g (length m.turns) (are_all_retired g.roles m) (state_after g m.turns) (stopping-settled g m stops)) lt) in
+      goals-in g (state_after g m.turns) (stage g m) (every_role g.roles (is_there m.end_marks)) (λ stopping. ((stops m).0 stopping).goals) in
       subst (λ (x : S). AreGoalsIn g p.phase x p.goals) (sym at) (subst (λ (q : RecordParts). AreGoalsIn g q.phase (state_after g m.turns) q.goals) shows here)

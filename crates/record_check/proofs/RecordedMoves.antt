@@ -2,18 +2,17 @@
 use Rattle.std.proofs.Common.{◌≡◌, ◌≢◌, ℕ, zero, suc, ◌+◌, ◌<◌, ◌≤◌, Bool, true, false, Decides, not, true≢false, Option, Some, None, List, [], ◌∷◌, ◌++◌, length, take, map, refl, sym, ap, ◌∙◌, subst, arith, inl, inr, ◌⊎◌, Contains, codes, eqb}
 use Rattle.std.proofs.Math.Bool.{beq}
 use Rattle.std.proofs.Math.Nat.{eq-or-lt_of_le}
-use Rattle.std.specs.Prelude.{AllPairs, IsTrue, is_some, slice_index_or, slice_get, ◌↔◌, ◌==◌}
+use Rattle.std.specs.Prelude.{All, AllPairs, IsTrue, is_some, slice_index_or, slice_get, ◌↔◌, ◌==◌}
 use Rattle.std.specs.List.{HoldsAt}
 use Rattle.std.proofs.lemmas.List.{append_cancel_left, length_push, map_push, take_more, take_all, get_or_push, get_or_append_left}
 use Rattle.std.proofs.lemmas.Bool.Decides.{nat_tests}
 use Rattle.std.proofs.lemmas.List.Elements.{Contains-get_or}
-use Rattle.std.proofs.lemmas.Option.{get_or_from_slice_get, slice_get_read}
+use Rattle.std.proofs.lemmas.Option.{get_or_from_slice_get, slice_get_read, slice_get_within}
 use Rattle.game_core.specs.Play.{Rules, IsLawful}
 use Rattle.match_book.specs.LegalMoves.{AreLegalMoves}
 use Rattle.match_book.specs.Judgement.{error_text, MayStand, IsJudged, IsPart, NamesNone, IsPlaceOf, illegal_prefix, retired_text}
 use Rattle.match_book.specs.declared.judgement.Substitution.{Substitution}
 use Rattle.match_book.specs.declared.judgement.Substitution.TheVariants.{TimeOut, ConnectionError, Unreadable, Illegal, Retired}
-use Rattle.match_book.proofs.Judgements.{first-contains, Contains-move}
 use Rattle.record_reading.specs.RecordParts.{IsErrorText, MayBeGiven}
 use Rattle.record_check.specs.Replaying.{GoesOn, IsRightMove, DeniesOne, IsWrongError, IsWrongFor, IsWrongRetired, text_at}
 use Rattle.record_check.specs.Internal.ReplaySteps.{IsRightJoint}
@@ -24,6 +23,17 @@ pub element-at : {A : Type 0} (xs : List A) (k : ℕ) → k < length xs → (x :
 element-at [] k lt = absurd (omega arith)
 element-at (x ∷ xs) zero lt = (x, refl)
 element-at (x ∷ xs) (suc k) lt = element-at xs k (omega arith)
+
+pub All-get : {A : Type 0} (P : A → Type 0) (xs : List A) (k : ℕ) (x : A) → All P xs → slice_get xs k ≡ Some x → P x
+All-get P xs k x all at = subst P (get_or_from_slice_get xs k x x at) (all k x (slice_get_within xs k x at))
+
+first-contains : {M : Type 0} (moves : List M) (m : M) → slice_get moves 0 ≡ Some m → Contains moves m
+first-contains [] m first = absurd cc
+first-contains (x ∷ xs) m first = let same : x ≡ m = cc in (0, omega arith, same)
+
+-- a legal move is of the game
+Contains-move : {S M : Type 0} (g : Rules S M) → IsLawful g → (s : S) (r : ℕ) (m : M) → g.IsState s → r < g.roles → Contains (g.legal s r) m → g.IsMove m
+Contains-move {S} {M} g laws s r m is_state role among = subst (λ (x : M). g.IsMove x) among.2 (laws.legal_are_moves s r is_state role among.0 m among.1)
 
 named-none : {S M : Type 0} (g : Rules S M) (moves : List M) (x : List ℕ) (m : M) → NamesNone g moves x → Contains moves m → g.move_text m ≢ x
 named-none {S} {M} g moves x m none among = subst (λ (n : M). g.move_text n ≢ x) among.2 (none among.0 m among.1)

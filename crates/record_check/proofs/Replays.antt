@@ -1,22 +1,21 @@
 -- The turns that lead to a state of a record: how they begin, one turn more, and that no others do.
 use Rattle.std.proofs.Common.{◌≡◌, ℕ, zero, suc, ◌+◌, ◌<◌, ◌≤◌, min, Bool, false, Some, List, [], ◌∷◌, ◌++◌, length, take, map, refl, sym, ap, ◌∙◌, subst, arith, inl, inr}
 use Rattle.std.proofs.Math.Nat.{eq-or-lt_of_le}
-use Rattle.std.specs.Prelude.{All, replicate, slice_index_or, slice_get}
+use Rattle.std.specs.Prelude.{All, replicate, slice_index_or, slice_get, ◌==◌}
 use Rattle.std.proofs.lemmas.List.{length_push, length-map, length-take, map_push, take_more, take-take, take-map, take_at, take-append-le, get_or-take, get_or-map, same_lists}
 use Rattle.std.proofs.lemmas.List.Elements.{All-head, All-tail}
 use Rattle.std.proofs.lemmas.Option.{slice_get_within, get_or_from_slice_get}
 use Rattle.game_core.specs.Play.{Rules, IsJoint, IsLawful}
-use Rattle.match_book.specs.RoleStrikes.{after_turn, is_retired_in, count_roles, AreStrikes, unstruck}
+use Rattle.match_book.specs.Roles.{every_role}
+use Rattle.match_book.specs.RoleStrikes.{after_turn, is_retired_in, AreStrikes, unstruck}
 use Rattle.match_book.specs.Judgement.{IsPart}
 use Rattle.match_book.specs.Retirement.{retired_by}
 use Rattle.match_book.specs.declared.retirement.RoleStrikes.{RoleStrikes}
 use Rattle.match_book.specs.MatchValue.{is_error, state_after}
 use Rattle.match_book.specs.Phase.{max_turns}
 use Rattle.match_book.specs.Lawful.{IsLawfulTurn, AreLawful}
+use Rattle.match_book.specs.Laws.{FewStrikes, OneMoreTurn, StrikesBegin, StrikesOfOneMore, TurnsHaveMoves}
 use Rattle.match_book.specs.declared.turn.Turn.{Turn}
-use Rattle.match_book.proofs.LawfulTurns.{state_after-push, AreLawful-push, turn-moves}
-use Rattle.match_book.proofs.RoleTests.{every_role-same}
-use Rattle.match_book.proofs.StruckTurns.{all_retired-count, strikes-count, strikes-few, strikes-none, strikes-pushed, strikes-retired}
 use Rattle.record_check.specs.Replaying.{GoesOn, IsWrongRetired, IsRightMove, AreRightBelow, ShowsState, LeadsTo, ComesTo, IsFirstFault, retired_in, turn_at, text_at}
 use Rattle.record_check.specs.Internal.ReplaySteps.{AreRetired, IsRightJoint, IsTurnFault}
 use Rattle.record_reading.specs.declared.record_parts.RecordParts.{RecordParts}
@@ -36,10 +35,10 @@ LeadsTo-start g p = record {
 }
 
 -- one turn more
-pub LeadsTo-more : {S M : Type 0} (g : Rules S M) (p : RecordParts) (t : ℕ) (s next : S) (joint : List M) (leads : LeadsTo g p t s) → ShowsState g p t s → t < length p.moves → t < length p.errors → length (turn_at p.errors t) ≡ g.roles
+pub LeadsTo-more : {S M : Type 0} (g : Rules S M) → OneMoreTurn g → (p : RecordParts) (t : ℕ) (s next : S) (joint : List M) (leads : LeadsTo g p t s) → ShowsState g p t s → t < length p.moves → t < length p.errors → length (turn_at p.errors t) ≡ g.roles
     → IsRightJoint g (retired_by p.strikes leads.turns) s (turn_at p.moves t) (turn_at p.errors t) joint → next ≡ g.next s joint
     → (more : LeadsTo g p (t + 1) next) × (more.turns ≡ leads.turns ++ record { moves = joint; errors = turn_at p.errors t } ∷ [])
-LeadsTo-more {S} {M} g p t s next joint leads shown within_moves within_errors wide right is_next =
+LeadsTo-more {S} {M} g one_more p t s next joint leads shown within_moves within_errors wide right is_next =
     let turn : Turn M = record { moves = joint; errors = turn_at p.errors t } in
     let lawful : IsLawfulTurn g p.strikes leads.turns turn =
     record {
@@ -49,12 +48,13 @@ LeadsTo-more {S} {M} g p t s next joint leads shown within_moves within_errors w
       one_error = wide;
       judged = λ r d lt. subst (λ (x : S). IsPart g (retired_by p.strikes leads.turns r) (g.legal x r) (slice_index_or joint r d) (text_at (turn_at p.errors t) r)) leads.state (right.parts r d lt);
     }
-    in (
+    in
+    let longer = one_more p.strikes leads.turns turn leads.lawful lawful in (
       record {
         turns = leads.turns ++ turn ∷ [];
         many = length_push leads.turns turn ∙ ap (λ n. n + 1) leads.many;
-        lawful = AreLawful-push g p.strikes leads.turns turn leads.lawful lawful;
-        state = is_next ∙ ap (λ (x : S). g.next x joint) leads.state ∙ sym (state_after-push g leads.turns turn);
+        lawful = longer.0;
+        state = is_next ∙ ap (λ (x : S). g.next x joint) leads.state ∙ sym longer.1;
         moves = map_push (λ (u : Turn M). map g.move_text u.moves) leads.turns turn ∙ ap (λ ts. ts ++ map g.move_text joint ∷ []) leads.moves ∙ ap (λ texts. take t p.moves ++ texts ∷ []) right.texts ∙ sym (take_more p.moves t [] within_moves);
         errors = map_push (λ (u : Turn M). u.errors) leads.turns turn ∙ ap (λ ts. ts ++ turn_at p.errors t ∷ []) leads.errors ∙ sym (take_more p.errors t [] within_errors);
         states = λ k lt.
@@ -87,6 +87,13 @@ turn-fault g p t s WrongEnd comes fault = inl (t, s, comes, fault)
 turn-fault g p t s Memory comes fault = tt
 
 -- ---- which roles are retired, by their substitutions so far
+
+every_role-same : (n : ℕ) (p q : ℕ → Bool) → ((k : ℕ) → k < n → q k ≡ p k) → every_role n q ≡ every_role n p
+every_role-same zero p q same = refl
+every_role-same (suc n) p q same = rw (same n (omega arith), every_role-same n p q (λ k lt. same k (omega arith))) refl
+
+strikes-retired : {M : Type 0} (roles strikes : ℕ) (turns : List (Turn M)) (kept : List RoleStrikes) → AreStrikes roles strikes turns kept → (r : ℕ) → r < roles → is_retired_in kept r ≡ retired_by strikes turns r
+strikes-retired roles strikes turns kept are r lt = ap (λ (x : RoleStrikes). x.is_retired) (are.each r unstruck lt)
 
 module _ {S M : Type 0} (g : Rules S M) (p q : ℕ → Bool) (same : (r : ℕ) → r < g.roles → p r ≡ q r) where
   goes_on-by : (s : S) → GoesOn g p s → GoesOn g q s
@@ -132,40 +139,43 @@ pub record HasCome {S M : Type 0} (g : Rules S M) (p : RecordParts) (t : ℕ) (s
   pub strikes : AreStrikes g.roles p.strikes leads.turns kept
   pub is_state : g.IsState s
 
-pub come-start : {S M : Type 0} (g : Rules S M) → IsLawful g → (p : RecordParts) (s : S) (kept : List RoleStrikes) → s ≡ g.initial → kept ≡ replicate g.roles unstruck → HasCome g p 0 s kept
+pub come-start : {S M : Type 0} (g : Rules S M) → IsLawful g → StrikesBegin M → (p : RecordParts) (s : S) (kept : List RoleStrikes) → s ≡ g.initial → kept ≡ replicate g.roles unstruck → HasCome g p 0 s kept
 unfolding LeadsTo-start
-come-start {S} {M} g laws p s kept is kept_is =
+come-start {S} {M} g laws begin p s kept is kept_is =
     subst (λ (x : S). HasCome g p 0 x kept) (sym is)
-    (subst (λ (ks : List RoleStrikes). HasCome g p 0 g.initial ks) (sym kept_is) (record { leads = LeadsTo-start g p; strikes = strikes-none {M = M} g.roles p.strikes; is_state = laws.initial_is_state }))
+    (subst (λ (ks : List RoleStrikes). HasCome g p 0 g.initial ks) (sym kept_is) (record { leads = LeadsTo-start g p; strikes = begin g.roles p.strikes; is_state = laws.initial_is_state }))
 
--- the number of retired roles is the number that the substitutions give
-pub come-retired : {S M : Type 0} (g : Rules S M) (p : RecordParts) (t : ℕ) (s : S) (kept : List RoleStrikes) (retired : ℕ) (come : HasCome g p t s kept) → retired ≡ count_roles (length kept) (is_retired_in kept) → AreRetired g p come.leads.turns retired
-come-retired g p t s kept retired come is = all_retired-count g.roles p.strikes come.leads.turns retired (is ∙ strikes-count g.roles p.strikes come.leads.turns kept come.strikes)
+-- if this is the number of roles that the substitutions retire, it is that of the roles that the turns retire
+pub come-retired : {S M : Type 0} (g : Rules S M) (p : RecordParts) (t : ℕ) (s : S) (kept : List RoleStrikes) (retired : ℕ) (come : HasCome g p t s kept) → every_role (length kept) (is_retired_in kept) ≡ (retired == length kept) → AreRetired g p come.leads.turns retired
+come-retired g p t s kept retired come all =
+    every_role-same g.roles (is_retired_in kept) (retired_by p.strikes come.leads.turns) (λ r lt. sym (strikes-retired g.roles p.strikes come.leads.turns kept come.strikes r lt))
+    ∙ subst (λ n. every_role n (is_retired_in kept) ≡ (retired == n)) come.strikes.one_each all
 
-pub come-few : {S M : Type 0} (g : Rules S M) (p : RecordParts) (t : ℕ) (s : S) (kept : List RoleStrikes) → HasCome g p t s kept → t < length p.moves → length p.moves ≤ max_turns → All (λ k. k.in_a_row ≤ max_turns) kept
-come-few g p t s kept come lt few =
+pub come-few : {S M : Type 0} (g : Rules S M) → FewStrikes M → (p : RecordParts) (t : ℕ) (s : S) (kept : List RoleStrikes) → HasCome g p t s kept → t < length p.moves → length p.moves ≤ max_turns → All (λ k. k.in_a_row ≤ max_turns) kept
+come-few g few_strikes p t s kept come lt few =
     let many = come.leads.many in
-    strikes-few g.roles p.strikes come.leads.turns kept come.strikes (omega arith)
+    few_strikes g.roles p.strikes come.leads.turns kept come.strikes (omega arith)
 
 -- what comes after a state, by the texts that the record has there and the roles' substitutions so far
-module _ {S M : Type 0} (g : Rules S M) (laws : IsLawful g) (p : RecordParts) (t : ℕ) (s : S) (moves errors : List (List ℕ)) (kept : List RoleStrikes) (come : HasCome g p t s kept) (shown : ShowsState g p t s) (at_moves : slice_get p.moves t ≡ Some moves) (at_errors : slice_get p.errors t ≡ Some errors) where
+module _ {S M : Type 0} (g : Rules S M) (p : RecordParts) (t : ℕ) (s : S) (moves errors : List (List ℕ)) (kept : List RoleStrikes) (come : HasCome g p t s kept) (shown : ShowsState g p t s) (at_moves : slice_get p.moves t ≡ Some moves) (at_errors : slice_get p.errors t ≡ Some errors) where
   retired-is : (r : ℕ) → r < g.roles → is_retired_in kept r ≡ retired_by p.strikes come.leads.turns r
-  retired-is r lt = strikes-retired g.roles p.strikes come.leads.turns kept come.strikes r unstruck lt
+  retired-is r lt = strikes-retired g.roles p.strikes come.leads.turns kept come.strikes r lt
 
-  pub come-more : (next : S) (joint : List M) (after : List RoleStrikes) → length errors ≡ g.roles → IsRightJoint g (is_retired_in kept) s moves errors joint → next ≡ g.next s joint → length after ≡ length kept
+  pub come-more : IsLawful g → OneMoreTurn g → StrikesOfOneMore M → (next : S) (joint : List M) (after : List RoleStrikes) → length errors ≡ g.roles → IsRightJoint g (is_retired_in kept) s moves errors joint → next ≡ g.next s joint → length after ≡ length kept
       → ((r : ℕ) (d : RoleStrikes) → r < length kept → slice_index_or after r d ≡ after_turn p.strikes (slice_index_or kept r unstruck) (is_error (slice_index_or errors r []))) → HasCome g p (t + 1) next after
-  come-more next joint after wide right is_next as_many each =
+  come-more laws one_more strikes_more next joint after wide right is_next as_many each =
       let retired = retired_by p.strikes come.leads.turns in
       let errors_are = turn-read p.errors t errors at_errors in
       let known : IsRightJoint g retired s moves errors joint = right_joint-by g (is_retired_in kept) retired retired-is s moves errors joint right in
       let more =
-      LeadsTo-more g p t s next joint come.leads shown (slice_get_within p.moves t moves at_moves) (slice_get_within p.errors t errors at_errors) (subst (λ es. length es ≡ g.roles) errors_are wide)
+      LeadsTo-more g one_more p t s next joint come.leads shown (slice_get_within p.moves t moves at_moves) (slice_get_within p.errors t errors at_errors) (subst (λ es. length es ≡ g.roles) errors_are wide)
       (subst (λ ms. IsRightJoint g retired s ms (turn_at p.errors t) joint) (turn-read p.moves t moves at_moves) (subst (λ es. IsRightJoint g retired s moves es joint) errors_are known)) is_next in
       record {
         leads = more.0;
         strikes =
             subst (λ (ts : List (Turn M)). AreStrikes g.roles p.strikes ts after) (sym more.1)
-            (strikes-pushed g.roles p.strikes come.leads.turns (record { moves = joint; errors = turn_at p.errors t }) kept after kept errors come.strikes refl errors_are as_many each);
+            (strikes_more g.roles p.strikes come.leads.turns (record { moves = joint; errors = turn_at p.errors t }) kept after come.strikes as_many
+            (subst (λ (es : List (List ℕ)). (r : ℕ) (d : RoleStrikes) → r < length kept → slice_index_or after r d ≡ after_turn p.strikes (slice_index_or kept r unstruck) (is_error (slice_index_or es r []))) errors_are each));
         is_state = subst (λ (x : S). g.IsState x) (sym is_next) (laws.next_is_state s joint come.is_state right.joint);
       }
 
@@ -193,10 +203,13 @@ same-turn : {M : Type 0} (t u : Turn M) → t.moves ≡ u.moves → t.errors ≡
 same-turn t u moves errors = λ i. record { moves = moves i; errors = errors i }
 
 -- lawful turns with the same texts are the same
-same-turns : {S M : Type 0} (g : Rules S M) → IsLawful g → {strikes : ℕ} (xs ys : List (Turn M)) → AreLawful g strikes xs → AreLawful g strikes ys → length xs ≡ length ys
+same-turns : {S M : Type 0} (g : Rules S M) → IsLawful g → TurnsHaveMoves g → (strikes : ℕ) (xs ys : List (Turn M)) → AreLawful g strikes xs → AreLawful g strikes ys → length xs ≡ length ys
     → map (λ u. map g.move_text u.moves) xs ≡ map (λ u. map g.move_text u.moves) ys → map (λ u. u.errors) xs ≡ map (λ u. u.errors) ys → xs ≡ ys
-same-turns {S} {M} g laws {strikes} xs ys here there many moves errors = same_lists xs ys many at
+same-turns {S} {M} g laws of_game strikes xs ys here there many moves errors = same_lists xs ys many at
   where
+    moves-at : (ts : List (Turn M)) (k : ℕ) (t : Turn M) → AreLawful g strikes ts → k < length ts → slice_index_or ts k t ≡ t → All (λ m. g.IsMove m) t.moves
+    moves-at ts k t lawful lt is = subst (λ (u : Turn M). All (λ m. g.IsMove m) u.moves) is (of_game strikes ts lawful k t lt)
+
     at : (k : ℕ) (d : Turn M) → k < length xs → slice_index_or xs k d ≡ slice_index_or ys k d
     at k d lt =
         let lt' : k < length ys = omega (arith, many) in
@@ -208,7 +221,7 @@ same-turns {S} {M} g laws {strikes} xs ys here there many moves errors = same_li
         let same_errors : x.0.errors ≡ y.0.errors =
         ap (λ (u : Turn M). u.errors) (sym x.1) ∙ sym (get_or-map (λ (u : Turn M). u.errors) xs k x.0 [] lt) ∙ ap (λ ts. slice_index_or ts k []) errors
         ∙ get_or-map (λ (u : Turn M). u.errors) ys k y.0 [] lt' ∙ ap (λ (u : Turn M). u.errors) y.1 in
-        let same = same-turn x.0 y.0 (same-moves g laws x.0.moves y.0.moves (turn-moves g laws {strikes = strikes} xs k x.0 here lt (sym x.1)) (turn-moves g laws {strikes = strikes} ys k y.0 there lt' (sym y.1)) texts) same_errors in
+        let same = same-turn x.0 y.0 (same-moves g laws x.0.moves y.0.moves (moves-at xs k x.0 here lt x.1) (moves-at ys k y.0 there lt' y.1) texts) same_errors in
         read xs k d x.0 lt x.1 ∙ same ∙ sym (read ys k d y.0 lt' y.1)
       where
         read : (ts : List (Turn M)) (k : ℕ) (d t : Turn M) → k < length ts → slice_index_or ts k t ≡ t → slice_index_or ts k d ≡ t
@@ -230,12 +243,12 @@ leads-within {S} {M} g p t s leads =
     omega arith
 
 -- the turns that lead to a state of a record are the first turns of each lawful list that it shows
-pub leads-front : {S M : Type 0} (g : Rules S M) → IsLawful g → (p : RecordParts) (t : ℕ) (s : S) (leads : LeadsTo g p t s) (turns : List (Turn M)) → AreLawful g p.strikes turns
+pub leads-front : {S M : Type 0} (g : Rules S M) → IsLawful g → TurnsHaveMoves g → (p : RecordParts) (t : ℕ) (s : S) (leads : LeadsTo g p t s) (turns : List (Turn M)) → AreLawful g p.strikes turns
     → map (λ u. map g.move_text u.moves) turns ≡ p.moves → map (λ u. u.errors) turns ≡ p.errors → leads.turns ≡ take t turns
-leads-front {S} {M} g laws p t s leads turns lawful moves errors =
+leads-front {S} {M} g laws of_game p t s leads turns lawful moves errors =
     let within : t ≤ length turns = subst (λ n. t ≤ n) (sym (ap length moves) ∙ length-map turns (λ (u : Turn M). map g.move_text u.moves)) (leads-within g p t s leads) in
     let many : length leads.turns ≡ length (take t turns) = leads.many ∙ sym (length-take t turns ∙ least within) in
-    same-turns g laws {strikes = p.strikes} leads.turns (take t turns) leads.lawful (AreLawful-take g p.strikes turns t lawful) many
+    same-turns g laws of_game p.strikes leads.turns (take t turns) leads.lawful (AreLawful-take g p.strikes turns t lawful) many
     (leads.moves ∙ ap (take t) (sym moves) ∙ take-map (λ (u : Turn M). map g.move_text u.moves) t turns) (leads.errors ∙ ap (take t) (sym errors) ∙ take-map (λ (u : Turn M). u.errors) t turns)
   where
     least : t ≤ length turns → min t (length turns) ≡ t

@@ -10,6 +10,10 @@ ghost use Rattle.record_reading.specs.declared.verify_fault.VerifyFault.TheVaria
 use crate::ending::{are_goals_in, is_right_end};
 use crate::recorded_turn::replay_turn;
 use game_core::{Game, Text};
+use match_book::laws::{
+    begun_rounds_are_open, lawful_turns_are_of_the_game, one_more_turn, stages_are_settled,
+    strikes_follow_turns,
+};
 use match_book::{all_unstruck, count_retired, strikes_after};
 use record_reading::{RecordParts, VerifyFault};
 use std::alloc::{AllocError, Global};
@@ -54,6 +58,8 @@ fn replay_turns<G: Game>(
     requires { HasShape (G.rules game.now) parts.now }
     ensures { IsReplayAnswer (G.rules game.now) parts.now result }
 {
+    one_more_turn::<G>();
+    strikes_follow_turns::<G>();
     let mut state = game.initial(alloc)?;
     let mut strikes = all_unstruck(alloc, game.roles())?;
     let turns = parts.moves.count();
@@ -84,6 +90,9 @@ pub fn replay_record<G: Game>(
     ensures not_lawful { IfErr result (λ fault. fault ≢ Memory → ¬ (AreLawfulParts (G.rules game.now) parts.now)) }
     ensures first { IfErr result (λ fault. IsFirstFault (G.rules game.now) parts.now fault) }
 {
+    begun_rounds_are_open::<G>();
+    lawful_turns_are_of_the_game::<G>();
+    stages_are_settled::<G>();
     let (state, retired) = replay_turns(alloc, game, parts)?;
     let goals = parts.goals.as_slice();
     if !are_goals_in(alloc, game, parts.phase, &state, goals)? {

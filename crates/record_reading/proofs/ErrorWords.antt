@@ -3,9 +3,9 @@ use Rattle.std.proofs.Common.{◌≡◌, ◌≢◌, ℕ, ◌≤◌, Bool, true, 
 use Rattle.std.specs.Prelude.{is_some}
 use Rattle.game_core.specs.Canonical.{canonical, IsFoldedText}
 use Rattle.game_core.specs.Expression.{Expression, folded}
+use Rattle.kif_text.specs.Laws.{FoldedTextReadsBack, ReadingIsProper}
 use Rattle.kif_text.specs.Reading.{reading}
 use Rattle.kif_text.specs.Spelling.{max_length}
-use Rattle.kif_text.proofs.Readings.{reading_folded, folded_text_reads_back}
 use Rattle.match_book.specs.AnswerReading.{max_reading}
 use Rattle.match_book.specs.Marks.{mark_text}
 use Rattle.match_book.specs.declared.answer.Mark.{Mark}
@@ -59,20 +59,20 @@ fits : (n : ℕ) → n ≤ max_reading → n ≤ max_length
 fits n short = omega arith
 
 -- a text that is read is a folded text exactly where it is printed back
-pub folded_where_printed : (text : List ℕ) (x : Expression) (b : Bool) → length text ≤ max_reading → reading text ≡ Some x → Decides b (canonical (folded x) ≡ text) → IsTrue b ↔ (IsFoldedText text × (length text ≤ max_reading))
-folded_where_printed text x b short is decides = (to, from)
+pub folded_where_printed : ReadingIsProper → FoldedTextReadsBack → (text : List ℕ) (x : Expression) (b : Bool) → length text ≤ max_reading → reading text ≡ Some x → Decides b (canonical (folded x) ≡ text) → IsTrue b ↔ (IsFoldedText text × (length text ≤ max_reading))
+folded_where_printed proper reads_back text x b short is decides = (to, from)
   where
     to : IsTrue b → IsFoldedText text × (length text ≤ max_reading)
-    to printed = (subst IsFoldedText (decides.0 printed) (reading_folded text x is), short)
+    to printed = (subst IsFoldedText (decides.0 printed) (proper text x is).1, short)
 
     from : IsFoldedText text × (length text ≤ max_reading) → IsTrue b
     from both =
-        let back = folded_text_reads_back text both.0 (fits (length text) short) in
+        let back = reads_back text both.0 (fits (length text) short) in
         let same : back.0 ≡ x = cc in
         decides.1 (ap (λ y. canonical (folded y)) (sym same) ∙ ap canonical back.3 ∙ sym back.4)
 
 -- a text that is not read is none
-pub unread_is_not_folded : (text : List ℕ) → length text ≤ max_reading → reading text ≡ None → IsFoldedText text → ⊥
-unread_is_not_folded text short is folded_text =
-    let back = folded_text_reads_back text folded_text (fits (length text) short) in
+pub unread_is_not_folded : FoldedTextReadsBack → (text : List ℕ) → length text ≤ max_reading → reading text ≡ None → IsFoldedText text → ⊥
+unread_is_not_folded reads_back text short is folded_text =
+    let back = reads_back text folded_text (fits (length text) short) in
     absurd cc

@@ -9,6 +9,7 @@ use Rattle.game_core.specs.Play.{Rules, IsLawful, max_goal}
 use Rattle.match_book.specs.Judgement.{IsJudged, IsPart, MayStand}
 use Rattle.match_book.specs.Retirement.{are_all_retired, retired_by}
 use Rattle.match_book.specs.Lawful.{IsLawfulTurn, IsLawfulMatch, AreLawful}
+use Rattle.match_book.specs.Laws.{TurnsLeadToStates, StoppingMeans}
 use Rattle.match_book.specs.Names.{IsLawfulSetup}
 use Rattle.match_book.specs.MatchValue.{MatchValue, state_after}
 use Rattle.match_book.specs.Phase.{stage, settled, after_the_end, before_the_end, has_no_goal, cause_in, cause, goal_in, max_turns}
@@ -19,8 +20,6 @@ use Rattle.match_book.specs.declared.phase.Cause.TheVariants.{Asked, TooLong}
 use Rattle.match_book.specs.declared.phase.Stage.{Stage}
 use Rattle.match_book.specs.declared.phase.Stage.TheVariants.{Starting, Playing, Stopping, Aborting}
 use Rattle.match_book.specs.declared.turn.Turn.{Turn}
-use Rattle.match_book.proofs.LawfulTurns.{state_after-is_state}
-use Rattle.match_book.proofs.RoleTests.{lowest_role-none}
 use Rattle.record_reading.specs.LawfulRecord.{RecordTreeHoldsParts, RecordsAreLawful, LawfulPartsHaveShape}
 use Rattle.record_reading.specs.Internal.KeyReading.{HoldsForEach}
 use Rattle.record_reading.specs.RecordParts.{parts_of, parts_in, IsErrorText, MayBeGiven, NamesRole, AreErrors, AreGoals, prefixes, goals_from}
@@ -67,28 +66,6 @@ cause_names g m = go m.abort_asked (every_role g.roles (is_there m.start_marks))
 
 -- ---- goals
 
-stopping : {S M : Type 0} (g : Rules S M) (t : ℕ) (out : Bool) (s : S) → settled g t out s ≡ Stopping → lowest_role g.roles (has_no_goal g s) ≡ None
-unfolding settled
-stopping g t out s is = go (g.terminal s) (nat_le max_turns t) out (lowest_role g.roles (has_no_goal g s)) (lowest_role g.roles (λ r. length (g.legal s r) == 0)) is
-  where
-    go : (ended long out : Bool) (goal move : Option ℕ) → (if ended then after_the_end goal else (if long then Aborting TooLong else before_the_end move out)) ≡ Stopping → goal ≡ None
-    go true long out None move h = refl
-    go true long out (Some r) move h = absurd cc
-    go false true out goal move h = absurd cc
-    go false false true goal None h = absurd cc
-    go false false false goal None h = absurd cc
-    go false false out goal (Some r) h = absurd cc
-
-stage_stopping : {S M : Type 0} (g : Rules S M) (m : MatchValue M) → stage g m ≡ Stopping → lowest_role g.roles (has_no_goal g (state_after g m.turns)) ≡ None
-unfolding stage
-stage_stopping g m is = go m.abort_asked (every_role g.roles (is_there m.start_marks)) (settled g (length m.turns) (are_all_retired g.roles m) (state_after g m.turns)) is (stopping g (length m.turns) (are_all_retired g.roles m) (state_after g m.turns))
-  where
-    go : (asked started : Bool) (at : Stage) → (if asked then Aborting Asked else (if started then at else Starting)) ≡ Stopping → (at ≡ Stopping → lowest_role g.roles (has_no_goal g (state_after g m.turns)) ≡ None)
-        → lowest_role g.roles (has_no_goal g (state_after g m.turns)) ≡ None
-    go true started at h goals = absurd cc
-    go false true at h goals = goals h
-    go false false at h goals = absurd cc
-
 no_goals : (n : ℕ) (goal : ℕ → Option ℕ) → ((r : ℕ) → goal r ≡ None) → goals_from n goal ≡ []
 no_goals zero goal none = refl
 no_goals (suc n) goal none = ap (λ gs. gs ++ option_to_list (goal n)) (no_goals n goal none) ∙ ap option_to_list (none n)
@@ -118,14 +95,14 @@ given_goal : (o : Option ℕ) → is_none o ≡ false → (v : ℕ) × (o ≡ So
 given_goal None is = absurd cc
 given_goal (Some v) is = (v, refl)
 
-goals_shape : {S M : Type 0} (g : Rules S M) → IsLawful g → (s : S) → g.IsState s → (at : Stage) → (at ≡ Stopping → lowest_role g.roles (has_no_goal g s) ≡ None) → AreGoals g.roles (goals_from g.roles (goal_in at g s))
+goals_shape : {S M : Type 0} (g : Rules S M) → IsLawful g → (s : S) → g.IsState s → (at : Stage) → (at ≡ Stopping → (r : ℕ) → r < g.roles → has_no_goal g s r ≡ false) → AreGoals g.roles (goals_from g.roles (goal_in at g s))
 goals_shape g laws s is_state Starting stops = inl (no_goals g.roles (goal_in Starting g s) (λ r. refl))
 goals_shape g laws s is_state Playing stops = inl (no_goals g.roles (goal_in Playing g s) (λ r. refl))
 goals_shape g laws s is_state (Aborting c) stops = inl (no_goals g.roles (goal_in (Aborting c) g s) (λ r. refl))
 goals_shape g laws s is_state Stopping stops =
     inr
     (all_goals g.roles (goal_in Stopping g s)
-    (λ r below. let found = given_goal (g.goal s r) (lowest_role-none g.roles r (has_no_goal g s) (stops refl) below) in (found.0, found.1, laws.goal_in_range s r found.0 is_state below found.1)))
+    (λ r below. let found = given_goal (g.goal s r) (stops refl r below) in (found.0, found.1, laws.goal_in_range s r found.0 is_state below found.1)))
 
 -- ---- turns
 
@@ -165,26 +142,26 @@ turns_moves g strikes turns lawful = All-map (λ texts. length texts ≡ g.roles
 
 -- ---- the whole
 
-shaped_at : {S M : Type 0} (g : Rules S M) → IsLawful g → (m : MatchValue M) → IsLawfulMatch g m → IsLawfulSetup m.setup → (version : Version) (key : Key) → IsShapedAt g key (parts_in g version m)
-shaped_at g laws m lawful setup version AtCause = cause_names g m
-shaped_at g laws m lawful setup version EndMarks = lawful.one_end_mark
-shaped_at g laws m lawful setup version Errors = turns_errors g m.setup.strikes m.turns lawful.turns
-shaped_at g laws m lawful setup version GoalValues = goals_shape g laws (state_after g m.turns) (state_after-is_state g laws m.turns lawful.turns) (stage g m) (stage_stopping g m)
-shaped_at g laws m lawful setup version MatchId = setup.id
-shaped_at g laws m lawful setup version Moves = (turns_moves g m.setup.strikes m.turns lawful.turns, subst (λ (n : ℕ). n ≤ max_turns) (sym (length-map m.turns (λ t. map g.move_text t.moves))) lawful.few_turns)
-shaped_at g laws m lawful setup version AtPhase = tt
-shaped_at g laws m lawful setup version PlayClock = setup.play
-shaped_at g laws m lawful setup version Players = (lawful.one_player, setup.players)
-shaped_at g laws m lawful setup version Roles = refl
-shaped_at g laws m lawful setup version StartClock = setup.start
-shaped_at g laws m lawful setup version StartMarks = lawful.one_start_mark
-shaped_at g laws m lawful setup version States = tt
-shaped_at g laws m lawful setup version Strikes = setup.strikes
-shaped_at g laws m lawful setup version AtVersion = tt
+shaped_at : {S M : Type 0} (g : Rules S M) → IsLawful g → TurnsLeadToStates g → StoppingMeans g → (m : MatchValue M) → IsLawfulMatch g m → IsLawfulSetup m.setup → (version : Version) (key : Key) → IsShapedAt g key (parts_in g version m)
+shaped_at g laws states stops m lawful setup version AtCause = cause_names g m
+shaped_at g laws states stops m lawful setup version EndMarks = lawful.one_end_mark
+shaped_at g laws states stops m lawful setup version Errors = turns_errors g m.setup.strikes m.turns lawful.turns
+shaped_at g laws states stops m lawful setup version GoalValues = goals_shape g laws (state_after g m.turns) (states m.setup.strikes m.turns lawful.turns) (stage g m) (λ stopping. ((stops m).0 stopping).goals)
+shaped_at g laws states stops m lawful setup version MatchId = setup.id
+shaped_at g laws states stops m lawful setup version Moves = (turns_moves g m.setup.strikes m.turns lawful.turns, subst (λ (n : ℕ). n ≤ max_turns) (sym (length-map m.turns (λ t. map g.move_text t.moves))) lawful.few_turns)
+shaped_at g laws states stops m lawful setup version AtPhase = tt
+shaped_at g laws states stops m lawful setup version PlayClock = setup.play
+shaped_at g laws states stops m lawful setup version Players = (lawful.one_player, setup.players)
+shaped_at g laws states stops m lawful setup version Roles = refl
+shaped_at g laws states stops m lawful setup version StartClock = setup.start
+shaped_at g laws states stops m lawful setup version StartMarks = lawful.one_start_mark
+shaped_at g laws states stops m lawful setup version States = tt
+shaped_at g laws states stops m lawful setup version Strikes = setup.strikes
+shaped_at g laws states stops m lawful setup version AtVersion = tt
 
-pub lawful_parts_have_shape : {S M : Type 0} (g : Rules S M) → IsLawful g → LawfulPartsHaveShape g
-lawful_parts_have_shape g laws m version lawful setup = record {
-  keys = shaped_at g laws m lawful setup version;
+pub lawful_parts_have_shape : {S M : Type 0} (g : Rules S M) → IsLawful g → TurnsLeadToStates g → StoppingMeans g → LawfulPartsHaveShape g
+lawful_parts_have_shape g laws states stops m version lawful setup = record {
+  keys = shaped_at g laws states stops m lawful setup version;
   as_many_errors = length-map m.turns (λ t. t.errors) ∙ sym (length-map m.turns (λ t. map g.move_text t.moves));
   one_state_more =
       length-map (prefixes m.turns) (λ front. g.state_text (state_after g front)) ∙ length_prefixes m.turns

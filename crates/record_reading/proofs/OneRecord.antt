@@ -14,7 +14,7 @@ use Rattle.match_book.specs.declared.phase.Cause.{Cause}
 use Rattle.match_book.specs.declared.phase.Cause.TheVariants.{Asked, NoLegal, NoGoal, TooLong, AllRetired}
 use Rattle.match_book.specs.declared.phase.Phase.{Phase}
 use Rattle.match_book.specs.declared.phase.Phase.TheVariants.{Starting, Playing, Stopping, Finished, Aborting, Aborted}
-use Rattle.record_reading.specs.LawfulRecord.{IsJson, IsRecordOf, HasWrongLength, IsMisshapen, HoldsOnePartsAtMost, RefusedIsUnlawful}
+use Rattle.record_reading.specs.LawfulRecord.{IsJson, IsRecordOf, HasWrongLength, IsMisshapen, HoldsOnePartsAtMost, LawfulPartsHaveShape, RefusedIsUnlawful}
 use Rattle.record_reading.specs.RecordParts.{parts_in, NamesRole}
 use Rattle.record_reading.specs.RecordTree.{row_of, key_tree, Holds, HasShape, cause_tree, cause_text, phase_text, phase_tree, mark_tree, marks_tree, version_tree, whole_tree}
 use Rattle.record_reading.specs.declared.record_parts.Key.{Key}
@@ -24,7 +24,6 @@ use Rattle.record_reading.specs.declared.record_parts.Version.{Version}
 use Rattle.record_reading.specs.declared.record_parts.Version.TheVariants.{First, Second}
 use Rattle.record_reading.specs.declared.verify_fault.VerifyFault.TheVariants.{NotJson, BadShape, Illegal as IllegalMove, NotFirst, WrongRetired, WrongState, WrongGoals, WrongEnd, Memory}
 use Rattle.record_reading.proofs.JsonData.{list_injective, string_injective, texts_injective, text_lists_injective}
-use Rattle.record_reading.proofs.LawfulParts.{lawful_parts_have_shape}
 
 -- ---- words
 
@@ -177,25 +176,25 @@ right_lengths g tree p q key held also shape (inr states) =
     let at = same_tree tree p q held also in
     states.2 (ap length (text_lists_injective p.states q.states (at States)) ∙ shape.one_state_more ∙ sym (ap (λ ts. suc (length ts)) (text_lists_injective p.moves q.moves (at Moves))))
 
-not_misshapen : {S M : Type 0} (g : Rules S M) → IsLawful g → (text : List ℕ) (tree : Data) (m : MatchValue M) (key : Key) → IsRecordOf g text tree m → IsMisshapen g tree key → ⊥
-not_misshapen g laws text tree m key record_of (inl (before, after, split, shaped, unshaped)) =
-    let shape = lawful_parts_have_shape g laws m record_of.version record_of.lawful record_of.setup in
+not_misshapen : {S M : Type 0} (g : Rules S M) → LawfulPartsHaveShape g → (text : List ℕ) (tree : Data) (m : MatchValue M) (key : Key) → IsRecordOf g text tree m → IsMisshapen g tree key → ⊥
+not_misshapen g shapes text tree m key record_of (inl (before, after, split, shaped, unshaped)) =
+    let shape = shapes m record_of.version record_of.lawful record_of.setup in
     unshaped ((row_of key).said (parts_in g record_of.version m), record_of.holds key, shape.keys key)
-not_misshapen g laws text tree m key record_of (inr (p, held, shaped, wrong)) =
-    right_lengths g tree p (parts_in g record_of.version m) key held record_of.holds (lawful_parts_have_shape g laws m record_of.version record_of.lawful record_of.setup) wrong
+not_misshapen g shapes text tree m key record_of (inr (p, held, shaped, wrong)) =
+    right_lengths g tree p (parts_in g record_of.version m) key held record_of.holds (shapes m record_of.version record_of.lawful record_of.setup) wrong
 
 pub same_read : (text : List ℕ) (tree other : Data) → IsJson text tree → IsJson text other → tree ≡ other
 same_read text tree other is also = let same : Some tree ≡ Some other = sym is.is_read ∙ also.is_read in cc
 
-pub refused_is_unlawful : {S M : Type 0} (g : Rules S M) → IsLawful g → RefusedIsUnlawful g
-refused_is_unlawful g laws text NotJson other refuses (tree, m, record_of) = refuses tree record_of.json
-refused_is_unlawful g laws text (BadShape key) other (found, json, misshapen) (tree, m, record_of) =
+pub refused_is_unlawful : {S M : Type 0} (g : Rules S M) → LawfulPartsHaveShape g → RefusedIsUnlawful g
+refused_is_unlawful g shapes text NotJson other refuses (tree, m, record_of) = refuses tree record_of.json
+refused_is_unlawful g shapes text (BadShape key) other (found, json, misshapen) (tree, m, record_of) =
     let same = same_read text found tree json record_of.json in
-    not_misshapen g laws text tree m key record_of (subst (λ (d : Data). IsMisshapen g d key) same misshapen)
-refused_is_unlawful g laws text (IllegalMove turn role) other refuses found = refuses
-refused_is_unlawful g laws text (NotFirst turn role) other refuses found = refuses
-refused_is_unlawful g laws text (WrongRetired turn role) other refuses found = refuses
-refused_is_unlawful g laws text (WrongState turn) other refuses found = refuses
-refused_is_unlawful g laws text WrongGoals other refuses found = refuses
-refused_is_unlawful g laws text WrongEnd other refuses found = refuses
-refused_is_unlawful g laws text Memory other refuses found = other refl
+    not_misshapen g shapes text tree m key record_of (subst (λ (d : Data). IsMisshapen g d key) same misshapen)
+refused_is_unlawful g shapes text (IllegalMove turn role) other refuses found = refuses
+refused_is_unlawful g shapes text (NotFirst turn role) other refuses found = refuses
+refused_is_unlawful g shapes text (WrongRetired turn role) other refuses found = refuses
+refused_is_unlawful g shapes text (WrongState turn) other refuses found = refuses
+refused_is_unlawful g shapes text WrongGoals other refuses found = refuses
+refused_is_unlawful g shapes text WrongEnd other refuses found = refuses
+refused_is_unlawful g shapes text Memory other refuses found = other refl

@@ -3,10 +3,10 @@ use Rattle.std.proofs.Common.{◌≡◌, ◌≢◌, ap, List, sym, subst, Result
 use Rattle.std.specs.Prelude.{ℕ, IfErr}
 use Rattle.std.proofs.lemmas.Result.{IfErr-weaker}
 use Rattle.serde_json.specs.Data.{Data}
-use Rattle.game_core.specs.Play.{Rules, IsLawful}
+use Rattle.game_core.specs.Play.{Rules}
 use Rattle.match_book.specs.MatchValue.{MatchValue}
 use Rattle.match_book.specs.Names.{IsLawfulSetup}
-use Rattle.record_reading.specs.LawfulRecord.{AreLawfulParts, IsJson, IsLawfulRecord, HasNoShape, HasWrongLength}
+use Rattle.record_reading.specs.LawfulRecord.{AreLawfulParts, IsJson, IsLawfulRecord, HasNoShape, HasWrongLength, HoldsOnePartsAtMost, LawfulPartsHaveShape, RefusedIsUnlawful}
 use Rattle.record_reading.specs.RecordParts.{parts_in}
 use Rattle.record_reading.specs.RecordTree.{Holds, HasShape, IsShapedAt}
 use Rattle.record_reading.specs.declared.record_parts.Key.{Key}
@@ -15,8 +15,7 @@ use Rattle.record_reading.specs.declared.record_parts.RecordParts.{RecordParts}
 use Rattle.record_reading.specs.declared.record_parts.Version.{Version}
 use Rattle.record_reading.specs.declared.verify_fault.VerifyFault.{VerifyFault}
 use Rattle.record_reading.specs.declared.verify_fault.VerifyFault.TheVariants.{BadShape, Memory}
-use Rattle.record_reading.proofs.LawfulParts.{lawful_parts_have_shape}
-use Rattle.record_reading.proofs.OneRecord.{same_read, holds_one_parts_at_most, refused_is_unlawful}
+use Rattle.record_reading.proofs.OneRecord.{same_read}
 
 -- what a text of the right shape says
 abbrev pub Says : {S M : Type 0} → Rules S M → List ℕ → RecordParts → Type 0
@@ -30,17 +29,17 @@ lawful_record g text p (tree, json, holds, shape) (m, lawful, same) =
     (tree, m, record { json = json; setup = lawful_setup g p.version m (subst (λ (q : RecordParts). HasShape g q) (sym same) shape); lawful = lawful; version = p.version; holds = subst (λ (q : RecordParts). Holds tree q) (sym same) holds })
 
 -- what a lawful record says is what a lawful match says
-pub lawful_parts : {S M : Type 0} (g : Rules S M) → IsLawful g → (text : List ℕ) (p : RecordParts) → Says g text p → IsLawfulRecord g text → AreLawfulParts g p
-lawful_parts g laws text p (tree, json, holds, shape) (other, m, found) =
+pub lawful_parts : {S M : Type 0} (g : Rules S M) → LawfulPartsHaveShape g → HoldsOnePartsAtMost g → (text : List ℕ) (p : RecordParts) → Says g text p → IsLawfulRecord g text → AreLawfulParts g p
+lawful_parts g shapes one text p (tree, json, holds, shape) (other, m, found) =
     let same = same_read text other tree found.json json in
     let also = subst (λ (d : Data). Holds d (parts_in g found.version m)) same found.holds in
-    let is : parts_in g found.version m ≡ p = holds_one_parts_at_most g laws tree (parts_in g found.version m) p (lawful_parts_have_shape g laws m found.version found.lawful found.setup) shape also holds in
+    let is : parts_in g found.version m ≡ p = one tree (parts_in g found.version m) p (shapes m found.version found.lawful found.setup) shape also holds in
     (m, found.lawful, subst (λ (v : Version). parts_in g v m ≡ p) (ap (λ (q : RecordParts). q.version) is) is)
 
-pub no_shape_refuses : {S M T : Type 0} (g : Rules S M) → IsLawful g → (text : List ℕ) (r : Result T VerifyFault) → IfErr r (HasNoShape g text) → IfErr r (λ fault. fault ≢ Memory → ¬ IsLawfulRecord g text)
-no_shape_refuses g laws text r none = IfErr-weaker r (HasNoShape g text) (λ fault. fault ≢ Memory → ¬ IsLawfulRecord g text) (λ fault misshapen other. refused_is_unlawful g laws text fault other misshapen) none
+pub no_shape_refuses : {S M T : Type 0} (g : Rules S M) → RefusedIsUnlawful g → (text : List ℕ) (r : Result T VerifyFault) → IfErr r (HasNoShape g text) → IfErr r (λ fault. fault ≢ Memory → ¬ IsLawfulRecord g text)
+no_shape_refuses g refused text r none = IfErr-weaker r (HasNoShape g text) (λ fault. fault ≢ Memory → ¬ IsLawfulRecord g text) (λ fault misshapen other. refused text fault other misshapen) none
 
 -- a text with keys of their shapes, but a list of a wrong length at this key
-pub wrong_length_refuses : {S M : Type 0} (g : Rules S M) → IsLawful g → (text : List ℕ) (tree : Data) (p : RecordParts) (key : Key) → IsJson text tree → Holds tree p × ((at : Key) → IsShapedAt g at p) → HasWrongLength p key → BadShape key ≢ Memory
+pub wrong_length_refuses : {S M : Type 0} (g : Rules S M) → RefusedIsUnlawful g → (text : List ℕ) (tree : Data) (p : RecordParts) (key : Key) → IsJson text tree → Holds tree p × ((at : Key) → IsShapedAt g at p) → HasWrongLength p key → BadShape key ≢ Memory
     → ¬ IsLawfulRecord g text
-wrong_length_refuses g laws text tree p key json (holds, shaped) wrong other = refused_is_unlawful g laws text (BadShape key) other (tree, json, inr (p, holds, shaped, wrong))
+wrong_length_refuses g refused text tree p key json (holds, shaped) wrong other = refused text (BadShape key) other (tree, json, inr (p, holds, shaped, wrong))

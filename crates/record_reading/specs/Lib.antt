@@ -1,4 +1,5 @@
 pub mod RecordTree
 pub mod LawfulRecord
 pub mod RecordParts
+pub mod FaultText
 pub mod Internal

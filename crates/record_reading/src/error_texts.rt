@@ -6,6 +6,7 @@ ghost use Rattle.record_reading.specs.RecordParts.{IsErrorText};
 
 use crate::record_words::{after, mark_of};
 use game_core::{Text, Texts};
+use kif_text::laws::{folded_text_reads_back, reading_is_proper};
 use kif_text::{KifFault, fold, print, read_one};
 use match_book::{ILLEGAL_PREFIX, MAX_READING, RETIRED, UNREADABLE};
 use std::alloc::{AllocError, Global};
@@ -15,6 +16,8 @@ use std::alloc::{AllocError, Global};
 fn is_folded_text(alloc: Global, text: &[u8]) -> Result<bool, AllocError>
     ensures { IfOk result (λ b. IsTrue b ↔ (IsFoldedText text.now × (length text.now ≤ max_reading))) }
 {
+    reading_is_proper();
+    folded_text_reads_back();
     if text.len() > MAX_READING {
         return Ok(false);
     }

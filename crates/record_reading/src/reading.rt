@@ -16,6 +16,7 @@ ghost use Rattle.record_reading.specs.declared.verify_fault.VerifyFault.TheVaria
 
 use crate::error_texts::are_errors;
 use crate::json_values::{FromJson, bytes_in, into_object, members_in, whole_in};
+use crate::laws::{holds_one_parts_at_most, lawful_parts_have_shape, refused_is_unlawful};
 use crate::record_parts::{Goals, Key, Marks, RecordParts, TextLists, Version};
 use crate::record_words::{cause_in, mark_in, phase_in};
 use crate::verify_fault::VerifyFault;
@@ -342,6 +343,9 @@ pub fn read_record<G: Game>(
     ensures lawful { IfOk result (λ p. IsLawfulRecord (G.rules game.now) text.now ↔ AreLawfulParts (G.rules game.now) p) }
     ensures refused { IfErr result (λ fault. fault ≢ Memory → ¬ IsLawfulRecord (G.rules game.now) text.now) }
 {
+    lawful_parts_have_shape(game);
+    holds_one_parts_at_most(game);
+    refused_is_unlawful(game);
     let tree = tree_of(alloc, text)?;
     let parts = parts_in(alloc, game, tree)?;
     let turns = parts.moves.count();

@@ -8,6 +8,7 @@ ghost use Rattle.record_reading.specs.RecordTree.{cause_text, cause_tree, mark_t
 ghost use Rattle.record_reading.specs.Internal.Shown.{AnyShape, Shows};
 
 use crate::json_values::{bytes_in, is_null};
+use game_core::laws::numerals_read_back;
 use game_core::numeral::plain_number;
 use match_book::{Cause, Mark, Phase};
 use serde_json::Value;
@@ -91,6 +92,7 @@ fn role_of(digits: &[u8], roles: usize) -> Option<usize>
     requires { roles < 2 ^ 32 }
     ensures { Shows decimal (λ role. role < roles) (Some digits.now) result }
 {
+    numerals_read_back();
     let role = plain_number(digits, roles)?;
     if role < roles { Some(role) } else { None }
 }

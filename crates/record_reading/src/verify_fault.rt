@@ -4,44 +4,62 @@ ghost use Rattle.record_reading.specs.declared.verify_fault.VerifyFault.TheVaria
 
 use crate::record_parts::Key;
 use std::alloc::{AllocError, AllocFailed};
-use thiserror::Error;
+use std::error::Error;
+use std::fmt;
 
 /// Why a text is no lawful record of the game: the first test that fails. The shape of the whole text is tested
-/// first, then the turns in order, then the goals and the end. Turns and roles are numbered from 0. The messages
-/// are the profile's, as `shape KEY` or `state T`.
-#[derive(Clone, Copy, Debug, PartialEq, Eq, Error)]
+/// first, then the turns in order, then the goals and the end. Turns and roles are numbered from 0.
+#[derive(Clone, Copy, Debug, PartialEq, Eq)]
 pub enum VerifyFault {
     /// The text is not JSON.
-    #[error("json")]
     NotJson,
     /// The first key, in the order of `Key`, that is missing or has a value of another shape. Or `Errors`, if it has
     /// not as many turns as `Moves`, or `States`, if it has not one state more than `Moves` has turns.
-    #[error("shape {}", .0.text())]
     BadShape(Key),
     /// The role's move in this turn is not legal.
-    #[error("illegal {0} {1}")]
     Illegal(usize, usize),
     /// The role's move in this turn has an error, but it is not the first legal move, or the error names a legal move.
-    #[error("notfirst {0} {1}")]
     NotFirst(usize, usize),
     /// The error beside the role's move in this turn says that the role is retired, but the turns before do not retire
     /// it. Or they do, and the error does not say so.
-    #[error("retired {0} {1}")]
     WrongRetired(usize, usize),
     /// The state after this many turns is another.
-    #[error("state {0}")]
     WrongState(usize),
     /// The goals are not those of the last state.
-    #[error("goals")]
     WrongGoals,
     /// A turn follows although the game can't go on or all roles are retired. Or phase, cause, marks and last state don't
     /// agree.
-    #[error("end")]
     WrongEnd,
     /// Out of memory.
-    #[error("want of memory")]
     Memory,
 }
+
+/// The profile's words, as `shape KEY` or `state T`.
+impl fmt::Display for VerifyFault {
+    ghost use Rattle.std.specs.Prelude.{Some};
+    ghost use Rattle.record_reading.specs.FaultText.{fault_text};
+
+    ghost output = { λ fault. Some (fault_text fault) };
+
+    fn fmt<W: fmt::Write>(&self, f: &mut fmt::Formatter<W>) -> fmt::Result {
+        match *self {
+            VerifyFault::NotJson => f.write_str("json"),
+            VerifyFault::BadShape(key) => {
+                let key = key.text();
+                write!(f, "shape {key}")
+            }
+            VerifyFault::Illegal(turn, role) => write!(f, "illegal {turn} {role}"),
+            VerifyFault::NotFirst(turn, role) => write!(f, "notfirst {turn} {role}"),
+            VerifyFault::WrongRetired(turn, role) => write!(f, "retired {turn} {role}"),
+            VerifyFault::WrongState(turn) => write!(f, "state {turn}"),
+            VerifyFault::WrongGoals => f.write_str("goals"),
+            VerifyFault::WrongEnd => f.write_str("end"),
+            VerifyFault::Memory => f.write_str("want of memory"),
+        }
+    }
+}
+
+impl Error for VerifyFault {}
 
 impl From<AllocError> for VerifyFault {
     ghost from_gives = { λ _ fault. fault ≡ Memory };

@@ -13,16 +13,18 @@ write_text-requires g c =
     error_is_ascii rules c.args.held.now.value.turns c.args.turn c.loop-role.role c.error_at.result.now c.requires.lawful.turns c.requires.turn within c.error_at.ensures
 
 pub loop-role-init : goal.loop-role-init
-loop-role-init g c = part_begun c.args.out.now c.begin_array.new.self (λ t. t.errors) string (slice_get c.args.held.now.value.turns c.args.turn) (one_added c.in_ok-begin_array.ensures)
+loop-role-init g c = (c.begin_array.ensures.room.0, part_begun c.args.out.now c.begin_array.new.self (λ t. t.errors) string (slice_get c.args.held.now.value.turns c.args.turn) (one_added c.in_ok-begin_array.ensures))
 
 pub loop-role-preserved : goal.loop-role-preserved
 loop-role-preserved g c =
-    let rules = g.G.Game.rules c.args.game.now in
-    part_more c.args.out.now c.loop-role.out c.write_text.new.out (λ t. t.errors) string c.loop-role.role (slice_get c.args.held.now.value.turns c.args.turn) c.error_at.result.now c.loop-role.invariant c.error_at.ensures c.in_ok-write_text.ensures
+    let rules = g.G.Game.rules c.args.game.now in (
+      c.write_text.ensures.before ∙ c.loop-role.invariant.0,
+      part_more c.args.out.now c.loop-role.out c.write_text.new.out (λ t. t.errors) string c.loop-role.role (slice_get c.args.held.now.value.turns c.args.turn) c.error_at.result.now c.loop-role.invariant.1 c.error_at.ensures c.in_ok-write_text.ensures.written,
+    )
 
-pub returns : goal.returns
-returns g c =
+pub returns-clause-written : goal.returns-clause-written
+returns-clause-written g c =
     let rules = g.G.Game.rules c.args.game.now in
     let turns = c.args.held.now.value.turns in
     let all : rules.roles ≡ c.loop-role.role = omega (arith, c.loop-role-test.false, c.loop-role.auto.role-end, c.roles-role-end.ensures) in
-    part_written c.args.out.now c.loop-role.out c.end_array.new.self (λ t. t.errors) string c.loop-role.role turns c.args.turn (λ t at. (turn-widths rules turns c.args.turn t c.requires.lawful.turns at).1 ∙ all) c.loop-role.invariant (one_added c.in_ok-end_array.ensures)
+    part_written c.args.out.now c.loop-role.out c.end_array.new.self (λ t. t.errors) string c.loop-role.role turns c.args.turn (λ t at. (turn-widths rules turns c.args.turn t c.requires.lawful.turns at).1 ∙ all) c.loop-role.invariant.1 (one_added c.in_ok-end_array.ensures)

@@ -18,10 +18,10 @@ loop-role-preserved g c =
     let here : c.goal_of.result ≡ goals role = c.goal_of.ensures ∙ ap (λ x. goal_of (g.G.Game.rules x) c.args.held.now.value role) c.requires.game in
     subst (HasBegun c.args.out.now c.write_goal.new.out) (sym (goals-next role goals))
     (begun_many (map whole_tree (goals_from role goals)) (map whole_tree (option_to_list (goals role))) c.loop-role.invariant
-    (subst (λ o. HasAdded c.loop-role.out c.write_goal.new.out (each_tokens (map whole_tree (option_to_list o)))) here c.in_ok-write_goal.ensures))
+    (subst (λ o. HasAdded c.loop-role.out c.write_goal.new.out (each_tokens (map whole_tree (option_to_list o)))) here c.in_ok-write_goal.ensures.written))
 
-pub returns : goal.returns
-returns g c =
+pub returns-clause-written : goal.returns-clause-written
+returns-clause-written g c =
     let rules = g.G.Game.rules c.args.game.now in
     let goals = goal_of rules c.args.held.now.value in
     let all : c.loop-role.role ≡ rules.roles = omega (arith, c.loop-role-test.false, c.loop-role.auto.role-end, c.roles-role-end.ensures) in

@@ -12,10 +12,10 @@ pub loop-turn-preserved : goal.loop-turn-preserved
 loop-turn-preserved g c =
     let turns = c.args.held.now.value.turns in
     let within : c.loop-turn.turn < length turns = omega (arith, c.loop-turn-test.true, c.turns-turn-end.ensures) in
-    turn_next c.args.out.now c.loop-turn.out c.write_moves_at.new.out (λ t. texts_tree (map (g.G.Game.rules c.args.game.now).move_text t.moves)) turns c.loop-turn.turn within c.loop-turn.invariant c.in_ok-write_moves_at.ensures
+    turn_next c.args.out.now c.loop-turn.out c.write_moves_at.new.out (λ t. texts_tree (map (g.G.Game.rules c.args.game.now).move_text t.moves)) turns c.loop-turn.turn within c.loop-turn.invariant c.in_ok-write_moves_at.ensures.written
 
-pub returns : goal.returns
-returns g c =
+pub returns-clause-written : goal.returns-clause-written
+returns-clause-written g c =
     let turns = c.args.held.now.value.turns in
     let past : length turns ≤ c.loop-turn.turn = omega (arith, c.loop-turn-test.false, c.turns-turn-end.ensures) in
     subst (λ members. IsWritten c.args.out.now c.end_array.new.self (list_tree members)) (map_twice texts_tree (λ t. map (g.G.Game.rules c.args.game.now).move_text t.moves) turns)

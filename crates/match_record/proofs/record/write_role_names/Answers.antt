@@ -24,10 +24,10 @@ loop-role-preserved g c =
     let role = c.loop-role.role in
     subst (HasBegun c.args.out.now c.write_text.new.out) (sym (ap (map string) (each_role-more role name) ∙ map-append string (each_role role name) (name role ∷ [])))
     (begun_more (map string (each_role role name)) (string (name role)) c.loop-role.invariant
-    (subst (λ text. IsWritten c.loop-role.out c.write_text.new.out (string text)) c.role_name.ensures c.in_ok-write_text.ensures))
+    (subst (λ text. IsWritten c.loop-role.out c.write_text.new.out (string text)) c.role_name.ensures c.in_ok-write_text.ensures.written))
 
-pub returns : goal.returns
-returns g c =
+pub returns-clause-written : goal.returns-clause-written
+returns-clause-written g c =
     let rules = g.G.Game.rules c.args.game.now in
     let all : c.loop-role.role ≡ rules.roles = omega (arith, c.loop-role-test.false, c.loop-role.auto.role-end, c.roles-role-end.ensures) in
     subst (λ n. IsWritten c.args.out.now c.end_array.new.self (list_tree (map string (each_role n rules.role_name)))) all

@@ -21,10 +21,10 @@ loop-role-preserved g c =
     let role = c.loop-role.role in
     let within : role < length marks = omega (arith, c.roles-role-end.ensures, c.loop-role-test.true, c.requires.lawful.one_start_mark) in
     begun_next mark_tree marks role (at_role marks role) (slice_get-get_or marks role None within) c.loop-role.invariant
-    (subst (λ o. IsWritten c.loop-role.out c.write_text_or_null.new.out (text_or_null o)) c.start_mark.ensures c.in_ok-write_text_or_null.ensures)
+    (subst (λ o. IsWritten c.loop-role.out c.write_text_or_null.new.out (text_or_null o)) c.start_mark.ensures c.in_ok-write_text_or_null.ensures.written)
 
-pub returns : goal.returns
-returns g c =
+pub returns-clause-written : goal.returns-clause-written
+returns-clause-written g c =
     let marks = c.args.held.now.value.start_marks in
     let past : length marks ≤ c.loop-role.role = omega (arith, c.roles-role-end.ensures, c.loop-role-test.false, c.requires.lawful.one_start_mark) in
     all_written mark_tree marks c.loop-role.role past c.loop-role.invariant (one_added c.in_ok-end_array.ensures)

@@ -14,7 +14,7 @@ loop-turn-init g c =
     let first = c.state_after.result.now in
     let here : first ≡ state_after rules [] = subst (λ x. first ≡ state_after (g.G.Game.rules x) []) c.requires.game c.state_after.ensures.state in
     begun_more [] (texts_tree (rules.state_text (state_after rules []))) (one_added c.in_ok-begin_array.ensures)
-    (subst (λ s. IsWritten c.begin_array.new.self c.write_state.new.out (texts_tree (rules.state_text s))) here c.in_ok-write_state.ensures)
+    (subst (λ s. IsWritten c.begin_array.new.self c.write_state.new.out (texts_tree (rules.state_text s))) here c.in_ok-write_state.ensures.written)
 
 pub loop-turn-preserved : goal.loop-turn-preserved
 loop-turn-preserved g c =
@@ -27,10 +27,10 @@ loop-turn-preserved g c =
     subst (HasBegun c.args.out.now c.write_state-in-loop-turn.new.out)
     (sym (ap (map (λ front. texts_tree (rules.state_text (state_after rules front)))) (prefixes-next turns turn within) ∙ map-append (λ front. texts_tree (rules.state_text (state_after rules front))) (prefixes (take turn turns)) (take (turn + 1) turns ∷ [])))
     (begun_more (map (λ front. texts_tree (rules.state_text (state_after rules front))) (prefixes (take turn turns))) (texts_tree (rules.state_text (state_after rules (take (turn + 1) turns)))) c.loop-turn.invariant
-    (subst (λ s. IsWritten c.loop-turn.out c.write_state-in-loop-turn.new.out (texts_tree (rules.state_text s))) here c.in_ok-write_state-2.ensures))
+    (subst (λ s. IsWritten c.loop-turn.out c.write_state-in-loop-turn.new.out (texts_tree (rules.state_text s))) here c.in_ok-write_state-2.ensures.written))
 
-pub returns : goal.returns
-returns g c =
+pub returns-clause-written : goal.returns-clause-written
+returns-clause-written g c =
     let rules = g.G.Game.rules c.args.game.now in
     let turns = c.args.held.now.value.turns in
     let past : length turns ≤ c.loop-turn.turn = omega (arith, c.loop-turn-test.false, c.turns-turn-end.ensures) in

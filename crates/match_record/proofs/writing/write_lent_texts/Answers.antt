@@ -27,10 +27,10 @@ loop-text-preserved c =
     let texts = c.args.texts.now in
     let at = slice_get_read texts (length texts) c.loop-text.text-index c.text-item.result refl c.loop-text-test.true c.text-item.is in
     begun_next (λ text. string (cow_slice_items text)) texts c.loop-text.text-index c.text-item.result at c.loop-text.invariant
-    (subst (λ text. IsWritten c.loop-text.out c.write_text.new.out (string text)) c.as_slice.ensures.value c.in_ok-write_text.ensures)
+    (subst (λ text. IsWritten c.loop-text.out c.write_text.new.out (string text)) c.as_slice.ensures.value c.in_ok-write_text.ensures.written)
 
-pub returns : goal.returns
-returns c =
+pub returns-clause-written : goal.returns-clause-written
+returns-clause-written c =
     let texts = c.args.texts.now in
     let all = all_written (λ text. string (cow_slice_items text)) texts c.loop-text.text-index (omega (arith, c.loop-text-test.false)) c.loop-text.invariant (one_added c.in_ok-end_array.ensures) in
     subst (λ members. IsWritten c.args.out.now c.end_array.new.self (list_tree members)) (map_twice string cow_slice_items texts) all

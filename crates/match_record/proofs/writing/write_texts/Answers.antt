@@ -13,7 +13,7 @@ loop-text-preserved c =
     let texts = c.args.texts.now in
     let at = slice_get_read texts (length texts) c.loop-text.text-index c.text-item.result refl c.loop-text-test.true c.text-item.is in
     begun_next string texts c.loop-text.text-index c.text-item.result at c.loop-text.invariant
-    (subst (λ text. IsWritten c.loop-text.out c.write_text.new.out (string text)) c.as_slice.ensures c.in_ok-write_text.ensures)
+    (subst (λ text. IsWritten c.loop-text.out c.write_text.new.out (string text)) c.as_slice.ensures c.in_ok-write_text.ensures.written)
 
-pub returns : goal.returns
-returns c = all_written string c.args.texts.now c.loop-text.text-index (omega (arith, c.loop-text-test.false)) c.loop-text.invariant (one_added c.in_ok-end_array.ensures)
+pub returns-clause-written : goal.returns-clause-written
+returns-clause-written c = all_written string c.args.texts.now c.loop-text.text-index (omega (arith, c.loop-text-test.false)) c.loop-text.invariant (one_added c.in_ok-end_array.ensures)

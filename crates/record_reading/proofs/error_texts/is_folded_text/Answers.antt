@@ -14,10 +14,10 @@ returns-in_ok-printed-in-Ok c =
     let short : length c.args.text.now ≤ max_reading = omega arith in
     let is_printed : c.as_slice.result.now ≡ canonical (folded (view c.in-Ok.expr)) = c.as_slice.ensures ∙ c.in_ok-printed-in-Ok.ensures.canonical ∙ ap canonical c.fold.ensures in
     let compared = slice_eq-Decides Decides-eqb c.as_slice.result.now c.args.text.now c.eq.result c.eq.ensures in
-    folded_where_printed c.args.text.now (view c.in-Ok.expr) c.eq.result short c.in-Ok.ensures.found (λ equal. sym is_printed ∙ compared.0 equal, λ same. compared.1 (is_printed ∙ same))
+    folded_where_printed c.reading_is_proper.ensures c.folded_text_reads_back.ensures c.args.text.now (view c.in-Ok.expr) c.eq.result short c.in-Ok.ensures.found (λ equal. sym is_printed ∙ compared.0 equal, λ same. compared.1 (is_printed ∙ same))
 
 pub returns-in-Err : goal.returns-in-Err
 returns-in-Err c =
     let short : length c.args.text.now ≤ max_reading = omega arith in
     let unread : reading c.args.text.now ≡ None = search rules in
-    (λ no. absurd (true≢false (sym no)), λ both. absurd (unread_is_not_folded c.args.text.now short unread both.0))
+    (λ no. absurd (true≢false (sym no)), λ both. absurd (unread_is_not_folded c.folded_text_reads_back.ensures c.args.text.now short unread both.0))
