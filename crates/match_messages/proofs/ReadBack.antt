@@ -2,8 +2,10 @@
 use Rattle.std.proofs.Common.{◌≡◌, ℕ, List, [], ◌∷◌, Option, Some, None, Ok, refl, ap, ◌∙◌, lit<, codes}
 use Rattle.game_core.specs.Expression.{Expressions, none, more, IsAtom, HasAtoms}
 use Rattle.game_core.specs.Canonical.{canonical, members, later}
+use Rattle.game_core.specs.Laws.{NumbersAreAtoms, NumbersArePlain}
+use Rattle.kif_text.specs.Laws.{CanonicalReadsBack}
 use Rattle.kif_text.specs.Reading.{reading}
-use Rattle.kif_text.proofs.Readings.{canonical_reads_back}
+use Rattle.match_book.specs.Laws.{NamesAreAtoms}
 use Rattle.match_book.specs.declared.due.Owed.{Owed}
 use Rattle.match_book.specs.declared.due.Owed.TheVariants.{Start, Play, Stop, Abort}
 use Rattle.match_messages.specs.declared.brief.Brief.{Brief}
@@ -11,7 +13,6 @@ use Rattle.match_messages.specs.MessageValue.{MessageValue, info, start, play, s
 use Rattle.match_messages.specs.MessageText.{as_printed, message_text}
 use Rattle.match_messages.specs.MessageReading.{message_in, message_reading, in_expression}
 use Rattle.match_messages.specs.MessageLaws.{AreMoves, IsLawfulMessage, MessagesReadBack, HaveTexts, Says, OwedMessagesReadBack}
-use Rattle.match_book.proofs.NamesAreAtoms.{name_is_atom}
 use Rattle.match_messages.proofs.Clocks.{clock_is_atom, clock_of-decimal}
 
 -- ---- the form of a lawful message has atoms
@@ -39,30 +40,30 @@ moves_have_atoms None are = nil_word
 moves_have_atoms (Some none) are = tt
 moves_have_atoms (Some (more x xs)) are = are
 
-form_has_atoms : (m : MessageValue) → IsLawfulMessage m → HasAtoms (message_form m)
-form_has_atoms info is = (info_word, tt)
-form_has_atoms (start id role rules s p) is = (start_word, (name_is_atom id is.0, (is.1, (is.2, (clock_is_atom s is.3, (clock_is_atom p is.4, tt))))))
-form_has_atoms (play id moves) is = (play_word, (name_is_atom id is.0, (moves_have_atoms moves is.1, tt)))
-form_has_atoms (stop id moves) is = (stop_word, (name_is_atom id is.0, (moves_have_atoms moves is.1, tt)))
-form_has_atoms (abort id) is = (abort_word, (name_is_atom id is, tt))
+form_has_atoms : NamesAreAtoms → NumbersAreAtoms → (m : MessageValue) → IsLawfulMessage m → HasAtoms (message_form m)
+form_has_atoms names numbers info is = (info_word, tt)
+form_has_atoms names numbers (start id role rules s p) is = (start_word, (names id is.0, (is.1, (is.2, (clock_is_atom numbers s is.3, (clock_is_atom numbers p is.4, tt))))))
+form_has_atoms names numbers (play id moves) is = (play_word, (names id is.0, (moves_have_atoms moves is.1, tt)))
+form_has_atoms names numbers (stop id moves) is = (stop_word, (names id is.0, (moves_have_atoms moves is.1, tt)))
+form_has_atoms names numbers (abort id) is = (abort_word, (names id is, tt))
 
 -- ---- the form of a lawful message is read as the message
 
-form_is_read : (m : MessageValue) → IsLawfulMessage m → message_in (message_form m) ≡ Ok (folded_message m)
-form_is_read info is = refl
-form_is_read (start id role rules s p) is = rw (is.0, clock_of-decimal s is.3, clock_of-decimal p is.4) refl
-form_is_read (play id None) is = rw (is.0) refl
-form_is_read (play id (Some none)) is = absurd is.1
-form_is_read (play id (Some (more x xs))) is = rw (is.0) refl
-form_is_read (stop id None) is = rw (is.0) refl
-form_is_read (stop id (Some none)) is = absurd is.1
-form_is_read (stop id (Some (more x xs))) is = rw (is.0) refl
-form_is_read (abort id) is = rw is refl
+form_is_read : NumbersArePlain → (m : MessageValue) → IsLawfulMessage m → message_in (message_form m) ≡ Ok (folded_message m)
+form_is_read plain info is = refl
+form_is_read plain (start id role rules s p) is = rw (is.0, clock_of-decimal plain s is.3, clock_of-decimal plain p is.4) refl
+form_is_read plain (play id None) is = rw (is.0) refl
+form_is_read plain (play id (Some none)) is = absurd is.1
+form_is_read plain (play id (Some (more x xs))) is = rw (is.0) refl
+form_is_read plain (stop id None) is = rw (is.0) refl
+form_is_read plain (stop id (Some none)) is = absurd is.1
+form_is_read plain (stop id (Some (more x xs))) is = rw (is.0) refl
+form_is_read plain (abort id) is = rw is refl
 
-pub messages_read_back : MessagesReadBack
-messages_read_back m is =
-    let found : reading (canonical (message_form m)) ≡ Some (message_form m) = canonical_reads_back (message_form m) (form_has_atoms m is.lawful, is.shallow) is.short in
-    ap in_expression found ∙ form_is_read m is.lawful
+pub messages_read_back : NamesAreAtoms → NumbersAreAtoms → NumbersArePlain → CanonicalReadsBack → MessagesReadBack
+messages_read_back names numbers plain reads_back m is =
+    let found : reading (canonical (message_form m)) ≡ Some (message_form m) = reads_back (message_form m) (form_has_atoms names numbers m is.lawful, is.shallow) is.short in
+    ap in_expression found ∙ form_is_read plain m is.lawful
 
 -- ---- the text of an owed message is the text of what it says
 
@@ -91,5 +92,5 @@ text_is b role (Stop None) (stop id (Some moves)) says = absurd says.1
 text_is b role (Stop (Some texts)) (stop id None) says = absurd says.1
 text_is b role owed m says = absurd says
 
-pub owed_messages_read_back : OwedMessagesReadBack
-owed_messages_read_back b role owed m says is = ap message_reading (text_is b role owed m says) ∙ messages_read_back m is
+pub owed_messages_read_back : MessagesReadBack → OwedMessagesReadBack
+owed_messages_read_back read_back b role owed m says is = ap message_reading (text_is b role owed m says) ∙ read_back m is

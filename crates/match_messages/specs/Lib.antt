@@ -1,6 +1,7 @@
 pub mod Clock
 pub mod MessageValue
 pub mod MessageText
+pub mod MessageKinds
 pub mod StartRules
 pub mod MessageReading
 pub mod InfoReading

@@ -1,4 +1,6 @@
 //! What a message is, as its first word says.
+ghost use Rattle.std.specs.Prelude.{◌↔◌, IsTrue, MatchOption};
+ghost use mathlib.Core.List.{IsPrefix};
 
 use shared_text::SharedText;
 
@@ -16,20 +18,45 @@ pub enum MessageKind {
     Abort,
 }
 
+/// Whether the text begins with this word, in whatever parts it lies.
+fn begins_with(text: &SharedText<'_>, word: &[u8]) -> bool
+    ensures { IsTrue result ↔ IsPrefix word.now text.now }
+{
+    if text.len() < word.len() {
+        return false;
+    }
+    for (place, byte) in word.iter().enumerate() {
+        let left = text.rest(place);
+        if left[0] != *byte {
+            return false;
+        }
+    }
+    true
+}
+
 impl MessageKind {
-    /// The kind of a message, as the referee writes it: none where it begins with another word.
-    pub fn of(message: &SharedText<'_>) -> Option<MessageKind> {
-        let front = message.rest(0);
-        let kinds = [
-            (b"(INFO".as_slice(), MessageKind::Info),
-            (b"(START ".as_slice(), MessageKind::Start),
-            (b"(PLAY ".as_slice(), MessageKind::Play),
-            (b"(STOP ".as_slice(), MessageKind::Stop),
-            (b"(ABORT ".as_slice(), MessageKind::Abort),
-        ];
-        kinds
-            .iter()
-            .find(|(word, _)| front.starts_with(word))
-            .map(|(_, kind)| *kind)
+    ghost use Rattle.match_messages.specs.MessageKinds.{kind_word};
+    ghost use Rattle.match_messages.specs.declared.kind.MessageKind.{MessageKind};
+
+    /// The kind of a message, by the word that its text begins with: none if that is no kind's word.
+    pub fn of(message: &SharedText<'_>) -> Option<MessageKind>
+        ensures { MatchOption result ((kind : MessageKind) → ¬ (IsPrefix (kind_word kind) message.now)) (λ kind. IsPrefix (kind_word kind) message.now) }
+    {
+        if begins_with(message, b"(INFO") {
+            return Some(MessageKind::Info);
+        }
+        if begins_with(message, b"(START ") {
+            return Some(MessageKind::Start);
+        }
+        if begins_with(message, b"(PLAY ") {
+            return Some(MessageKind::Play);
+        }
+        if begins_with(message, b"(STOP ") {
+            return Some(MessageKind::Stop);
+        }
+        if begins_with(message, b"(ABORT ") {
+            return Some(MessageKind::Abort);
+        }
+        None
     }
 }

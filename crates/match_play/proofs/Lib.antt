@@ -1,2 +1,3 @@
 mod EndedMatches
 mod HeldGames
+mod Places

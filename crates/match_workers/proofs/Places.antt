@@ -1,10 +1,8 @@
--- Lists with a known property at each place.
+-- Lists, place by place.
 use Rattle.std.proofs.Common.{◌≡◌, ℕ, zero, suc, ◌+◌, ◌<◌, List, [], ◌∷◌, ◌++◌, Some, length, map, drop, refl, subst, sym, ap, ◌∙◌, arith}
 use Rattle.std.specs.Prelude.{slice_get, slice_index_or}
 use Rattle.std.proofs.lemmas.Option.{slice_get_within, get_or_from_slice_get}
-
-abbrev pub EachAt : {A : Type 0} → (ℕ → A → Type 0) → List A → Type 0
-EachAt {A} Q xs = (k : ℕ) (a : A) → slice_get xs k ≡ Some a → Q k a
+use Rattle.match_workers.specs.Places.{EachAt}
 
 push_at : {A : Type 0} (Q : ℕ → A → Type 0) (xs : List A) (x : A) → EachAt Q xs → Q (length xs) x → EachAt Q (xs ++ x ∷ [])
 push_at Q [] x each here zero a is = let same : x ≡ a = cc in subst (Q 0) same here

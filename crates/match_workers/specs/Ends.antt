@@ -13,6 +13,7 @@ use Rattle.match_workers.specs.Handing.{Handed}
 use Rattle.match_workers.specs.Events.{Telling, telling}
 use Rattle.match_workers.specs.Attending.{Attends, StopsEarly}
 use Rattle.match_workers.specs.LineParts.{line_of}
+use Rattle.match_workers.specs.Places.{EachAt}
 
 -- with the end of the match, after this many messages, or with a fault
 abbrev pub HasEnded : Brief → ℕ → ℕ → Telling → Telling → Result ℕ AttendFault → Type 0
@@ -49,4 +50,4 @@ pub record IsEndAt {P : Type 0} (handed : P → Option (List Handed)) (brief : B
 -- order of the roles.
 pub record AreEndsOf {P : Type 0} (handed : P → Option (List Handed)) (brief : Brief) (tries : ℕ) (players left : List P) (history : List (Entry Call Reply)) (ends : List (Result ℕ AttendFault)) : Type 0 where
   pub one_each : length left ≡ length ends
-  pub each : (role : ℕ) (end : Result ℕ AttendFault) → slice_get ends role ≡ Some end → IsEndAt handed brief tries players left history role end
+  pub each : EachAt (IsEndAt handed brief tries players left history) ends

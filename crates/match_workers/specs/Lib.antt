@@ -1,4 +1,5 @@
 pub mod Briefs
+pub mod Places
 pub mod Handing
 pub mod Events
 pub mod AttendFaults

@@ -39,4 +39,9 @@ pub trait Player {
     /// Lets some time pass, if nothing is owed to the role.
     fn rest(&mut self)
         ensures { handed self.new ≡ handed self.old };
+
+    /// Notes that the role's part of the match is over: no further message comes. The other roles may wait for just this.
+    fn leave(&mut self)
+        ensures { handed self.new ≡ handed self.old }
+    {}
 }

@@ -96,6 +96,7 @@ fn attend_seat<P: Player + Drop, W: Wire<Call = Call, Reply = Reply>>(
     let mut player = player;
     let mut wire = wire;
     let end = attend_shared(alloc, &mut wire, &mut player, brief, role, tries);
+    player.leave();
     bell.leave();
     Attended { wire, end, player }
 }

@@ -6,6 +6,7 @@ use Rattle.match_desk.specs.declared.call.Reply.{Reply}
 use Rattle.match_messages.specs.declared.brief.Brief.{Brief}
 use Rattle.match_workers.specs.declared.player.Player as Player
 use Rattle.match_workers.specs.Ends.{IsAttended}
+use Rattle.match_workers.specs.Places.{EachAt}
 use Rattle.match_workers.specs.declared.seat.Seat.{Seat}
 use Rattle.match_workers.specs.declared.seat.Attended.{Attended}
 
@@ -18,7 +19,7 @@ pub record IsSeatOf {P W : Type 0} (brief : Brief) (players : List P) (wires : L
 
 -- seats of a match, in the order of the roles
 abbrev pub AreSeatsOf : {P W : Type 0} → Brief → List P → List W → List (Seat P W) → Type 0
-AreSeatsOf {P} {W} brief players wires seats = (role : ℕ) (seat : Seat P W) → slice_get seats role ≡ Some seat → IsSeatOf brief players wires role seat
+AreSeatsOf brief players wires seats = EachAt (IsSeatOf brief players wires) seats
 
 module _ {P W : Type 0} (w : Wire.Ghosts W Call Reply) (p : Player.Ghosts P) where
   -- the result of attending a role with this player and over this wire
@@ -33,4 +34,4 @@ module _ {P W : Type 0} (w : Wire.Ghosts W Call Reply) (p : Player.Ghosts P) whe
 
   -- each is the result of attending the seat at its place
   abbrev pub AreLeftBy : ℕ → List (Seat P W) → List (Attended P W) → Type 0
-  AreLeftBy tries seats left = (k : ℕ) (a : Attended P W) → slice_get left k ≡ Some a → IsLeftAt tries seats k a
+  AreLeftBy tries seats left = EachAt (IsLeftAt tries seats) left

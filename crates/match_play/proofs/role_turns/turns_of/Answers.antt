@@ -1,6 +1,6 @@
 use Rattle.std.proofs.Common.{◌∙◌, [], ◌∷◌, length, length-append, Some, sym, ap, subst, arith}
 use Rattle.std.specs.Prelude.{option_map}
-use Rattle.match_workers.proofs.Places.{EachAt-push}
+use Rattle.match_play.proofs.Places.{EachAt-push}
 use Rattle.match_play.specs.RoleTurns.{IsTurnOf}
 use Rattle.match_play.specs.declared.role_turns.RoleTurn.{RoleTurn}
 use Rattle.match_play.proofs.role_turns.turns_of.Goals as goal

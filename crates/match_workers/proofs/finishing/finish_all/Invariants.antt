@@ -1,7 +1,7 @@
 use Rattle.std.proofs.Common.{◌≡◌, ◌+◌, ◌++◌, map, length, drop}
 use Rattle.std.specs.Vec.Iter.{into_iter_items, into_iter_len}
 use Rattle.match_workers.specs.Internal.LeftLines.{IsFinishedAt}
-use Rattle.match_workers.proofs.Places.{EachAt}
+use Rattle.match_workers.specs.Places.{EachAt}
 use Rattle.match_workers.proofs.finishing.finish_all.Given as goal
 
 -- the elements that have come, and then those still to come

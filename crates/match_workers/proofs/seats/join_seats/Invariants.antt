@@ -1,7 +1,7 @@
 use Rattle.std.proofs.Common.{◌≡◌, length, drop}
 use Rattle.std.specs.Vec.Iter.{into_iter_items}
 use Rattle.match_workers.specs.Internal.Promises.{IsKept}
-use Rattle.match_workers.proofs.Places.{EachAt}
+use Rattle.match_workers.specs.Places.{EachAt}
 use Rattle.match_workers.proofs.seats.join_seats.Given as goal
 
 abbrev pub invariant-loop-handle : goal.invariant-loop-handle

@@ -1,6 +1,6 @@
 use Rattle.std.proofs.Common.{◌≡◌, length, drop}
 use Rattle.match_workers.specs.Internal.Seats.{IsSeatOf}
-use Rattle.match_workers.proofs.Places.{EachAt}
+use Rattle.match_workers.specs.Places.{EachAt}
 use Rattle.match_workers.proofs.seats.seat_players.Given as goal
 
 abbrev pub invariant-loop-role : goal.invariant-loop-role

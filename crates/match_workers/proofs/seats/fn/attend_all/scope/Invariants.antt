@@ -1,6 +1,6 @@
 use Rattle.std.proofs.Common.{◌≡◌, ◌+◌, length, drop}
 use Rattle.std.specs.Vec.Iter.{into_iter_items, into_iter_len}
-use Rattle.match_workers.proofs.Places.{EachAt}
+use Rattle.match_workers.specs.Places.{EachAt}
 use Rattle.match_workers.proofs.SeatEnds.{IsPromisedFor}
 use Rattle.match_workers.proofs.seats.fn.attend_all.scope.Given as goal
 
