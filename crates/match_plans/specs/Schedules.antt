@@ -1,11 +1,16 @@
 -- The matches of a schedule.
-use Rattle.std.specs.Prelude.{◌≡◌, ◌==◌, ◌||◌, ℕ, Bool, true, false, not, List, [], ◌∷◌, Option, Some, length, map, filter}
-use Rattle.std.specs.List.{slice_split}
+use Rattle.std.specs.Prelude.{◌≡◌, ◌≢◌, ◌==◌, ◌&&◌, ◌||◌, ◌⊎◌, ◌+◌, ◌<◌, ◌≤◌, ℕ, Bool, true, false, not, List, [], ◌∷◌, Option, Some, None, if◌then◌else◌, All, get_or, is_some, length, map, nat_lt, filter, take, vec_len}
+use Rattle.std.specs.List.{AllPairs, AllZip, list_all, list_any, slice_split}
+use Rattle.std.specs.Str.{bytes_eq, is_utf8}
 use Rattle.std.specs.Str.Lines.{strip_carriage_return}
 use Rattle.game_core.specs.Bytes.{space, line_feed}
 use Rattle.game_core.specs.Numerals.{plain_number}
-use Rattle.match_plans.specs.Addresses.{addressed_name}
+use Rattle.match_plans.specs.Addresses.{IsAddress, is_player}
 use Rattle.match_plans.specs.declared.plan.MatchPlan.{MatchPlan}
+use Rattle.match_plans.specs.declared.schedule.LineFault.{LineFault}
+use Rattle.match_plans.specs.declared.schedule.LineFault.TheVariants.{NoMatch, WrongPlayers, IdTwice, TooMany}
+use Rattle.match_plans.specs.declared.schedule.ScheduleFault.{ScheduleFault}
+use Rattle.match_plans.specs.declared.schedule.ScheduleFault.TheVariants.{BadLine, Memory}
 
 -- the pieces of a text between its line feeds
 abbrev pub cut_lines : List ℕ → List (List ℕ)
@@ -40,9 +45,61 @@ match_lines text = match_words (cut_lines text)
 abbrev pub clock_of : List ℕ → Option ℕ
 clock_of word = plain_number word 4294967295
 
--- the plan has what the words of a line say: the id, the seconds for START, those for every other message, and a player for each word
+-- the first words of a match: its id and its clocks
+abbrev pub is_heading : List ℕ → List ℕ → List ℕ → Bool
+is_heading id start play = is_utf8 id && (is_some (clock_of start) && is_some (clock_of play))
+
+-- the further words of a match: one player or more
+abbrev pub are_players : List (List ℕ) → Bool
+are_players words = nat_lt 0 (length words) && list_all is_player words
+
+-- the words are ID START PLAY NAME@HOST:PORT ..
+abbrev pub is_match : List (List ℕ) → Bool
+is_match (id ∷ start ∷ play ∷ players) = is_heading id start play && are_players players
+is_match words = false
+
+-- the plan has what the words of a line say: the id, the seconds for START, those for every other message, and the player of each word
 abbrev pub IsPlanned : ℕ → List (List ℕ) → MatchPlan → Type 0
 IsPlanned strikes (id ∷ start ∷ play ∷ players) plan =
     (plan.id.now ≡ id) × (clock_of start ≡ Some plan.start) × (clock_of play ≡ Some plan.play) × (plan.strikes ≡ strikes)
-    × (map (λ p. p.name.now) plan.players.items ≡ map addressed_name players)
+    × AllZip IsAddress players plan.players.items
 IsPlanned strikes words plan = ⊥
+
+-- the fault of a match with this id and so many players, behind matches with these ids
+abbrev pub misplaced : ℕ → List (List ℕ) → List ℕ → ℕ → Option LineFault
+misplaced roles ids id players = if players == roles then (if list_any (bytes_eq id) ids then Some IdTwice else None) else Some WrongPlayers
+
+-- no two of these matches have the same id
+abbrev pub HaveIdsOnce : List MatchPlan → Type 0
+HaveIdsOnce plans = AllPairs (λ before plan. plan.id.now ≢ before.id.now) plans
+
+-- These are the matches of the lines, in their order: not too many, each with a player for each role, and no id twice.
+pub record AreMatchesOf (roles strikes : ℕ) (lines : List (List ℕ)) (plans : List MatchPlan) : Type 0 where
+  pub planned : AllZip (IsPlanned strikes) (match_words lines) plans
+  pub within : length plans ≤ 65536
+  pub roles_each : All (λ plan. vec_len plan.players ≡ roles) plans
+  pub once : HaveIdsOnce plans
+
+-- the fault of a match behind these matches
+abbrev pub HasFault : ℕ → List MatchPlan → MatchPlan → LineFault → Type 0
+HasFault roles before plan fault =
+    (misplaced roles (map (λ it. it.id.now) before) plan.id.now (vec_len plan.players) ≡ Some fault)
+    ⊎ ((misplaced roles (map (λ it. it.id.now) before) plan.id.now (vec_len plan.players) ≡ None) × (fault ≡ TooMany) × (length before ≡ 65536))
+
+-- the fault of a line with these words, behind these matches
+abbrev pub IsFaultOf : ℕ → ℕ → List MatchPlan → List (List ℕ) → LineFault → Type 0
+IsFaultOf roles strikes before words fault =
+    ((fault ≡ NoMatch) × (tells_nothing words ≡ false) × (is_match words ≡ false))
+    ⊎ ((plan : MatchPlan) × IsPlanned strikes words plan × HasFault roles before plan fault)
+
+-- The line at this index is the first bad one, and this is its fault. The lines before it hold only matches, and lines that are skipped.
+pub record IsFirstBad (roles strikes : ℕ) (lines : List (List ℕ)) (at : ℕ) (fault : LineFault) : Type 0 where
+  pub within : at < length lines
+  pub before : List MatchPlan
+  pub are_good : AreMatchesOf roles strikes (take at lines) before
+  pub is_bad : IsFaultOf roles strikes before (line_words (strip_carriage_return (get_or lines at []))) fault
+
+-- the number of the first bad line, from 1 on, and its fault
+abbrev pub IsBadLine : ℕ → ℕ → List (List ℕ) → ScheduleFault → Type 0
+IsBadLine roles strikes lines (BadLine number fault) = (at : ℕ) × (number ≡ at + 1) × IsFirstBad roles strikes lines at fault
+IsBadLine roles strikes lines Memory = ⊥

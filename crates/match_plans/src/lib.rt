@@ -16,7 +16,7 @@ mod shortages;
 
 pub use addresses::{PlayerAddress, player_address};
 pub use game_source::{GameCommand, GameSource, RulesSource};
-pub use numbers::decimal;
+pub use numbers::{decimal, decimal_from};
 pub use plan::{CheckPlan, MatchPlan};
 pub use reach::{Reach, RolePlace};
 pub use schedule::{LineFault, MAX_AT_ONCE, MAX_SCHEDULED, ScheduleFault, read_schedule};

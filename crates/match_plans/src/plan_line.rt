@@ -1,25 +1,14 @@
 //! A line of a schedule: its words, and the match that they hold.
-ghost use Rattle.std.specs.Prelude.{◌≡◌, ◌==◌, IfOk, IfSome, length, map, not};
-ghost use Rattle.std.specs.Str.Lines.{strip_carriage_return};
-ghost use Rattle.match_plans.specs.Addresses.{addressed_name};
-ghost use Rattle.match_plans.specs.Schedules.{tells_nothing, clock_of, line_words, cut_lines, IsPlanned};
+ghost use Rattle.std.specs.Prelude.{◌≡◌, ◌==◌, IfOk, IfSome, is_some, length, map, not};
+ghost use Rattle.std.specs.List.{AllZip, list_all};
+ghost use Rattle.match_plans.specs.Addresses.{IsAddress, is_player};
+ghost use Rattle.match_plans.specs.Schedules.{IsPlanned, clock_of, cut_lines, is_match, line_words, tells_nothing};
 
 use crate::addresses::{PlayerAddress, player_address};
 use crate::plan::MatchPlan;
 use game_core::numeral::plain_number;
 use std::alloc::{AllocError, Global};
 use std::str;
-
-/// The line without a carriage return at its end.
-pub(crate) fn without_return(line: &[u8]) -> &[u8]
-    ensures { result.now ≡ strip_carriage_return line.now }
-{
-    let count = line.len();
-    if count > 0 && line[count - 1] == b'\r' {
-        return &line[..count - 1];
-    }
-    line
-}
 
 /// The lines of a text: the pieces between its line feeds.
 pub(crate) fn lines<'a>(alloc: Global, text: &'a [u8]) -> Result<Vec<&'a [u8]>, AllocError>
@@ -63,9 +52,13 @@ fn clock(word: &[u8]) -> Option<u32>
 
 /// The player's address in a word.
 fn player(word: &[u8]) -> Option<PlayerAddress<'_>>
-    ensures { IfSome result (λ p. p.name.now ≡ addressed_name word.now) }
+    ensures address { IfSome result (IsAddress word.now) }
+    ensures taken { is_some result ≡ is_player word.now }
 {
-    player_address(str::from_utf8(word).ok()?)
+    let Ok(word) = str::from_utf8(word) else {
+        return None;
+    };
+    player_address(word)
 }
 
 /// The players' addresses in the words. The value is `None` if one of the words is no address.
@@ -73,7 +66,8 @@ fn players<'a>(
     alloc: Global,
     words: &[&'a [u8]],
 ) -> Result<Option<Vec<PlayerAddress<'a>>>, AllocError>
-    ensures { IfOk result (λ o. IfSome o (λ v. map (λ p. p.name.now) v.items ≡ map (λ w. addressed_name w.now) words.now)) }
+    ensures addresses { IfOk result (λ o. IfSome o (λ v. AllZip IsAddress (map (λ w. w.now) words.now) v.items)) }
+    ensures taken { IfOk result (λ o. is_some o ≡ list_all (λ w. is_player w.now) words.now) }
 {
     let mut players = Vec::with_capacity(alloc, words.len())?;
     for word in words {
@@ -91,17 +85,24 @@ pub(crate) fn planned_match<'a>(
     words: &[&'a [u8]],
     strikes: u8,
 ) -> Result<Option<MatchPlan<'a>>, AllocError>
-    ensures { IfOk result (λ o. IfSome o (λ plan. IsPlanned strikes (map (λ w. w.now) words.now) plan)) }
+    ensures planned { IfOk result (λ o. IfSome o (λ plan. IsPlanned strikes (map (λ w. w.now) words.now) plan)) }
+    ensures taken { IfOk result (λ o. is_some o ≡ is_match (map (λ w. w.now) words.now)) }
 {
     let [id, start, play, addresses @ ..] = words else {
+        return Ok(None);
+    };
+    let Ok(id) = str::from_utf8(id) else {
+        return Ok(None);
+    };
+    let Some(start) = clock(start) else {
+        return Ok(None);
+    };
+    let Some(play) = clock(play) else {
         return Ok(None);
     };
     if addresses.is_empty() {
         return Ok(None);
     }
-    let (Ok(id), Some(start), Some(play)) = (str::from_utf8(id), clock(start), clock(play)) else {
-        return Ok(None);
-    };
     let Some(players) = players(alloc, addresses)? else {
         return Ok(None);
     };

@@ -1,10 +1,12 @@
 //! The schedule of a season, with one match in a line.
-ghost use Rattle.std.specs.Prelude.{◌≡◌, ◌≤◌, All, IfNone, IfOk, length, vec_len};
+ghost use Rattle.std.specs.Prelude.{◌≡◌, ◌≤◌, ◌⊎◌, ◌++◌, ◌∷◌, [], All, IfErr, IfNone, IfOk, length, map, vec_len};
 ghost use Rattle.std.specs.List.{AllZip};
-ghost use Rattle.match_plans.specs.Schedules.{match_lines, IsPlanned};
+ghost use Rattle.match_plans.specs.declared.schedule.ScheduleFault.TheVariants.{Memory};
+ghost use Rattle.match_plans.specs.Schedules.{HaveIdsOnce, IsBadLine, IsPlanned, cut_lines, match_lines, misplaced};
 
 use crate::plan::MatchPlan;
-use crate::plan_line::{lines, planned_match, tells_nothing, without_return, words};
+use crate::plan_line::{lines, planned_match, tells_nothing, words};
+use game_core::lines::without_return;
 use indexmap::IndexSet;
 use std::alloc::{AllocError, AllocFailed, Global};
 use thiserror::Error;
@@ -43,12 +45,22 @@ pub enum ScheduleFault {
 }
 
 impl From<AllocError> for ScheduleFault {
+    ghost use Rattle.std.specs.Prelude.{◌≡◌};
+    ghost use Rattle.match_plans.specs.declared.schedule.ScheduleFault.TheVariants.{Memory};
+
+    ghost from_gives = { λ _ given. given ≡ Memory };
+
     fn from(_: AllocError) -> ScheduleFault {
         ScheduleFault::Memory
     }
 }
 
 impl<T: Drop> From<AllocFailed<T>> for ScheduleFault {
+    ghost use Rattle.std.specs.Prelude.{◌≡◌};
+    ghost use Rattle.match_plans.specs.declared.schedule.ScheduleFault.TheVariants.{Memory};
+
+    ghost from_gives = { λ _ given. given ≡ Memory };
+
     fn from(_: AllocFailed<T>) -> ScheduleFault {
         ScheduleFault::Memory
     }
@@ -60,7 +72,8 @@ fn misplaced<'a>(
     plan: &MatchPlan<'a>,
     roles: usize,
 ) -> Result<Option<LineFault>, AllocError>
-    ensures { IfOk result (λ fault. IfNone fault (vec_len plan.now.players ≡ roles)) }
+    ensures fault { IfOk result (λ fault. fault ≡ misplaced roles (map (λ id. id.now) ids.old.keys) plan.now.id.now (vec_len plan.now.players)) }
+    ensures added { IfOk result (λ fault. IfNone fault (map (λ id. id.now) ids.new.keys ≡ map (λ id. id.now) ids.old.keys ++ plan.now.id.now ∷ [])) }
 {
     if plan.players.len() != roles {
         return Ok(Some(LineFault::WrongPlayers));
@@ -84,6 +97,8 @@ pub fn read_schedule<'a>(
     ensures within { IfOk result (λ plans. length plans.items ≤ 65536) }
     ensures planned { IfOk result (λ plans. AllZip (IsPlanned strikes) (match_lines input.now) plans.items) }
     ensures roles { IfOk result (λ plans. All (λ plan. vec_len plan.players ≡ roles) plans.items) }
+    ensures once { IfOk result (λ plans. HaveIdsOnce plans.items) }
+    ensures bad { IfErr result (λ fault. (fault ≡ Memory) ⊎ IsBadLine roles strikes (cut_lines input.now) fault) }
 {
     let lines = lines(alloc, input)?;
     let mut ids = IndexSet::new(alloc);

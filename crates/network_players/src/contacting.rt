@@ -7,6 +7,7 @@ use crate::lookup::Lookup;
 use crate::shortage::shortage_of;
 use game_core::{Counted, Text};
 use http_exchange::{WireFault, exchange_shared};
+use match_book::MAX_CLOCK;
 use match_plans::{PlayerAddress, Shortage};
 use shared_text::SharedText;
 use std::alloc::Global;
@@ -61,6 +62,8 @@ const PAUSE_MILLIS: u64 = 50;
 
 /// The limit of tries to connect for one message. With their pauses these take longer than any clock.
 const MAX_CONNECTS: u32 = 2_000_000;
+
+const _: () = prove!(MAX_CONNECTS as u64 * PAUSE_MILLIS > MAX_CLOCK as u64 * 1_000);
 
 /// The fault of a step that has no time left, or for which the referee is short of something.
 fn halt_fault(halt: Halt) -> ContactFault

@@ -1,7 +1,9 @@
 //! One deadline for all steps of a message.
-ghost use Rattle.std.specs.Prelude.{◌≡◌, ◌+◌, ◌*◌, ◌<◌, ◌≤◌, ◌↔◌, IsSome, IfSome, IfOk};
+ghost use Rattle.std.specs.Prelude.{◌≡◌, ◌+◌, ◌*◌, ◌<◌, ◌≤◌, ◌↔◌, ◌⊎◌, Err, IfErr, IfOk, IfSome, IsOkAnd, IsSome, MatchResult, OnErr};
 ghost use Rattle.std.specs.Duration.{as_nanos};
+ghost use Rattle.match_plans.specs.declared.shortages.Shortage.TheVariants.{Clock};
 ghost use Rattle.network_players.specs.Shortages.{failed_halt};
+ghost use Rattle.network_players.specs.declared.deadline.Halt.TheVariants.{Late, Short};
 
 use crate::reply_front::ReplyFront;
 use crate::shortage::shortage_of;
@@ -31,6 +33,24 @@ pub enum Halt {
     Short(Shortage),
 }
 
+/// The rest of a limit after the time `passed`. The error is `Late` if nothing is left, and `Short` if that time is not known.
+fn left_in(limit: Duration, passed: io::Result<Duration>) -> Result<Duration, Halt>
+    ensures some { IfOk result (λ left. 0 < as_nanos left) }
+    ensures within { IfOk result (λ left. as_nanos left ≤ as_nanos limit) }
+    ensures halts { IfErr result (λ halt. (halt ≡ Late) ⊎ (halt ≡ Short Clock)) }
+    ensures left { IfOk passed (λ passed. IfOk result (λ left. as_nanos left + as_nanos passed ≡ as_nanos limit)) }
+    ensures late { IfOk passed (λ passed. (result ≡ Err Late) ↔ (as_nanos limit ≤ as_nanos passed)) }
+    ensures unknown { OnErr passed (result ≡ Err (Short Clock)) }
+{
+    match passed {
+        Ok(passed) => match left_of(limit, passed) {
+            Some(left) => Ok(left),
+            None => Err(Halt::Late),
+        },
+        Err(_) => Err(Halt::Short(Shortage::Clock)),
+    }
+}
+
 /// The beginning of a message, and the time that it may take.
 #[derive(Clone, Copy)]
 pub struct Deadline {
@@ -38,33 +58,36 @@ pub struct Deadline {
     limit: Duration,
 }
 
+/// A deadline `seconds` from this moment. The error is `Clock` if the moment is not known.
+fn deadline_from(now: io::Result<Instant>, seconds: u32) -> Result<Deadline, Shortage>
+    ensures { MatchResult now (λ start. IsOkAnd result (λ deadline. (deadline.start ≡ start) × (as_nanos deadline.limit ≡ seconds * 1_000_000_000)))
+        (λ _. result ≡ Err Clock) }
+{
+    match now {
+        Ok(start) => Ok(Deadline {
+            start,
+            limit: Duration::from_secs(u64::from(seconds)),
+        }),
+        Err(_) => Err(Shortage::Clock),
+    }
+}
+
 impl Deadline {
     /// A deadline `seconds` from now. The error is `Clock` if the clock can't be read.
     pub fn within(clock: &impl Clock, seconds: u32) -> Result<Deadline, Shortage>
-        ensures { IfOk result (λ deadline. as_nanos deadline.limit ≡ seconds * 1_000_000_000) }
+        ensures limit { IfOk result (λ deadline. as_nanos deadline.limit ≡ seconds * 1_000_000_000) }
+        ensures clock { IfErr result (λ shortage. shortage ≡ Clock) }
     {
-        match Instant::now(clock) {
-            Ok(start) => Ok(Deadline {
-                start,
-                limit: Duration::from_secs(u64::from(seconds)),
-            }),
-            Err(_) => Err(Shortage::Clock),
-        }
+        deadline_from(Instant::now(clock), seconds)
     }
 
     /// The time left, which is above 0. The error is `Late` if none is left, and `Short` if the clock can't be read.
     pub fn left(&self, clock: &impl Clock) -> Result<Duration, Halt>
         ensures some { IfOk result (λ left. 0 < as_nanos left) }
         ensures within { IfOk result (λ left. as_nanos left ≤ as_nanos self.now.limit) }
+        ensures halts { IfErr result (λ halt. (halt ≡ Late) ⊎ (halt ≡ Short Clock)) }
     {
-        let passed = match self.start.elapsed(clock) {
-            Ok(passed) => passed,
-            Err(_) => return Err(Halt::Short(Shortage::Clock)),
-        };
-        match left_of(self.limit, passed) {
-            Some(left) => Ok(left),
-            None => Err(Halt::Late),
-        }
+        left_in(self.limit, self.start.elapsed(clock))
     }
 }
 

@@ -93,6 +93,12 @@ impl Signal {
         self.resting.fetch_sub(1, Ordering::SeqCst);
     }
 
+    /// Notes that a player leaves. The match is usually over then, so the others are woken.
+    fn leave(&self) {
+        self.players.fetch_sub(1, Ordering::SeqCst);
+        self.call();
+    }
+
     /// Waits until the players are woken again after `seen`, for the time `limit` at most. It may return for no reason.
     fn wait<R: Wait>(&self, rt: &R, seen: u64, limit: Duration) {
         self.calls
@@ -136,9 +142,10 @@ pub struct Pace<'a> {
     rest: Duration,
     /// Whether the player has rested since its last message.
     has_rested: bool,
+    has_left: bool,
 }
 
-/// When a player is dropped its match is usually over, so the others are woken.
+/// A player that is dropped leaves, if it has not left before.
 impl Drop for Pace<'_> {
     fn drop(self) {
         let Pace {
@@ -147,9 +154,11 @@ impl Drop for Pace<'_> {
             seen: _,
             rest: _,
             has_rested: _,
+            has_left,
         } = self;
-        signal.players.fetch_sub(1, Ordering::SeqCst);
-        signal.call();
+        if !has_left {
+            signal.leave();
+        }
     }
 }
 
@@ -163,6 +172,7 @@ impl<'a> Pace<'a> {
             seen: signal.calls(),
             rest: first_rest(),
             has_rested: false,
+            has_left: false,
         }
     }
 
@@ -177,6 +187,14 @@ impl<'a> Pace<'a> {
         self.seen = self.signal.calls();
         self.rest = first_rest();
         self.has_rested = false;
+    }
+
+    /// Notes that the player gets no further message.
+    pub fn leave(&mut self) {
+        if !self.has_left {
+            self.has_left = true;
+            self.signal.leave();
+        }
     }
 
     /// Rests. If the others rest already they are woken, once after each message: the player's answer may have retired it, and the

@@ -159,4 +159,8 @@ impl<H: Net + Clock + Wait> Player for SocketPlayer<'_, H> {
     fn rest(&mut self) {
         self.pace.rest(self.rt);
     }
+
+    fn leave(&mut self) {
+        self.pace.leave();
+    }
 }

@@ -1,25 +1,26 @@
-use Rattle.std.proofs.Common.{◌≡◌, ◌∷◌, [], ◌∙◌, ℕ, ◌-◌, ◌≤◌, List, Some, map, take, drop, get_or, length, Bor, refl, ap, sym, rules, arith}
-use Rattle.std.proofs.lemmas.List.{take_all}
-use Rattle.match_plans.specs.Addresses.{addressed_name}
-use Rattle.match_plans.specs.Schedules.{clock_of, IsPlanned}
-use Rattle.match_plans.specs.declared.plan.MatchPlan.{MatchPlan}
+use Rattle.std.proofs.Common.{◌≡◌, ◌-◌, ◌∙◌, [], ℕ, List, Bor, true, drop, is_some, length, take, ap, sym, rules}
+use Rattle.std.specs.List.{list_all}
+use Rattle.match_plans.specs.Addresses.{is_player}
+use Rattle.match_plans.proofs.Words.{line-with-a-bad-player, line-without-id, rest-is, some-players, too-short, whole-line}
 use Rattle.match_plans.proofs.plan_line.planned_match.Goals as goal
 
-names : (words : List (Bor (List ℕ))) → map (λ w. addressed_name w.now) words ≡ map addressed_name (map (λ w. w.now) words)
-names [] = refl
-names (word ∷ words) = ap (λ more. addressed_name word.now ∷ more) (names words)
+pub returns-in_default-clause-taken : goal.returns-in_default-clause-taken
+returns-in_default-clause-taken c = too-short c.args.words.now c.in_default.len_below
 
-planned : (strikes : ℕ) (words : List (Bor (List ℕ))) (plan : MatchPlan) (d : Bor (List ℕ)) → 3 ≤ length words → plan.id.now ≡ (get_or words 0 d).now
-    → Some plan.start ≡ clock_of (get_or words 1 d).now → Some plan.play ≡ clock_of (get_or words 2 d).now → plan.strikes ≡ strikes
-    → map (λ p. p.name.now) plan.players.items ≡ map (λ w. addressed_name w.now) (take (length words - 3) (drop 3 words))
-    → IsPlanned strikes (map (λ w. w.now) words) plan
-planned strikes [] plan d long id start play same players = omega (arith, long)
-planned strikes (a ∷ []) plan d long id start play same players = omega (arith, long)
-planned strikes (a ∷ b ∷ []) plan d long id start play same players = omega (arith, long)
-planned strikes (a ∷ b ∷ e ∷ words) plan d long id start play same players =
-    (id, sym start, sym play, same, players ∙ ap (λ more. map (λ (w : Bor (List ℕ)). addressed_name w.now) more) (take_all _ words (omega arith)) ∙ names words)
+pub returns-in_default-from_utf8-clause-taken : goal.returns-in_default-from_utf8-clause-taken
+returns-in_default-from_utf8-clause-taken c = line-without-id c.args.words.now (record { ref_ptr = (0, 0); now = [] }) c.in-len3-up.len_at_least c.in_default-from_utf8.ensures.cases.0
 
-pub returns : goal.returns
-returns c =
-    let told = c.in-Ok-Some-Some in
-    planned c.args.strikes c.args.words.now _ _ c.in-len3-up.len_at_least told.ensures.cases.0 told.ensures' told.ensures'' refl (search rules)
+pub returns-in_default-2-clause-taken : goal.returns-in_default-2-clause-taken
+returns-in_default-2-clause-taken c =
+    let words = c.args.words.now in
+    let test = λ (w : Bor (List ℕ)). is_player w.now in
+    line-with-a-bad-player words c.in-len3-up.len_at_least (sym (ap is_some c.in_default-2.is) ∙ c.in_ok-players.ensures.taken ∙ ap (list_all test) (rest-is words))
+
+pub returns-clause-taken : goal.returns-clause-taken
+returns-clause-taken c =
+    let words = c.args.words.now in
+    let d : Bor (List ℕ) = record { ref_ptr = (0, 0); now = [] } in
+    let test = λ (w : Bor (List ℕ)). is_player w.now in
+    let all : true ≡ list_all test (take (length words - 3) (drop 3 words)) = search rules in
+    whole-line words d c.in-Some.start c.in-Some-clock.play c.in-len3-up.len_at_least c.in-Ok.ensures.cases.1 c.in-Some.ensures c.in-Some-clock.ensures
+    (some-players words c.is_empty.result c.is_empty.ensures c.if-is_empty.false) (all ∙ ap (list_all test) (rest-is words))
