@@ -147,21 +147,23 @@ fn push_call(out: &mut Vec<u8>, call: &Call) -> Result<(), AllocError>
 /// The initial capacity for a reply's text. Most replies fit.
 const USUAL_LENGTH: usize = 128;
 
-/// Appends the text of an entry to `out`, without its line feed.
+/// Appends the text of an entry of this line, call and reply to `out`, without its line feed.
 pub(crate) fn push_entry(
     alloc: Global,
     out: &mut Vec<u8>,
-    entry: &Entry<Call, Reply>,
+    line: u32,
+    call: &Call,
+    reply: &Reply,
 ) -> Result<(), AllocError>
-    ensures { OnOk result (out.new.items ≡ out.old.items ++ entry_text entry.now) }
+    ensures { OnOk result (out.new.items ≡ out.old.items ++ entry_text (record { line = line; call = call.now; reply = reply.now })) }
 {
-    push_number(out, u64::from(entry.line))?;
+    push_number(out, u64::from(line))?;
     out.push(b'\t')?;
-    push_call(out, &entry.call)?;
+    push_call(out, call)?;
     out.push(b'\t')?;
-    let mut reply = Vec::with_capacity(alloc, USUAL_LENGTH)?;
-    push_reply(&mut reply, &entry.reply)?;
-    push_text(out, reply.as_slice())
+    let mut text = Vec::with_capacity(alloc, USUAL_LENGTH)?;
+    push_reply(&mut text, reply)?;
+    push_text(out, text.as_slice())
 }
 
 /// Appends the texts of a history's entries to `out`, each with a line feed. An entry's text is the number of its line of the desk,
@@ -175,7 +177,7 @@ pub fn push_history(
     ensures { OnOk result (out.new.items ≡ out.old.items ++ history_text history.now) }
 {
     for entry in history {
-        push_entry(alloc, out, entry)?;
+        push_entry(alloc, out, entry.line, &entry.call, &entry.reply)?;
         out.push(b'\n')?;
     }
     Ok(())

@@ -27,11 +27,7 @@ fn hex_digit(number: u8) -> u8
 fn push_escape(out: &mut Vec<u8>, byte: u8) -> Result<(), AllocError>
     ensures { OnOk result (out.new.items ≡ out.old.items ++ escape byte) }
 {
-    out.push(b'\\')?;
-    out.push(b'x')?;
-    out.push(hex_digit(byte / 16))?;
-    out.push(hex_digit(byte % 16))?;
-    Ok(())
+    out.extend_from_slice(&[b'\\', b'x', hex_digit(byte / 16), hex_digit(byte % 16)])
 }
 
 /// Appends a text to `out`. The bytes from `least` to the tilde, except the backslash, get no escapes.

@@ -1,19 +1,9 @@
 //! Cutting an input into lines.
 ghost use Rattle.std.specs.Prelude.{◌≡◌, ◌<◌, ◌∷◌, length};
-ghost use Rattle.std.specs.Str.Lines.{lines, strip_carriage_return};
+ghost use Rattle.std.specs.Str.Lines.{lines};
 
 use crate::words::piece_end;
-
-/// A line without one carriage return at its end.
-fn without_return(line: &[u8]) -> &[u8]
-    ensures { result.now ≡ strip_carriage_return line.now }
-{
-    let count = line.len();
-    if count > 0 && line[count - 1] == b'\r' {
-        return &line[..count - 1];
-    }
-    line
-}
+use game_core::lines::without_return;
 
 /// The first line of a text that is not empty, and the text after it.
 pub fn first_line(text: &[u8]) -> (&[u8], &[u8])

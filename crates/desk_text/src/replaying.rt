@@ -3,14 +3,14 @@ ghost use Rattle.std.specs.Prelude.{◌≡◌, ◌≢◌, IfErr, IfOk, OnOk};
 ghost use Rattle.std.specs.Str.Lines.{lines};
 ghost use Rattle.match_desk.specs.Steps.{reply, after};
 ghost use Rattle.call_history.specs.declared.journal.Entry.{Entry};
-ghost use Rattle.desk_text.specs.Account.{entry_text, no_matches, IsAccount, IsRead};
+ghost use Rattle.desk_text.specs.Account.{entry_text, no_matches, told, IsAccount, IsRead};
 ghost use Rattle.desk_text.specs.Replaying.{IsFirstFault, RefusesLine, TellNoHistory};
 ghost use Rattle.desk_text.specs.declared.replaying.ReplayFault.TheVariants.{Memory};
 
 use crate::account::push_entry;
 use crate::lines::first_line;
 use crate::told_calls::told;
-use call_history::{Entry, Object};
+use call_history::Object;
 use game_core::Game;
 use match_desk::{Call, Manager, Reply};
 use std::alloc::{AllocError, Global};
@@ -44,6 +44,50 @@ impl From<AllocError> for ReplayFault {
     }
 }
 
+/// The text of an entry of this line, call and reply.
+fn entry_bytes(alloc: Global, line: u32, call: &Call, reply: &Reply) -> Result<Vec<u8>, AllocError>
+    ensures { IfOk result (λ text. text.items ≡ entry_text (record { line = line; call = call.now; reply = reply.now })) }
+{
+    let mut text = Vec::new(alloc);
+    push_entry(alloc, &mut text, line, call, reply)?;
+    Ok(text)
+}
+
+/// The text of the entry of this call, with the reply that it would get now.
+fn right_text<O: Object<Call = Call, Reply = Reply>>(
+    alloc: Global,
+    object: &O,
+    line: u32,
+    call: &Call,
+) -> Result<Vec<u8>, AllocError>
+    ensures { IfOk result (λ text. text.items ≡ entry_text (record { line = line; call = call.now; reply = O.reply object.now call.now })) }
+{
+    let reply = object.answer(alloc, call)?;
+    entry_bytes(alloc, line, call, &reply)
+}
+
+/// Makes the call that an entry's text tells, of the entry of number `place` in the account. It must be the text that is written for
+/// this call and its reply.
+fn replay_call<O: Object<Call = Call, Reply = Reply>>(
+    alloc: Global,
+    object: &mut O,
+    place: u64,
+    text: &[u8],
+    line: u32,
+    call: &Call,
+) -> Result<(), ReplayFault>
+    requires { told text.now ≡ Some (line, call.now) }
+    ensures ok { OnOk result ((e : Entry _ _) × (text.now ≡ entry_text e) × IsRead e × (e.reply ≡ O.reply object.old e.call) × (object.new ≡ O.after object.old e.call)) }
+    ensures refused { IfErr result (RefusesLine O.reply object.old place text.now) }
+{
+    let right = right_text(alloc, object, line, call)?;
+    if right.as_slice() != text {
+        return Err(ReplayFault::Differs(place, right));
+    }
+    object.apply(alloc, call)?;
+    Ok(())
+}
+
 /// Makes the call of an entry's text, which is the one of number `place` in the account. It must be the text that is written for this
 /// call and its reply.
 fn replay_entry<O: Object<Call = Call, Reply = Reply>>(
@@ -55,18 +99,10 @@ fn replay_entry<O: Object<Call = Call, Reply = Reply>>(
     ensures ok { OnOk result ((e : Entry _ _) × (text.now ≡ entry_text e) × IsRead e × (e.reply ≡ O.reply object.old e.call) × (object.new ≡ O.after object.old e.call)) }
     ensures refused { IfErr result (RefusesLine O.reply object.old place text.now) }
 {
-    let Some((line, call)) = told(alloc, text)? else {
-        return Err(ReplayFault::NoEntry(place));
-    };
-    let reply = object.answer(alloc, &call)?;
-    let entry = Entry { line, call, reply };
-    let mut told = Vec::new(alloc);
-    push_entry(alloc, &mut told, &entry)?;
-    if told.as_slice() != text {
-        return Err(ReplayFault::Differs(place, told));
+    match told(alloc, text)? {
+        Some((line, call)) => replay_call(alloc, object, place, text, line, &call),
+        None => Err(ReplayFault::NoEntry(place)),
     }
-    object.apply(alloc, &entry.call)?;
-    Ok(())
 }
 
 /// Makes the calls of an account's lines one by one. Returns their number.

@@ -35,32 +35,31 @@ fn push_joint(out: &mut Vec<u8>, moves: &Option<Texts>) -> Result<(), AllocError
     ensures { OnOk result (out.new.items ≡ out.old.items ++ joint_text moves.now) }
 {
     match moves {
-        None => out.extend_from_slice(b"NIL")?,
+        None => out.extend_from_slice(b"NIL"),
         Some(moves) => {
             out.push(b'(')?;
             push_spaced(out, moves.as_slice())?;
             out.push(b')')?;
+            Ok(())
         }
     }
-    Ok(())
 }
 
 fn push_owed(out: &mut Vec<u8>, owed: &Owed) -> Result<(), AllocError>
     ensures { OnOk result (out.new.items ≡ out.old.items ++ owed_text owed.now) }
 {
     match owed {
-        Owed::Start => out.extend_from_slice(b"start")?,
+        Owed::Start => out.extend_from_slice(b"start"),
         Owed::Play(moves) => {
             out.extend_from_slice(b"play ")?;
-            push_joint(out, moves)?;
+            push_joint(out, moves)
         }
         Owed::Stop(moves) => {
             out.extend_from_slice(b"stop ")?;
-            push_joint(out, moves)?;
+            push_joint(out, moves)
         }
-        Owed::Abort => out.extend_from_slice(b"abort")?,
+        Owed::Abort => out.extend_from_slice(b"abort"),
     }
-    Ok(())
 }
 
 fn push_due(out: &mut Vec<u8>, due: &Due) -> Result<(), AllocError>
@@ -71,15 +70,14 @@ fn push_due(out: &mut Vec<u8>, due: &Due) -> Result<(), AllocError>
             out.extend_from_slice(b"owe ")?;
             push_number(out, *round)?;
             out.push(b' ')?;
-            push_owed(out, owed)?;
+            push_owed(out, owed)
         }
         Due::Hold { round } => {
             out.extend_from_slice(b"hold ")?;
-            push_number(out, *round)?;
+            push_number(out, *round)
         }
-        Due::Over => out.extend_from_slice(b"over")?,
+        Due::Over => out.extend_from_slice(b"over"),
     }
-    Ok(())
 }
 
 fn push_status(out: &mut Vec<u8>, status: &Status) -> Result<(), AllocError>
@@ -133,15 +131,14 @@ pub fn push_reply(out: &mut Vec<u8>, reply: &Reply) -> Result<(), AllocError>
     ensures { OnOk result (out.new.items ≡ out.old.items ++ reply_text reply.now) }
 {
     match reply {
-        Reply::Opened => out.extend_from_slice(b"opened")?,
-        Reply::Due(due) => push_due(out, due)?,
-        Reply::Taken => out.extend_from_slice(b"taken")?,
-        Reply::Status(status) => push_status(out, status)?,
-        Reply::Aborting => out.extend_from_slice(b"aborting")?,
+        Reply::Opened => out.extend_from_slice(b"opened"),
+        Reply::Due(due) => push_due(out, due),
+        Reply::Taken => out.extend_from_slice(b"taken"),
+        Reply::Status(status) => push_status(out, status),
+        Reply::Aborting => out.extend_from_slice(b"aborting"),
         Reply::Refused(refusal) => {
             out.extend_from_slice(b"refused ")?;
-            push_refusal(out, *refusal)?;
+            push_refusal(out, *refusal)
         }
     }
-    Ok(())
 }

@@ -12,7 +12,7 @@ use Rattle.whole_streams.specs.Streams.{StopsReading, InputFails}
 use Rattle.whole_streams.specs.Lines.{HasNoLineFeed, BeginsWithLine}
 use Rattle.whole_streams.specs.declared.whole.InputFault.{InputFault}
 use Rattle.whole_streams.specs.declared.whole.InputFault.TheVariants.{ReadFault, TooLong, Memory}
-use Rattle.whole_streams.proofs.LineLemmas.{lines_begin, lines_last}
+use Rattle.whole_streams.specs.Laws.{FirstLineIsTaken, LastLineIsWhole}
 use Rattle.game_commands.specs.declared.fault.Fault.{Fault}
 use Rattle.game_commands.specs.declared.fault.Fault.TheVariants.{Memory as MemoryFault, WriteFault}
 use Rattle.game_commands.specs.Faults.{input_fault}
@@ -25,16 +25,16 @@ begins_more text first left given begins more =
     ap lines (append_assoc text given more) ∙ begins (given ++ more) ∙ ap (λ l. first ++ lines l) (sym (append_assoc left given more))
 
 -- one line more is taken
-pub begins_line : (text : List ℕ) (first : List (List ℕ)) (bytes line left : List ℕ) → BeginsWithLines text first bytes → BeginsWithLine bytes line left
+pub begins_line : FirstLineIsTaken → (text : List ℕ) (first : List (List ℕ)) (bytes line left : List ℕ) → BeginsWithLines text first bytes → BeginsWithLine bytes line left
     → BeginsWithLines text (first ++ line ∷ []) left
-begins_line text first bytes line left begins next more =
-    begins more ∙ ap (λ l. first ++ l) (lines_begin bytes line left more next) ∙ sym (append_assoc first (line ∷ []) (lines (left ++ more)))
+begins_line first_line text first bytes line left begins next more =
+    begins more ∙ ap (λ l. first ++ l) (first_line bytes line left more next) ∙ sym (append_assoc first (line ∷ []) (lines (left ++ more)))
 
 -- the last line is taken
-pub begins_last : (text : List ℕ) (first : List (List ℕ)) (left given line : List ℕ) → BeginsWithLines text first left → 0 < length (left ++ given) → line ≡ left ++ given → HasNoLineFeed (left ++ given)
+pub begins_last : LastLineIsWhole → (text : List ℕ) (first : List (List ℕ)) (left given line : List ℕ) → BeginsWithLines text first left → 0 < length (left ++ given) → line ≡ left ++ given → HasNoLineFeed (left ++ given)
     → lines (text ++ given) ≡ first ++ line ∷ []
-begins_last text first left given line begins some is feedless =
-    begins given ∙ ap (λ l. first ++ l) (lines_last (left ++ given) some feedless ∙ ap (λ l. l ∷ []) (sym is))
+begins_last last_line text first left given line begins some is feedless =
+    begins given ∙ ap (λ l. first ++ l) (last_line (left ++ given) some feedless ∙ ap (λ l. l ∷ []) (sym is))
 
 pub verdicts_push : {S M : Type 0} (g : Rules S M) (texts : List (List ℕ)) (verdicts : List Verdict) (text : List ℕ) (verdict : Verdict)
     → AreVerdicts g texts verdicts → IsVerdict g text verdict → AreVerdicts g (texts ++ text ∷ []) (verdicts ++ verdict ∷ [])

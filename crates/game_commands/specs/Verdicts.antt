@@ -1,13 +1,12 @@
 -- The verdicts on lines of records, and their output.
 use Rattle.std.specs.Prelude.{◌≡◌, ◌≢◌, ◌&&◌, ℕ, nat_le, Bool, true, false, List, [], ◌∷◌, ◌++◌, codes, count_by, flat_map}
-use Rattle.std.specs.Fmt.{decimal}
 use Rattle.game_core.specs.Bytes.{line_feed}
 use Rattle.game_core.specs.Play.{Rules}
 use Rattle.match_record.specs.LawfulRecord.{IsLawfulRecord}
-use Rattle.match_record.specs.RecordTree.{key_text}
 use Rattle.record_check.specs.Verified.{FailsFirst}
+use Rattle.record_reading.specs.FaultText.{fault_text}
 use Rattle.record_reading.specs.declared.verify_fault.VerifyFault.{VerifyFault}
-use Rattle.record_reading.specs.declared.verify_fault.VerifyFault.TheVariants.{NotJson, BadShape, Illegal, NotFirst, WrongRetired, WrongState, WrongGoals, WrongEnd, Memory}
+use Rattle.record_reading.specs.declared.verify_fault.VerifyFault.TheVariants.{Memory}
 use Rattle.game_commands.specs.declared.verdicts.Verdict.{Verdict}
 use Rattle.game_commands.specs.declared.verdicts.Verdict.TheVariants.{Lawful, Unlawful, Account}
 
@@ -28,21 +27,6 @@ AreVerdicts g [] [] = Unit {0}
 AreVerdicts g [] (verdict ∷ verdicts) = ⊥
 AreVerdicts g (text ∷ texts) [] = ⊥
 AreVerdicts g (text ∷ texts) (verdict ∷ verdicts) = IsVerdict g text verdict × AreVerdicts g texts verdicts
-
--- a word, then the numbers of a turn and a role
-abbrev pub turn_and_role : List ℕ → ℕ → ℕ → List ℕ
-turn_and_role word turn role = word ++ decimal turn ++ codes " " ++ decimal role
-
-abbrev pub fault_text : VerifyFault → List ℕ
-fault_text NotJson = codes "json"
-fault_text (BadShape key) = codes "shape " ++ key_text key
-fault_text (Illegal turn role) = turn_and_role (codes "illegal ") turn role
-fault_text (NotFirst turn role) = turn_and_role (codes "notfirst ") turn role
-fault_text (WrongRetired turn role) = turn_and_role (codes "retired ") turn role
-fault_text (WrongState turn) = codes "state " ++ decimal turn
-fault_text WrongGoals = codes "goals"
-fault_text WrongEnd = codes "end"
-fault_text Memory = codes "out of memory"
 
 -- the output for a verdict. It is empty for a line of an account.
 abbrev pub verdict_line : Verdict → List ℕ

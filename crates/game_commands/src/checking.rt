@@ -15,6 +15,7 @@ use match_record::VerifyFault;
 use record_check::verify;
 use std::alloc::Global;
 use std::io::{Read, Write};
+use whole_streams::laws::lines_are_taken;
 use whole_streams::{InputFault, LineBuffer, NextLine, read_to_end, write_all};
 
 /// The limit of a record's bytes: 16 MiB.
@@ -111,6 +112,7 @@ pub fn check_records<G: Game, R: Read, W: Write>(
         × AreVerdicts (G.rules game.now) first verdicts
         × CheckStops R.remaining W.contents (G.rules game.now) fault verdicts left reader.old reader.new writer.old writer.new) }
 {
+    lines_are_taken();
     let mut buffer = LineBuffer::new();
     let mut unlawful = 0;
     for place in 0..u64::MAX {

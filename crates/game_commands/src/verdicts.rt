@@ -1,7 +1,7 @@
 //! The verdicts on the lines of a file of records, and their lines of output.
 ghost use Rattle.std.specs.Prelude.{◌≡◌, IfOk, IfErr, string_bytes};
 ghost use Rattle.game_commands.specs.declared.fault.Fault.TheVariants.{Memory};
-ghost use Rattle.game_commands.specs.Verdicts.{IsVerdict, fault_text, is_account_line, turn_and_role, verdict_line};
+ghost use Rattle.game_commands.specs.Verdicts.{IsVerdict, is_account_line, verdict_line};
 
 use crate::fault::Fault;
 use game_core::Game;
@@ -45,33 +45,6 @@ pub fn verdict_on<G: Game>(alloc: Global, game: &G, text: &[u8]) -> Result<Verdi
     }
 }
 
-/// A word, and the numbers of a turn and a role.
-fn turn_and_role(alloc: Global, word: &str, turn: usize, role: usize) -> Result<String, AllocError>
-    ensures { IfOk result (λ text. string_bytes text ≡ turn_and_role word.now turn role) }
-{
-    format!(in alloc; "{word}{turn} {role}")
-}
-
-/// The words of a fault.
-fn fault_text(alloc: Global, fault: VerifyFault) -> Result<String, AllocError>
-    ensures { IfOk result (λ text. string_bytes text ≡ fault_text fault) }
-{
-    match fault {
-        VerifyFault::NotJson => String::from_str(alloc, "json"),
-        VerifyFault::BadShape(key) => {
-            let key = key.text();
-            format!(in alloc; "shape {key}")
-        }
-        VerifyFault::Illegal(turn, role) => turn_and_role(alloc, "illegal ", turn, role),
-        VerifyFault::NotFirst(turn, role) => turn_and_role(alloc, "notfirst ", turn, role),
-        VerifyFault::WrongRetired(turn, role) => turn_and_role(alloc, "retired ", turn, role),
-        VerifyFault::WrongState(turn) => format!(in alloc; "state {turn}"),
-        VerifyFault::WrongGoals => String::from_str(alloc, "goals"),
-        VerifyFault::WrongEnd => String::from_str(alloc, "end"),
-        VerifyFault::Memory => String::from_str(alloc, "out of memory"),
-    }
-}
-
 /// The line of output for a verdict. It is empty for a line of an account.
 pub fn verdict_line(alloc: Global, verdict: Verdict) -> Result<String, AllocError>
     ensures { IfOk result (λ line. string_bytes line ≡ verdict_line verdict) }
@@ -79,9 +52,6 @@ pub fn verdict_line(alloc: Global, verdict: Verdict) -> Result<String, AllocErro
     match verdict {
         Verdict::Lawful => String::from_str(alloc, "lawful\n"),
         Verdict::Account => String::from_str(alloc, ""),
-        Verdict::Unlawful(fault) => {
-            let text = fault_text(alloc, fault)?;
-            format!(in alloc; "not lawful: {text}\n")
-        }
+        Verdict::Unlawful(fault) => format!(in alloc; "not lawful: {fault}\n"),
     }
 }

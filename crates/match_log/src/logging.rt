@@ -231,4 +231,8 @@ impl<H: Clock + Wait, P: Player + Explains> Player for LoggedPlayer<'_, H, P> {
     fn rest(&mut self) {
         self.player.rest();
     }
+
+    fn leave(&mut self) {
+        self.player.leave();
+    }
 }

@@ -189,4 +189,8 @@ impl<H: Clock + Wait, P: Player + Explains> Player for Participant<'_, H, P> {
     fn rest(&mut self) {
         self.pace.rest(self.rt);
     }
+
+    fn leave(&mut self) {
+        self.pace.leave();
+    }
 }

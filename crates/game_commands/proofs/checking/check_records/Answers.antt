@@ -38,7 +38,7 @@ loop-place-preserved g c =
         was.1 ++ c.deref.result.now ∷ [],
         all,
         Consumes-trans _ _ _ _ _ was.3 next.1,
-        begins_line (was.0 ++ next.0) was.1 bytes c.deref.result.now left (begins_more was.0 was.1 c.loop-place.buffer next.0 was.4) line,
+        begins_line c.lines_are_taken.ensures.first (was.0 ++ next.0) was.1 bytes c.deref.result.now left (begins_more was.0 was.1 c.loop-place.buffer next.0 was.4) line,
         verdicts_push _ was.1 was.2 c.deref.result.now told.0 was.5 told.1,
         lines_push _ _ _ was.2 told.0 was.6 told.3,
         count,
@@ -59,7 +59,7 @@ returns-in-Ok-check_line-clause-verdicts g c =
     let last = subst (λ n. IsNextLine (g.R.Read.remaining c.next_line.new.reader.stream) bytes n c.next_line.new.self) c.in-Ok-Last.field-0-is next.2 in
     let same : c.deref-in-Ok-Last.result.now ≡ c.in-Ok-Last.line.items = search rules in
     let all = was.2 ++ told.0 ∷ [] in
-    let cut = begins_last was.0 was.1 c.loop-place.buffer next.0 c.deref-in-Ok-Last.result.now was.4 last.0 (same ∙ last.1) last.2 in
+    let cut = begins_last c.lines_are_taken.ensures.last was.0 was.1 c.loop-place.buffer next.0 c.deref-in-Ok-Last.result.now was.4 last.0 (same ∙ last.1) last.2 in
     let verdicts = verdicts_push _ was.1 was.2 c.deref-in-Ok-Last.result.now told.0 was.5 told.1 in
     let count = ap (λ n. n + c.in-Ok-check_line.count) was.7 ∙ ap (λ n. count_unlawful was.2 + n) told.2 ∙ sym (count_push was.2 told.0) in (
       was.0 ++ next.0,
