@@ -21,34 +21,3 @@ def reaching(path, text, known):
             continue
         for name in [it.split()[0] for it in names.strip("{}").split(",") if it.strip()] or ["*"]:
             yield module, name
-
-
-def merged(rows):
-    """Returns pairs of a file and a module, each with the names, from triples of these."""
-    found = {}
-    for path, module, name in rows:
-        found.setdefault((path, module), set()).add(name)
-    return found
-
-
-def lines_of(rows):
-    """Returns the lines of a list of imports: of each crate how many it has, and below it each with its names."""
-    by_crate = {}
-    for (path, module), names in sorted(rows.items()):
-        by_crate.setdefault(path.split("/")[1], []).append(f"  {path.split('/', 2)[2]} {module}: {' '.join(sorted(names))}")
-    return [line for crate, lines in by_crate.items() for line in (f"{crate} {len(lines)}", *lines)]
-
-
-def listed(text):
-    """Returns the imports of such a list, and what is wrong with its numbers."""
-    rows, counts, crate = {}, {}, ""
-    for line in text.splitlines():
-        if line.startswith("  "):
-            place, _, names = line.strip().partition(": ")
-            path, _, module = place.partition(" ")
-            rows[f"crates/{crate}/{path}", module] = set(names.split())
-            counts[crate][1] += 1
-        elif line.strip() and not line.startswith("#"):
-            crate, _, count = line.partition(" ")
-            counts[crate] = [int(count), 0]
-    return rows, [f"{crate} has {found} lines, and says {said}" for crate, (said, found) in counts.items() if said != found]

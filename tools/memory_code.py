@@ -14,9 +14,11 @@ NOTE = re.compile(r"\b(out of|wants?( of)?|short of|lack of|no) memory\b|\bmemor
 SAID = re.compile(r"\b(out|want) of memory\b", re.IGNORECASE)
 # A test of an error: where it is all of an arm's condition the arm hands the error on.
 ASKED = re.compile(r"is_(out_of_)?memory")
-STD_VARIANTS = ("OutOfMemory",)
+# An error of the system by its number may be any.
+STD_NAMES = ("OutOfMemory", "from_raw_os_error")
 CLAUSES = ("requires", "ensures", "decreases", "where")
 RESERVES = ("with_capacity", "with_capacity_in", "reserve", "reserve_exact", "try_reserve", "try_reserve_exact", "resize", "resize_with", "bounded")
+RESERVES += ("repeat", "repeat_n")
 # Rings of the kit have as many slots as their second argument says.
 RING = "RingBuffer"
 # A constant up to this is no large size.
@@ -147,6 +149,35 @@ def names_of(sources):
     return names
 
 
+def collected_range(nodes, at):
+    """Returns the end of the range of numbers of which the word at this place collects something, as in `(0..9).map(f).collect(alloc)`;
+    none where it collects something else."""
+    while at > 1 and is_mark(nodes[at - 1], "."):
+        at -= 2
+        # The word of the call before, behind which stand its type, or nothing, and its arguments.
+        while at > 0 and not is_word(nodes[at]) and not begins_with_range(nodes, at):
+            at -= 1
+        if begins_with_range(nodes, at):
+            inside, place = nodes[at].inside, range_at(nodes[at].inside)
+            return inside[place + (1 if is_mark(inside[place], "..=") else 2) :]
+    return None
+
+
+def begins_with_range(nodes, at):
+    """Returns whether an expression begins at this place, with a range in brackets. Behind a word or a type these are arguments."""
+    if not is_group(nodes[at], "(") or range_at(nodes[at].inside) == len(nodes[at].inside):
+        return False
+    return at == 0 or is_word(nodes[at - 1], "return", "in", "match", "if", "move") or not is_word(nodes[at - 1]) and not is_mark(nodes[at - 1], ">")
+
+
+def range_at(nodes):
+    """Returns the place of the mark of a range, or of the end."""
+    for at, node in enumerate(nodes):
+        if is_mark(node, "..=") or is_mark(node, ".") and at + 1 < len(nodes) and is_mark(nodes[at + 1], "."):
+            return at
+    return len(nodes)
+
+
 class Reader:
     """Reads one file's code: what is an expression, and what a pattern, a type, a contract or ghost code."""
 
@@ -176,7 +207,7 @@ class Reader:
         if is_pattern and not is_behind and node.text not in self.imported and "*" not in self.imported:
             return False
         meant = self.names.meanings(node.text)
-        if not meant.isdisjoint((*REFUSED, *STD_VARIANTS)):
+        if not meant.isdisjoint((*REFUSED, *STD_NAMES)):
             return True
         of = {owner} if is_behind and nodes[at - 2].text == "Self" else self.names.meanings(nodes[at - 2].text) if is_behind else None
         return any(name in meant and (of is None or of & {enum} or NAMED.search(name)) for enum, name in self.names.variants)
@@ -234,6 +265,8 @@ class Reader:
             given = [it for it in parts(behind.inside, ",") if it]
             at_first = is_word(node, "resize", "resize_with")
             self.look_at_size(node, given[0 if at_first else -1] if given else [], sizes)
+        if is_word(node, "collect") and behind and (numbers := collected_range(nodes, at)):
+            self.look_at_size(node, numbers, sizes)
         if is_word(node, "vec") and behind and is_mark(behind, "!") and at + 2 < len(nodes) and is_group(nodes[at + 2]):
             given = parts(nodes[at + 2].inside, ";")
             is_repeated = len(given) > 2 or len(given) == 2 and not is_word(nodes[at + 2].inside[0], "in")

@@ -1,10 +1,10 @@
-"""Which imports reach past the public definitions of another crate, and how they are listed."""
+"""Which imports reach past the public definitions of another crate."""
 import os
 import sys
 import unittest
 
 sys.path.insert(0, os.path.dirname(os.path.dirname(os.path.realpath(__file__))))
-from layers import lines_of, listed, merged, reaching
+from layers import reaching
 
 KNOWN = ("low", "high")
 
@@ -38,18 +38,6 @@ class Reaching(unittest.TestCase):
 
     def test_a_comment_is_none(self):
         self.assertEqual(found("-- use Rattle.low.proofs.Laws.{one}\n"), [])
-
-
-class Listed(unittest.TestCase):
-    ROWS = merged([("crates/high/proofs/One.antt", "low.proofs.Laws", "two"), ("crates/high/proofs/One.antt", "low.proofs.Laws", "one")])
-    LINES = ["high 1", "  proofs/One.antt low.proofs.Laws: one two"]
-
-    def test_a_list_is_read_as_it_was_written(self):
-        self.assertEqual(lines_of(self.ROWS), self.LINES)
-        self.assertEqual(listed("# What it is.\n" + "\n".join(self.LINES)), (self.ROWS, []))
-
-    def test_a_number_that_is_not_that_of_the_lines_is_wrong(self):
-        self.assertEqual(listed("high 2\n" + self.LINES[1])[1], ["high has 1 lines, and says 2"])
 
 
 if __name__ == "__main__":

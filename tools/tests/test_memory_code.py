@@ -67,7 +67,8 @@ class Said(unittest.TestCase):
         self.is_found("Err(Memory)", declared=DECLARED + "use crate::x::VerifyFault::*;\n")
 
     def test_a_variant_that_means_it_by_its_message_by_a_note_or_by_from(self):
-        for variant in ("VerifyFault::Gone", "VerifyFault::Full", "OtherFault::Lost", "ErrorKind::OutOfMemory"):
+        errors = "ErrorKind::OutOfMemory", "io::Error::from_raw_os_error(12)"
+        for variant in ("VerifyFault::Gone", "VerifyFault::Full", "OtherFault::Lost", *errors):
             self.is_found(f"return Err({variant});")
         self.assertEqual(found("Err(VerifyFault::TooLong(3))"), [])
         self.assertEqual(found("Err(Elsewhere::Gone)"), [])
@@ -134,6 +135,11 @@ class Reserved(unittest.TestCase):
             "let ring = RingBuffer::new(alloc, role)?;",
             "held.reserve_exact(\n// a note\nrole)?;",
             "let (sender, receiver) = bounded(alloc, 65_536)?;",
+            'let held = "x".repeat(alloc, role)?;',
+            "let held: Vec<u8> = iter::repeat_n(0, MANY).collect(alloc)?;",
+            "let held: Vec<u64> = (0..MANY).map(|x| x).collect(alloc)?;",
+            "let held = (0..=role).filter(|x| *x > 3).map(|x| (x, 0)).collect::<Vec<u8>>(alloc)?;",
+            "return (role..1_000_000).collect(alloc);",
         ):
             self.is_found(code, code.split("\n")[0])
 
@@ -151,6 +157,10 @@ class Reserved(unittest.TestCase):
             "held.reserve(1)?;",
             "let (sender, receiver) = bounded(alloc, plans.len())?;",
             "let held = vec![in alloc; 1, 2, 3];",
+            "let held: Vec<usize> = (0..texts.len()).map(|x| (x..MANY)).collect(alloc)?;",
+            "let held: Vec<usize> = texts.iter().map(|x| x..MANY).collect::<Vec<u8>>(alloc)?;",
+            "let held: Vec<u8> = texts.iter().map(|x| x[(0)]).collect(alloc)?;",
+            'let held = "x".repeat(alloc, texts.len())?;',
         ):
             self.assertEqual(found(code), [], code)
 
