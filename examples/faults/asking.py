@@ -22,6 +22,12 @@ class Said(NamedTuple):
     errors: str
 
 
+def checks_memory(program):
+    """Returns whether a program is one that is not proved, and checks memory as it runs."""
+    with open(program, "rb") as it:
+        return b"AddressSanitizer" in it.read()
+
+
 def asked(program, words, text=b""):
     """Returns what the program comes to with these words, on this input."""
     ran = subprocess.run([program, *words], input=text, capture_output=True, timeout=PATIENCE)
