@@ -136,17 +136,25 @@ impl<G: Game> Desk<G> {
         }
     }
 
+    /// Answers a line. Returns whether it was a call.
+    pub fn answer_line(&mut self, line: &[u8], out: &mut Vec<u8>) -> bool {
+        match call_of(line, &mut vec![]) {
+            Some(call) => {
+                write_reply(out, &self.reply(&call));
+                true
+            }
+            None => {
+                out.extend_from_slice(b"badline");
+                false
+            }
+        }
+    }
+
     /// The answers to a script and the records, and how many lines were bad.
     pub fn answer_script(&mut self, script: &[u8]) -> (Vec<u8>, u64) {
         let (mut out, mut bad_lines) = (vec![], 0);
         for line in lines(script) {
-            match call_of(line, &mut vec![]) {
-                Some(call) => write_reply(&mut out, &self.reply(&call)),
-                None => {
-                    bad_lines += 1;
-                    out.extend_from_slice(b"badline");
-                }
-            }
+            bad_lines += u64::from(!self.answer_line(line, &mut out));
             out.push(b'\n');
         }
         for held in &self.matches {
