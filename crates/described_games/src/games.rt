@@ -2,7 +2,7 @@
 ghost use Rattle.std.specs.Prelude.{◌≡◌, ◌≢◌, IfOk, IfErr};
 ghost use Rattle.described_games.specs.Games.{IsLoadedFrom, IsDescribed, DescribesNone, IsRefusedAs};
 
-use ground_rules::{GroundGame, LoadFault, load};
+use ground_rules::{GroundGame, LoadFault, load_own};
 use kif_text::{KifFault, read_all};
 use packed_rules::{PackedGame, pack};
 use std::alloc::{AllocError, Global};
@@ -76,7 +76,7 @@ fn loaded(alloc: Global, rules: &[u8]) -> Result<GroundGame, DescriptionFault>
     ensures fault { IfErr result (IsRefusedAs rules.now) }
 {
     let sentences = read_all(alloc, rules)?;
-    Ok(load(alloc, sentences.as_slice())?)
+    Ok(load_own(alloc, sentences)?)
 }
 
 /// The game of a ground description, in the form that is fast to play. The error is the first fault of the text, or `Memory`.

@@ -23,6 +23,6 @@ pub mod vocabulary;
 
 pub use evaluate::makes;
 pub use ground_game::GroundGame;
-pub use load_game::load;
+pub use load_game::{load, load_own};
 pub use rule_sentences::LoadFault;
 pub use tables::{GroundMove, GroundState};

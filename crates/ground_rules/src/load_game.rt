@@ -7,8 +7,17 @@ ghost use Rattle.ground_rules.specs.Loaded.{IsLoadAnswer};
 use crate::ground_game::GroundGame;
 use crate::loading::game_parts;
 use kif_text::Expr;
-use rule_sentences::{LoadFault, folded, read_rules};
+use rule_sentences::{LoadFault, fold_each, folded, read_rules};
 use std::alloc::Global;
+
+/// The game of a description without capitals, or its first fault.
+fn load_folded(alloc: Global, description: Vec<Expr>) -> Result<GroundGame, LoadFault>
+    ensures { IsLoadAnswer (map expression description.items) result }
+{
+    let rules = read_rules(alloc, &description)?;
+    let parts = game_parts(alloc, description.len(), &rules)?;
+    Ok(GroundGame::new(alloc, description, parts)?)
+}
 
 /// The game of a ground description: facts and rules of GDL without variables, in any case of
 /// letters. Sentences are numbered from 0. Faults are found in the order of `LoadFault`, each over
@@ -17,7 +26,14 @@ pub fn load(alloc: Global, sentences: &[Expr]) -> Result<GroundGame, LoadFault>
     ensures { IsLoadAnswer (map folded (map expression sentences.now)) result }
 {
     let description = folded(alloc, sentences)?;
-    let rules = read_rules(alloc, &description)?;
-    let parts = game_parts(alloc, description.len(), &rules)?;
-    Ok(GroundGame::new(alloc, description, parts)?)
+    load_folded(alloc, description)
+}
+
+/// What `load` returns, of sentences that are given up: the game keeps them, where `load` makes copies.
+pub fn load_own(alloc: Global, sentences: Vec<Expr>) -> Result<GroundGame, LoadFault>
+    ensures { IsLoadAnswer (map folded (map expression sentences.items)) result }
+{
+    let mut description = sentences;
+    fold_each(&mut description);
+    load_folded(alloc, description)
 }

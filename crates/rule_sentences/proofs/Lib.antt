@@ -1,4 +1,5 @@
 mod Arguments
 mod AtomicLists
+mod FoldedLists
 mod LiteralLists
 mod RuleLists

@@ -27,6 +27,15 @@ pub fn folded(alloc: Global, sentences: &[Expr]) -> Result<Vec<Expr>, AllocError
     Ok(copies)
 }
 
+/// Takes the capitals from the sentences, where they lie.
+pub fn fold_each(sentences: &mut [Expr])
+    ensures { map expression sentences.new ≡ map folded (map expression sentences.old) }
+{
+    for sentence in sentences.iter_mut() {
+        fold(sentence);
+    }
+}
+
 fn first_variable(sentences: &[Expr]) -> Option<usize>
     ensures { result ≡ first_place has_variable (map expression sentences.now) }
 {

@@ -51,14 +51,14 @@ refused text xs Cyclic spelled found = λ _. faulty xs Cyclic spelled (λ same. 
 refused text xs Depends spelled found = λ _. faulty xs Depends spelled (λ same. absurd cc) found
 refused text xs LoadMemory spelled found = λ differs. absurd (differs refl)
 
-pub returns-in_err-load-clause-refused : goal.returns-in_err-load-clause-refused
+pub returns-in_err-load_own-clause-refused : goal.returns-in_err-load_own-clause-refused
 unfolding IsNoneBut
-returns-in_err-load-clause-refused c =
+returns-in_err-load_own-clause-refused c =
     let text = c.args.rules.now in
-    let sentences = map view c.as_slice.result.now in
-    let passed = err_from_is_err_and c.from_residual-in_err-load.result c.from_residual-in_err-load.ensures.1 in
+    let sentences = map view c.in_ok-sentences.sentences.items in
+    let passed = err_from_is_err_and c.from_residual-in_err-load_own.result c.from_residual-in_err-load_own.ensures.1 in
     let spelled : SpellsAll text (expressions sentences) = search rules in
-    let why = refused text sentences c.in_err-load.field-0.0 spelled c.in_err-load.ensures in
+    let why = refused text sentences c.in_err-load_own.field-0.0 spelled c.in_err-load_own.ensures in
     rw passed.1 (subst (IsNoneBut text) (sym passed.2) why)
 
 pub returns-in_err-sentences-clause-fault : goal.returns-in_err-sentences-clause-fault
@@ -68,11 +68,11 @@ returns-in_err-sentences-clause-fault c =
     let why = unread text c.in_err-sentences.field-0.0 c.in_err-sentences.ensures.fault in
     rw passed.1 (subst (IsRefusedAs text) (sym passed.2) why)
 
-pub returns-in_err-load-clause-fault : goal.returns-in_err-load-clause-fault
-returns-in_err-load-clause-fault c =
+pub returns-in_err-load_own-clause-fault : goal.returns-in_err-load_own-clause-fault
+returns-in_err-load_own-clause-fault c =
     let text = c.args.rules.now in
-    let sentences = map view c.as_slice.result.now in
-    let passed = err_from_is_err_and c.from_residual-in_err-load.result c.from_residual-in_err-load.ensures.1 in
+    let sentences = map view c.in_ok-sentences.sentences.items in
+    let passed = err_from_is_err_and c.from_residual-in_err-load_own.result c.from_residual-in_err-load_own.ensures.1 in
     let spelled : SpellsAll text (expressions sentences) = search rules in
-    let why = unfit text sentences c.in_err-load.field-0.0 spelled c.in_err-load.ensures in
+    let why = unfit text sentences c.in_err-load_own.field-0.0 spelled c.in_err-load_own.ensures in
     rw passed.1 (subst (IsRefusedAs text) (sym passed.2) why)
