@@ -29,14 +29,14 @@ most m n le = grind (arith, nat_tests)
 pub too-many-sentences : (n : ℕ) (d : Description) → max_sentences < n → is_small n d ≡ false
 too-many-sentences n d lt = left-false _ _ (left-false _ _ (left-false (nat_le n max_sentences) _ (more n max_sentences lt)))
 
-pub too-many-atomics : (n k : ℕ) (d : Description) → k ≡ length (each_once same_atomic (atomics d)) → max_atomic_sentences < k → is_small n d ≡ false
-too-many-atomics n k d e lt = left-false _ _ (left-false _ _ (right-false (nat_le n max_sentences) _ (more (length (each_once same_atomic (atomics d))) max_atomic_sentences (omega (arith, e, lt)))))
+pub too-many-atomics : (n : ℕ) (d : Description) → nat_le (length (each_once same_atomic (atomics d))) max_atomic_sentences ≡ false → is_small n d ≡ false
+too-many-atomics n d many = left-false _ _ (left-false _ _ (right-false (nat_le n max_sentences) _ many))
 
 pub too-many-roles : (n k : ℕ) (d : Description) → k ≡ length (role_names d) → max_roles < k → is_small n d ≡ false
 too-many-roles n k d e lt = left-false _ _ (right-false (nat_le n max_sentences && nat_le (length (each_once same_atomic (atomics d))) max_atomic_sentences) _ (more (length (role_names d)) max_roles (omega (arith, e, lt))))
 
-pub few-so-far : (n k m : ℕ) (d : Description) → n ≤ max_sentences → k ≡ length (each_once same_atomic (atomics d)) → k ≤ max_atomic_sentences → m ≡ length (role_names d) → m ≤ max_roles → is_small_so_far n d ≡ true
-few-so-far n k m d le e le' f le'' = and-both _ _ (and-both _ _ (most n max_sentences le) (most _ max_atomic_sentences (omega (arith, e, le')))) (most _ max_roles (omega (arith, f, le'')))
+pub few-so-far : (n m : ℕ) (d : Description) → n ≤ max_sentences → nat_le (length (each_once same_atomic (atomics d))) max_atomic_sentences ≡ true → m ≡ length (role_names d) → m ≤ max_roles → is_small_so_far n d ≡ true
+few-so-far n m d le few f le' = and-both _ _ (and-both _ _ (most n max_sentences le) few) (most _ max_roles (omega (arith, f, le')))
 
 one-more : (terms : List (List ℕ)) (n : ℕ) (o : Option (List ℕ)) (ms : List Mention) (ts : List (List ℕ)) → length ms ≡ length ts → length (with_mention terms n o ms) ≡ length (with_text o ts)
 one-more terms n (Some t) ms ts e = ap suc e

@@ -25,9 +25,7 @@ use numbered_rules::split::{SplitRules, split};
 use numbered_rules::{Row, needs_of, numbered, sort_by_rank};
 use rule_sentences::LoadFault;
 use rule_sentences::sentence::{Derived, Rule};
-use rule_sentences::sizes::{
-    MAX_ATOMIC_SENTENCES, MAX_MOVES, MAX_SENTENCES, count_atomic_sentences,
-};
+use rule_sentences::sizes::{MAX_MOVES, MAX_SENTENCES, have_few_atomic_sentences};
 use std::alloc::{AllocError, Global};
 
 fn role_of(alloc: Global, names: &Names, name: &Text) -> Result<Role, AllocError>
@@ -92,11 +90,8 @@ fn names_of(alloc: Global, sentences: usize, rules: &[Rule]) -> Result<Names, Lo
     ensures fault { IfErr result (IsDescriptionFault sentences (rules_of rules.now)) }
 {
     let roles = role_names(alloc, rules)?;
-    let atomic_sentences = count_atomic_sentences(alloc, rules)?;
-    if sentences > MAX_SENTENCES
-        || atomic_sentences > MAX_ATOMIC_SENTENCES
-        || roles.len() > MAX_ROLES
-    {
+    let few_atomics = have_few_atomic_sentences(alloc, rules)?;
+    if sentences > MAX_SENTENCES || !few_atomics || roles.len() > MAX_ROLES {
         return Err(LoadFault::TooLarge);
     }
     let heads = heads(alloc, rules)?;

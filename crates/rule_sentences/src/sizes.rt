@@ -1,8 +1,8 @@
 //! How large a description may be.
-ghost use Rattle.std.specs.Prelude.{◌≡◌, IfOk, OnOk, length};
+ghost use Rattle.std.specs.Prelude.{◌≡◌, ◌-◌, ◌∷◌, IfOk, OnOk, length, nat_le};
 ghost use Rattle.rule_sentences.specs.SentenceViews.{view, views, rules_of};
 ghost use Rattle.rule_sentences.specs.Descriptions.{with_new, with_all_new, each_once};
-ghost use Rattle.rule_sentences.specs.Sizes.{same_atomic, atomics_in, all_atomics_in, atomics};
+ghost use Rattle.rule_sentences.specs.Sizes.{same_atomic, atomics_in, all_atomics_in, atomics, max_atomic_sentences};
 
 use crate::sentence::{Atomic, Derived, Literal, Rule};
 use indexmap::IndexSet;
@@ -54,15 +54,69 @@ fn atomic_head(head: &Derived) -> Result<Atomic, AllocError>
     Ok(Atomic::Derived(head.clone()?))
 }
 
+/// Adds the head of the rule, and the atomic sentences in its literals.
+fn add_rule(set: &mut IndexSet<Atomic>, rule: &Rule) -> Result<(), AllocError>
+    ensures { OnOk result (set.new.keys ≡ with_all_new same_atomic set.old.keys (Atomic.Derived rule.now.head ∷ all_atomics_in (views rule.now.body.items))) }
+{
+    let head = atomic_head(&rule.head)?;
+    add_atomic(set, &head)?;
+    add_all_literals(set, &rule.body)
+}
+
 /// How many distinct atomic sentences the rules have: their heads and those in their literals.
 pub fn count_atomic_sentences(alloc: Global, rules: &[Rule]) -> Result<usize, AllocError>
     ensures { IfOk result (λ n. n ≡ length (each_once same_atomic (atomics (rules_of rules.now)))) }
 {
     let mut set = IndexSet::new(alloc);
     for rule in rules {
-        let head = atomic_head(&rule.head)?;
-        add_atomic(&mut set, &head)?;
-        add_all_literals(&mut set, &rule.body)?;
+        add_rule(&mut set, rule)?;
     }
     Ok(set.len())
+}
+
+/// What is left of the room beside the atomic sentences of the literal, each counted as often as it stands there.
+#[cycle(room_beside)]
+fn room_beside(literal: &Literal, room: usize) -> usize
+    ensures { result ≡ room - length (atomics_in (view literal.now)) }
+{
+    match literal {
+        Literal::Atomic(_) => room.saturating_sub(1),
+        Literal::Not(inner) => room_beside(inner, room),
+        Literal::Or(literals) => room_beside_all(literals, room),
+        Literal::Distinct(_, _) => room,
+    }
+}
+
+#[cycle(room_beside)]
+fn room_beside_all(literals: &Vec<Literal>, room: usize) -> usize
+    ensures { result ≡ room - length (all_atomics_in (views literals.now.items)) }
+{
+    let mut left = room;
+    for literal in literals {
+        left = room_beside(literal, left);
+    }
+    left
+}
+
+/// Whether the rules name at most `MAX_ATOMIC_SENTENCES` atomic sentences, each counted as often as it stands there.
+fn name_few_atomic_sentences(rules: &[Rule]) -> bool
+    ensures { result ≡ nat_le (length (atomics (rules_of rules.now))) max_atomic_sentences }
+{
+    let mut left = MAX_ATOMIC_SENTENCES + 1;
+    for rule in rules {
+        left = room_beside_all(&rule.body, left.saturating_sub(1));
+    }
+    left > 0
+}
+
+/// Whether the rules have at most `MAX_ATOMIC_SENTENCES` distinct atomic sentences: where they name no more at all, which takes no
+/// set, and else by their count.
+pub fn have_few_atomic_sentences(alloc: Global, rules: &[Rule]) -> Result<bool, AllocError>
+    ensures { IfOk result (λ b. b ≡ nat_le (length (each_once same_atomic (atomics (rules_of rules.now)))) max_atomic_sentences) }
+{
+    if name_few_atomic_sentences(rules) {
+        return Ok(true);
+    }
+    let count = count_atomic_sentences(alloc, rules)?;
+    Ok(count <= MAX_ATOMIC_SENTENCES)
 }

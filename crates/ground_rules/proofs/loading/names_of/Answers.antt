@@ -1,10 +1,10 @@
-use Rattle.std.proofs.Common.{◌≡◌, ◌∙◌, ap, length, arith}
+use Rattle.std.proofs.Common.{◌≡◌, ◌∙◌, sym, ap, length, arith}
 use Rattle.std.proofs.lemmas.Result.{err_from_is_err_and}
 use Rattle.rule_sentences.specs.SentenceViews.{rules_of}
 use Rattle.rule_sentences.specs.Descriptions.{role_names}
 use Rattle.ground_rules.proofs.Limits.{too-many-sentences, too-many-atomics, too-many-roles, few-so-far}
 use Rattle.ground_rules.proofs.loading.names_of.Goals as goal
-use Rattle.ground_rules.proofs.loading.names_of.Goals.{then-sentences-gt-MAX_SENTENCES-via-then-sentences-gt-MAX_SENTENCES, then-sentences-gt-MAX_SENTENCES-via-else-sentences-gt-MAX_SENTENCES+then-atomic_sentences-gt-MAX_ATOMIC_SENTENCES, then-sentences-gt-MAX_SENTENCES-via-else-sentences-gt-MAX_SENTENCES+else-atomic_sentences-gt-MAX_ATOMIC_SENTENCES+then-len-gt-MAX_ROLES}
+use Rattle.ground_rules.proofs.loading.names_of.Goals.{then-sentences-gt-MAX_SENTENCES-via-then-sentences-gt-MAX_SENTENCES, then-sentences-gt-MAX_SENTENCES-via-else-sentences-gt-MAX_SENTENCES+then-not-few_atomics, then-sentences-gt-MAX_SENTENCES-via-else-sentences-gt-MAX_SENTENCES+else-not-few_atomics+then-len-gt-MAX_ROLES}
 
 pub returns-in_err-roles-clause-fault : goal.returns-in_err-roles-clause-fault
 returns-in_err-roles-clause-fault c = let p = err_from_is_err_and c.from_residual.result c.from_residual.ensures.1 in rw (p.1, p.2) (c.in_err-roles.ensures.fault c.args.sentences)
@@ -15,8 +15,8 @@ returns-then-sentences-gt-MAX_SENTENCES-clause-fault c =
       record { some' = c.in_ok-roles.ensures.some; differ = c.in_ok-roles.ensures.differ },
       elim c.then-sentences-gt-MAX_SENTENCES.branch [
         | then-sentences-gt-MAX_SENTENCES-via-then-sentences-gt-MAX_SENTENCES w ↦ too-many-sentences c.args.sentences d w.if-sentences-gt-MAX_SENTENCES.true
-        | then-sentences-gt-MAX_SENTENCES-via-else-sentences-gt-MAX_SENTENCES+then-atomic_sentences-gt-MAX_ATOMIC_SENTENCES w ↦ too-many-atomics c.args.sentences c.in_ok-atomic_sentences.atomic_sentences d c.in_ok-atomic_sentences.ensures w.if-atomic_sentences-gt-MAX_ATOMIC_SENTENCES.true
-        | then-sentences-gt-MAX_SENTENCES-via-else-sentences-gt-MAX_SENTENCES+else-atomic_sentences-gt-MAX_ATOMIC_SENTENCES+then-len-gt-MAX_ROLES w ↦
+        | then-sentences-gt-MAX_SENTENCES-via-else-sentences-gt-MAX_SENTENCES+then-not-few_atomics w ↦ too-many-atomics c.args.sentences d (sym c.in_ok-few_atomics.ensures ∙ w.if-not-few_atomics.true)
+        | then-sentences-gt-MAX_SENTENCES-via-else-sentences-gt-MAX_SENTENCES+else-not-few_atomics+then-len-gt-MAX_ROLES w ↦
             let size : w.len.result ≡ length (role_names d) = w.len.ensures.len ∙ ap length c.in_ok-roles.ensures.names in
             too-many-roles c.args.sentences w.len.result d size w.if-len-gt-MAX_ROLES.true
       ],
@@ -32,4 +32,4 @@ pub returns-clause-small : goal.returns-clause-small
 returns-clause-small c =
     let d = rules_of c.args.rules.now in
     let size : c.len.result ≡ length (role_names d) = c.len.ensures.len ∙ ap length c.in_ok-roles.ensures.names in
-    few-so-far c.args.sentences c.in_ok-atomic_sentences.atomic_sentences c.len.result d (omega (arith, c.if-sentences-gt-MAX_SENTENCES.false)) c.in_ok-atomic_sentences.ensures (omega (arith, c.if-atomic_sentences-gt-MAX_ATOMIC_SENTENCES.false)) size (omega (arith, c.if-len-gt-MAX_ROLES.false))
+    few-so-far c.args.sentences c.len.result d (omega (arith, c.if-sentences-gt-MAX_SENTENCES.false)) (sym c.in_ok-few_atomics.ensures ∙ c.if-not-few_atomics.false) size (omega (arith, c.if-len-gt-MAX_ROLES.false))
