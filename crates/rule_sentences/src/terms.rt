@@ -41,12 +41,12 @@ fn have_variable(members: &Vec<Expr>) -> bool
     false
 }
 
+/// Whether the byte may stand in an atom and is no capital. Its ranges cost less than a test for each byte that may not.
 #[tactic(auto, using(std::proofs::lemmas::Bool::Decides::nat_tests))]
 fn is_small_atom_byte(byte: u8) -> bool
     ensures { result ≡ is_atom_byte byte && (lower byte == byte) }
 {
-    let is_atom_byte = byte.is_ascii_graphic() && byte != b'(' && byte != b')' && byte != b';';
-    is_atom_byte && !byte.is_ascii_uppercase()
+    matches!(byte, b'['..=b'~' | b'*'..=b':' | b'<'..=b'@' | b'!'..=b'\'')
 }
 
 fn are_small_atom_bytes(bytes: &[u8]) -> bool
