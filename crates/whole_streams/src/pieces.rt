@@ -1,4 +1,5 @@
 //! Text that is formatted to a stream.
+ghost use Rattle.std.specs.Io.KnownBytes.{Appends};
 
 use std::fmt;
 use std::io::Write;
@@ -11,6 +12,8 @@ pub struct Pieces<'a, E> {
 }
 
 impl<E: Write> fmt::Write for Pieces<'_, E> {
+    ghost write_str_gives = { λ old text new. Appends (E.contents old.stream.now) (E.contents new.stream.now) text };
+
     fn write_str(&mut self, text: &str) -> fmt::Result {
         let mut rest = text.as_bytes();
         while !rest.is_empty() {
