@@ -1,8 +1,24 @@
 -- The waiting matches of a season, and the players of the running ones.
-use Rattle.std.specs.Prelude.{◌≡◌, ◌≤◌, ◌<◌, ◌+◌, ◌-◌, ◌^◌, ◌==◌, ℕ, Bool, true, false, List, Some, All, count_by, get_or, insert, length, nat_lt, remove, replicate, slice_get, take}
-use Rattle.std.specs.List.{list_all, position_or_len}
+use Rattle.std.specs.Prelude.{◌≡◌, ◌≤◌, ◌<◌, ◌+◌, ◌-◌, ◌^◌, ◌==◌, ◌∷◌, ◌++◌, ◌⊎◌, ℕ, Bool, true, false, List, [], Some, All, Contains, count_by, get_or, insert, length, nat_lt, remove, replicate, slice_get, take}
+use Rattle.std.specs.Borrow.{Bor}
+use Rattle.std.specs.List.{list_all, list_any, position_or_len}
+use Rattle.match_plans.specs.declared.addresses.PlayerAddress.{PlayerAddress}
 use Rattle.match_season.specs.declared.lineup.Fixture.{Fixture}
 use Rattle.match_season.specs.declared.lineup.Lineup.{Lineup}
+
+-- The number is listed: it was there already, or it comes last.
+abbrev pub ListsOnce : List ℕ → List ℕ → ℕ → Type 0
+ListsOnce old new number =
+    ((list_any (λ it. it == number) old ≡ true) × (new ≡ old)) ⊎ ((list_any (λ it. it == number) old ≡ false) × (new ≡ old ++ number ∷ []))
+
+-- The player's address is listed, by its host and its port, and the number of its place there is among these numbers.
+pub record IsNumbered (addresses : List (Bor (List ℕ) × ℕ)) (numbers : List ℕ) (player : PlayerAddress) : Type 0 where
+  pub number : ℕ
+  pub address : Bor (List ℕ) × ℕ
+  pub listed : slice_get addresses number ≡ Some address
+  pub host : address.0.now ≡ player.host.now
+  pub port : address.1 ≡ player.port
+  pub among : Contains numbers number
 
 -- Each of these players sits in fewer running matches than it may. A player's number is its index in the list of their counts.
 abbrev pub are_free : List ℕ → ℕ → List ℕ → Bool

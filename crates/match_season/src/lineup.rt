@@ -1,9 +1,8 @@
 //! The waiting matches of a season, and in how many running matches each player sits.
-ghost use Rattle.std.specs.Prelude.{◌≡◌, ◌≤◌, ◌<◌, ◌+◌, ◌-◌, ◌^◌, ◌==◌, ◌↔◌, ◌++◌, ◌∷◌, ◌⊎◌, ℕ, [], false, true, All, IfNone, IfOk, IfSome, IsTrue, OnErr, OnOk, Some, get_or, length, min, slice_get, slice_set, take};
-ghost use Rattle.std.specs.List.{list_any};
+ghost use Rattle.std.specs.Prelude.{◌≡◌, ◌≤◌, ◌<◌, ◌+◌, ◌-◌, ◌^◌, ◌↔◌, ℕ, [], true, All, IfNone, IfOk, IfSome, IsTrue, OnErr, OnOk, Some, get_or, length, min, slice_get, slice_set, take};
 ghost use Rattle.std.specs.VecDeque.{deque_capacity, deque_len};
 ghost use Rattle.indexmap.specs.IndexSet.{index_set_len};
-ghost use Rattle.match_season.specs.Lineups.{AllWait, Begins, IsBusy, SitDown, StandUp, are_free, times, turn_of, with_match};
+ghost use Rattle.match_season.specs.Lineups.{AllWait, Begins, IsBusy, IsNumbered, ListsOnce, SitDown, StandUp, are_free, times, turn_of, with_match};
 
 use indexmap::IndexSet;
 use match_plans::{MatchPlan, PlayerAddress, SeasonForm};
@@ -29,7 +28,7 @@ pub struct Lineup {
 
 /// Lists the number, unless it is listed.
 fn list_once(numbers: &mut Vec<usize>, number: usize) -> Result<(), AllocError>
-    ensures { OnOk result ((numbers.new.items ≡ numbers.old.items) ⊎ ((list_any (λ it. it == number) numbers.old.items ≡ false) × (numbers.new.items ≡ numbers.old.items ++ number ∷ []))) }
+    ensures { OnOk result (ListsOnce numbers.old.items numbers.new.items number) }
 {
     if numbers.contains(&number) {
         return Ok(());
@@ -44,6 +43,7 @@ fn numbers<'a>(
     addresses: &mut IndexSet<(&'a str, u16)>,
     players: &[PlayerAddress<'a>],
 ) -> Result<Vec<usize>, AllocError>
+    ensures all { IfOk result (λ numbers. All (IsNumbered addresses.new.keys numbers.items) players.now) }
     ensures once { IfOk result (λ numbers. (player : ℕ) → times numbers.items player ≤ 1) }
     ensures counted { IfOk result (λ numbers. All (λ player. player < index_set_len addresses.new) numbers.items) }
     ensures kept { index_set_len addresses.old ≤ index_set_len addresses.new }

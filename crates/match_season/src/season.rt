@@ -1,5 +1,5 @@
 //! Plays a season: the matches of a schedule, several at once, each on a desk of its own.
-ghost use Rattle.std.specs.Prelude.{◌≡◌, ◌↔◌, Err, IfOk, IsTrue, Some, length, min, slice_get};
+ghost use Rattle.std.specs.Prelude.{◌≡◌, ◌↔◌, true, Err, IfOk, IsTrue, OnOk, Some, length, min, slice_get};
 ghost use denote.Param.Send.{IsSend, IsSync};
 ghost use Rattle.match_messages.specs.contracts.start_rules.PrintedRules.{the_row as rules_row};
 ghost use Rattle.packed_rules.specs.contracts.packed_game.PackedGame.{the_row as game_row};
@@ -115,6 +115,7 @@ fn write_played<R: Wait, P, S, W: Write, E: Write>(
     errors: &Mutex<E>,
 ) -> Result<u64, SeasonFault>
     ensures written { IfOk result (λ missing. WritesAllBut missing (length season.now.plans.now) (W.contents writer.old.stream) (W.contents writer.new.stream)) }
+    ensures thread { OnOk result (has_thread ≡ true) }
     ensures faults { writer.new.faults ≡ faults_after result writer.old.faults }
 {
     if !has_thread {

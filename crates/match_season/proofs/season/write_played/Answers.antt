@@ -3,11 +3,8 @@ use Rattle.std.proofs.lemmas.List.{length-replicate}
 use Rattle.match_season.proofs.WrittenLines.{all-but}
 use Rattle.match_season.proofs.season.write_played.Goals as goal
 
-pub returns-in-Ok : goal.returns-in-Ok
-returns-in-Ok g c =
+pub returns-in-Ok-clause-written : goal.returns-in-Ok-clause-written
+returns-in-Ok-clause-written g c =
     let before = c.in_ok-written.written in
     let after = c.write_season.new.written in
-    record {
-      written = all-but (length c.args.season.now.plans.now) c.missing.result before after _ _ c.in_ok-written.ensures.0 (ap length c.in_ok-written.ensures.1 ∙ length-replicate _ _) (omega arith) (omega (arith, c.missing.ensures, after.is_settled.ok.0)) c.in-Ok.ensures.written;
-      faults = c.in-Ok.ensures.faults;
-    }
+    all-but (length c.args.season.now.plans.now) c.missing.result before after _ _ c.in_ok-written.ensures.0 (ap length c.in_ok-written.ensures.1 ∙ length-replicate _ _) (omega arith) (omega (arith, c.missing.ensures, after.is_settled.ok.0)) c.in-Ok.ensures.written
