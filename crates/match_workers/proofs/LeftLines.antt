@@ -8,7 +8,6 @@ use Rattle.call_history.specs.declared.object.Object.{Ghosts}
 use Rattle.call_history.specs.declared.port.Port.{Port}
 use Rattle.call_history.specs.declared.ring_line.RingLine.{RingLine}
 use Rattle.call_history.specs.declared.ring_line.LineEnd.{LineEnd}
-use Rattle.call_history.specs.declared.ring_wire.RingWire.{RingWire}
 use Rattle.call_history.specs.declared.wire.Wire as Wire
 use Rattle.call_history.specs.RingLines.{posted_calls, taken_replies, SameLine, SamePorts, IsLineOf, AreEndsOf, IsNewLine}
 use Rattle.call_history.specs.RingLaws.{LinesStay, NewLinesAreLines, NewLinesStay}
@@ -37,47 +36,47 @@ same_at xs k x y one other = sym (get_or_from_slice_get xs k x x one) ∙ get_or
 pub contains_at : {X : Type 0} (xs : List X) (k : ℕ) (x : X) → slice_get xs k ≡ Some x → Contains xs x
 contains_at xs k x is = (k, slice_get_within xs k x is, get_or_from_slice_get xs k x x is)
 
-module _ {O : Type 0} {G : Ghosts O Call Reply} {P : Type 0} (w : Wire.Ghosts (RingWire O Call Reply G) Call Reply) (p : Player.Ghosts P)
-    (calls : (x : RingWire O Call Reply G) → w.calls x ≡ Some (posted_calls x.line))
-    (replies : (x : RingWire O Call Reply G) → w.replies x ≡ Some (taken_replies x.line))
-    (on_line : (x y : RingWire O Call Reply G) → w.same_line x y → SameLine x.line y.line)
+module _ {O : Type 0} {G : Ghosts O Call Reply} {P W : Type 0} (w : Wire.Ghosts W Call Reply) (p : Player.Ghosts P) (wires : List W) (line_in : W → RingLine O Call Reply G)
+    (calls : (x : W) → w.calls x ≡ Some (posted_calls (line_in x)))
+    (replies : (x : W) → w.replies x ≡ Some (taken_replies (line_in x)))
+    (on_line : (x y : W) → w.same_line x y → SameLine (line_in x) (line_in y))
     (brief : Brief) (tries : ℕ) (players : List P)
-    (wires : List (RingWire O Call Reply G)) (seats : List (Seat P (RingWire O Call Reply G))) (attended : List (Attended P (RingWire O Call Reply G)))
+    (seats : List (Seat P W)) (attended : List (Attended P W))
     (others : List (RingLine O Call Reply G)) (lines : List (LineEnd O Call Reply G))
     (seated : AreSeatsOf brief players wires seats) (left : AreLeftBy w p tries seats attended)
-    (on : map (λ (x : RingWire O Call Reply G). x.line) wires ≡ others)
-    (finished : AreFinishedOf (map (λ (a : Attended P (RingWire O Call Reply G)). a.wire.line) attended) lines)
+    (on : map line_in wires ≡ others)
+    (finished : AreFinishedOf (map (λ (a : Attended P W). line_in a.wire) attended) lines)
     (ports : List (Port Call Reply)) (new : AreSeatLines ports others) where
   -- a worker's wire, and the end of its line
-  record IsKept (k : ℕ) (end : LineEnd O Call Reply G) (a : Attended P (RingWire O Call Reply G)) : Type 0 where
-    pub wire : RingWire O Call Reply G
+  record IsKept (k : ℕ) (end : LineEnd O Call Reply G) (a : Attended P W) : Type 0 where
+    pub wire : W
     pub is_wire : slice_get wires k ≡ Some wire
-    pub is_new : IsNewLine ports (line_of k) wire.line
-    pub line : SameLine wire.line a.wire.line
-    pub of_line : IsFinishedOf a.wire.line end
+    pub is_new : IsNewLine ports (line_of k) (line_in wire)
+    pub line : SameLine (line_in wire) (line_in a.wire)
+    pub of_line : IsFinishedOf (line_in a.wire) end
 
-  kept_at : (k : ℕ) (end : LineEnd O Call Reply G) (a : Attended P (RingWire O Call Reply G)) → slice_get lines k ≡ Some end → slice_get attended k ≡ Some a → IsKept k end a
+  kept_at : (k : ℕ) (end : LineEnd O Call Reply G) (a : Attended P W) → slice_get lines k ≡ Some end → slice_get attended k ≡ Some a → IsKept k end a
   kept_at k end a at is =
       let here = left k a is in
       let sits = seated k here.seat here.is_seat in
       let wire = here.seat.wire in
       let found = finished.each k end at in
-      let whose = map_at (λ (x : Attended P (RingWire O Call Reply G)). x.wire.line) attended k found.0 found.1 in
+      let whose = map_at (λ (x : Attended P W). line_in x.wire) attended k found.0 found.1 in
       let same : a ≡ whose.0 = same_at attended k a whose.0 is whose.1 in
-      let line : found.0 ≡ a.wire.line = sym whose.2 ∙ sym (ap (λ (x : Attended P (RingWire O Call Reply G)). x.wire.line) same) in
+      let line : found.0 ≡ line_in a.wire = sym whose.2 ∙ sym (ap (λ (x : Attended P W). line_in x.wire) same) in
       record {
         wire = wire;
         is_wire = sits.wire_is;
-        is_new = new k wire.line (subst (λ ls. slice_get ls k ≡ Some wire.line) on (slice_get-map (λ (x : RingWire O Call Reply G). x.line) wires k ∙ ap (λ o. option_map (λ (x : RingWire O Call Reply G). x.line) o) sits.wire_is));
+        is_new = new k (line_in wire) (subst (λ ls. slice_get ls k ≡ Some (line_in wire)) on (slice_get-map line_in wires k ∙ ap (λ o. option_map line_in o) sits.wire_is));
         line = on_line wire a.wire here.left_by.line;
         of_line = subst (λ l. IsFinishedOf l end) line found.2;
       }
 
   -- as many lines as workers
   line_count : length lines ≡ length attended
-  line_count = finished.one_each ∙ length-map attended (λ (a : Attended P (RingWire O Call Reply G)). a.wire.line)
+  line_count = finished.one_each ∙ length-map attended (λ (a : Attended P W). line_in a.wire)
 
-  worker_at : (k : ℕ) (end : LineEnd O Call Reply G) → slice_get lines k ≡ Some end → (a : Attended P (RingWire O Call Reply G)) × (slice_get attended k ≡ Some a)
+  worker_at : (k : ℕ) (end : LineEnd O Call Reply G) → slice_get lines k ≡ Some end → (a : Attended P W) × (slice_get attended k ≡ Some a)
   worker_at k end at = place_of attended k (omega (arith, slice_get_within lines k end at, line_count))
 
   same_line_trans : (a b c : RingLine O Call Reply G) → SameLine a b → SameLine b c → SameLine a c
@@ -89,19 +88,19 @@ module _ {O : Type 0} {G : Ghosts O Call Reply} {P : Type 0} (w : Wire.Ghosts (R
       let worker = worker_at k end at in
       let kept = kept_at k end worker.0 at worker.1 in
       let within = slice_get_within wires k kept.wire kept.is_wire in
-      let below : line_of k < length ports = omega (arith, within, count, ap length on, length-map wires (λ (x : RingWire O Call Reply G). x.line)) in
-      stay ports ports' kept.wire.line end.line same (same_line_trans kept.wire.line worker.0.wire.line end.line kept.line kept.of_line.same)
-      (are_lines ports (line_of k) kept.wire.line below kept.is_new)
+      let below : line_of k < length ports = omega (arith, within, count, ap length on, length-map wires line_in) in
+      stay ports ports' (line_in kept.wire) end.line same (same_line_trans (line_in kept.wire) (line_in worker.0.wire) end.line kept.line kept.of_line.same)
+      (are_lines ports (line_of k) (line_in kept.wire) below kept.is_new)
 
   pub desk_ends : LinesStay G → NewLinesAreLines G → (ports' : List (Port Call Reply)) → SamePorts ports ports' → length ports ≡ length others + 1 → AreEndsOf ports' lines
   desk_ends stay are_lines ports' same count k end within = desk_line stay are_lines ports' same count k (get_or lines k end) (slice_get-get_or lines k end within)
 
   -- each end of a worker is shown with its line
-  left_line : (players_left : List P) → players_left ≡ map (λ (a : Attended P (RingWire O Call Reply G)). a.player) attended → (all : List (LineEnd O Call Reply G)) → ((end : LineEnd O Call Reply G) → Contains lines end → Contains all end) → (role : ℕ) (end : Result ℕ AttendFault)
-      → slice_get (map (λ (a : Attended P (RingWire O Call Reply G)). a.end) attended) role ≡ Some end
+  left_line : (players_left : List P) → players_left ≡ map (λ (a : Attended P W). a.player) attended → (all : List (LineEnd O Call Reply G)) → ((end : LineEnd O Call Reply G) → Contains lines end → Contains all end) → (role : ℕ) (end : Result ℕ AttendFault)
+      → slice_get (map (λ (a : Attended P W). a.end) attended) role ≡ Some end
       → (line : LineEnd O Call Reply G) × Contains all line × IsLeftLine p.handed brief tries players players_left role line end
   left_line players_left come all among role end is =
-      let found = map_at (λ (a : Attended P (RingWire O Call Reply G)). a.end) attended role end is in
+      let found = map_at (λ (a : Attended P W). a.end) attended role end is in
       let a = found.0 in
       let at = place_of lines role (omega (arith, slice_get_within attended role a found.1, line_count)) in
       let kept = kept_at role at.0 a at.1 found.1 in
@@ -120,8 +119,8 @@ module _ {O : Type 0} {G : Ghosts O Call Reply} {P : Type 0} (w : Wire.Ghosts (R
           is_player = sits.player_is;
           player_left = a.player;
           is_left = subst (λ ps. slice_get ps role ≡ Some a.player) (sym come)
-              (slice_get-map (λ (x : Attended P (RingWire O Call Reply G)). x.player) attended role ∙ ap (λ o. option_map (λ (x : Attended P (RingWire O Call Reply G)). x.player) o) found.1);
-          replies = taken_replies a.wire.line;
+              (slice_get-map (λ (x : Attended P W). x.player) attended role ∙ ap (λ o. option_map (λ (x : Attended P W). x.player) o) found.1);
+          replies = taken_replies (line_in a.wire);
           are_first = kept.of_line.taken;
           ended = same_ended _ _ _ _ _ _ _ _ _ _ _ sits.brief_is sits.role_is (same_telling _ _ _ _ _ _ before untaken refl) (same_telling _ _ _ _ _ _ after (replies a.wire) refl) found.2 here.left_by.ended;
         },
@@ -135,13 +134,13 @@ module _ {O : Type 0} {G : Ghosts O Call Reply} {P : Type 0} (w : Wire.Ghosts (R
       let number : end.line.number ≡ line_of k = kept.of_line.same.0 ∙ kept.line.0 ∙ kept.is_new.number_is in
       omega (arith, number, slice_get_within lines k end at, line_count)
 
-  pub left_lines : (players_left : List P) → players_left ≡ map (λ (a : Attended P (RingWire O Call Reply G)). a.player) attended → (all : List (LineEnd O Call Reply G)) (last : LineEnd O Call Reply G) → all ≡ lines ++ last ∷ [] → last.line.number ≡ 0 → (ends : List (Result ℕ AttendFault))
-      → ends ≡ map (λ (a : Attended P (RingWire O Call Reply G)). a.end) attended → AreLeftLines p.handed brief tries players players_left all ends
+  pub left_lines : (players_left : List P) → players_left ≡ map (λ (a : Attended P W). a.player) attended → (all : List (LineEnd O Call Reply G)) (last : LineEnd O Call Reply G) → all ≡ lines ++ last ∷ [] → last.line.number ≡ 0 → (ends : List (Result ℕ AttendFault))
+      → ends ≡ map (λ (a : Attended P W). a.end) attended → AreLeftLines p.handed brief tries players players_left all ends
   left_lines players_left come all last more zeroth ends is =
-      let as_many : length ends ≡ length attended = ap length is ∙ length-map attended (λ (a : Attended P (RingWire O Call Reply G)). a.end) in
+      let as_many : length ends ≡ length attended = ap length is ∙ length-map attended (λ (a : Attended P W). a.end) in
       let Within : LineEnd O Call Reply G → Type 0 = λ e. e.line.number ≤ length ends in
       record {
-        one_each = ap length come ∙ length-map attended (λ (a : Attended P (RingWire O Call Reply G)). a.player) ∙ sym as_many;
+        one_each = ap length come ∙ length-map attended (λ (a : Attended P W). a.player) ∙ sym as_many;
         each = λ role end at. left_line players_left come all (λ e among. subst (λ es. Contains es e) (sym more) (Contains-append_left lines (last ∷ []) e among)) role end (subst (λ es. slice_get es role ≡ Some end) is at);
         within = subst (All Within) (sym more) (All-push Within lines last
             (λ k e below. omega (arith, line_within k (get_or lines k e) (slice_get-get_or lines k e below), as_many)) (omega (arith, zeroth)));

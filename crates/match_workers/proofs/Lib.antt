@@ -7,3 +7,4 @@ pub mod SeatEnds
 pub mod RoleCalls
 pub mod LeftLines
 pub mod LineParts
+pub mod Sent

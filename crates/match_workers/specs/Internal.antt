@@ -3,3 +3,4 @@ pub mod LeftLines
 pub mod Seats
 pub mod Promises
 pub mod Closings
+pub mod SharedDesks

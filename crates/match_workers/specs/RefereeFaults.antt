@@ -4,7 +4,7 @@ use Rattle.call_history.specs.declared.wire.AskFault.TheVariants.{Full, Memory, 
 use Rattle.match_workers.specs.declared.refereeing.RefereeFault.{RefereeFault}
 use Rattle.match_workers.specs.declared.refereeing.RefereeFault.TheVariants.{Full as IsFull, Memory as IsMemory, Unclosed as IsUnclosed}
 
--- the fault of a match whose desk's own thread got no reply, for this reason
+-- the fault of a match for whose opening no reply came, for this reason
 abbrev pub referee_fault : AskFault → RefereeFault
 referee_fault Full = IsFull
 referee_fault Memory = IsMemory

@@ -12,10 +12,12 @@ ghost use Rattle.match_workers.specs.LineParts.{AreCounts};
 use crate::attend_fault::AttendFault;
 use crate::refereeing::RefereeFault;
 use crate::seat::Attended;
+use crate::served_wire::ServedWire;
+use crate::shared_desk::Naming;
 use call_history::laws::lines_stay;
-use call_history::{Closed, LineEnd, Object, RingDesk, RingLine, RingWire};
+use call_history::{Closed, LineEnd, Object, RingDesk, RingLine};
 use game_core::Game;
-use match_desk::{Manager, close_rings};
+use match_desk::{Call, Manager, Reply, close_rings};
 use std::alloc::AllocError;
 
 /// The limit of calls, and of replies, that wait on a line.
@@ -42,16 +44,20 @@ pub fn finish_line<O: Object>(line: RingLine<O>) -> LineEnd<O>
 
 /// Finishes the lines of the attended roles. The lines, the ends and the players go into lists that are empty and have room for
 /// them.
-pub fn finish_all<O: Object + Drop, P: Drop>(
-    attended: Vec<Attended<P, RingWire<O>>>,
+pub fn finish_all<O, N, P>(
+    attended: Vec<Attended<P, ServedWire<'_, O, N>>>,
     room: Finished<O, P>,
 ) -> Result<Finished<O, P>, AllocError>
+where
+    O: Object<Call = Call, Reply = Reply> + Drop,
+    N: Naming<O>,
+    P: Drop,
     requires no_lines { room.lines.items ≡ [] }
     requires no_ends { room.ends.items ≡ [] }
     requires no_players { room.players.items ≡ [] }
-    ensures lines { IfOk result (λ finished. AreFinishedOf (map (λ a. a.wire.line) attended.items) finished.lines.items) }
-    ensures ends { IfOk result (λ finished. finished.ends.items ≡ map (λ a. a.end) attended.items) }
-    ensures players { IfOk result (λ finished. finished.players.items ≡ map (λ a. a.player) attended.items) }
+    ensures lines { IfOk result (λ finished. AreFinishedOf (map (λ a. a.wire.line) attended.entry.items) finished.lines.items) }
+    ensures ends { IfOk result (λ finished. finished.ends.items ≡ map (λ a. a.end) attended.entry.items) }
+    ensures players { IfOk result (λ finished. finished.players.items ≡ map (λ a. a.player) attended.entry.items) }
 {
     let Finished {
         mut lines,

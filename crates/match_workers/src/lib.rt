@@ -13,6 +13,8 @@ mod player;
 mod refereeing;
 mod seat;
 mod seats;
+mod served_wire;
+mod shared_desk;
 
 pub use attend_fault::AttendFault;
 pub use attending::{attend, attend_shared};

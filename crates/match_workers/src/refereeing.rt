@@ -1,5 +1,5 @@
 //! A whole match between players.
-ghost use Rattle.std.specs.Prelude.{◌≡◌, ◌∷◌, ◌++◌, [], ◌+◌, ◌<◌, List, map, IfOk, OnOk, length, vec_len};
+ghost use Rattle.std.specs.Prelude.{◌≡◌, ◌∷◌, ◌++◌, [], ◌+◌, ◌<◌, List, Some, map, IfOk, OnOk, length, vec_len};
 ghost use Rattle.call_history.specs.Faults.{ask_fault};
 ghost use Rattle.call_history.specs.Limits.{max_entries};
 ghost use Rattle.call_history.specs.RingLines.{posted_calls, taken_replies, SameLine, SamePorts, AreEndsOf, IsLineOf, IsNewLine};
@@ -17,23 +17,23 @@ use crate::finishing::{Finished, ROOM, close_match, finish_all, finish_line};
 use crate::holder::{DeskHolder, ask_own};
 use crate::player::Player;
 use crate::seats::{Attendance, attend_all, seat_players};
+use crate::served_wire::ServedWire;
+use crate::shared_desk::{Naming, SharedDesk};
 use call_history::laws::{lines_stay, new_lines_are_lines, numbers_are_of_ends};
 use call_history::{
-    AskFault, Bell, CallFault, Closed, DeskFault, LineEnd, MAX_ENTRIES, Object, RingDesk, RingLine,
-    RingWire, open_rings,
+    AskFault, CallFault, Closed, DeskFault, LineEnd, MAX_ENTRIES, Object, RingDesk, RingLine,
+    open_rings,
 };
 use game_core::{Game, Text, Texts};
 use kif_text::Expr;
 use match_book::Setup;
-use match_desk::{Call, Manager, Refusal, Reply};
+use match_desk::{Call, Manager, Refusal, Reply, open_call};
 use match_messages::{SharedBrief, StartRules};
 use std::alloc::{AllocError, AllocFailed, Global};
-use std::sync::{Arc, Wait};
+use std::marker::Brand;
+use std::sync::Wait;
 use std::thread::Threads;
 use thiserror::Error;
-
-/// A worker's wire gives up after this many tries to post a call and take its reply.
-const TURNS: u64 = 1_000_000_000;
 
 /// Why a match was not refereed to a closed desk.
 #[derive(Clone, Copy, Debug, PartialEq, Eq, Error)]
@@ -180,70 +180,57 @@ fn open_match<G: Game + Drop>(
     ensures call { OnOk result (posted_calls holder.new.line ≡ posted_calls holder.old.line ++ open_call setup ∷ []) }
     ensures reply { OnOk result (taken_replies holder.new.line ≡ taken_replies holder.old.line ++ IsOpened ∷ []) }
 {
-    let Setup {
-        id,
-        start,
-        play,
-        strikes,
-        players,
-    } = setup;
-    let call = Call::Open {
-        id,
-        game: 0,
-        start,
-        play,
-        strikes: u32::from(strikes),
-        players,
-    };
-    match ask_own(holder, call)? {
+    match ask_own(holder, open_call(0, setup))? {
         Reply::Opened => Ok(()),
         Reply::Refused(refusal) => Err(RefereeFault::Refused(refusal)),
         _ => Err(RefereeFault::Unclosed),
     }
 }
 
-/// A wire over each line of a desk. The wires ring this bell.
-fn wires_over<O: Object + Drop>(
+/// A wire over each line of a desk.
+fn wires_over<'a, O, N>(
     alloc: Global,
     lines: Vec<RingLine<O>>,
-    bell: &Arc<Bell>,
-) -> Result<Vec<RingWire<O>>, AllocError>
+    desk: &'a SharedDesk<O, N>,
+) -> Result<Vec<ServedWire<'a, O, N>>, AllocError>
+where
+    O: Object<Call = Call, Reply = Reply> + Drop,
+    N: Naming<O>,
     ensures { IfOk result (λ wires. map (λ w. w.line) wires.items ≡ lines.items) }
 {
     let mut wires = Vec::with_capacity(alloc, lines.len())?;
     for line in lines {
-        wires.push(RingWire::with_bell(line, TURNS, Arc::try_clone(bell)?))?;
+        wires.push(ServedWire::new(line, desk))?;
     }
     Ok(wires)
 }
 
-/// Attends each role of a match over its line of the desk, while the calling thread serves the desk. After that, no line posts any
-/// more.
-fn attend_match<G, P, R>(
+/// Attends each role of a match over its line of the desk, which lies under a lock meanwhile. After that, no line posts any more.
+fn attend_match<N, O, P, R>(
     rt: &R,
     alloc: Global,
-    holder: DeskHolder<Manager<G>>,
-    others: Vec<RingLine<Manager<G>>>,
+    holder: DeskHolder<O>,
+    others: Vec<RingLine<O>>,
     plan: Plan<'_, P>,
-) -> Result<Played<Manager<G>, P>, AllocError>
+) -> Result<Played<O, P>, AllocError>
 where
-    G: Game + Drop + Send,
-    G::State: Send,
-    G::Move: Send,
+    N: Naming<O> + Send + Sync,
+    O: Object<Call = Call, Reply = Reply> + Drop + Send,
     P: Player + Drop + Send,
     R: Threads + Wait + Sync,
+    requires named { N.desk ≡ Some holder.desk }
     requires zeroth { holder.line.number ≡ 0 }
     requires first { IsLineOf holder.desk.ports holder.line }
     requires seats { AreSeatLines holder.desk.ports others.items }
     requires ports { length holder.desk.ports ≡ length others.items + 1 }
     ensures ports { IfOk result (λ played. SamePorts holder.desk.ports played.desk.ports) }
-    ensures games { IfOk result (λ played. played.desk.journal.object.games ≡ holder.desk.journal.object.games) }
+    ensures opening { IfOk result (λ played. O.opening played.desk.journal.object ≡ O.opening holder.desk.journal.object) }
     ensures lines { IfOk result (λ played. AreEndsOf played.desk.ports played.lines.items) }
     ensures first { IfOk result (λ played. HasFinished holder.line played.lines.items) }
     ensures ends { IfOk result (λ played. AreLeftLines P.handed plan.entry.brief plan.entry.tries plan.entry.players.items played.players.items played.lines.items played.ends.items) }
 {
-    lines_stay::<Manager<G>>();
-    new_lines_are_lines::<Manager<G>>();
+    lines_stay::<O>();
+    new_lines_are_lines::<O>();
     let Plan {
         brief,
         players,
@@ -256,19 +243,20 @@ where
         ends: Vec::with_capacity(alloc, count)?,
         players: Vec::with_capacity(alloc, count)?,
     };
-    let bell = Arc::new(alloc, Bell::new())?;
-    let wires = wires_over(alloc, others, &bell)?;
-    let seats = seat_players(alloc, &brief, wires, players)?;
-    let Attendance { holder, attended } = attend_all(rt, alloc, &bell, holder, seats, tries)?;
     let DeskHolder { desk, line } = holder;
+    let shared: SharedDesk<O, N> = SharedDesk::new(desk);
+    let wires = wires_over(alloc, others, &shared)?;
+    let seats = seat_players(alloc, &brief, wires, players)?;
+    let own = ServedWire::new(line, &shared);
+    let Attendance { own, attended } = attend_all(rt, alloc, own, seats, tries)?;
     let Finished {
         mut lines,
         ends,
         players,
     } = finish_all(attended, room)?;
-    lines.push(finish_line(line))?;
+    lines.push(finish_line(own.end()))?;
     Ok(Played {
-        desk,
+        desk: shared.into_desk(),
         lines,
         ends,
         players,
@@ -315,16 +303,16 @@ where
         lines,
         ends,
         players,
-    } = attend_match(rt, alloc, holder, others, plan)?;
+    } = attend_match::<Brand, Manager<G>, P, R>(rt, alloc, holder, others, plan)?;
     let closed = close_match(desk, lines)?;
     Ok((Refereed { closed, ends }, players))
 }
 
 /// Referees a match of the game between these players to its end. There is one player for each name in the setup.
 ///
-/// A desk of this one game is opened, with a line for the calling thread and one for each role. The calling thread opens the match
-/// and serves the desk, while each role is attended in a thread of its own, in at most `tries` tries. START carries these rules.
-/// Then the desk is closed.
+/// A desk of this one game is opened, with a line for the calling thread and one for each role. The calling thread opens the match.
+/// Then each role is attended in a thread of its own, in at most `tries` tries, and these threads serve the desk. START carries these
+/// rules. Then the desk is closed.
 ///
 /// The result is that of any closed desk of matches. Its history replays: made again call by call on one thread, by a manager of
 /// the same game without a match, it gives every kept reply and the manager as it stands. It holds as many calls as the lines

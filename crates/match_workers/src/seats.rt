@@ -1,16 +1,14 @@
 //! Roles of matches, each attended over a wire of its own in a thread of its own.
 ghost use Rattle.std.specs.Prelude.{◌≡◌, ◌<◌, ℕ, [], Some, length, map, slice_get, IfOk};
-ghost use Rattle.call_history.specs.RingLines.{SamePorts};
 ghost use Rattle.match_workers.specs.Internal.Seats.{AreSeatsOf, IsLeftBy, AreLeftBy};
 ghost use Rattle.match_workers.specs.Internal.Promises.{IsKept};
 ghost use denote.Param.Send.{IsSend, IsSync};
 
 use crate::attend_fault::AttendFault;
 use crate::attending::attend_shared;
-use crate::holder::{DeskHolder, ask_own, serve_until};
 use crate::player::Player;
 use crate::seat::{Attended, Seat};
-use call_history::{Bell, Object, Wire};
+use call_history::Wire;
 use match_book::Due;
 use match_desk::{Call, Reply};
 use match_messages::SharedBrief;
@@ -20,10 +18,10 @@ use std::sync::Wait;
 use std::thread;
 use std::thread::{Promise, PromisedHandle, Threads};
 
-/// The result of `attend_all`: the desk, and one result for each seat in order.
+/// The result of `attend_all`: the calling thread's own wire, and one result for each seat in order.
 #[derive(Drop)]
-pub struct Attendance<O: Object, P, W> {
-    pub holder: DeskHolder<O>,
+pub struct Attendance<P, W> {
+    pub own: W,
     pub attended: Vec<Attended<P, W>>,
 }
 
@@ -80,7 +78,7 @@ pub fn seat_players<'a, P: Drop, W: Drop>(
     Ok(seats)
 }
 
-/// Attends a role over its wire, and then signals its end.
+/// Attends a role over its wire.
 fn attend_seat<P: Player + Drop, W: Wire<Call = Call, Reply = Reply>>(
     alloc: Global,
     brief: &SharedBrief<'_>,
@@ -88,7 +86,6 @@ fn attend_seat<P: Player + Drop, W: Wire<Call = Call, Reply = Reply>>(
     player: P,
     wire: W,
     tries: u64,
-    bell: &Bell,
 ) -> Attended<P, W>
     requires { role < length brief.now.roles }
     ensures { IsLeftBy W.Wire P.Player brief.now role tries player wire result }
@@ -97,7 +94,6 @@ fn attend_seat<P: Player + Drop, W: Wire<Call = Call, Reply = Reply>>(
     let mut wire = wire;
     let end = attend_shared(alloc, &mut wire, &mut player, brief, role, tries);
     player.leave();
-    bell.leave();
     Attended { wire, end, player }
 }
 
@@ -121,29 +117,26 @@ fn roles_of<'a, P, W>(
 
 /// Aborts the matches of these roles, and reports that the roles have no answer. So the matches end, and with them the work of the
 /// threads that attend the other roles.
-fn abort_without<O: Object<Call = Call, Reply = Reply>>(
+fn abort_without<W: Wire<Call = Call, Reply = Reply>>(
     alloc: Global,
-    holder: &mut DeskHolder<O>,
+    own: &mut W,
     roles: &[Unattended<'_>],
 ) -> Result<(), AttendFault> {
     for unattended in roles {
         let Unattended { brief, role } = *unattended;
         let id = brief.copy_id(alloc)?;
-        ask_own(holder, Call::Abort { id })?;
+        own.ask(Call::Abort { id })?;
         let id = brief.copy_id(alloc)?;
-        let reply = ask_own(holder, Call::Next { id, role })?;
+        let reply = own.ask(Call::Next { id, role })?;
         if let Reply::Due(Due::Owe { round, .. }) = reply {
             let id = brief.copy_id(alloc)?;
             let broken = true;
-            ask_own(
-                holder,
-                Call::Miss {
-                    id,
-                    role,
-                    round,
-                    broken,
-                },
-            )?;
+            own.ask(Call::Miss {
+                id,
+                role,
+                round,
+                broken,
+            })?;
         }
     }
     Ok(())
@@ -165,40 +158,33 @@ fn join_seats<'a, P: Player + Drop, W: Wire<Call = Call, Reply = Reply> + Drop, 
     Ok(attended)
 }
 
-/// Attends each seat in a thread of its own, in at most `tries` tries, while the calling thread serves the desk. The seats' wires
-/// ring this bell. The results stand in the order of the seats.
+/// Attends each seat in a thread of its own, in at most `tries` tries, and waits until all have ended. The results stand in the order
+/// of the seats.
 ///
 /// If a thread can't be made, no further one starts. A match waits for all its roles, so the matches of the remaining seats are
-/// aborted over the holder's line. Once the running threads have ended, the result is out of memory.
-pub fn attend_all<O, W, P, R>(
+/// aborted over the calling thread's own wire. Once the running threads have ended, the result is out of memory.
+pub fn attend_all<W, P, R>(
     rt: &R,
     alloc: Global,
-    bell: &Bell,
-    holder: DeskHolder<O>,
+    own: W,
     seats: Vec<Seat<'_, P, W>>,
     tries: u64,
-) -> Result<Attendance<O, P, W>, AllocError>
+) -> Result<Attendance<P, W>, AllocError>
 where
-    O: Object<Call = Call, Reply = Reply> + Drop,
     W: Wire<Call = Call, Reply = Reply> + Drop + Send,
     P: Player + Drop + Send,
     R: Threads + Wait + Sync,
-    ensures line { IfOk result (λ a. a.holder.line ≡ holder.line) }
-    ensures ports { IfOk result (λ a. SamePorts holder.desk.ports a.holder.desk.ports) }
-    ensures opening { IfOk result (λ a. O.opening a.holder.desk.journal.object ≡ O.opening holder.desk.journal.object) }
+    ensures own { IfOk result (λ a. a.own ≡ own) }
     ensures left { IfOk result (λ a. AreLeftBy W.Wire P.Player tries seats.entry.items a.attended.items) }
 {
     thread::scope(
         thread::scope_env(),
         rt,
-        move |scope| -> Result<Attendance<O, P, W>, AllocError>
+        move |scope| -> Result<Attendance<P, W>, AllocError>
             requires sent { IsSend W.row × IsSend P.row }
-            ensures line { IfOk result (λ a. a.holder.line ≡ holder.line) }
-            ensures ports { IfOk result (λ a. SamePorts holder.desk.ports a.holder.desk.ports) }
-            ensures opening { IfOk result (λ a. O.opening a.holder.desk.journal.object ≡ O.opening holder.desk.journal.object) }
+            ensures own { IfOk result (λ a. a.own ≡ own) }
             ensures left { IfOk result (λ a. AreLeftBy W.Wire P.Player tries seats.entry.items a.attended.items) }
         {
-            let mut holder = holder;
             let count = seats.len();
             let roles = roles_of(alloc, seats.as_slice())?;
             let mut handles = Vec::with_capacity(alloc, count)?;
@@ -220,7 +206,7 @@ where
                 let work = move || -> Attended<P, W>
                     requires { role < length brief.now.roles }
                     ensures { IsLeftBy W.Wire P.Player brief.entry.now role tries player wire result }
-                { attend_seat(alloc, brief, role, player, wire, tries, bell) };
+                { attend_seat(alloc, brief, role, player, wire, tries) };
                 let Ok(handle) = scope.spawn_with(promise, work) else {
                     break;
                 };
@@ -228,16 +214,15 @@ where
             }
             let started = handles.len();
             if started < count {
-                let _ = abort_without(alloc, &mut holder, &roles[started..]);
-                serve_until(rt, &mut holder.desk, bell, started as u64);
+                let mut own = own;
+                let _ = abort_without(alloc, &mut own, &roles[started..]);
                 for handle in handles {
                     let _ = handle.join(rt);
                 }
                 return Err(AllocError);
             }
-            serve_until(rt, &mut holder.desk, bell, started as u64);
             let attended = join_seats(rt, handles, attended)?;
-            Ok(Attendance { holder, attended })
+            Ok(Attendance { own, attended })
         },
     )
 }

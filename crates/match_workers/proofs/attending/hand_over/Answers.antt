@@ -1,4 +1,4 @@
-use Rattle.std.proofs.Common.{ap, refl, ◌∙◌}
+use Rattle.std.proofs.Common.{ap, refl}
 use Rattle.std.proofs.lemmas.Result.{err_from_is_err_and}
 use Rattle.match_workers.specs.Events.{telling}
 use Rattle.match_workers.proofs.HandedOver.{owed_message, nothing_handed, handed_over, handed_in_part}

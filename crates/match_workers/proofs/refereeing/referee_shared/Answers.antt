@@ -1,3 +1,6 @@
+use denote.Exit.{yes}
+use denote.Param.Send.{param_send, arg_send}
+use Rattle.match_workers.proofs.Sent.{manager_send}
 use Rattle.std.proofs.Common.{◌≡◌, ◌∙◌, ◌+◌, ◌++◌, ◌∷◌, [], length, refl, sym, ap, subst, arith}
 use Rattle.match_desk.specs.Headline.{HasHeadline}
 use Rattle.match_desk.specs.declared.call.Reply.TheVariants.{Opened}
@@ -40,7 +43,7 @@ returns g c =
     c.numbers_are_of_ends.ensures played.desk.ports rules.roles left.lines lines of_closed.all in
     record {
       headline = subst (λ n. HasHeadline g.G.Game.rules n closed.object closed.history.items closed.made_by_line.items) lines of_closed.headline;
-      begins = ap (λ gs. record { games = gs; matches = [] }) (of_closed.games ∙ left.games ∙ c.open_match.ensures.games ∙ opened.games);
+      begins = ap (λ gs. record { games = gs; matches = [] }) (of_closed.games ∙ ap (λ d. d.games) left.opening ∙ c.open_match.ensures.games ∙ opened.games);
       first_line = opens_match c.args.setup closed.history.items c.open_match.new.holder.line played.lines.items
           (c.open_match.ensures.line.0 ∙ opened.first.number_is)
           (c.in_ok-open_match.ensures.call ∙ ap (λ l. l ++ open_call c.args.setup ∷ []) opened.first.posted)
@@ -54,3 +57,6 @@ returns g c =
       is_told = subst (IsBriefOf rules c.args.setup _) (sym c.brief_of-brief.ensures) (record { id = c.in_ok-id.ensures; roles = c.in_ok-roles.ensures; rules_are = refl; start = refl; play = refl });
       attended = ends_of g.P.Player.handed brief c.args.tries c.args.players.items played.players.items closed.history.items played.lines.items played.ends.items left.ends of_closed.served of_closed.replies;
     }
+
+pub attend_match-requires-send-O : goal.attend_match-requires-send-O
+attend_match-requires-send-O g c κs within = param_send _ _ (arg_send _ yes _ (manager_send _ _ _ g.G.Game c.type_bounds.send-G c.type_bounds.send-G-State c.type_bounds.send-G-Move))

@@ -43,9 +43,7 @@ returns g c =
     let was = c.loop-seat.invariant in
     let given = c.into_iter-seat-iterator.ensures.into_iter_gives in
     record {
-      line = refl;
-      ports = c.serve_until-2.ensures.ports;
-      opening = c.serve_until-2.ensures.opening;
+      own = refl;
       left = λ k left is.
           let kept = c.in_ok-attended-2.ensures k left is in
           subst (λ (seats : List (Seat g.row.P.Denot g.row.W.Denot)). IsLeftAt g.W.Wire g.P.Player c.captures.tries seats k left) given.0

@@ -1,0 +1,93 @@
+//! A desk over rings under a lock. Whoever waits for a reply serves the lines, so no call is handed from thread to thread.
+ghost use Rattle.std.specs.Prelude.{◌≡◌, Option, Some};
+ghost use Rattle.std.specs.Option.{ForSome};
+ghost use Rattle.call_history.specs.Rounds.{RingDeskValue};
+ghost use Rattle.match_desk.specs.declared.call.Call.{Call};
+ghost use Rattle.match_desk.specs.declared.call.Reply.{Reply};
+ghost use Rattle.match_workers.specs.Internal.SharedDesks.{IsDeskAfter};
+
+use call_history::laws::desks_stay;
+use call_history::{CallFault, DeskFault, Object, RingDesk};
+use match_desk::{Call, Reply};
+use std::marker::{Brand, PhantomData};
+use std::sync::Mutex;
+use std::sync::atomic::{AtomicBool, Ordering};
+
+/// The desk that is put under a lock. Each match picks it, since a contract can't name what lies under a lock.
+pub trait Naming<O> {
+    ghost desk: { Option (RingDeskValue O Call Reply) };
+}
+
+impl<O> Naming<O> for Brand {
+    ghost use Rattle.std.specs.Prelude.{None};
+
+    ghost desk = { None };
+}
+
+/// The picked desk, after some rounds.
+#[derive(Drop)]
+struct NamedDesk<O: Object<Call = Call, Reply = Reply>, N: Naming<O>> {
+    desk: RingDesk<O>,
+    of: PhantomData<N>,
+    ghost same: { ForSome N.desk (λ first. IsDeskAfter O.opening first desk) },
+}
+
+impl<O: Object<Call = Call, Reply = Reply>, N: Naming<O>> NamedDesk<O, N> {
+    /// Serves a round.
+    fn round(&mut self) -> Result<u64, DeskFault> {
+        desks_stay::<O>();
+        self.desk.round()
+    }
+}
+
+/// A desk over rings that any thread can serve.
+#[derive(Drop)]
+pub struct SharedDesk<O: Object<Call = Call, Reply = Reply>, N: Naming<O>> {
+    locked: Mutex<NamedDesk<O, N>>,
+    is_full: AtomicBool,
+}
+
+impl<O: Object<Call = Call, Reply = Reply>, N: Naming<O>> SharedDesk<O, N> {
+    /// Puts the picked desk under a lock.
+    pub fn new(desk: RingDesk<O>) -> SharedDesk<O, N>
+        requires { N.desk ≡ Some desk }
+    {
+        desks_stay::<O>();
+        let named = NamedDesk {
+            desk,
+            of: PhantomData,
+        };
+        SharedDesk {
+            locked: Mutex::new(named),
+            is_full: AtomicBool::new(false),
+        }
+    }
+
+    /// Serves a round, unless another thread serves one now. Returns whether it served a whole round. A call that can't be made
+    /// is tried again in the next one.
+    pub fn serve(&self) -> bool {
+        let Some(mut named) = self.locked.try_lock() else {
+            return false;
+        };
+        let served = named.round();
+        if let Err(DeskFault { cause, .. }) = served {
+            if cause == CallFault::Full {
+                self.is_full.store(true, Ordering::SeqCst);
+            }
+        }
+        served.is_ok()
+    }
+
+    /// Whether a round found the history full, so that no call can be made any more.
+    pub fn is_full(&self) -> bool {
+        self.is_full.load(Ordering::SeqCst)
+    }
+
+    /// The desk, once no thread serves it any more.
+    pub fn into_desk(self) -> RingDesk<O>
+        ensures { ForSome N.desk (λ first. IsDeskAfter O.opening first result) }
+    {
+        let SharedDesk { locked, is_full: _ } = self;
+        locked.into_inner().desk
+    }
+}
