@@ -1,20 +1,31 @@
 -- The matches of a season that are played.
-use Rattle.std.specs.Prelude.{◌≡◌, ℕ, List, [], ◌∷◌, ◌++◌, MatchOption, Option, length}
+use Rattle.std.specs.Prelude.{◌≡◌, ℕ, Bool, true, false, List, MatchOption, Option, filter, length, map, not}
 use Rattle.std.specs.List.{AllZip}
+use Rattle.game_commands.specs.Done.{is_noted, match_names}
+use Rattle.game_commands.specs.declared.done.DoneMatches.{DoneMatches}
+use Rattle.command_line.specs.declared.tasks.HostedTask.{HostedTask}
+use Rattle.command_line.specs.declared.tasks.HostedTask.TheVariants.{Season}
 use Rattle.match_plans.specs.Schedules.{match_lines, IsPlanned}
 use Rattle.match_plans.specs.declared.plan.MatchPlan.{MatchPlan}
 use Rattle.match_season.specs.Seasons.{WritesAllBut}
 
--- the first list is the second one without some of its items
-pub data IsLeftOf {T : Type 0} : List T → List T → Type 0 where
-  none : IsLeftOf [] []
-  kept : {left all : List T} (item : T) → IsLeftOf left all → IsLeftOf (left ++ item ∷ []) (all ++ item ∷ [])
-  taken : {left all : List T} (item : T) → IsLeftOf left all → IsLeftOf left (all ++ item ∷ [])
+-- the task has a schedule for its input
+abbrev pub has_schedule : HostedTask → Bool
+has_schedule (Season plan) = true
+has_schedule task = false
 
--- the matches of a schedule with this number of strikes, without some of them where a file of matches that are done is given
+-- the match is not noted: none with its id and its players is over
+abbrev pub is_left : DoneMatches → MatchPlan → Bool
+is_left noted plan = not (is_noted noted (match_names plan.id.now (map (λ p. p.name.now) plan.players.items)))
+
+-- these matches without those that are noted, in their order
+abbrev pub left_of : DoneMatches → List MatchPlan → List MatchPlan
+left_of noted plans = filter (is_left noted) plans
+
+-- the matches of a schedule with this number of strikes, without those that are noted where a file of matches that are done is given
 abbrev pub AreToPlay : {F : Type 0} → ℕ → Option F → List ℕ → List MatchPlan → Type 0
 AreToPlay strikes done schedule plans = (all : List MatchPlan) × AllZip (IsPlanned strikes) (match_lines schedule) all
-    × MatchOption done (plans ≡ all) (λ file. IsLeftOf plans all)
+    × MatchOption done (plans ≡ all) (λ file. (noted : DoneMatches) × (plans ≡ left_of noted all))
 
 -- From one content of a stream to the other the record of each match to play was written.
 abbrev pub WritesSeason : {F : Type 0} → ℕ → Option F → List ℕ → Option (List ℕ) → Option (List ℕ) → Type 0

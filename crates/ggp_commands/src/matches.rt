@@ -1,8 +1,8 @@
 //! The matches of a game, and the reports on them.
-ghost use Rattle.std.specs.Prelude.{OnOk};
+ghost use Rattle.std.specs.Prelude.{◌≡◌, [], false, IfOk, OnOk};
 ghost use denote.Param.Send.{IsSend, IsSync};
 ghost use Rattle.ggp_commands.specs.Runs.{WritesRun};
-ghost use Rattle.ggp_commands.specs.Schedules.{WritesSeason};
+ghost use Rattle.ggp_commands.specs.Schedules.{WritesSeason, has_schedule};
 
 use crate::descriptors::allowed_form;
 use crate::faults::{check_end, match_fault, season_end};
@@ -93,7 +93,10 @@ pub fn input_of<R: Read>(
     alloc: Global,
     task: &HostedTask<'_>,
     reader: &mut Counted<R>,
-) -> Result<Vec<u8>, Fault> {
+) -> Result<Vec<u8>, Fault>
+    ensures unread { has_schedule task.now ≡ false → reader.new ≡ reader.old }
+    ensures none { has_schedule task.now ≡ false → IfOk result (λ input. input.items ≡ []) }
+{
     match task {
         HostedTask::Season(_) => Ok(read_to_end(alloc, reader, MAX_SCHEDULE)?),
         HostedTask::Run(_) | HostedTask::Check(_) => Ok(Vec::new(alloc)),

@@ -1,6 +1,6 @@
 //! The matches of a season that are played.
-ghost use Rattle.std.specs.Prelude.{IfOk};
-ghost use Rattle.ggp_commands.specs.Schedules.{AreToPlay, IsLeftOf};
+ghost use Rattle.std.specs.Prelude.{◌≡◌, IfOk};
+ghost use Rattle.ggp_commands.specs.Schedules.{AreToPlay, left_of};
 
 use command_line::SeasonPlan;
 use game_commands::{DoneMatches, Fault, done_matches};
@@ -16,7 +16,7 @@ fn left_over<'a>(
     plans: Vec<MatchPlan<'a>>,
     done: &DoneMatches,
 ) -> Result<Vec<MatchPlan<'a>>, AllocError>
-    ensures { IfOk result (λ left. IsLeftOf left.items plans.entry.items) }
+    ensures { IfOk result (λ left. left.items ≡ left_of done.now plans.entry.items) }
 {
     let mut left = Vec::with_capacity(alloc, plans.len())?;
     for plan in plans {
