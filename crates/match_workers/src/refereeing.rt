@@ -248,7 +248,7 @@ where
     let wires = wires_over(alloc, others, &shared)?;
     let seats = seat_players(alloc, &brief, wires, players)?;
     let own = ServedWire::new(line, &shared);
-    let Attendance { own, attended } = attend_all(rt, alloc, own, seats, tries)?;
+    let Attendance { own, attended } = attend_all(rt, alloc, &shared, own, seats, tries)?;
     let Finished {
         mut lines,
         ends,

@@ -8,7 +8,8 @@ use crate::attend_fault::AttendFault;
 use crate::attending::attend_shared;
 use crate::player::Player;
 use crate::seat::{Attended, Seat};
-use call_history::Wire;
+use crate::shared_desk::{Naming, SharedDesk};
+use call_history::{Bell, Object, Wire};
 use match_book::Due;
 use match_desk::{Call, Reply};
 use match_messages::SharedBrief;
@@ -78,7 +79,7 @@ pub fn seat_players<'a, P: Drop, W: Drop>(
     Ok(seats)
 }
 
-/// Attends a role over its wire.
+/// Attends a role over its wire, and then signals its end.
 fn attend_seat<P: Player + Drop, W: Wire<Call = Call, Reply = Reply>>(
     alloc: Global,
     brief: &SharedBrief<'_>,
@@ -86,6 +87,7 @@ fn attend_seat<P: Player + Drop, W: Wire<Call = Call, Reply = Reply>>(
     player: P,
     wire: W,
     tries: u64,
+    bell: &Bell,
 ) -> Attended<P, W>
     requires { role < length brief.now.roles }
     ensures { IsLeftBy W.Wire P.Player brief.now role tries player wire result }
@@ -94,6 +96,7 @@ fn attend_seat<P: Player + Drop, W: Wire<Call = Call, Reply = Reply>>(
     let mut wire = wire;
     let end = attend_shared(alloc, &mut wire, &mut player, brief, role, tries);
     player.leave();
+    bell.leave();
     Attended { wire, end, player }
 }
 
@@ -158,19 +161,22 @@ fn join_seats<'a, P: Player + Drop, W: Wire<Call = Call, Reply = Reply> + Drop, 
     Ok(attended)
 }
 
-/// Attends each seat in a thread of its own, in at most `tries` tries, and waits until all have ended. The results stand in the order
-/// of the seats.
+/// Attends each seat in a thread of its own, in at most `tries` tries, while the calling thread serves the desk, too, until all have
+/// ended. The results stand in the order of the seats.
 ///
 /// If a thread can't be made, no further one starts. A match waits for all its roles, so the matches of the remaining seats are
 /// aborted over the calling thread's own wire. Once the running threads have ended, the result is out of memory.
-pub fn attend_all<W, P, R>(
+pub fn attend_all<O, N, W, P, R>(
     rt: &R,
     alloc: Global,
+    desk: &SharedDesk<O, N>,
     own: W,
     seats: Vec<Seat<'_, P, W>>,
     tries: u64,
 ) -> Result<Attendance<P, W>, AllocError>
 where
+    O: Object<Call = Call, Reply = Reply> + Drop,
+    N: Naming<O>,
     W: Wire<Call = Call, Reply = Reply> + Drop + Send,
     P: Player + Drop + Send,
     R: Threads + Wait + Sync,
@@ -185,6 +191,7 @@ where
             ensures own { IfOk result (λ a. a.own ≡ own) }
             ensures left { IfOk result (λ a. AreLeftBy W.Wire P.Player tries seats.entry.items a.attended.items) }
         {
+            let bell = desk.bell();
             let count = seats.len();
             let roles = roles_of(alloc, seats.as_slice())?;
             let mut handles = Vec::with_capacity(alloc, count)?;
@@ -206,7 +213,7 @@ where
                 let work = move || -> Attended<P, W>
                     requires { role < length brief.now.roles }
                     ensures { IsLeftBy W.Wire P.Player brief.entry.now role tries player wire result }
-                { attend_seat(alloc, brief, role, player, wire, tries) };
+                { attend_seat(alloc, brief, role, player, wire, tries, bell) };
                 let Ok(handle) = scope.spawn_with(promise, work) else {
                     break;
                 };
@@ -216,11 +223,13 @@ where
             if started < count {
                 let mut own = own;
                 let _ = abort_without(alloc, &mut own, &roles[started..]);
+                desk.serve_until(rt, started as u64);
                 for handle in handles {
                     let _ = handle.join(rt);
                 }
                 return Err(AllocError);
             }
+            desk.serve_until(rt, started as u64);
             let attended = join_seats(rt, handles, attended)?;
             Ok(Attendance { own, attended })
         },

@@ -1,4 +1,4 @@
-//! A desk over rings under a lock. Whoever waits for a reply serves the lines, so no call is handed from thread to thread.
+//! A desk over rings under a lock. A thread that waits for a reply serves the lines, so no call is handed from thread to thread.
 ghost use Rattle.std.specs.Prelude.{◌≡◌, Option, Some};
 ghost use Rattle.std.specs.Option.{ForSome};
 ghost use Rattle.call_history.specs.Rounds.{RingDeskValue};
@@ -7,11 +7,14 @@ ghost use Rattle.match_desk.specs.declared.call.Reply.{Reply};
 ghost use Rattle.match_workers.specs.Internal.SharedDesks.{IsDeskAfter};
 
 use call_history::laws::desks_stay;
-use call_history::{CallFault, DeskFault, Object, RingDesk};
+use call_history::{Bell, CallFault, DeskFault, Object, Pause, RingDesk};
 use match_desk::{Call, Reply};
 use std::marker::{Brand, PhantomData};
-use std::sync::Mutex;
-use std::sync::atomic::{AtomicBool, Ordering};
+use std::sync::{Mutex, Wait};
+use std::time::Duration;
+
+/// The longest sleep of the thread that opened the desk, in milliseconds. Then a call that could not be made is tried again.
+const LONGEST_SLEEP: u64 = 1_000;
 
 /// The desk that is put under a lock. Each match picks it, since a contract can't name what lies under a lock.
 pub trait Naming<O> {
@@ -44,7 +47,7 @@ impl<O: Object<Call = Call, Reply = Reply>, N: Naming<O>> NamedDesk<O, N> {
 #[derive(Drop)]
 pub struct SharedDesk<O: Object<Call = Call, Reply = Reply>, N: Naming<O>> {
     locked: Mutex<NamedDesk<O, N>>,
-    is_full: AtomicBool,
+    bell: Bell,
 }
 
 impl<O: Object<Call = Call, Reply = Reply>, N: Naming<O>> SharedDesk<O, N> {
@@ -59,7 +62,7 @@ impl<O: Object<Call = Call, Reply = Reply>, N: Naming<O>> SharedDesk<O, N> {
         };
         SharedDesk {
             locked: Mutex::new(named),
-            is_full: AtomicBool::new(false),
+            bell: Bell::new(),
         }
     }
 
@@ -72,7 +75,7 @@ impl<O: Object<Call = Call, Reply = Reply>, N: Naming<O>> SharedDesk<O, N> {
         let served = named.round();
         if let Err(DeskFault { cause, .. }) = served {
             if cause == CallFault::Full {
-                self.is_full.store(true, Ordering::SeqCst);
+                self.bell.stop();
             }
         }
         served.is_ok()
@@ -80,14 +83,32 @@ impl<O: Object<Call = Call, Reply = Reply>, N: Naming<O>> SharedDesk<O, N> {
 
     /// Whether a round found the history full, so that no call can be made any more.
     pub fn is_full(&self) -> bool {
-        self.is_full.load(Ordering::SeqCst)
+        self.bell.has_stopped()
+    }
+
+    /// The bell that a worker rings when it ends.
+    pub fn bell(&self) -> &Bell {
+        &self.bell
+    }
+
+    /// Serves rounds until `workers` workers have ended. Workers serve their own calls, so it sleeps in between, and only the end of
+    /// a worker wakes it.
+    pub fn serve_until<R: Wait>(&self, rt: &R, workers: u64) {
+        let mut pause = Pause::new(&self.bell, Duration::from_millis(LONGEST_SLEEP));
+        for _ in rt.forever() {
+            if self.bell.left() >= workers {
+                break;
+            }
+            self.serve();
+            pause.rest(rt);
+        }
     }
 
     /// The desk, once no thread serves it any more.
     pub fn into_desk(self) -> RingDesk<O>
         ensures { ForSome N.desk (λ first. IsDeskAfter O.opening first result) }
     {
-        let SharedDesk { locked, is_full: _ } = self;
+        let SharedDesk { locked, bell: _ } = self;
         locked.into_inner().desk
     }
 }
