@@ -71,7 +71,7 @@ pub fn role_names(alloc: Global, rules: &[Rule]) -> Result<IndexSet<Text>, LoadF
 pub fn heads(alloc: Global, rules: &[Rule]) -> Result<IndexSet<Derived>, AllocError>
     ensures { IfOk result (λ s. s.keys ≡ heads (rules_of rules.now)) }
 {
-    let mut heads = IndexSet::new(alloc);
+    let mut heads = IndexSet::with_capacity(alloc, rules.len())?;
     for rule in rules {
         add_head(&mut heads, &rule.head)?;
     }
