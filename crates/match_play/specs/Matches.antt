@@ -11,11 +11,15 @@ use Rattle.match_workers.specs.declared.refereeing.RefereeFault.TheVariants.{Ref
 use Rattle.match_play.specs.declared.playing.MatchFault.{MatchFault}
 use Rattle.match_play.specs.declared.playing.MatchFault.TheVariants.{Memory, Refused, NotEnded}
 
+-- this is the desk's first match, and it is over
+pub record HasEndedMatch {G S M : Type 0} (rules : G → Rules S M) (d : ManagerValue G M) (held : GameMatch G M) : Type 0 where
+  pub is_first : option_and_then (game_match d) (slice_get d.matches 0) ≡ Some held
+  pub over : is_over (rules held.game) held.value ≡ true
+
 -- the text is the record of this desk's first match, which is over; it is a lawful record of that match's game
 pub record IsEndedRecord {G S M : Type 0} (rules : G → Rules S M) (d : ManagerValue G M) (text : List ℕ) : Type 0 where
   pub held : GameMatch G M
-  pub is_first : option_and_then (game_match d) (slice_get d.matches 0) ≡ Some held
-  pub over : is_over (rules held.game) held.value ≡ true
+  pub ended : HasEndedMatch rules d held
   pub is_record : text ≡ record_text (rules held.game) held.value
   pub lawful : IsLawfulRecord (rules held.game) text
 

@@ -1,10 +1,11 @@
 //! A match between players on the network, from its plan to its record.
-ghost use Rattle.std.specs.Prelude.{◌≡◌, ◌≢◌, ℕ, List, IfOk, IfErr, length, vec_len};
+ghost use Rattle.std.specs.Prelude.{◌≡◌, ◌≢◌, ℕ, List, IfOk, IfErr, IfSome, MatchOption, length, vec_len};
 ghost use Rattle.call_history.specs.declared.journal.Entry.{Entry};
+ghost use Rattle.match_book.specs.Names.{IsLawfulSetup};
 ghost use Rattle.match_desk.specs.declared.call.Call.{Call as DeskCall};
 ghost use Rattle.match_desk.specs.declared.call.Reply.{Reply as DeskReply};
 ghost use Rattle.match_workers.specs.Refereeing.{IsRefereed};
-ghost use Rattle.match_play.specs.Matches.{IsEndedRecord, HasNoEndedMatch};
+ghost use Rattle.match_play.specs.Matches.{IsEndedRecord, HasEndedMatch, HasNoEndedMatch};
 ghost use Rattle.match_play.specs.EndedMatches.{IsEndedMatch, match_text};
 ghost use Rattle.match_play.specs.Limits.{max_tries};
 ghost use Rattle.match_play.specs.PlayedMatches.{IsSetupOf, IsPlayedMatch};
@@ -13,7 +14,7 @@ use crate::hosting::HostedGame;
 use call_history::Entry;
 use desk_text::{push_history, refusal_word};
 use game_core::{Game, Lent, Text, Texts};
-use match_book::{Phase, Setup};
+use match_book::{Match, Phase, Setup};
 use match_desk::{Call, Manager, Refusal, Reply};
 use match_messages::StartRules;
 use match_plans::{MatchPlan, Reach, RolePlace, Shortage, TellsShortages};
@@ -142,22 +143,33 @@ pub fn entrants_of<P: Drop, S: Reach<P>>(
     })
 }
 
+/// The desk's first match and its game. `None` if there is no match or it is not over.
+pub(crate) fn ended_match_of<G: Game>(manager: &Manager<G>) -> Option<(&G, &Match<G>)>
+    ensures ended { MatchOption result (HasNoEndedMatch G.rules manager.now) (λ r. HasEndedMatch G.rules manager.now r.1.now) }
+    ensures game { IfSome result (λ r. r.1.now.game ≡ r.0.now) }
+    ensures setup { IfSome result (λ r. IsLawfulSetup r.1.now.value.setup) }
+{
+    if manager.matches() == 0 {
+        return None;
+    }
+    let game = manager.game_of_match(0).unwrap();
+    let held = manager.match_at(0).unwrap();
+    match held.status().phase {
+        Phase::Finished | Phase::Aborted => Some((game, held)),
+        Phase::Starting | Phase::Playing | Phase::Stopping | Phase::Aborting => None,
+    }
+}
+
 /// The record of the desk's first match. The error is `NotEnded` if there is no match or it is not over, or out of memory.
 fn ended_record<G: Game>(alloc: Global, manager: &Manager<G>) -> Result<Text, MatchFault>
     ensures ended { IfOk result (IsEndedRecord G.rules manager.now) }
     ensures not_ended { IfErr result (λ fault. fault ≢ MatchFault.Memory → (fault ≡ MatchFault.NotEnded) × HasNoEndedMatch G.rules manager.now) }
 {
-    if manager.matches() == 0 {
+    let Some((game, held)) = ended_match_of(manager) else {
         return Err(MatchFault::NotEnded);
-    }
-    let game = manager.game_of_match(0).unwrap();
-    let held = manager.match_at(0).unwrap();
-    match held.status().phase {
-        Phase::Finished | Phase::Aborted => Ok(record_json(alloc, game, held)?),
-        Phase::Starting | Phase::Playing | Phase::Stopping | Phase::Aborting => {
-            Err(MatchFault::NotEnded)
-        }
-    }
+    };
+    let record = record_json(alloc, game, held)?;
+    Ok(record)
 }
 
 /// A match that was played to its end.

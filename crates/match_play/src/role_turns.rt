@@ -1,12 +1,12 @@
 //! The turns of a match for one of its roles.
 ghost use Rattle.std.specs.Prelude.{◌≡◌, ◌≢◌, ◌<◌, ◌∷◌, [], IfOk, IfErr, length};
 ghost use Rattle.match_desk.specs.ManagerValue.{ManagerValue};
-ghost use Rattle.match_play.specs.RoleTurns.{AreTurnsOf, AreEndedTurns};
+ghost use Rattle.match_play.specs.RoleTurns.{AreTurnsOf, AreEndedTurns, HasNoEndedTurns};
 
 use crate::hosting::HostedGame;
-use crate::playing::{Entrants, MatchFault, refereed_match};
+use crate::playing::{Entrants, MatchFault, ended_match_of, refereed_match};
 use game_core::{Game, Text};
-use match_book::{Match, Phase};
+use match_book::Match;
 use match_desk::Manager;
 use match_plans::TellsShortages;
 use match_workers::Player;
@@ -52,22 +52,16 @@ fn ended_turns<G: Game>(
     role: usize,
 ) -> Result<Vec<RoleTurn>, MatchFault>
     ensures ended { IfOk result (λ told. AreEndedTurns G.rules manager.now role told.items) }
-    ensures not_ended { IfErr result (λ fault. fault ≢ MatchFault.Memory → fault ≡ MatchFault.NotEnded) }
+    ensures not_ended { IfErr result (λ fault. fault ≢ MatchFault.Memory → (fault ≡ MatchFault.NotEnded) × HasNoEndedTurns G.rules manager.now role) }
 {
-    if manager.matches() == 0 {
+    let Some((game, held)) = ended_match_of(manager) else {
         return Err(MatchFault::NotEnded);
-    }
-    let game = manager.game_of_match(0).unwrap();
-    let held = manager.match_at(0).unwrap();
+    };
     if role >= game.roles() {
         return Err(MatchFault::NotEnded);
     }
-    match held.status().phase {
-        Phase::Finished | Phase::Aborted => Ok(turns_of(alloc, game, held, role)?),
-        Phase::Starting | Phase::Playing | Phase::Stopping | Phase::Aborting => {
-            Err(MatchFault::NotEnded)
-        }
-    }
+    let turns = turns_of(alloc, game, held, role)?;
+    Ok(turns)
 }
 
 /// Referees a match as `played_match` does, with the same errors. Returns its turns for this role. The error is also `NotEnded` if there

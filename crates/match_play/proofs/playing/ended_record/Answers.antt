@@ -1,27 +1,17 @@
-use Rattle.std.proofs.Common.{rules, ◌≡◌, ap, sym, subst, ◌∙◌, true}
-use Rattle.std.specs.Prelude.{option_copied, slice_get}
-use Rattle.match_book.specs.Phase.{is_last, is_over}
-use Rattle.match_book.specs.declared.phase.Status.{Status}
+use Rattle.std.proofs.Common.{◌≡◌, sym, subst}
 use Rattle.match_record.specs.RecordTree.{record_text}
 use Rattle.match_record.specs.LawfulRecord.{IsLawfulRecord}
-use Rattle.match_play.proofs.HeldGames.{same_game}
 use Rattle.match_play.proofs.playing.ended_record.Goals as goal
 
-pub returns-in_ok-record_json-in-Finished-clause-ended : goal.returns-in_ok-record_json-in-Finished-clause-ended
-returns-in_ok-record_json-in-Finished-clause-ended g c =
+pub returns-clause-ended : goal.returns-clause-ended
+returns-clause-ended g c =
     let rules-of = g.G.Game.rules in
-    let d = c.args.manager.now in
-    let held = c.unwrap-held.result.now in
-    let is_game = sym c.game_of_match.ensures ∙ ap option_copied c.unwrap-game.ensures in
-    let is_held = sym c.match_at.ensures ∙ ap option_copied c.unwrap-held.ensures in
-    let same = same_game d (slice_get d.matches 0) c.unwrap-game.result.now held is_game is_held in
-    let text = c.in_ok-record_json-in-Finished.field-0 in
-    let last : is_last c.status.result.phase ≡ true = search rules in
-    let over : is_over (rules-of held.game) held.value ≡ true = ap (λ (s : Status). is_last s.phase) (sym c.status.ensures) ∙ last in
+    let held = c.in-Some.held.now in
+    let text = c.in_ok-record.record in
+    let same = sym c.in-Some.ensures.game in
     record {
       held = held;
-      is_first = is_held;
-      over = over;
-      is_record = subst (λ x. text ≡ record_text (rules-of x) held.value) same c.in_ok-record_json-in-Finished.ensures.text;
-      lawful = subst (λ x. IsLawfulRecord (rules-of x) text) same c.in_ok-record_json-in-Finished.ensures.lawful;
+      ended = c.in-Some.ensures.ended;
+      is_record = subst (λ x. text ≡ record_text (rules-of x) held.value) same c.in_ok-record.ensures.text;
+      lawful = subst (λ x. IsLawfulRecord (rules-of x) text) same c.in_ok-record.ensures.lawful;
     }
