@@ -5,7 +5,7 @@ use Rattle.std.specs.Str.Lines.{lines, lines_of_parts, strip_carriage_return}
 use Rattle.std.proofs.lemmas.List.{append_assoc}
 use Rattle.std.proofs.lemmas.List.Splits.{length-slice_split}
 use Rattle.game_core.specs.Bytes.{line_feed}
-use Rattle.whole_streams.specs.Lines.{HasNoLineFeed, BeginsWithLine}
+use Rattle.whole_streams.specs.Lines.{HasNoLineFeed}
 use Rattle.whole_streams.specs.Laws.{FirstLineIsTaken, LastLineIsWhole}
 
 abbrev is_feed : ℕ → Bool
