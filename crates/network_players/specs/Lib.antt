@@ -1,2 +1,3 @@
 pub mod Shortages
 pub mod Contacts
+pub mod Fronts

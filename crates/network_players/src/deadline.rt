@@ -1,7 +1,8 @@
 //! One deadline for all steps of a message.
-ghost use Rattle.std.specs.Prelude.{◌≡◌, ◌+◌, ◌*◌, ◌<◌, ◌≤◌, ◌↔◌, ◌⊎◌, Err, IfErr, IfOk, IfSome, IsOkAnd, IsSome, MatchResult, OnErr};
+ghost use Rattle.std.specs.Prelude.{◌≡◌, ◌+◌, ◌*◌, ◌<◌, ◌≤◌, ◌↔◌, ◌⊎◌, Err, IfErr, IfOk, IfSome, IsOkAnd, IsSome, MatchResult, None, OnErr, take};
 ghost use Rattle.std.specs.Duration.{as_nanos};
 ghost use Rattle.match_plans.specs.declared.shortages.Shortage.TheVariants.{Clock};
+ghost use Rattle.network_players.specs.Fronts.{reply_status};
 ghost use Rattle.network_players.specs.Shortages.{failed_halt};
 ghost use Rattle.network_players.specs.declared.deadline.Halt.TheVariants.{Late, Short};
 
@@ -117,7 +118,11 @@ pub struct TimedStream<'a, C, S> {
 }
 
 impl<'a, C: Clock, S: OpenStream> TimedStream<'a, C, S> {
-    pub fn new(clock: &'a C, deadline: Deadline, stream: S) -> TimedStream<'a, C, S> {
+    pub fn new(clock: &'a C, deadline: Deadline, stream: S) -> TimedStream<'a, C, S>
+        ensures deadline { result.deadline ≡ deadline }
+        ensures halt { result.halt ≡ None }
+        ensures front { result.front.count ≡ 0 }
+    {
         TimedStream {
             clock,
             deadline,
@@ -128,12 +133,16 @@ impl<'a, C: Clock, S: OpenStream> TimedStream<'a, C, S> {
     }
 
     /// The halt of the last read or write. `None` if it counts, or if the player made it fail.
-    pub fn halt(&self) -> Option<Halt> {
+    pub fn halt(&self) -> Option<Halt>
+        ensures { result ≡ self.now.halt }
+    {
         self.halt
     }
 
     /// The status of the reply. `None` if the bytes so far do not begin with one.
-    pub fn status(&self) -> Option<u16> {
+    pub fn status(&self) -> Option<u16>
+        ensures { result ≡ reply_status (take self.now.front.count self.now.front.bytes) }
+    {
         self.front.status()
     }
 }

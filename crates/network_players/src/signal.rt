@@ -1,5 +1,5 @@
 //! The rests of a match's players between their messages, and the signal that wakes them and keeps the match's shortage.
-ghost use Rattle.std.specs.Prelude.{◌≡◌, ◌*◌, min, IfOk, length};
+ghost use Rattle.std.specs.Prelude.{◌≡◌, ◌*◌, min, IfOk, IsTrue, length};
 ghost use Rattle.std.specs.Duration.{as_nanos};
 
 use crate::shortage::{code_of, coded};
@@ -164,7 +164,9 @@ impl Drop for Pace<'_> {
 
 impl<'a> Pace<'a> {
     /// The pace of a new player, in the match of this signal.
-    pub fn new(signal: &'a Signal) -> Pace<'a> {
+    pub fn new(signal: &'a Signal) -> Pace<'a>
+        ensures { as_nanos result.rest ≡ 100_000_000 }
+    {
         signal.players.fetch_add(1, Ordering::SeqCst);
         Pace {
             signal,
@@ -183,14 +185,18 @@ impl<'a> Pace<'a> {
     }
 
     /// Notes that the player has answered the message.
-    pub fn end(&mut self) {
+    pub fn end(&mut self)
+        ensures { as_nanos self.new.rest ≡ 100_000_000 }
+    {
         self.seen = self.signal.calls();
         self.rest = first_rest();
         self.has_rested = false;
     }
 
     /// Notes that the player gets no further message.
-    pub fn leave(&mut self) {
+    pub fn leave(&mut self)
+        ensures { IsTrue self.new.has_left }
+    {
         if !self.has_left {
             self.has_left = true;
             self.signal.leave();
@@ -199,7 +205,9 @@ impl<'a> Pace<'a> {
 
     /// Rests. If the others rest already they are woken, once after each message: the player's answer may have retired it, and the
     /// round may have begun without a message to it.
-    pub fn rest<R: Wait>(&mut self, rt: &R) {
+    pub fn rest<R: Wait>(&mut self, rt: &R)
+        ensures { as_nanos self.new.rest ≡ min 2_000_000_000 (as_nanos self.old.rest * 2) }
+    {
         if self.signal.begin_rest() && !self.has_rested && self.signal.call() == self.seen {
             // Its own call must not end its rest.
             self.seen = self.seen.wrapping_add(1);

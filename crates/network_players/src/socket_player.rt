@@ -1,5 +1,5 @@
 //! Players that are reached over the network.
-ghost use Rattle.std.specs.Prelude.{◌≡◌, ◌<◌, length};
+ghost use Rattle.std.specs.Prelude.{◌≡◌, ◌<◌, IsTrue, length};
 ghost use Rattle.network_players.specs.Contacts.{answer_of, contact_answer};
 
 use crate::contacting::{ContactFault, Explains, contact_found};
@@ -43,12 +43,23 @@ pub struct SocketPlayer<'a, H> {
     fault: Option<ContactFault>,
 }
 
+impl<'a, H> Sockets<'a, H> {
+    ghost use Rattle.std.specs.Prelude.{◌≡◌, ◌%◌, Some, length, slice_get};
+
+    /// The signal of the match at this place.
+    fn signal_at(&self, place: usize) -> &'a Signal
+        ensures { slice_get self.now.signals.now (place % length self.now.signals.now) ≡ Some result.now }
+    {
+        &self.signals[place % self.signals.len()]
+    }
+}
+
 impl<H> TellsShortages for Sockets<'_, H> {
     // No contract can name what a signal carries.
     ghost is_clear = { λ s place. Unit {0} };
 
     fn shortage(&self, place: usize) -> Option<Shortage> {
-        self.signals[place % self.signals.len()].shortage()
+        self.signal_at(place).shortage()
     }
 }
 
@@ -59,7 +70,7 @@ impl<'a, H: Net + Clock> Reach<SocketPlayer<'a, H>> for Sockets<'a, H> {
         at: RolePlace<'_>,
         address: &PlayerAddress<'_>,
     ) -> Result<SocketPlayer<'a, H>, AllocError> {
-        let signal = &self.signals[at.place % self.signals.len()];
+        let signal = self.signal_at(at.place);
         let name = String::from_str(alloc, address.name)?;
         let host = String::from_str(alloc, address.host)?;
         Ok(SocketPlayer {
@@ -160,7 +171,9 @@ impl<H: Net + Clock + Wait> Player for SocketPlayer<'_, H> {
         self.pace.rest(self.rt);
     }
 
-    fn leave(&mut self) {
+    fn leave(&mut self)
+        ensures { IsTrue self.new.pace.has_left }
+    {
         self.pace.leave();
     }
 }
