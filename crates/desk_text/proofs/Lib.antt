@@ -5,6 +5,7 @@ pub mod Digits
 pub mod EscapedTexts
 pub mod LineLemmas
 pub mod Numbers
+pub mod OpeningWords
 pub mod Pieces
 pub mod Submits
 pub mod ToldCalls

@@ -1,5 +1,5 @@
 -- A call is read from its words.
-use Rattle.std.proofs.Common.{◌≡◌, ℕ, zero, suc, ◌<◌, ◌≤◌, ◌^◌, ◌++◌, ◌==◌, Bool, true, false, List, [], ◌∷◌, map, if◌then◌else◌, codes, Option, Some, refl, ap, ◌∙◌, sym, append-nil, arith, eqb-true}
+use Rattle.std.proofs.Common.{◌≡◌, ℕ, ◌<◌, ◌≤◌, ◌^◌, ◌++◌, ◌==◌, Bool, true, false, List, [], ◌∷◌, map, if◌then◌else◌, codes, Option, Some, refl, ap, ◌∙◌, sym, append-nil, arith, eqb-true}
 use Rattle.std.specs.Prelude.{option_and_then}
 use Rattle.std.specs.Fmt.{decimal}
 use Rattle.std.specs.List.{AllByRecursion}
@@ -11,7 +11,7 @@ use Rattle.desk_text.specs.Account.{AreBytes, IsCall, call_words, call_text, tol
 use Rattle.desk_text.specs.Escapes.{escaped_name, escaped_text, unescaped}
 use Rattle.desk_text.specs.ScriptLines.{call_of_words}
 use Rattle.desk_text.specs.Words.{words, spaced, behind_spaces, max_in_32_bits, max_in_64_bits}
-use Rattle.desk_text.proofs.Bytes.{Lacks, AreFrom, cut_front, decimal_from, each_append, lacks_below, from_lower, from_tested, uncut}
+use Rattle.desk_text.proofs.Bytes.{AreFrom, cut_front, decimal_from, each_append, lacks_below, from_lower, from_tested, uncut}
 use Rattle.desk_text.proofs.EscapedTexts.{escapes_from, escapes_read, names_from, names_read}
 use Rattle.desk_text.proofs.Numbers.{number_read}
 use Rattle.desk_text.proofs.WordLemmas.{spaced_behind}

@@ -1,5 +1,5 @@
 -- The lines of a history tell this history and no other.
-use Rattle.std.proofs.Common.{◌≡◌, ◌≢◌, ℕ, ◌+◌, ◌-◌, ◌<◌, ◌≤◌, ◌==◌, Bool, true, false, List, [], ◌∷◌, ◌++◌, length, map, if◌then◌else◌, Some, None, refl, sym, ap, ◌∙◌, subst, arith, take, ne_eqb}
+use Rattle.std.proofs.Common.{◌≡◌, ◌≢◌, ℕ, ◌+◌, ◌-◌, ◌<◌, ◌==◌, Bool, List, [], ◌∷◌, ◌++◌, length, map, Some, refl, sym, ap, ◌∙◌, subst, arith, ne_eqb}
 use Rattle.std.specs.Prelude.{slice_index}
 use Rattle.std.specs.Fmt.{decimal}
 use Rattle.std.specs.List.{AllByRecursion, slice_split}
@@ -10,14 +10,13 @@ use Rattle.call_history.specs.History.{IsLegalHistory, run}
 use Rattle.call_history.specs.declared.journal.Entry.{Entry}
 use Rattle.match_desk.specs.declared.call.Call.{Call}
 use Rattle.match_desk.specs.declared.call.Reply.{Reply}
-use Rattle.desk_text.specs.Account.{IsAccount, IsCall, IsEntry, IsRead, Tell, call_text, entry_text, history_text, told, told_fields}
+use Rattle.desk_text.specs.Account.{IsEntry, IsRead, Tell, call_text, entry_text, history_text, told, told_fields}
 use Rattle.desk_text.specs.Escapes.{escaped_text}
 use Rattle.desk_text.specs.Replaying.{IsFirstFault, RefusesLine, TellNoHistory}
 use Rattle.desk_text.specs.ScriptLines.{reply_text}
-use Rattle.desk_text.specs.Words.{max_in_32_bits}
 use Rattle.desk_text.specs.declared.replaying.ReplayFault.{ReplayFault}
 use Rattle.desk_text.specs.declared.replaying.ReplayFault.TheVariants.{Memory, NoEntry, Differs}
-use Rattle.desk_text.proofs.Bytes.{Lacks, AreFrom, cut_front, each_append, index_lacks, lacks_below}
+use Rattle.desk_text.proofs.Bytes.{Lacks, cut_front, each_append, index_lacks, lacks_below}
 use Rattle.desk_text.proofs.EscapedTexts.{escapes_from}
 use Rattle.desk_text.proofs.ToldCalls.{call_from, call_read, number_32, read_32}
 

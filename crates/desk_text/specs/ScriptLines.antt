@@ -22,15 +22,19 @@ use Rattle.desk_text.specs.Words.{words, spaced, max_number, max_in_32_bits, max
 abbrev pub with_number : ℕ → List ℕ → (ℕ → Option Call) → Option Call
 with_number limit word f = option_and_then f (plain_number word limit)
 
+-- the call that opens a match, if these words are numbers and there is a number of strikes
+abbrev pub opening_call : List ℕ → List ℕ → List ℕ → List ℕ → Option ℕ → List (List ℕ) → Option Call
+opening_call id game start play strikes players =
+    with_number max_in_64_bits game (λ g. with_number max_in_32_bits start (λ s. with_number max_in_32_bits play (λ p. option_and_then (λ k. Some (Open id g s p k players)) strikes)))
+
 -- ID GAME START PLAY PLAYER .., with 0 strikes
 abbrev pub open_call : List (List ℕ) → Option Call
-open_call (id ∷ (game ∷ (start ∷ (play ∷ players)))) = with_number max_in_64_bits game (λ g. with_number max_in_32_bits start (λ s. with_number max_in_32_bits play (λ p. Some (Open id g s p 0 players))))
+open_call (id ∷ (game ∷ (start ∷ (play ∷ players)))) = opening_call id game start play (Some 0) players
 open_call _ = None
 
 -- ID GAME START PLAY STRIKES PLAYER ..
 abbrev pub strict_call : List (List ℕ) → Option Call
-strict_call (id ∷ (game ∷ (start ∷ (play ∷ (strikes ∷ players))))) =
-    with_number max_in_64_bits game (λ g. with_number max_in_32_bits start (λ s. with_number max_in_32_bits play (λ p. with_number max_in_32_bits strikes (λ k. Some (Open id g s p k players)))))
+strict_call (id ∷ (game ∷ (start ∷ (play ∷ (strikes ∷ players))))) = opening_call id game start play (plain_number strikes max_in_32_bits) players
 strict_call _ = None
 
 -- ID ROLE

@@ -3,7 +3,7 @@ ghost use Rattle.std.specs.Prelude.{◌≡◌, ◌≢◌, ◌∷◌, IfOk, map, 
 ghost use Rattle.std.specs.List.{list_all};
 ghost use Rattle.game_core.specs.Numerals.{plain_number};
 ghost use Rattle.desk_text.specs.Words.{words, max_number, max_in_64_bits};
-ghost use Rattle.desk_text.specs.ScriptLines.{open_call, next_call, submit_call, miss_call, query_call, abort_call, strict_call, call_of_words, call_of, is_named, names_in, numbers_in, is_broken};
+ghost use Rattle.desk_text.specs.ScriptLines.{opening_call, open_call, next_call, submit_call, miss_call, query_call, abort_call, strict_call, call_of_words, call_of, is_named, names_in, numbers_in, is_broken};
 
 use crate::words::{first_word, number_up_to, small_number, words};
 use game_core::{Text, Texts};
@@ -27,43 +27,24 @@ fn texts(alloc: Global, words: &[&[u8]]) -> Result<Texts, AllocError>
     Ok(Texts { items })
 }
 
-fn open_call(alloc: Global, words: &[&[u8]]) -> Result<Option<Call>, AllocError>
-    ensures { IfOk result (λ o. o ≡ open_call (map (λ w. w.now) words.now)) }
+/// The call that opens a match, if these words are numbers and there is a number of strikes.
+fn opening_call(
+    alloc: Global,
+    id: &[u8],
+    game: &[u8],
+    start: &[u8],
+    play: &[u8],
+    strikes: Option<u32>,
+    players: &[&[u8]],
+) -> Result<Option<Call>, AllocError>
+    ensures { IfOk result (λ o. o ≡ opening_call id.now game.now start.now play.now strikes (map (λ w. w.now) players.now)) }
 {
-    let [id, game, start, play, players @ ..] = words else {
-        return Ok(None);
-    };
-    let (Some(game), Some(start), Some(play)) = (
+    let (Some(game), Some(start), Some(play), Some(strikes)) = (
         number(game),
         small_number(start),
         small_number(play),
+        strikes,
     ) else {
-        return Ok(None);
-    };
-    Ok(Some(Call::Open {
-        id: Text::from_slice(alloc, id)?,
-        game: game as usize,
-        start,
-        play,
-        strikes: 0,
-        players: texts(alloc, players)?,
-    }))
-}
-
-fn strict_call(alloc: Global, words: &[&[u8]]) -> Result<Option<Call>, AllocError>
-    ensures { IfOk result (λ o. o ≡ strict_call (map (λ w. w.now) words.now)) }
-{
-    let [id, game, start, play, strikes, players @ ..] = words else {
-        return Ok(None);
-    };
-    let (Some(game), Some(start), Some(play)) = (
-        number(game),
-        small_number(start),
-        small_number(play),
-    ) else {
-        return Ok(None);
-    };
-    let Some(strikes) = small_number(strikes) else {
         return Ok(None);
     };
     Ok(Some(Call::Open {
@@ -74,6 +55,24 @@ fn strict_call(alloc: Global, words: &[&[u8]]) -> Result<Option<Call>, AllocErro
         strikes,
         players: texts(alloc, players)?,
     }))
+}
+
+fn open_call(alloc: Global, words: &[&[u8]]) -> Result<Option<Call>, AllocError>
+    ensures { IfOk result (λ o. o ≡ open_call (map (λ w. w.now) words.now)) }
+{
+    let [id, game, start, play, players @ ..] = words else {
+        return Ok(None);
+    };
+    opening_call(alloc, id, game, start, play, Some(0), players)
+}
+
+fn strict_call(alloc: Global, words: &[&[u8]]) -> Result<Option<Call>, AllocError>
+    ensures { IfOk result (λ o. o ≡ strict_call (map (λ w. w.now) words.now)) }
+{
+    let [id, game, start, play, strikes, players @ ..] = words else {
+        return Ok(None);
+    };
+    opening_call(alloc, id, game, start, play, small_number(strikes), players)
 }
 
 fn next_call(alloc: Global, words: &[&[u8]]) -> Result<Option<Call>, AllocError>

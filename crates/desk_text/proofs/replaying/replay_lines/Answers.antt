@@ -1,4 +1,4 @@
-use Rattle.std.proofs.Common.{◌≡◌, ◌≢◌, [], ◌∷◌, length, Err, sym, subst, arith, rules}
+use Rattle.std.proofs.Common.{◌≡◌, ◌≢◌, ◌∷◌, length, Err, sym, subst, arith, rules}
 use Rattle.std.specs.Prelude.{IfErr}
 use Rattle.std.specs.Str.Lines.{lines}
 use Rattle.desk_text.specs.Replaying.{IsFirstFault}
