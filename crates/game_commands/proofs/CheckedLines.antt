@@ -1,5 +1,5 @@
 -- Lines that are checked one after another.
-use Rattle.std.proofs.Common.{◌≡◌, ◌≢◌, ◌≤◌, ◌<◌, ◌+◌, ℕ, List, [], ◌∷◌, ◌++◌, length, Option, refl, sym, ap, subst, ◌∙◌, inl, inr, arith, ◌⊎◌, cond, zero-add}
+use Rattle.std.proofs.Common.{◌≡◌, ◌<◌, ◌+◌, ℕ, List, [], ◌∷◌, ◌++◌, length, Option, sym, ap, subst, ◌∙◌, inl, inr, arith, cond, zero-add}
 use Rattle.std.proofs.lemmas.List.Sums.{sum_by_push}
 use Rattle.std.proofs.lemmas.List.{append_assoc, flat_map_more}
 use Rattle.std.specs.Io.KnownBytes.{Appends}
@@ -14,10 +14,9 @@ use Rattle.whole_streams.specs.declared.whole.InputFault.{InputFault}
 use Rattle.whole_streams.specs.declared.whole.InputFault.TheVariants.{ReadFault, TooLong, Memory}
 use Rattle.whole_streams.specs.Laws.{FirstLineIsTaken, LastLineIsWhole}
 use Rattle.game_commands.specs.declared.fault.Fault.{Fault}
-use Rattle.game_commands.specs.declared.fault.Fault.TheVariants.{Memory as MemoryFault, WriteFault}
 use Rattle.game_commands.specs.Faults.{input_fault}
 use Rattle.game_commands.specs.Verdicts.{IsVerdict, AreVerdicts, verdict_line, verdict_lines, is_unlawful, count_unlawful}
-use Rattle.game_commands.specs.Checks.{BeginsWithLines, HasFirstLine, TellsVerdicts, TellsPart, LineFails, CheckStops, max_record}
+use Rattle.game_commands.specs.Checks.{BeginsWithLines, HasFirstLine, TellsVerdicts, LineFails, CheckStops, max_record}
 
 -- more of the input was read
 pub begins_more : (text : List ℕ) (first : List (List ℕ)) (left given : List ℕ) → BeginsWithLines text first left → BeginsWithLines (text ++ given) first (left ++ given)

@@ -5,7 +5,6 @@ use Rattle.game_core.specs.Play.{Rules}
 use Rattle.match_record.specs.LawfulRecord.{IsLawfulRecord}
 use Rattle.record_check.specs.Verified.{FailsFirst}
 use Rattle.record_reading.specs.FaultText.{fault_text}
-use Rattle.record_reading.specs.declared.verify_fault.VerifyFault.{VerifyFault}
 use Rattle.record_reading.specs.declared.verify_fault.VerifyFault.TheVariants.{Memory}
 use Rattle.game_commands.specs.declared.verdicts.Verdict.{Verdict}
 use Rattle.game_commands.specs.declared.verdicts.Verdict.TheVariants.{Lawful, Unlawful, Account}

@@ -1,5 +1,5 @@
 -- The result of looking at the bytes of a message so far, after each read.
-use Rattle.std.specs.Prelude.{◌≡◌, ℕ, ◌+◌, ◌≤◌, Bool, List, length, Option, Some, None, nat_le, nat_lt, if◌then◌else◌, ⊤}
+use Rattle.std.specs.Prelude.{◌≡◌, ℕ, ◌+◌, Bool, List, length, Option, Some, None, nat_le, nat_lt, if◌then◌else◌}
 use Rattle.http_exchange.specs.HttpHead.{HeadIs, max_head, max_body}
 use Rattle.http_exchange.specs.declared.head.HttpKind.{HttpKind}
 use Rattle.http_exchange.specs.declared.head.HttpKind.TheVariants.{Reply}

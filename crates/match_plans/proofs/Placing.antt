@@ -1,5 +1,5 @@
 -- Matches behind others: one more of them, and the first that is out of place.
-use Rattle.std.proofs.Common.{◌≡◌, ◌≢◌, ◌⊎◌, ◌||◌, ◌+◌, ◌∙◌, ◌∷◌, ◌++◌, [], ℕ, ◌<◌, ◌≤◌, Bool, true, false, eqb, List, All, Bor, Option, Some, None, get_or, if◌then◌else◌, length, map, not, take, vec_len, refl, sym, ap, subst, inl, inr, arith, eqb-true, eq-eqb, ne_eqb}
+use Rattle.std.proofs.Common.{◌≡◌, ◌≢◌, ◌||◌, ◌+◌, ◌∙◌, ◌∷◌, ◌++◌, [], ℕ, ◌<◌, Bool, true, false, eqb, List, All, Bor, Some, None, get_or, if◌then◌else◌, length, map, not, take, refl, sym, ap, subst, inl, inr, arith, eqb-true, eq-eqb, ne_eqb}
 use Rattle.std.specs.List.{AllPairs, AllZip, filter, list_any}
 use Rattle.std.specs.Str.{bytes_eq}
 use Rattle.std.specs.Str.Lines.{strip_carriage_return}
@@ -7,7 +7,7 @@ use Rattle.std.proofs.lemmas.Bool.{both_ways, cases_lt, cond-false, cond-true, n
 use Rattle.std.proofs.lemmas.List.{get_or-map, get_or_append_left, get_or_push, length-map, length_push, map_more, map-append, take-map}
 use Rattle.std.proofs.lemmas.List.Elements.{All-cons, All-nil, All-weaker, filter-append}
 use Rattle.std.proofs.lemmas.Slice.Eq.{bytes_eq-Decides}
-use Rattle.match_plans.specs.Schedules.{AreMatchesOf, HasFault, HaveIdsOnce, IsBadLine, IsFaultOf, IsPlanned, line_words, match_words, misplaced, tells_nothing}
+use Rattle.match_plans.specs.Schedules.{AreMatchesOf, HaveIdsOnce, IsBadLine, IsFaultOf, IsPlanned, line_words, match_words, misplaced, tells_nothing}
 use Rattle.match_plans.specs.declared.plan.MatchPlan.{MatchPlan}
 use Rattle.match_plans.specs.declared.schedule.LineFault.{LineFault}
 use Rattle.match_plans.specs.declared.schedule.LineFault.TheVariants.{IdTwice, WrongPlayers}

@@ -1,5 +1,5 @@
 -- The parts of a player's word, and the words of a match.
-use Rattle.std.proofs.Common.{◌≡◌, ◌≢◌, ◌⊎◌, ◌&&◌, ◌+◌, ◌-◌, ◌∙◌, ◌∷◌, ◌++◌, [], ℕ, suc, ◌<◌, ◌≤◌, Bool, true, false, eqb, ltb, List, Bor, Option, Some, None, Result, Ok, Err, MatchBool, MatchOption, drop, get_or, is_ok, is_some, length, map, option_map, take, take-append-drop, eq-eqb, ne_eqb, refl, sym, ap, subst, inl, inr, arith, length-drop, lt-ltb, le-ltb, take_all}
+use Rattle.std.proofs.Common.{◌≡◌, ◌≢◌, ◌&&◌, ◌+◌, ◌-◌, ◌∙◌, ◌∷◌, ◌++◌, [], ℕ, suc, ◌<◌, ◌≤◌, Bool, true, false, eqb, ltb, List, Bor, Option, Some, None, Result, Ok, Err, MatchBool, MatchOption, drop, get_or, is_ok, is_some, length, map, option_map, take, take-append-drop, eq-eqb, ne_eqb, refl, sym, ap, subst, inr, arith, length-drop, lt-ltb, le-ltb, take_all}
 use Rattle.std.specs.List.{AllZip, after_first, before_first, list_all, position_or_len}
 use Rattle.std.specs.Net.Grammar.{IsIpv6Text, Parses}
 use Rattle.std.specs.Str.{IsUtf8, is_utf8}

@@ -1,5 +1,5 @@
 -- Lists, place by place.
-use Rattle.std.proofs.Common.{◌≡◌, ℕ, zero, suc, List, [], ◌∷◌, ◌++◌, Some, length, subst, sym}
+use Rattle.std.proofs.Common.{◌≡◌, ℕ, zero, suc, List, [], ◌∷◌, ◌++◌, length, subst, sym}
 use Rattle.match_workers.specs.Places.{EachAt}
 
 push_at : {A : Type 0} (Q : ℕ → A → Type 0) (xs : List A) (x : A) → EachAt Q xs → Q (length xs) x → EachAt Q (xs ++ x ∷ [])

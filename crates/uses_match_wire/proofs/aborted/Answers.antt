@@ -6,7 +6,7 @@ use Rattle.match_book.specs.Names.{is_name}
 use Rattle.match_book.specs.declared.due.Owed.TheVariants.{Abort as OwesAbort}
 use Rattle.match_messages.specs.declared.brief.Brief.{Brief}
 use Rattle.match_messages.specs.declared.messages.Message.{Message}
-use Rattle.match_messages.specs.declared.messages.Message.TheVariants.{Info, Start, Play, Stop, Abort}
+use Rattle.match_messages.specs.declared.messages.Message.TheVariants.{Abort}
 use Rattle.match_wire.specs.MessageLaws.{IsSayable, Says}
 use Rattle.match_wire.specs.MessageValue.{MessageValue, info, start, play, stop, abort, message_form, message_value, folded_message}
 use Rattle.uses_match_wire.proofs.aborted.Goals as goal

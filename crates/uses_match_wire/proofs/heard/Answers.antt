@@ -1,4 +1,4 @@
-use Rattle.std.proofs.Common.{◌≡◌, refl, sym, subst, ◌∙◌, Result, Ok, Err}
+use Rattle.std.proofs.Common.{◌≡◌, sym, subst, ◌∙◌, Ok}
 use Rattle.match_wire.specs.MessageReading.{Read, Gives, message_reading}
 use Rattle.match_wire.specs.MessageValue.{MessageValue, message_value, folded_message}
 use Rattle.match_messages.specs.declared.messages.Message.{Message}

@@ -1,4 +1,4 @@
-use Rattle.std.proofs.Common.{◌≡◌, ◌∙◌, ℕ, List, Bor, map, ap, sym, rules}
+use Rattle.std.proofs.Common.{◌∙◌, ℕ, List, Bor, map, ap, sym, rules}
 use Rattle.std.specs.List.{list_any}
 use Rattle.std.specs.Str.{bytes_eq}
 use Rattle.match_plans.proofs.Placing.{any-map, id-twice, well-placed}
