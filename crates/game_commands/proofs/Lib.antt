@@ -1,2 +1,3 @@
 mod CheckedLines
+mod DoneLines
 mod DoneNames

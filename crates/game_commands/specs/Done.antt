@@ -1,5 +1,5 @@
 -- The matches that are over, by their records.
-use Rattle.std.specs.Prelude.{◌≡◌, ℕ, Bool, true, List, [], ◌∷◌, ◌++◌}
+use Rattle.std.specs.Prelude.{◌≡◌, ℕ, Bool, true, List, [], ◌∷◌, ◌++◌, All, Contains}
 use Rattle.std.specs.Str.{bytes_eq}
 use Rattle.indexmap.specs.IndexSet.{contains_by}
 use Rattle.serde_json.specs.Data.{Data}
@@ -28,3 +28,11 @@ is_noted done names = contains_by (λ noted. bytes_eq names noted.items) done.na
 abbrev pub IsDone : {S M : Type 0} → Rules S M → List ℕ → List ℕ → Type 0
 IsDone g line names = IsLawfulRecord g line
     × ((tree : Data) × (p : RecordParts) × IsJson line tree × Holds tree p × (is_last p.phase ≡ true) × (names ≡ match_names p.id p.players))
+
+-- one of these lines is the lawful record of a match that is over, and the match has these names
+abbrev pub IsDoneIn : {S M : Type 0} → Rules S M → List (List ℕ) → List ℕ → Type 0
+IsDoneIn g lines names = (line : List ℕ) × Contains lines line × IsDone g line names
+
+-- each noted match is over, by its lawful record in one of these lines
+abbrev pub AreDone : {S M : Type 0} → Rules S M → List (List ℕ) → DoneMatches → Type 0
+AreDone g lines done = All (λ noted. IsDoneIn g lines noted.items) done.names.keys

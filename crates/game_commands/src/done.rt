@@ -1,8 +1,10 @@
 //! The matches that a file of records has finished or aborted.
-ghost use Rattle.std.specs.Prelude.{◌≡◌, ◌∷◌, ◌++◌, [], true, map, IfErr, IfOk, IfSome, OnOk};
+ghost use Rattle.std.specs.Prelude.{◌≡◌, ◌⊎◌, ◌∷◌, ◌++◌, [], ℕ, List, true, map, IfErr, IfOk, IfSome, OnOk};
+ghost use Rattle.std.specs.Io.KnownBytes.{Consumes, IsAtEnd};
+ghost use Rattle.std.specs.Str.Lines.{lines};
 ghost use Rattle.game_core.specs.Bytes.{space};
 ghost use Rattle.match_book.specs.Phase.{is_last};
-ghost use Rattle.game_commands.specs.Done.{IsDone, is_noted, match_names};
+ghost use Rattle.game_commands.specs.Done.{AreDone, IsDone, is_noted, match_names};
 ghost use Rattle.game_commands.specs.declared.fault.Fault.TheVariants.{Memory};
 
 use crate::checking::MAX_RECORD;
@@ -18,6 +20,7 @@ use std::alloc::{AllocError, Global};
 use std::fs;
 use std::io::Read;
 use std::rt::Files;
+use whole_streams::laws::lines_are_taken;
 use whole_streams::{LineBuffer, NextLine};
 
 /// The matches that are over, by their records.
@@ -94,7 +97,9 @@ impl DoneMatches {
     }
 
     /// Notes the match of a line, if the line is its lawful record and the match is over. Any other line is skipped.
-    fn note<G: Game>(&mut self, alloc: Global, game: &G, line: &[u8]) -> Result<(), Fault> {
+    fn note<G: Game>(&mut self, alloc: Global, game: &G, line: &[u8]) -> Result<(), Fault>
+        ensures { OnOk result ((first : List (List ℕ)) → AreDone (G.rules game.now) first self.old → AreDone (G.rules game.now) (first ++ line.now ∷ []) self.new) }
+    {
         match done_names(alloc, game, line) {
             Ok(Some(names)) => self.add(names),
             Ok(None) => Ok(()),
@@ -103,29 +108,42 @@ impl DoneMatches {
     }
 
     /// Adds the names of a match.
-    fn add(&mut self, names: Vec<u8>) -> Result<(), Fault> {
+    fn add(&mut self, names: Vec<u8>) -> Result<(), Fault>
+        ensures { OnOk result ((self.new.names.keys ≡ self.old.names.keys) ⊎ (self.new.names.keys ≡ self.old.names.keys ++ names ∷ [])) }
+    {
         self.names.insert(names)?;
         Ok(())
     }
+}
 
-    /// Notes the matches of all lines of an input.
-    fn note_all<G: Game, R: Read>(
-        &mut self,
-        alloc: Global,
-        game: &G,
-        reader: &mut Counted<R>,
-    ) -> Result<(), Fault> {
-        let mut buffer = LineBuffer::new();
-        for _ in 0..u64::MAX {
-            match buffer.next_line(alloc, reader, MAX_RECORD) {
-                Ok(NextLine::Ended(line)) => self.note(alloc, game, &line)?,
-                Ok(NextLine::Last(line)) => return self.note(alloc, game, &line),
-                Ok(NextLine::Nothing) => return Ok(()),
-                Err(fault) => return Err(done_fault(reading_fault(fault))),
+/// The matches that are over, by the lines of an input. Each line is one record. Other lines are skipped.
+fn done_in<G: Game, R: Read>(
+    alloc: Global,
+    game: &G,
+    reader: &mut Counted<R>,
+) -> Result<DoneMatches, Fault>
+    ensures { IfOk result (λ done. (input : List ℕ)
+        × Consumes (R.remaining reader.old.stream) (R.remaining reader.new.stream) input
+        × IsAtEnd (R.remaining reader.new.stream)
+        × AreDone (G.rules game.now) (lines input) done) }
+{
+    lines_are_taken();
+    let mut done = DoneMatches {
+        names: IndexSet::new(alloc),
+    };
+    let mut buffer = LineBuffer::new();
+    for _ in 0..u64::MAX {
+        match buffer.next_line(alloc, reader, MAX_RECORD) {
+            Ok(NextLine::Ended(line)) => done.note(alloc, game, &line)?,
+            Ok(NextLine::Last(line)) => {
+                done.note(alloc, game, &line)?;
+                return Ok(done);
             }
+            Ok(NextLine::Nothing) => return Ok(done),
+            Err(fault) => return Err(done_fault(reading_fault(fault))),
         }
-        Ok(())
     }
+    Err(Fault::InputTooLong)
 }
 
 /// The fault for a file of records, by that for a file of rules.
@@ -148,11 +166,5 @@ pub fn done_matches<F: Files, G: Game>(
         Ok(file) => file,
         Err(error) => return Err(done_fault(opening_fault(error))),
     };
-    let mut done = DoneMatches {
-        names: IndexSet::new(alloc),
-    };
-    match done.note_all(alloc, game, &mut Counted::new(file)) {
-        Ok(()) => Ok(done),
-        Err(fault) => Err(fault),
-    }
+    done_in(alloc, game, &mut Counted::new(file))
 }

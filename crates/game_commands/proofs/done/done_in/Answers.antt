@@ -1,0 +1,54 @@
+use Rattle.std.proofs.Common.{rules, ◌≡◌, ◌++◌, ◌∷◌, [], All, append-nil, ap, subst, sym, ◌∙◌}
+use Rattle.std.proofs.KnownBytes.{Consumes-nil, Consumes-trans}
+use Rattle.std.proofs.lemmas.List.Elements.{All-nil}
+use Rattle.std.specs.Str.Lines.{lines}
+use Rattle.whole_streams.specs.Lines.{BeginsWithLine, IsNextLine}
+use Rattle.game_commands.specs.Done.{AreDone, IsDoneIn}
+use Rattle.game_commands.proofs.CheckedLines.{begins_last, begins_line, begins_more}
+use Rattle.game_commands.proofs.done.done_in.Goals as goal
+
+pub loop-init : goal.loop-init
+loop-init g c =
+    let none = subst (All (λ noted. IsDoneIn (g.G.Game.rules c.args.game.now) [] noted.items)) (sym c.new.ensures.empty) (All-nil (λ noted. IsDoneIn (g.G.Game.rules c.args.game.now) [] noted.items)) in
+    ([], [], Consumes-nil _, (λ more. ap (λ l. lines (l ++ more)) (sym c.new-buffer.ensures)), none)
+
+pub loop-preserved : goal.loop-preserved
+loop-preserved g c =
+    let was = c.loop.invariant in
+    let next = c.in-Ok-Ended.ensures.next in
+    let bytes = c.loop.buffer ++ next.0 in
+    let left = c.next_line.new.self in
+    let begins = subst (λ n. IsNextLine (g.R.Read.remaining c.next_line.new.reader.stream) bytes n left) c.in-Ok-Ended.field-0-is next.2 in
+    let same : c.deref.result.now ≡ c.in-Ok-Ended.line.items = search rules in
+    let line = subst (λ l. BeginsWithLine bytes l left) (sym same) begins in (
+      was.0 ++ next.0,
+      was.1 ++ c.deref.result.now ∷ [],
+      Consumes-trans _ _ _ _ _ was.2 next.1,
+      begins_line c.lines_are_taken.ensures.first (was.0 ++ next.0) was.1 bytes c.deref.result.now left (begins_more was.0 was.1 c.loop.buffer next.0 was.3) line,
+      c.in_ok-note-in-Ok-Ended.ensures was.1 was.4,
+    )
+
+pub returns-in-Ok-Last : goal.returns-in-Ok-Last
+returns-in-Ok-Last g c =
+    let was = c.loop.invariant in
+    let next = c.in-Ok-Last.ensures.next in
+    let last = subst (λ n. IsNextLine (g.R.Read.remaining c.next_line.new.reader.stream) (c.loop.buffer ++ next.0) n c.next_line.new.self) c.in-Ok-Last.field-0-is next.2 in
+    let same : c.deref-in-Ok-Last.result.now ≡ c.in-Ok-Last.line.items = search rules in
+    let cut = begins_last c.lines_are_taken.ensures.last was.0 was.1 c.loop.buffer next.0 c.deref-in-Ok-Last.result.now was.3 last.0 (same ∙ last.1) last.2 in (
+      was.0 ++ next.0,
+      Consumes-trans _ _ _ _ _ was.2 next.1,
+      last.4,
+      subst (λ ls. AreDone (g.G.Game.rules c.args.game.now) ls c.note-in-Ok-Last.new.self) (sym cut) (c.in_ok-note-in-Ok-Last.ensures was.1 was.4),
+    )
+
+pub returns-in-Ok-Nothing : goal.returns-in-Ok-Nothing
+returns-in-Ok-Nothing g c =
+    let was = c.loop.invariant in
+    let next = c.in-Ok-Nothing.ensures.next in
+    let none = subst (λ n. IsNextLine (g.R.Read.remaining c.next_line.new.reader.stream) (c.loop.buffer ++ next.0) n c.next_line.new.self) c.in-Ok-Nothing.field-0-is next.2 in
+    let cut = was.3 next.0 ∙ ap (λ bytes. was.1 ++ lines bytes) none.0 ∙ append-nil was.1 in (
+      was.0 ++ next.0,
+      Consumes-trans _ _ _ _ _ was.2 next.1,
+      none.2,
+      subst (λ ls. AreDone (g.G.Game.rules c.args.game.now) ls c.loop.done) (sym cut) was.4,
+    )
