@@ -1,4 +1,6 @@
 //! The beginnings and ends of expressions in a text, byte by byte.
+ghost use Rattle.std.specs.Prelude.{◌≡◌, ◌||◌, ◌==◌};
+ghost use Rattle.game_core.specs.Bytes.{is_atom_byte, is_white, semicolon};
 
 /// The state at a place of a text: the number of open lists, and whether a comment or an atom is open.
 #[derive(Clone, Copy)]
@@ -9,7 +11,9 @@ pub struct Scan {
 }
 
 /// Whether a byte may stand in an atom.
-pub fn is_atom_byte(byte: u8) -> bool {
+pub fn is_atom_byte(byte: u8) -> bool
+    ensures { result ≡ is_atom_byte byte }
+{
     byte.is_ascii_graphic() && !matches!(byte, b'(' | b')' | b';')
 }
 
@@ -24,7 +28,9 @@ impl Scan {
     }
 
     /// Whether the next byte belongs to a comment, or is white space.
-    pub fn is_hidden(&self, byte: u8) -> bool {
+    pub fn is_hidden(&self, byte: u8) -> bool
+        ensures { result ≡ (self.now.in_comment || is_white byte || byte == semicolon) }
+    {
         self.in_comment || matches!(byte, b';' | b' ' | b'\t' | b'\r' | b'\n')
     }
 

@@ -1,4 +1,7 @@
 //! The faults of a description as a whole.
+ghost use Rattle.std.specs.Prelude.{◌≡◌, length};
+ghost use Rattle.rule_sentences.specs.Descriptions.{role_names};
+ghost use Rattle.rule_sentences.specs.SentenceViews.{rules_of};
 
 use crate::links::{Heads, heads_of};
 use game_core::{MAX_ROLES, Text};
@@ -54,7 +57,9 @@ fn most_moves(heads: &Heads<'_>) -> usize {
     most
 }
 
-fn count_roles(rules: &[Rule]) -> usize {
+fn count_roles(rules: &[Rule]) -> usize
+    ensures { result ≡ length (role_names (rules_of rules.now)) }
+{
     let mut count: usize = 0;
     for rule in rules {
         if let Derived::Role(_) = &rule.head {
