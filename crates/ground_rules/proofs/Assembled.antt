@@ -9,8 +9,7 @@ use Rattle.rule_sentences.specs.declared.sentence.Derived.{Derived}
 use Rattle.rule_sentences.specs.declared.sentence.Derived.TheVariants.{Legal, Terminal}
 use Rattle.ground_rules.specs.declared.names.TermKind.TheVariants.{State, Move}
 use Rattle.ground_rules.specs.declared.lookups.StateHead.TheVariants.{Init as InitHead, Next as NextHead}
-use Rattle.ground_rules.specs.Lawfulness.Bools.{and-left, and-right, or-left}
-use Rattle.ground_rules.specs.Lawfulness.Names.{text-same}
+use Rattle.ground_rules.specs.Lawfulness.Bools.{and-left, and-right}
 use Rattle.ground_rules.specs.Lawfulness.TermTexts.{are_terms_in_any}
 use Rattle.rule_sentences.specs.Descriptions.{Description, is_among, role_names, are_different}
 use Rattle.ground_rules.specs.Described.{IsGameOf}
@@ -21,7 +20,7 @@ use Rattle.ground_rules.specs.Internal.Resolved.{NameTable, atom_number, role_ta
 use Rattle.ground_rules.specs.LoadedGame.{GameTables, loaded_game}
 use Rattle.rule_sentences.specs.SentenceFaults.{description_of}
 use Rattle.ground_rules.specs.Internal.GameParts.{AreGameParts, AreNamesOf, IsTableOf}
-use Rattle.ground_rules.proofs.GameOf.{EachIs, each-new, heads-stand, picked-in, game-of}
+use Rattle.ground_rules.proofs.GameOf.{EachIs, each-new, heads-stand, one-about, picked-in, table-names, game-of}
 use Rattle.ground_rules.proofs.Mentions.{AreIn, texts_by, legal_pick, legal-picks}
 use Rattle.ground_rules.proofs.LawfulTables.{HeadFrom, role-tables, head-terms, terms-spelled, names-spelled}
 use Rattle.ground_rules.proofs.HeadsRead.{heads-read}
@@ -43,10 +42,6 @@ few-roles n d t roles p =
     let few = at_most (length (role_names d)) max_roles (and-right _ (nat_le (length (role_names d)) max_roles) (and-left _ (have_few_moves (role_names d) d) p.sound.small)) in
     omega (arith, few, ap length p.table.roles, ap length p.tables, length-map t.roles (role_table t))
 
-table-names : (t : NameTable) (rs : List (List ℕ)) → names (map (role_table t) rs) ≡ rs
-table-names t [] = refl
-table-names t (x ∷ rs) = ap (λ xs. x ∷ xs) (table-names t rs)
-
 pub names-are : (n : ℕ) (d : Description) (t : NameTable) (roles : List RoleTable) → AreNamesOf n d t roles → names roles ≡ role_names d
 names-are n d t roles p = ap names p.tables ∙ table-names t t.roles ∙ p.table.roles
 
@@ -59,14 +54,11 @@ has-states d t table u h = table.states u ∙ h
 has-moves : (d : Description) (t : NameTable) → IsTableOf d t → (u : List ℕ) → is_among (head_terms Move d) u ≡ true → is_among t.moves u ≡ true
 has-moves d t table u h = table.moves u ∙ h
 
-one-about : (role u : List ℕ) → is_among (u ∷ []) u ≡ true
-one-about role u = or-left _ _ (text-same u u refl)
-
 pub tables-pass : (n : ℕ) (xs : List Expression) (t : NameTable) (roles : List RoleTable) (terms : List (List ℕ)) → AreNamesOf n (description_of xs) t roles → terms ≡ t.moves → are_roles (length terms) roles ≡ true
 tables-pass n xs t roles terms p e =
     let d = description_of xs in
     let inside : (role : List ℕ) → AreIn t.moves (texts_by (legal_pick role) t.heads) = λ role.
-    subst (λ (hs : List Derived). AreIn t.moves (texts_by (legal_pick role) hs)) (sym p.table.heads') (picked-in Move d t.moves (legal_pick role) (Legal role) (legal-picks role) (one-about role) (has-moves d t p.table)) in
+    subst (λ (hs : List Derived). AreIn t.moves (texts_by (legal_pick role) hs)) (sym p.table.heads') (picked-in Move d t.moves (legal_pick role) (Legal role) (legal-picks role) one-about (has-moves d t p.table)) in
     ap (λ ts. are_roles (length ts) roles) e ∙ ap (are_roles (length t.moves)) p.tables ∙ role-tables (expressions xs) t t.roles (heads-from xs t p.table) (heads-stand t d p.table.heads') inside
 
 pub names-pass : (n : ℕ) (d : Description) (t : NameTable) (roles : List RoleTable) → AreNamesOf n d t roles → are_different (names roles) ≡ true

@@ -1,9 +1,10 @@
 -- A sorted set of texts is in byte order.
 use Rattle.std.proofs.Common.{◌≡◌, ℕ, zero, suc, ◌<◌, ◌≤◌, Bool, true, false, ◌||◌, bytes_eq, nat_eq, nat_lt, nat_cmp, is_lt, List, [], ◌∷◌, ◌++◌, if◌then◌else◌, length, get_or, refl, sym, ap, ◌∙◌, arith, inl, inr}
+use mathlib.Core.Bool.{or-false, or_assoc}
 use Rattle.std.specs.List.{IsDistinct, AllByRecursion, Contains}
 use Rattle.std.specs.List.Sorted.{IsSorted, IsPermutation}
 use Rattle.std.specs.Cmp.Lexicographic.{slice_cmp, nat_list_cmp_total}
-use Rattle.std.proofs.lemmas.Bool.{cases_order}
+use Rattle.std.proofs.lemmas.Bool.{cases_order, false_from_ne_true}
 use Rattle.std.proofs.lemmas.Bool.Decides.{Decides-ltb}
 use Rattle.std.proofs.lemmas.List.Sorted.{sorted_far, ranks_by, Contains-permutation, IsPermutation-sym}
 use Rattle.ground_rules.specs.Lawfulness.Bools.{and-both, or-left, or-right, bool-same}
@@ -12,12 +13,8 @@ use Rattle.rule_sentences.specs.Descriptions.{is_among, with_new, with_all_new}
 use Rattle.ground_rules.specs.Lawfulness.TableTests.{comes_before, comes_before_all, are_in_order}
 use Rattle.ground_rules.proofs.NameLists.{among-any}
 
-is-false : (b : Bool) → (b ≡ true → ⊥) → b ≡ false
-is-false true h = absurd (h refl)
-is-false false h = refl
-
 not-below : (m n : ℕ) → (m < n → ⊥) → nat_lt m n ≡ false
-not-below m n h = is-false (nat_lt m n) (λ e. h ((Decides-ltb m n).0 e))
+not-below m n h = false_from_ne_true (nat_lt m n) (λ e. h ((Decides-ltb m n).0 e))
 
 cmp-before : (a b : List ℕ) → is_lt (slice_cmp nat_cmp b a) ≡ false → bytes_eq a b ≡ false → comes_before a b ≡ true
 cmp-before [] [] f e = absurd cc
@@ -68,17 +65,9 @@ among-permuted xs ys t moved =
     (λ h. let c = Contains-permutation xs ys t moved (among-contains xs t h) in contains-among ys t c.0 c.1 c.2)
     (λ h. let c = Contains-permutation ys xs t (IsPermutation-sym xs ys moved) (among-contains ys t h) in contains-among xs t c.0 c.1 c.2)
 
-or-assoc : (x y z : Bool) → ((x || y) || z) ≡ (x || (y || z))
-or-assoc true y z = refl
-or-assoc false y z = refl
-
-or-false : (x : Bool) → (x || false) ≡ x
-or-false true = refl
-or-false false = refl
-
 among-append : (xs ys : List (List ℕ)) (t : List ℕ) → is_among (xs ++ ys) t ≡ (is_among xs t || is_among ys t)
 among-append [] ys t = refl
-among-append (x ∷ xs) ys t = ap (λ b. bytes_eq x t || b) (among-append xs ys t) ∙ sym (or-assoc (bytes_eq x t) (is_among xs t) (is_among ys t))
+among-append (x ∷ xs) ys t = ap (λ b. bytes_eq x t || b) (among-append xs ys t) ∙ sym (or_assoc (bytes_eq x t) (is_among xs t) (is_among ys t))
 
 new-by : (seen : List (List ℕ)) (x t : List ℕ) (b : Bool) → is_among seen x ≡ b → is_among (if b then seen else seen ++ x ∷ []) t ≡ (is_among seen t || bytes_eq x t)
 new-by seen x t true is =
@@ -95,7 +84,7 @@ among-new seen x t = rw (← among-any seen x) (new-by seen x t (is_among seen x
 
 pub among-all-new : (seen xs : List (List ℕ)) (t : List ℕ) → is_among (with_all_new bytes_eq seen xs) t ≡ (is_among seen t || is_among xs t)
 among-all-new seen [] t = sym (or-false (is_among seen t))
-among-all-new seen (x ∷ xs) t = among-all-new (with_new bytes_eq seen x) xs t ∙ ap (λ b. b || is_among xs t) (among-new seen x t) ∙ or-assoc (is_among seen t) (bytes_eq x t) (is_among xs t)
+among-all-new seen (x ∷ xs) t = among-all-new (with_new bytes_eq seen x) xs t ∙ ap (λ b. b || is_among xs t) (among-new seen x t) ∙ or_assoc (is_among seen t) (bytes_eq x t) (is_among xs t)
 
 -- a sorted set has the texts that were added
 pub sorted-same : (ks js xs : List (List ℕ)) (t : List ℕ) → IsPermutation ks js → ks ≡ with_all_new bytes_eq [] xs → is_among js t ≡ is_among xs t

@@ -1,5 +1,6 @@
 -- The rows of dependence say which heads depend on the state or on the moves.
 use Rattle.std.proofs.Common.{◌≡◌, ℕ, zero, suc, ◌+◌, ◌<◌, ◌⊎◌, inl, inr, Bool, true, false, not, ◌&&◌, ◌||◌, nat_eq, bytes_eq, List, [], ◌∷◌, length, refl, sym, ap, ◌∙◌, arith, subst}
+use mathlib.Core.Bool.{and-true}
 use Rattle.std.specs.List.{list_any}
 use Rattle.std.specs.List.Sorted.{IsPermutation}
 use Rattle.std.proofs.lemmas.List.Sorted.{IsPermutation-map}
@@ -93,14 +94,6 @@ mutual
   any-spoken-true names of_state row b End is h = absurd h
   any-spoken-true names of_state row b (More l ls) is (inl h) = or-left _ _ (spoken-true names of_state row b l is h)
   any-spoken-true names of_state row b (More l ls) is (inr h) = or-right _ _ (any-spoken-true names of_state row b ls is h)
-
-and-true : (x : Bool) → (x && true) ≡ x
-and-true true = refl
-and-true false = refl
-
-or-false : (x : Bool) → (x || false) ≡ x
-or-false true = refl
-or-false false = refl
 
 -- a rule whose body speaks derives its head
 rule-derives : (names : NameTable) (of_state : Bool) (row : ℕ → Bool) (r : TextRule) (d : Description) → IsRuleOf r d → any_true (numbered [] []) row (all_exposed of_state (all_resolved names r.body)) ≡ true → derived (numbered [] []) row (exposed_rules of_state (resolved_rules names d)) (atom_number names r.head) ≡ true

@@ -1,5 +1,5 @@
 -- The loaded game is that of the description.
-use Rattle.std.proofs.Common.{◌≡◌, ℕ, zero, suc, ◌+◌, ◌<◌, ◌≤◌, Bool, true, false, ◌&&◌, ◌||◌, if◌then◌else◌, bytes_eq, List, [], ◌∷◌, ◌++◌, length, get_or, take, map, filter, set, Option, Some, None, refl, sym, ap, ◌∙◌, arith, length-set, subst}
+use Rattle.std.proofs.Common.{◌≡◌, ℕ, zero, suc, ◌+◌, ◌<◌, ◌≤◌, Bool, true, false, ◌||◌, if◌then◌else◌, bytes_eq, List, [], ◌∷◌, ◌++◌, length, get_or, take, map, filter, set, Option, Some, None, refl, sym, ap, ◌∙◌, arith, length-set, subst}
 use Rattle.std.specs.Prelude.{slice_get}
 use Rattle.std.specs.List.{list_any}
 use Rattle.std.specs.List.Sorted.{IsPermutation}
@@ -13,7 +13,7 @@ use Rattle.ground_rules.specs.declared.tables.GroundMove.{GroundMove}
 use Rattle.ground_rules.specs.declared.tables.Mention.{Mention}
 use Rattle.ground_rules.specs.declared.tables.GoalHead.{GoalHead}
 use Rattle.ground_rules.specs.declared.lookups.StateHead.TheVariants.{Init as InitHead, Next as NextHead}
-use Rattle.ground_rules.specs.Lawfulness.Bools.{or-left, or-right, bool-same}
+use Rattle.ground_rules.specs.Lawfulness.Bools.{and-right, and-both, or-left, or-right, bool-same}
 use Rattle.ground_rules.specs.Lawfulness.Names.{text-sound, text-same, derived-sound}
 use Rattle.numbered_rules.specs.Literals.{Rule}
 use Rattle.numbered_rules.specs.Fit.{Situation, all_true, Fits}
@@ -117,7 +117,7 @@ picked-in kind d terms pick make is about has =
     let here : is_among (terms_in kind a) t ≡ true = ap (λ x. is_among (terms_in kind x) t) (is.made a t e) ∙ about t in
     place-within bytes_eq terms t (sym (among-any terms t) ∙ has t (inside t here))))
 
-one-about : (t : List ℕ) → is_among (t ∷ []) t ≡ true
+pub one-about : (t : List ℕ) → is_among (t ∷ []) t ≡ true
 one-about t = or-left _ _ (text-same t t refl)
 
 pub within-any : {A : Type 0} (same : A → A → Bool) (xs : List A) (x : A) → place same xs x < length xs → list_any (same x) xs ≡ true
@@ -183,14 +183,6 @@ text-within : (terms ts : List (List ℕ)) (t : List ℕ) → AreIn terms ts →
 text-within terms [] t inside h = absurd cc
 text-within terms (s ∷ ts) t inside h = within-by terms s t ts (bytes_eq t s) refl inside.0 (text-within terms ts t inside.1) h
 
-second : (x y : Bool) → (x && y) ≡ true → y ≡ true
-second true y e = e
-second false y e = absurd cc
-
-both : (x y : Bool) → x ≡ true → y ≡ true → (x && y) ≡ true
-both true y e f = f
-both false y e f = absurd cc
-
 -- a picked text is set where the fit says so
 set-is : (d : Description) (table : NameTable) (v : Derived → Bool) (row : List Bool) (pick : Derived → Option (List ℕ)) (make : List ℕ → Derived) (t : List ℕ) → IsRead d table v row → table.heads ≡ heads d → IsPick pick make → ((t : List ℕ) → is_among (terms_in State (make t)) t ≡ true)
     → ((s : List ℕ) → is_among (head_terms State d) s ≡ true → is_among table.states s ≡ true) → are_in_order table.states ≡ true
@@ -204,18 +196,18 @@ set-is d table v row pick make t read same is about has ordered =
     ∙ bool-same (bit marks (place bytes_eq terms t)) (v (make t))
     (λ h. let lt = past marks (place bytes_eq terms t) h in
     let e = marked-bit (length terms) row (mentions_by pick terms 0 table.heads) (place bytes_eq terms t) (omega (arith, lt, marked-size (length terms) row (mentions_by pick terms 0 table.heads))) in
-    second (list_any (bytes_eq t) (texts_by pick table.heads)) (v (make t)) (sym hit ∙ sym e ∙ h))
+    and-right (list_any (bytes_eq t) (texts_by pick table.heads)) (v (make t)) (sym hit ∙ sym e ∙ h))
     (λ h. let there = true-is-head table v row read.by read.size (make t) h in
     let found = found-text pick make is table.heads t there in
     let lt = text-within terms (texts_by pick table.heads) t inside found in
-    marked-bit (length terms) row (mentions_by pick terms 0 table.heads) (place bytes_eq terms t) lt ∙ hit ∙ both _ _ found h)
+    marked-bit (length terms) row (mentions_by pick terms 0 table.heads) (place bytes_eq terms t) lt ∙ hit ∙ and-both _ _ found h)
 
 table-at : (table : NameTable) (rs : List (List ℕ)) (r : ℕ) → r < length rs → get_or (map (role_table table) rs) r no_role ≡ role_table table (get_or rs r [])
 table-at table [] r lt = absurd (omega (arith, lt))
 table-at table (x ∷ rs) zero lt = refl
 table-at table (x ∷ rs) (suc r) lt = table-at table rs r (omega (arith, lt))
 
-table-names : (table : NameTable) (rs : List (List ℕ)) → names (map (role_table table) rs) ≡ rs
+pub table-names : (table : NameTable) (rs : List (List ℕ)) → names (map (role_table table) rs) ≡ rs
 table-names table [] = refl
 table-names table (x ∷ rs) = ap (λ xs. x ∷ xs) (table-names table rs)
 

@@ -1,5 +1,6 @@
 -- The tables of a loaded game pass the tests that its laws rest on.
-use Rattle.std.proofs.Common.{◌≡◌, ℕ, ◌+◌, ◌<◌, ◌≤◌, Bool, true, false, ◌||◌, if◌then◌else◌, nat_eq, nat_le, bytes_eq, List, [], ◌∷◌, ◌++◌, length, map, Option, Some, None, refl, sym, ap, ◌∙◌, arith}
+use Rattle.std.proofs.Common.{◌≡◌, ℕ, ◌+◌, ◌<◌, ◌≤◌, Bool, true, false, if◌then◌else◌, nat_eq, nat_le, bytes_eq, List, [], ◌∷◌, ◌++◌, length, map, Option, Some, None, refl, sym, ap, ◌∙◌, arith}
+use Rattle.std.proofs.lemmas.Bool.{false_from_ne_true, or_from}
 use Rattle.std.proofs.lemmas.Bool.Decides.{nat_tests, Decides-ltb}
 use Rattle.game_core.specs.Play.{max_goal}
 use Rattle.game_core.specs.Expression.{Expressions}
@@ -19,14 +20,6 @@ use Rattle.ground_rules.proofs.Situations.{text-decides}
 use Rattle.ground_rules.proofs.Mentions.{StandFrom, IsPick, AreIn, texts_by, with_text, legal_pick, legal-picks, legal-mentions}
 use Rattle.ground_rules.proofs.GameOf.{EachIs}
 
-is-false : (b : Bool) → (b ≡ true → ⊥) → b ≡ false
-is-false true h = absurd (h refl)
-is-false false h = refl
-
-or-both-false : (x y : Bool) → x ≡ false → y ≡ false → (x || y) ≡ false
-or-both-false true y e f = absurd cc
-or-both-false false y e f = f
-
 no-term : (names : NameTable) (pick : Derived → Option (List ℕ)) (make : List ℕ → Derived) (terms : List (List ℕ)) (t : List ℕ) (m n : ℕ) (hs : List Derived) → IsPick pick make → m < n → StandFrom names n hs → place bytes_eq terms t < length terms → atom_number names (make t) ≡ m
     → has_term (place bytes_eq terms t) (mentions_by pick terms n hs) ≡ false
 no-term names pick make terms t m n [] is lt stand within at = refl
@@ -34,7 +27,7 @@ no-term names pick make terms t m n (a ∷ as') is lt stand within at = by-pick 
   where
     by-pick : (o : Option (List ℕ)) → pick a ≡ o → has_term (place bytes_eq terms t) (mentions_by pick terms (n + 1) as') ≡ false → has_term (place bytes_eq terms t) (with_mention terms n o (mentions_by pick terms (n + 1) as')) ≡ false
     by-pick None e rest = rest
-    by-pick (Some s) e rest = or-both-false _ _ (is-false (nat_eq (place bytes_eq terms t) (place bytes_eq terms s)) (λ h.
+    by-pick (Some s) e rest = or_from _ _ (false_from_ne_true (nat_eq (place bytes_eq terms t) (place bytes_eq terms s)) (λ h.
         let same = place-one bytes_eq text-decides terms t s within (number-sound _ _ h) in
         let f = ap (λ x. atom_number names (make x)) same in
         let g = ap (atom_number names) (is.made a s e) in

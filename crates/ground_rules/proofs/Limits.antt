@@ -1,5 +1,5 @@
 -- The size of a description against the limits.
-use Rattle.std.proofs.Common.{◌≡◌, ℕ, ◌<◌, ◌≤◌, Bool, true, false, ◌&&◌, nat_le, List, [], ◌∷◌, length, map, refl, sym, ap, ◌∙◌, arith}
+use Rattle.std.proofs.Common.{◌≡◌, ℕ, ◌<◌, ◌≤◌, true, false, ◌&&◌, nat_le, List, [], ◌∷◌, length, map, refl, sym, ap, ◌∙◌, arith}
 use Rattle.std.proofs.lemmas.Bool.Decides.{nat_tests}
 use Rattle.game_core.specs.Play.{max_roles}
 use Rattle.rule_sentences.specs.declared.sentence.Derived.{Derived}
@@ -11,14 +11,7 @@ use Rattle.ground_rules.specs.Internal.Resolved.{NameTable, role_table, with_men
 use Rattle.ground_rules.specs.declared.tables.Mention.{Mention}
 use Rattle.ground_rules.proofs.Mentions.{texts_by, with_text, legal_pick, legal-mentions, moves-texts}
 use Rattle.std.proofs.Common.{Option, Some, None, ◌+◌, suc}
-
-left-false : (x y : Bool) → x ≡ false → (x && y) ≡ false
-left-false true y e = absurd cc
-left-false false y e = refl
-
-right-false : (x y : Bool) → y ≡ false → (x && y) ≡ false
-right-false true y e = e
-right-false false y e = refl
+use Rattle.std.proofs.lemmas.Bool.{and_left, and_right}
 
 more : (m n : ℕ) → n < m → nat_le m n ≡ false
 more m n lt = grind (arith, nat_tests)
@@ -27,13 +20,13 @@ most : (m n : ℕ) → m ≤ n → nat_le m n ≡ true
 most m n le = grind (arith, nat_tests)
 
 pub too-many-sentences : (n : ℕ) (d : Description) → max_sentences < n → is_small n d ≡ false
-too-many-sentences n d lt = left-false _ _ (left-false _ _ (left-false (nat_le n max_sentences) _ (more n max_sentences lt)))
+too-many-sentences n d lt = and_left _ _ (and_left _ _ (and_left (nat_le n max_sentences) _ (more n max_sentences lt)))
 
 pub too-many-atomics : (n : ℕ) (d : Description) → nat_le (length (each_once same_atomic (atomics d))) max_atomic_sentences ≡ false → is_small n d ≡ false
-too-many-atomics n d many = left-false _ _ (left-false _ _ (right-false (nat_le n max_sentences) _ many))
+too-many-atomics n d many = and_left _ _ (and_left _ _ (and_right (nat_le n max_sentences) _ many))
 
 pub too-many-roles : (n k : ℕ) (d : Description) → k ≡ length (role_names d) → max_roles < k → is_small n d ≡ false
-too-many-roles n k d e lt = left-false _ _ (right-false (nat_le n max_sentences && nat_le (length (each_once same_atomic (atomics d))) max_atomic_sentences) _ (more (length (role_names d)) max_roles (omega (arith, e, lt))))
+too-many-roles n k d e lt = and_left _ _ (and_right (nat_le n max_sentences && nat_le (length (each_once same_atomic (atomics d))) max_atomic_sentences) _ (more (length (role_names d)) max_roles (omega (arith, e, lt))))
 
 pub few-so-far : (n m : ℕ) (d : Description) → n ≤ max_sentences → nat_le (length (each_once same_atomic (atomics d))) max_atomic_sentences ≡ true → m ≡ length (role_names d) → m ≤ max_roles → is_small_so_far n d ≡ true
 few-so-far n m d le few f le' = and-both _ _ (and-both _ _ (most n max_sentences le) few) (most _ max_roles (omega (arith, f, le')))

@@ -1,5 +1,6 @@
 -- What the tables of a game say, by the fit.
 use Rattle.std.proofs.Common.{◌≡◌, ◌≢◌, ℕ, zero, suc, ◌+◌, ◌<◌, ◌≤◌, Bool, true, false, ◌&&◌, ◌||◌, if◌then◌else◌, nat_eq, bytes_eq, List, [], ◌∷◌, ◌++◌, length, get_or, set, map, filter, Option, Some, None, refl, sym, ap, ◌∙◌, arith, length-set, get_or-set_other}
+use mathlib.Core.Bool.{or-false, or-true, or_assoc}
 use Rattle.std.proofs.lemmas.Grind.{get_or-set_at}
 use Rattle.std.proofs.lemmas.List.{length-replicate}
 use Rattle.std.specs.List.{list_any}
@@ -21,18 +22,6 @@ abbrev pub hits : List Bool → List Mention → ℕ → Bool
 hits row [] k = false
 hits row (m ∷ ms) k = (bit row m.atom && nat_eq m.term k) || hits row ms k
 
-or-swap : (x y z : Bool) → ((x || y) || z) ≡ (x || (y || z))
-or-swap true y z = refl
-or-swap false y z = refl
-
-or-false : (x : Bool) → (x || false) ≡ x
-or-false true = refl
-or-false false = refl
-
-or-true : (x : Bool) → (x || true) ≡ true
-or-true true = refl
-or-true false = refl
-
 set-bit : (marks : List Bool) (t k : ℕ) (here eq : Bool) → nat_eq t k ≡ eq → k < length marks → bit (if here then set marks t true else marks) k ≡ (bit marks k || (here && eq))
 set-bit marks t k false eq is lt = sym (or-false (bit marks k))
 set-bit marks t k true true is lt = get_or-set_at marks t k true false (sym (number-sound t k is)) (omega (arith, number-sound t k is, lt)) ∙ sym (or-true (bit marks k))
@@ -50,7 +39,7 @@ marked-hits marks row (m ∷ ms) k lt =
     let next = if bit row m.atom then set marks m.term true else marks in
     marked-hits next row ms k (omega (arith, kept-length marks m.term (bit row m.atom), lt))
     ∙ ap (λ b. b || hits row ms k) (set-bit marks m.term k (bit row m.atom) (nat_eq m.term k) refl lt)
-    ∙ or-swap (bit marks k) (bit row m.atom && nat_eq m.term k) (hits row ms k)
+    ∙ or_assoc (bit marks k) (bit row m.atom && nat_eq m.term k) (hits row ms k)
 
 unset-bit : (n k : ℕ) → bit (unset n) k ≡ false
 unset-bit zero k = refl

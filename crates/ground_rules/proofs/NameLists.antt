@@ -1,10 +1,12 @@
 -- Lists of names, one after another.
-use Rattle.std.proofs.Common.{◌≡◌, ◌≢◌, ℕ, ◌+◌, ◌<◌, Bool, true, false, not, ◌&&◌, ◌||◌, bytes_eq, List, [], ◌∷◌, ◌++◌, drop, length, get_or, drop-cons, add-one, refl, sym, ap, ◌∙◌, append_assoc, append-nil}
+use Rattle.std.proofs.Common.{◌≡◌, ◌≢◌, ℕ, ◌+◌, ◌<◌, Bool, true, false, not, ◌&&◌, ◌||◌, bytes_eq, List, [], ◌∷◌, ◌++◌, drop, length, get_or, refl, sym, ap, ◌∙◌, append_assoc, append-nil}
+use mathlib.Core.Bool.{and-false}
+use Rattle.std.proofs.lemmas.List.{at_drop_more}
 use Rattle.std.specs.List.{list_any}
 use Rattle.ground_rules.specs.Lawfulness.Bools.{and-left, and-right, and-both, not-true, not-false, or-left, or-right, or-false-left, or-false-right, bool-same}
 use Rattle.ground_rules.specs.Lawfulness.Names.{text-sound, text-same}
 use Rattle.rule_sentences.specs.Descriptions.{is_among, with_new, role_names, name_in, are_different}
-use Rattle.rule_sentences.specs.SentenceViews.{rule_of, rules_of}
+use Rattle.rule_sentences.specs.SentenceViews.{rules_of}
 use Rattle.rule_sentences.specs.declared.sentence.Rule.{Rule as CodeRule}
 
 pub among-left : (xs ys : List (List ℕ)) (t : List ℕ) → is_among xs t ≡ true → is_among (xs ++ ys) t ≡ true
@@ -19,7 +21,7 @@ pub among-right : (xs ys : List (List ℕ)) (t : List ℕ) → is_among ys t ≡
 among-right [] ys t h = h
 among-right (x ∷ xs) ys t h = or-right _ _ (among-right xs ys t h)
 
-eq-swap : (x t : List ℕ) → bytes_eq x t ≡ bytes_eq t x
+pub eq-swap : (x t : List ℕ) → bytes_eq x t ≡ bytes_eq t x
 eq-swap x t = bool-same (bytes_eq x t) (bytes_eq t x) (λ e. text-same t x (sym (text-sound x t e))) (λ e. text-same x t (sym (text-sound t x e)))
 
 pub among-any : (xs : List (List ℕ)) (t : List ℕ) → is_among xs t ≡ list_any (bytes_eq t) xs
@@ -34,10 +36,6 @@ repeated (x ∷ xs) ys n h = by-head (bytes_eq n x) refl (repeated xs ys n) h
     by-head : (b : Bool) → bytes_eq n x ≡ b → (list_any (bytes_eq n) xs ≡ true → are_different (xs ++ n ∷ ys) ≡ false) → (b || list_any (bytes_eq n) xs) ≡ true → (not (is_among (xs ++ n ∷ ys) x) && are_different (xs ++ n ∷ ys)) ≡ false
     by-head true is rest e = let f : is_among (xs ++ n ∷ ys) x ≡ true = among-right xs (n ∷ ys) x (or-left _ _ is) in rw f refl
     by-head false is rest e = rw (rest e) (and-false (not (is_among (xs ++ n ∷ ys) x)))
-      where
-        and-false : (b : Bool) → (b && false) ≡ false
-        and-false true = refl
-        and-false false = refl
 
 neither : (xs : List (List ℕ)) (n x : List ℕ) → is_among xs x ≡ false → bytes_eq n x ≡ false → is_among (xs ++ n ∷ []) x ≡ false
 neither [] n x h ne = rw ne refl
@@ -51,12 +49,9 @@ not-repeated (x ∷ xs) n h new =
     (not-false _ (neither xs n x (not-true _ (and-left (not (is_among xs x)) _ h)) (or-false-left (bytes_eq n x) _ new)))
     (not-repeated xs n (and-right (not (is_among xs x)) _ h) (or-false-right (bytes_eq n x) _ new))
 
-rules-at : (rs : List CodeRule) (i : ℕ) (d : CodeRule) → i < length rs → rules_of (drop i rs) ≡ rule_of (get_or rs i d) ∷ rules_of (drop (i + 1) rs)
-rules-at rs i d lt = rw (add-one, drop-cons rs i d) refl
-
 -- the names up to this rule, and those from it on
 pub names-at : (seen whole : List (List ℕ)) (rs : List CodeRule) (i : ℕ) (d : CodeRule) → i < length rs → seen ++ role_names (rules_of (drop i rs)) ≡ whole → seen ++ name_in (get_or rs i d).head ++ role_names (rules_of (drop (i + 1) rs)) ≡ whole
-names-at seen whole rs i d lt e = append_assoc seen (name_in (get_or rs i d).head) (role_names (rules_of (drop (i + 1) rs))) ∙ ap (λ xs. seen ++ role_names xs) (sym (rules-at rs i d lt)) ∙ e
+names-at seen whole rs i d lt e = append_assoc seen (name_in (get_or rs i d).head) (role_names (rules_of (drop (i + 1) rs))) ∙ ap (λ xs. seen ++ role_names xs) (sym (at_drop_more rules_of rs i d lt)) ∙ e
 
 pub found-by : (there new : Bool) → new ≡ not there → new ≡ false → there ≡ true
 found-by true new e f = refl

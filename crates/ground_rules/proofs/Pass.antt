@@ -1,5 +1,6 @@
 -- A pass over rules in rank order finds the fit.
 use Rattle.std.proofs.Common.{ℕ, zero, suc, ◌<◌, ◌≤◌, ◌≡◌, ◌≢◌, Bool, true, false, ◌&&◌, ◌||◌, if◌then◌else◌, nat_eq, List, [], ◌∷◌, ◌++◌, refl, ap, sym, ◌∙◌, arith, length, set, length-set, get_or-set_other, append_assoc, append-nil}
+use mathlib.Core.Bool.{and-false, and-true, or-false, or-true, or_assoc}
 use Rattle.std.proofs.lemmas.List.{length-replicate}
 use Rattle.std.proofs.lemmas.Grind.{get_or-set_at}
 use Rattle.std.proofs.lemmas.Bool.Decides.{Decides-eqb}
@@ -25,34 +26,14 @@ derived-below w u v rank low (r ∷ rs) a h same =
     let rest = derived-below w u v rank low rs a h.1 same in
     cc
 
-or-assoc : (x y z : Bool) → ((x || y) || z) ≡ (x || (y || z))
-or-assoc true y z = refl
-or-assoc false y z = refl
-
-or-false : (x : Bool) → (x || false) ≡ x
-or-false true = refl
-or-false false = refl
-
-and-false : (x : Bool) → (x && false) ≡ false
-and-false true = refl
-and-false false = refl
-
-and-true : (x : Bool) → (x && true) ≡ x
-and-true true = refl
-and-true false = refl
-
 derived-append : (w : Situation ℕ ℕ) (v : ℕ → Bool) (xs ys : List (Rule ℕ ℕ)) (a : ℕ) → derived w v (xs ++ ys) a ≡ (derived w v xs a || derived w v ys a)
 derived-append w v [] ys a = refl
 derived-append w v (r ∷ xs) ys a =
     ap (λ t. (w.same r.head a && all_true w v r.body) || t) (derived-append w v xs ys a)
-    ∙ sym (or-assoc (w.same r.head a && all_true w v r.body) (derived w v xs a) (derived w v ys a))
+    ∙ sym (or_assoc (w.same r.head a && all_true w v r.body) (derived w v xs a) (derived w v ys a))
 
 derived-last : (w : Situation ℕ ℕ) (v : ℕ → Bool) (xs : List (Rule ℕ ℕ)) (r : Rule ℕ ℕ) (a : ℕ) → derived w v (xs ++ r ∷ []) a ≡ (derived w v xs a || (w.same r.head a && all_true w v r.body))
 derived-last w v xs r a = derived-append w v xs (r ∷ []) a ∙ ap (λ t. derived w v xs a || t) (or-false (w.same r.head a && all_true w v r.body))
-
-or-true : (x : Bool) → (x || true) ≡ true
-or-true true = refl
-or-true false = refl
 
 bit-set-by : (row : List Bool) (h a : ℕ) → h < length row → (test : Bool) → nat_eq h a ≡ test → bit (set row h true) a ≡ (bit row a || test)
 bit-set-by row h a lt true is = get_or-set_at row h a true false (sym ((Decides-eqb h a).0 is)) lt ∙ sym (or-true (bit row a))

@@ -1,21 +1,20 @@
 -- A situation by names and the same by numbers.
 use Rattle.std.proofs.Common.{◌≡◌, ℕ, zero, suc, ◌<◌, Bool, true, false, not, ◌&&◌, ◌||◌, if◌then◌else◌, nat_eq, bytes_eq, List, [], ◌∷◌, length, get_or, map, refl, sym, ap, ◌∙◌, arith}
+use mathlib.Core.Bool.{or-false}
 use Rattle.std.specs.Prelude.{slice_get}
 use Rattle.ground_rules.specs.declared.tables.GroundMove.{GroundMove}
-use Rattle.ground_rules.specs.Lawfulness.Bools.{and-left, and-right, not-true, bool-same, or-false-left, or-false-right}
+use Rattle.ground_rules.specs.Lawfulness.Bools.{and-left, and-right, not-true, or-false-left, or-false-right}
 use Rattle.ground_rules.specs.Lawfulness.Names.{text-sound, text-same}
 use Rattle.rule_sentences.specs.Descriptions.{is_among, are_different}
 use Rattle.ground_rules.specs.Described.{makes}
 use Rattle.ground_rules.specs.Tables.{picked}
 use Rattle.numbered_rules.specs.Numbered.{bit, is_number}
 use Rattle.ground_rules.specs.Internal.Resolved.{place}
+use Rattle.ground_rules.proofs.NameLists.{eq-swap}
 use Rattle.ground_rules.proofs.TablePlaces.{Decides, place-same}
 
 pub text-decides : Decides bytes_eq
 text-decides = record { sound = text-sound; itself = λ x. text-same x x refl }
-
-eq-swap : (x t : List ℕ) → bytes_eq x t ≡ bytes_eq t x
-eq-swap x t = bool-same (bytes_eq x t) (bytes_eq t x) (λ e. text-same t x (sym (text-sound x t e))) (λ e. text-same x t (sym (text-sound t x e)))
 
 not-picked : (row : List Bool) (ts : List (List ℕ)) (t : List ℕ) → is_among ts t ≡ false → is_among (picked row ts) t ≡ false
 not-picked [] ts t h = refl
@@ -86,10 +85,6 @@ makes-bit (n ∷ ns) ts [] r m size differ differ' within = absurd (omega (arith
 makes-bit (n ∷ ns) ts (j ∷ js) r m size differ differ' within =
     by-same (bytes_eq r n) refl (makes-bit ns ts js r m (omega (arith, size)) (and-right (not (is_among ns n)) _ differ) differ' (λ k d lt. within (suc k) d (omega (arith, lt))))
   where
-    or-false : (x : Bool) → (x || false) ≡ x
-    or-false true = refl
-    or-false false = refl
-
     by-same : (b : Bool) → bytes_eq r n ≡ b → makes ns (map (text_of ts) js) r m ≡ is_number (slice_get (map (λ (i : GroundMove). i.term) js) (place bytes_eq ns r)) (place bytes_eq ts m)
         → ((bytes_eq n r && bytes_eq (text_of ts j) m) || makes ns (map (text_of ts) js) r m) ≡ is_number (slice_get (j.term ∷ map (λ (i : GroundMove). i.term) js) (if b then 0 else suc (place bytes_eq ns r))) (place bytes_eq ts m)
     by-same true is rest =

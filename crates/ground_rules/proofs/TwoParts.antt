@@ -1,5 +1,6 @@
 -- The rules that do not depend on moves come first: a ranking of both parts, and what the parts keep.
 use Rattle.std.proofs.Common.{ℕ, ◌+◌, ◌<◌, ◌≤◌, ◌≡◌, Bool, true, false, not, ◌&&◌, ◌||◌, if◌then◌else◌, nat_eq, List, [], ◌∷◌, ◌++◌, length, refl, ap, sym, ◌∙◌, arith, filter, subst}
+use Rattle.std.proofs.lemmas.Bool.{false_from_ne_true}
 use Rattle.std.proofs.lemmas.List.Sorted.{IsPermutation-filter_both, IsPermutation-trans}
 use Rattle.rule_sentences.specs.declared.sentence.Derived.{Derived}
 use Rattle.rule_sentences.specs.declared.sentence.Derived.TheVariants.{Role, Init, Next, Legal, Goal, Terminal, Other}
@@ -157,15 +158,11 @@ no-head on (r ∷ rs) n off = by (on r.head) refl (no-head on rs n off)
     by true is rest = ((λ e. let f = ap on e in absurd cc), rest)
     by false is rest = rest
 
-off-by : (b : Bool) → (b ≡ true → ⊥) → b ≡ false
-off-by true f = absurd (f refl)
-off-by false f = refl
-
 -- no move bears on an answer
 answer-off : (d : Description) (t : NameTable) (row : List Bool) (a : Derived) → ¬ (HasBarredHead d) → (bit row (atom_number t a) ≡ true → DependsOnGiven Derived (List ℕ) false d a) → IsAnswer a → bit row (atom_number t a) ≡ false
-answer-off d t row (Legal r m) free set is = off-by _ (λ h. free (Legal r m, set h))
-answer-off d t row (Goal r n) free set is = off-by _ (λ h. free (Goal r n, set h))
-answer-off d t row Terminal free set is = off-by _ (λ h. free (Terminal, set h))
+answer-off d t row (Legal r m) free set is = false_from_ne_true _ (λ h. free (Legal r m, set h))
+answer-off d t row (Goal r n) free set is = false_from_ne_true _ (λ h. free (Goal r n, set h))
+answer-off d t row Terminal free set is = false_from_ne_true _ (λ h. free (Terminal, set h))
 answer-off d t row (Role r) free set is = absurd is
 answer-off d t row (Init u) free set is = absurd is
 answer-off d t row (Next u) free set is = absurd is
