@@ -1,6 +1,7 @@
 -- A pass over rules by places is the pass over the rules.
-use Rattle.std.proofs.Common.{ℕ, zero, suc, ◌+◌, ◌<◌, ◌≤◌, ◌≡◌, Bool, true, false, ◌&&◌, if◌then◌else◌, List, [], ◌∷◌, ◌++◌, length, take, drop, set, get_or, map, refl, sym, ap, ◌∙◌, arith, subst, length-drop, length-append}
-use Rattle.std.proofs.lemmas.List.{take-set-le, drop-set-add, drop_more, take_more, take-replicate, take-append-le, drop-append-le}
+use Rattle.std.proofs.Common.{ℕ, zero, suc, ◌+◌, ◌-◌, ◌<◌, ◌≤◌, ◌≡◌, Bool, true, false, ◌&&◌, if◌then◌else◌, List, [], ◌∷◌, ◌++◌, length, take, drop, set, get_or, map, refl, sym, ap, ◌∙◌, arith, subst, length-drop, length-append}
+use Rattle.std.proofs.lemmas.List.{length-take, get_or_past, take_all, drop_all, take-set-le, drop-set-add, drop_more, take_more, take-replicate, drop-replicate, take-append-le, drop-append-le, nil_from_length, map_push}
+use mathlib.Core.Bool.{and-true, and_assoc}
 use Rattle.numbered_rules.specs.declared.numbered.Literal.{Literal as CodeLiteral}
 use Rattle.numbered_rules.specs.declared.numbered.Rule.{Rule as CodeRule}
 use Rattle.ground_rules.specs.Literals.{Literal, literals, Rule}
@@ -14,18 +15,7 @@ use Rattle.packed_rules.specs.declared.rules.PackedRule.{PackedRule}
 use Rattle.packed_rules.specs.Internal.PackedPass.{passes, all_pass, agrees, all_agree, fires, packed_after, tests_after, IsPacked, ArePacked}
 
 pub take-past : (n : ℕ) (xs : List Bool) (i : ℕ) → n ≤ i → bit (take n xs) i ≡ false
-take-past zero xs i le = none i
-  where
-    none : (i : ℕ) → bit [] i ≡ false
-    none zero = refl
-    none (suc i) = refl
-take-past (suc n) [] i le = none i
-  where
-    none : (i : ℕ) → bit [] i ≡ false
-    none zero = refl
-    none (suc i) = refl
-take-past (suc n) (x ∷ xs) zero le = absurd (omega (arith, le))
-take-past (suc n) (x ∷ xs) (suc i) le = take-past n xs i (omega (arith, le))
+take-past n xs i le = get_or_past (take n xs) i false (omega (arith, length-take n xs, le))
 
 -- the row after one rule
 abbrev pub stepped : ℕ → List ℕ → List Bool → PlacedRule → List Bool
@@ -69,47 +59,27 @@ packed-push n [] (q ∷ rs) p r are is = absurd are
 packed-push n (q ∷ ps) [] p r are is = absurd are
 packed-push n (q ∷ ps) (s ∷ rs) p r are is = (are.0, packed-push n ps rs p r are.1 is)
 
-and-assoc : (x y z : Bool) → ((x && y) && z) ≡ (x && (y && z))
-and-assoc true y z = refl
-and-assoc false y z = refl
-
-and-true : (b : Bool) → (b && true) ≡ b
-and-true true = refl
-and-true false = refl
-
 all-pass-push : (bits : List Bool) (ts : List Test) (t : Test) → all_pass bits (ts ++ t ∷ []) ≡ (all_pass bits ts && passes bits t)
 all-pass-push bits [] t = and-true (passes bits t)
-all-pass-push bits (u ∷ ts) t = ap (λ x. passes bits u && x) (all-pass-push bits ts t) ∙ sym (and-assoc (passes bits u) (all_pass bits ts) (passes bits t))
+all-pass-push bits (u ∷ ts) t = ap (λ x. passes bits u && x) (all-pass-push bits ts t) ∙ sym (and_assoc (passes bits u) (all_pass bits ts) (passes bits t))
 
 all-agree-push : (joint : List ℕ) (ts : List MoveTest) (t : MoveTest) → all_agree joint (ts ++ t ∷ []) ≡ (all_agree joint ts && agrees joint t)
 all-agree-push joint [] t = and-true (agrees joint t)
-all-agree-push joint (u ∷ ts) t = ap (λ x. agrees joint u && x) (all-agree-push joint ts t) ∙ sym (and-assoc (agrees joint u) (all_agree joint ts) (agrees joint t))
+all-agree-push joint (u ∷ ts) t = ap (λ x. agrees joint u && x) (all-agree-push joint ts t) ∙ sym (and_assoc (agrees joint u) (all_agree joint ts) (agrees joint t))
 
 all-true-push : (w : Situation ℕ ℕ) (v : ℕ → Bool) (ls : List (Literal ℕ ℕ)) (l : Literal ℕ ℕ) → all_true w v (literals (ls ++ l ∷ [])) ≡ (all_true w v (literals ls) && truth w v l)
 all-true-push w v [] l = and-true (truth w v l)
-all-true-push w v (k ∷ ls) l = ap (λ x. truth w v k && x) (all-true-push w v ls l) ∙ sym (and-assoc (truth w v k) (all_true w v (literals ls)) (truth w v l))
-
-take-none : {X : Type 0} (n : ℕ) → take n (let xs : List X = [] in xs) ≡ []
-take-none zero = refl
-take-none (suc n) = refl
-
-drop-none : {X : Type 0} (n : ℕ) → drop n (let xs : List X = [] in xs) ≡ []
-drop-none zero = refl
-drop-none (suc n) = refl
+all-true-push w v (k ∷ ls) l = ap (λ x. truth w v k && x) (all-true-push w v ls l) ∙ sym (and_assoc (truth w v k) (all_true w v (literals ls)) (truth w v l))
 
 -- rules that have no literals but their tests
 only-tests : (n : ℕ) (joint : List ℕ) (bits : List Bool) (ss : List RuleSize) (ts : List Test) → packed_after n joint bits (placed_rules ss ts [] []) ≡ tests_after n bits ss ts
 only-tests n joint bits [] ts = refl
 only-tests n joint bits (s ∷ ss) ts =
     let next : List Bool = if all_pass bits (take s.tests ts) then set bits (n + s.head) true else bits in
-    rw (take-none {X = MoveTest} s.moves, take-none {X = CodeLiteral} s.others, drop-none {X = MoveTest} s.moves, drop-none {X = CodeLiteral} s.others, and-true (all_pass bits (take s.tests ts))) (only-tests n joint next ss (drop s.tests ts))
-
-none-left : {X : Type 0} (xs : List X) → length xs ≡ 0 → xs ≡ []
-none-left [] e = refl
-none-left (x ∷ xs) e = absurd (omega (arith, e))
+    rw (take_all {A = MoveTest} s.moves [] (omega arith), take_all {A = CodeLiteral} s.others [] (omega arith), drop_all {X = MoveTest} s.moves [] (omega arith), drop_all {X = CodeLiteral} s.others [] (omega arith), and-true (all_pass bits (take s.tests ts))) (only-tests n joint next ss (drop s.tests ts))
 
 pub only-tests-in : (n : ℕ) (joint : List ℕ) (bits : List Bool) (ss : List RuleSize) (ts : List Test) (ms : List MoveTest) (os : List CodeLiteral) → length ms ≡ 0 → length os ≡ 0 → tests_after n bits ss ts ≡ packed_after n joint bits (placed_rules ss ts ms os)
-only-tests-in n joint bits ss ts ms os e f = rw (none-left ms e, none-left os f) (sym (only-tests n joint bits ss ts))
+only-tests-in n joint bits ss ts ms os e f = rw (nil_from_length ms e, nil_from_length os f) (sym (only-tests n joint bits ss ts))
 
 pub tests-cut : (ss : List RuleSize) (ts : List Test) (ms : List MoveTest) (os : List CodeLiteral) → AreCut ss ts ms os → AreTestsCut ss ts
 tests-cut [] ts ms os cut = tt
@@ -179,14 +149,7 @@ pub none-terms : (n m : ℕ) → take n (unset (n + m)) ≡ unset n
 none-terms n m = take-replicate n (n + m) false (omega arith)
 
 pub none-atoms : (n m : ℕ) → drop n (unset (n + m)) ≡ unset m
-none-atoms zero m = ap unset (zero-add m)
-  where
-    zero-add : (m : ℕ) → 0 + m ≡ m
-    zero-add m = omega arith
-none-atoms (suc n) m = ap (λ k. drop (suc n) (unset k)) (suc-add n m) ∙ none-atoms n m
-  where
-    suc-add : (n m : ℕ) → suc n + m ≡ suc (n + m)
-    suc-add n m = omega arith
+none-atoms n m = let e : n + m - n ≡ m = omega arith in drop-replicate n (n + m) false ∙ ap unset e
 
 -- a row cut at two places with as many terms before them
 pub record AreSameCut (m n : ℕ) (bits : List Bool) : Type 0 where
@@ -207,30 +170,15 @@ says-next n moves tests others items i item all lt is says =
     subst (λ (x : CodeLiteral). SaysSoFar n moves tests others (view x ∷ map view (drop (i + 1) items)) all) (sym is)
     (subst (λ (xs : List CodeLiteral). SaysSoFar n moves tests others (map view xs) all) (drop_more items i item lt) says)
 
-views-push : (ls : List CodeLiteral) (l : CodeLiteral) → map view (ls ++ l ∷ []) ≡ map view ls ++ view l ∷ []
-views-push [] l = refl
-views-push (k ∷ ls) l = ap (λ xs. view k ∷ xs) (views-push ls l)
-
 pub other-next : (n : ℕ) (moves : List MoveTest) (tests : List Test) (others : List CodeLiteral) (rest all : List (Literal ℕ ℕ)) (l copied : CodeLiteral) → view copied ≡ view l
     → SaysSoFar n moves tests (map view others) (view l ∷ rest) all → SaysSoFar n moves tests (map view (others ++ copied ∷ [])) rest all
 other-next n moves tests others rest all l copied same says =
-    subst (λ (ls : List (Literal ℕ ℕ)). SaysSoFar n moves tests ls rest all) (sym (views-push others copied ∙ ap (λ x. map view others ++ x ∷ []) same)) (other-more n moves tests (map view others) rest all (view l) says)
-
-rules-push : (rs : List CodeRule) (r : CodeRule) → rules_of (rs ++ r ∷ []) ≡ rules_of rs ++ rule_of r ∷ []
-rules-push [] r = refl
-rules-push (q ∷ rs) r = ap (λ xs. rule_of q ∷ xs) (rules-push rs r)
-
-take-all : {X : Type 0} (n : ℕ) (xs : List X) → n ≡ length xs → take n xs ≡ xs
-take-all n xs e = rw e (all xs)
-  where
-    all : {X : Type 0} (xs : List X) → take (length xs) xs ≡ xs
-    all [] = refl
-    all (x ∷ xs) = ap (λ ys. x ∷ ys) (all xs)
+    subst (λ (ls : List (Literal ℕ ℕ)). SaysSoFar n moves tests ls rest all) (sym (map_push view others copied ∙ ap (λ x. map view others ++ x ∷ []) same)) (other-more n moves tests (map view others) rest all (view l) says)
 
 -- one more rule, whose literals stand behind all others
 pub placed-push : (ss : List RuleSize) (s : RuleSize) (ts us : List Test) (ms ns : List MoveTest) (os ps : List CodeLiteral) → AreCut ss ts ms os → s.tests ≡ length us → s.moves ≡ length ns → s.others ≡ length ps
     → placed_rules (ss ++ s ∷ []) (ts ++ us) (ms ++ ns) (os ++ ps) ≡ placed_rules ss ts ms os ++ record { head = s.head; tests = us; moves = ns; others = ps } ∷ []
-placed-push [] s [] us [] ns [] ps cut e f g = rw (take-all s.tests us e, take-all s.moves ns f, take-all s.others ps g) refl
+placed-push [] s [] us [] ns [] ps cut e f g = rw (take_all s.tests us (omega (arith, e)), take_all s.moves ns (omega (arith, f)), take_all s.others ps (omega (arith, g))) refl
 placed-push [] s (t ∷ ts) us ms ns os ps cut e f g = absurd (omega (arith, cut.0))
 placed-push [] s [] us (m ∷ ms) ns os ps cut e f g = absurd (omega (arith, cut.1))
 placed-push [] s [] us [] ns (o ∷ os) ps cut e f g = absurd (omega (arith, cut.2))
@@ -259,7 +207,7 @@ cut-next sizes i s ts ms os lt is cut =
 pub packed-next : (n : ℕ) (ps : List PlacedRule) (rules : List CodeRule) (i : ℕ) (rule : CodeRule) (p : PlacedRule) → i < length rules → rule ≡ get_or rules i rule → IsPacked n p (rule_of rule)
     → ArePacked n ps (rules_of (take i rules)) → ArePacked n (ps ++ p ∷ []) (rules_of (take (i + 1) rules))
 packed-next n ps rules i rule p lt is packed are =
-    subst (λ (rs : List (Rule ℕ ℕ)). ArePacked n (ps ++ p ∷ []) rs) (sym (ap rules_of (take_more rules i rule lt) ∙ rules-push (take i rules) (get_or rules i rule)))
+    subst (λ (rs : List (Rule ℕ ℕ)). ArePacked n (ps ++ p ∷ []) rs) (sym (ap rules_of (take_more rules i rule lt) ∙ map_push rule_of (take i rules) (get_or rules i rule)))
     (packed-push n ps (rules_of (take i rules)) p (rule_of (get_or rules i rule)) are (subst (λ (r : CodeRule). IsPacked n p (rule_of r)) is packed))
 
 -- one more rule of the code, with the row of its size behind the others, and its literals behind all literals
