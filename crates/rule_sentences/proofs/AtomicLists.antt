@@ -1,17 +1,15 @@
 -- Atomic sentences, one literal and one rule after another.
 use Rattle.std.proofs.Common.{◌≡◌, ℕ, ◌+◌, ◌-◌, ◌<◌, ◌≤◌, Bool, true, false, nat_le, if◌then◌else◌, List, [], ◌∷◌, ◌++◌, drop, length, length-append, get_or, drop-cons, add-one, refl, sym, ap, ◌∙◌, arith}
 use Rattle.std.proofs.lemmas.Bool.Decides.{nat_tests}
+use Rattle.std.proofs.lemmas.List.{at_drop_more}
 use Rattle.std.specs.List.{list_any}
 use Rattle.rule_sentences.specs.declared.sentence.Atomic.{Atomic}
 use Rattle.rule_sentences.specs.declared.sentence.Atomic.TheVariants.{Derived as IsDerived}
 use Rattle.rule_sentences.specs.declared.sentence.Literal.{Literal as CodeLiteral}
 use Rattle.rule_sentences.specs.declared.sentence.Rule.{Rule as CodeRule}
-use Rattle.rule_sentences.specs.SentenceViews.{view, views, rule_of, rules_of}
+use Rattle.rule_sentences.specs.SentenceViews.{view, views, rules_of}
 use Rattle.rule_sentences.specs.Descriptions.{with_new, with_all_new, each_once}
 use Rattle.rule_sentences.specs.Sizes.{same_atomic, atomics_in, all_atomics_in, atomics}
-
-rules-at : (rs : List CodeRule) (i : ℕ) (d : CodeRule) → i < length rs → rules_of (drop i rs) ≡ rule_of (get_or rs i d) ∷ rules_of (drop (i + 1) rs)
-rules-at rs i d lt = rw (add-one, drop-cons rs i d) refl
 
 with_all_new-append : {A : Type 0} (same : A → A → Bool) (seen xs ys : List A) → with_all_new same seen (xs ++ ys) ≡ with_all_new same (with_all_new same seen xs) ys
 with_all_new-append same seen [] ys = refl
@@ -26,7 +24,7 @@ literals-at ls i l lt at =
 atomics-at : (rs : List CodeRule) (i : ℕ) (r : CodeRule) → i < length rs → r ≡ get_or rs i r → atomics (rules_of (drop i rs)) ≡ (IsDerived r.head ∷ all_atomics_in (views r.body.items)) ++ atomics (rules_of (drop (i + 1) rs))
 atomics-at rs i r lt at =
     let rest = atomics (rules_of (drop (i + 1) rs)) in
-    ap atomics (rules-at rs i r lt) ∙ ap (λ x. (IsDerived x.head ∷ all_atomics_in (views x.body.items)) ++ rest) (sym at)
+    ap atomics (at_drop_more rules_of rs i r lt) ∙ ap (λ x. (IsDerived x.head ∷ all_atomics_in (views x.body.items)) ++ rest) (sym at)
 
 pub literal-added : (seen next whole : List Atomic) (ls : List CodeLiteral) (i : ℕ) (l : CodeLiteral) → i < length ls → l ≡ get_or ls i l → next ≡ with_all_new same_atomic seen (atomics_in (view l))
     → with_all_new same_atomic seen (all_atomics_in (views (drop i ls))) ≡ whole → with_all_new same_atomic next (all_atomics_in (views (drop (i + 1) ls))) ≡ whole
