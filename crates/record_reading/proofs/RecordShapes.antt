@@ -1,9 +1,10 @@
 -- The shapes of a record's lists.
 use Rattle.std.proofs.Common.{◌≡◌, ℕ, zero, suc, ◌+◌, ◌<◌, ◌≤◌, ◌==◌, ◌||◌, Bool, true, false, not, List, [], ◌∷◌, ◌++◌, length, get_or, inl, inr, refl, sym, ap, ◌∙◌, arith, length-append, Some, take, add-one}
-use Rattle.std.proofs.lemmas.List.{get_or_append_left, get_or_push, length-map}
+use Rattle.std.proofs.lemmas.List.{get_or_append_left, get_or_push, length-map, nil_from_length}
 use Rattle.std.proofs.lemmas.Option.{slice_get-map}
 use Rattle.std.proofs.Math.Nat.{eq-or-lt_of_le}
 use Rattle.std.specs.Prelude.{All, ◌⊎◌, slice_get, option_map}
+use Rattle.std.proofs.lemmas.Bool.{both_ways, not-false, not-true}
 use Rattle.std.proofs.lemmas.Bool.Decides.{Decides-eqb, nat_tests}
 use Rattle.std.proofs.lemmas.Slice.Eq.{bytes_eq-Decides}
 use Rattle.std.specs.Str.{bytes_eq}
@@ -20,15 +21,11 @@ pub other_count : (roles n : ℕ) (goals : List ℕ) → n ≡ length goals → 
 other_count roles n goals many other (inl none) = let empty : n ≡ 0 = many ∙ ap length none in grind (arith, nat_tests)
 other_count roles n goals many other (inr each) = let wide : n ≡ roles = many ∙ each.0 in grind (arith, nat_tests)
 
-none_left : (goals : List ℕ) → length goals ≡ 0 → goals ≡ []
-none_left [] is = refl
-none_left (x ∷ xs) is = absurd (omega arith)
-
 pub goals_counted : (roles n : ℕ) (goals : List ℕ) → n ≡ length goals → (n == 0 || n == roles) ≡ true → All (λ goal. goal ≤ max_goal) goals → AreGoals roles goals
 goals_counted roles n goals many counted small = go (n == 0) refl counted
   where
     go : (b : Bool) → (n == 0) ≡ b → (b || n == roles) ≡ true → AreGoals roles goals
-    go true is h = inl (none_left goals (sym many ∙ (Decides-eqb n 0).0 is))
+    go true is h = inl (nil_from_length goals (sym many ∙ (Decides-eqb n 0).0 is))
     go false is h = inr (sym many ∙ (Decides-eqb n roles).0 h, small)
 
 -- ---- what each role has
@@ -63,15 +60,7 @@ prefixes_get (x ∷ xs) (suc k) le = slice_get-map (λ front. x ∷ front) (pref
 -- ---- compared texts
 
 pub same_when_equal : (xs ys : List ℕ) → not (bytes_eq xs ys) ≡ false → xs ≡ ys
-same_when_equal xs ys is = (bytes_eq-Decides xs ys).0 (go (bytes_eq xs ys) is)
-  where
-    go : (b : Bool) → not b ≡ false → b ≡ true
-    go true h = refl
-    go false h = absurd cc
+same_when_equal xs ys is = (bytes_eq-Decides xs ys).0 (not-false (bytes_eq xs ys) is)
 
 pub apart_when_not : (xs ys : List ℕ) → not (bytes_eq xs ys) ≡ true → xs ≡ ys → ⊥
-apart_when_not xs ys is same = go (bytes_eq xs ys) is ((bytes_eq-Decides xs ys).1 same)
-  where
-    go : (b : Bool) → not b ≡ true → b ≡ true → ⊥
-    go true h equal = cc
-    go false h equal = cc
+apart_when_not xs ys is same = both_ways (bytes_eq xs ys) (not-true (bytes_eq xs ys) is) ((bytes_eq-Decides xs ys).1 same)

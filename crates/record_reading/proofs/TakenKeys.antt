@@ -1,7 +1,7 @@
 -- The keys of a record, taken out of an object's members one after another.
 use Rattle.std.proofs.Common.{◌≡◌, ℕ, zero, suc, ◌+◌, ◌<◌, Bool, true, false, not, ◌&&◌, cond, None, option_map, List, [], ◌∷◌, length, get_or, drop, BTreeMap, String, Global, string_bytes, string_cmp, nat_cmp, bytes_eq, refl, ap, ◌∙◌, subst, add-one}
 use Rattle.std.proofs.Math.Seq.{drop-cons}
-use Rattle.std.proofs.lemmas.Bool.{and_parts}
+use Rattle.std.proofs.lemmas.Bool.{and_parts, not-true}
 use Rattle.std.proofs.lemmas.Map.Text.{btree_map_updates_text}
 use Rattle.std.specs.BTreeMap.{UpdatesBy, get_by_text}
 use Rattle.std.specs.Cmp.Lexicographic.{slice_cmp}
@@ -36,15 +36,11 @@ abbrev all_differ : List Key → Bool
 all_differ [] = true
 all_differ (key ∷ more) = differs_from key more && all_differ more
 
-false_from_not : (b : Bool) → not b ≡ true → b ≡ false
-false_from_not true is = absurd cc
-false_from_not false is = refl
-
 differ_tested : (key : Key) (ks : List Key) → differs_from key ks ≡ true → HoldsForEach (Differs key) ks
 differ_tested key [] is = tt
 differ_tested key (k ∷ ks) is =
     let parts = and_parts (not (bytes_eq (key_text key) (key_text k))) (differs_from key ks) is in
-    (false_from_not (bytes_eq (key_text key) (key_text k)) parts.0, differ_tested key ks parts.1)
+    (not-true (bytes_eq (key_text key) (key_text k)) parts.0, differ_tested key ks parts.1)
 
 all_differ_tested : (ks : List Key) → all_differ ks ≡ true → AllDiffer ks
 all_differ_tested [] is = tt

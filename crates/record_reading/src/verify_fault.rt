@@ -44,10 +44,7 @@ impl fmt::Display for VerifyFault {
     fn fmt<W: fmt::Write>(&self, f: &mut fmt::Formatter<W>) -> fmt::Result {
         match *self {
             VerifyFault::NotJson => f.write_str("json"),
-            VerifyFault::BadShape(key) => {
-                let key = key.text();
-                write!(f, "shape {key}")
-            }
+            VerifyFault::BadShape(key) => write!(f, "shape {}", key.text()),
             VerifyFault::Illegal(turn, role) => write!(f, "illegal {turn} {role}"),
             VerifyFault::NotFirst(turn, role) => write!(f, "notfirst {turn} {role}"),
             VerifyFault::WrongRetired(turn, role) => write!(f, "retired {turn} {role}"),
