@@ -6,8 +6,10 @@
 
 mod logging;
 mod notices;
+mod shown_text;
 mod status;
 
-pub use logging::{LoggedPlayer, Logging, Shown, Telling};
+pub use logging::{LoggedPlayer, Logging, Telling};
 pub use notices::{Notices, ReportStream};
+pub use shown_text::Shown;
 pub use status::{ClearedOutput, Progress, StatusStream};

@@ -1,6 +1,8 @@
 //! Logs matches while they run: `Logging` wraps players and reports each message with its answer, or the progress of the matches.
+ghost use Rattle.std.specs.Prelude.{◌≡◌, ◌==◌, ◌||◌, IfOk, string_bytes};
 
 use crate::notices::Notices;
+use crate::shown_text::Shown;
 use crate::status::Progress;
 use match_book::Answer;
 use match_messages::MessageKind;
@@ -14,47 +16,6 @@ use std::fmt::Write as _;
 use std::sync::Wait;
 use std::time::{Clock, Duration, Instant};
 
-/// The number of bytes of a message or an answer that a line shows.
-const SHOWN: usize = 200;
-
-/// The first 200 bytes of a text of any bytes. `?` stands for a byte outside 0x20 to 0x7E, and two dots for further bytes.
-#[derive(Drop)]
-pub struct Shown<'a> {
-    /// The parts of the text, one after the other.
-    parts: (&'a [u8], &'a [u8], &'a [u8]),
-}
-
-impl<'a> Shown<'a> {
-    /// Shows a text.
-    pub fn text(text: &'a [u8]) -> Shown<'a> {
-        Shown {
-            parts: (text, b"".as_slice(), b"".as_slice()),
-        }
-    }
-
-    /// Shows a message.
-    pub fn message(message: &'a SharedText<'_>) -> Shown<'a> {
-        Shown {
-            parts: message.parts(),
-        }
-    }
-}
-
-impl fmt::Display for Shown<'_> {
-    fn fmt<F: fmt::Write>(&self, f: &mut fmt::Formatter<F>) -> fmt::Result {
-        let (before, shared, after) = self.parts;
-        let mut bytes = before.iter().chain(shared).chain(after);
-        for byte in bytes.by_ref().take(SHOWN) {
-            let is_seen = *byte == b' ' || byte.is_ascii_graphic();
-            f.write_char(if is_seen { char::from(*byte) } else { '?' })?;
-        }
-        if bytes.next().is_some() {
-            f.write_str("..")?;
-        }
-        Ok(())
-    }
-}
-
 /// An answer as a line shows it: its text, or `TO` or `CE` with the reason if one is known. After a shortage of the referee it is
 /// `lost`, with the shortage.
 #[derive(Drop)]
@@ -64,6 +25,10 @@ struct AnswerShown<'a> {
 }
 
 impl fmt::Display for AnswerShown<'_> {
+    ghost use Rattle.match_log.specs.ShownTexts.{shown_answer};
+
+    ghost output = { λ shown. shown_answer shown.answer.now shown.why };
+
     fn fmt<F: fmt::Write>(&self, f: &mut fmt::Formatter<F>) -> fmt::Result {
         if let Some(ContactFault::Shortage(shortage)) = self.why {
             return write!(f, "lost ({shortage})");
@@ -128,7 +93,11 @@ impl<'a, H, P, S: Reach<P>> Reach<LoggedPlayer<'a, H, P>> for Logging<'a, H, S> 
         alloc: Global,
         at: RolePlace<'_>,
         address: &PlayerAddress<'_>,
-    ) -> Result<LoggedPlayer<'a, H, P>, AllocError> {
+    ) -> Result<LoggedPlayer<'a, H, P>, AllocError>
+        ensures named { IfOk result (λ p. (string_bytes p.id ≡ at.entry.id.now) × (string_bytes p.name ≡ address.now.name.now)) }
+        ensures role { IfOk result (λ p. (p.role ≡ at.entry.role) × (p.counts ≡ self.now.is_alone || (at.entry.role == 0))) }
+        ensures first { IfOk result (λ p. p.messages ≡ 0) }
+    {
         let id = String::from_str(alloc, at.id)?;
         let name = String::from_str(alloc, address.name)?;
         Ok(LoggedPlayer {

@@ -1,4 +1,6 @@
 //! Reports that wait to be written. No match waits for their reader.
+ghost use Rattle.std.specs.Prelude.{◌↔◌, ◌⊎◌, false, IsTrue};
+ghost use Rattle.match_log.specs.WaitingLines.{IsLeftOut, IsNothing, Waits};
 
 use crate::status::{Progress, StatusStream};
 use game_core::Counted;
@@ -25,7 +27,9 @@ struct Waiting {
 }
 
 impl Waiting {
-    fn nothing(alloc: Global, is_closed: bool) -> Waiting {
+    fn nothing(alloc: Global, is_closed: bool) -> Waiting
+        ensures { IsNothing result is_closed }
+    {
         Waiting {
             lines: Vec::new(alloc),
             left_out: 0,
@@ -35,12 +39,16 @@ impl Waiting {
     }
 
     /// Whether nothing waits, and more may come.
-    fn is_idle(&self) -> bool {
+    fn is_idle(&self) -> bool
+        ensures { IsTrue result ↔ IsNothing self.now false }
+    {
         self.lines.is_empty() && self.left_out == 0 && !self.has_moved && !self.is_closed
     }
 
     /// Appends a line of the log, or counts it as left out if there is no room or no memory for it.
-    fn log(&mut self, line: &[u8]) {
+    fn log(&mut self, line: &[u8])
+        ensures { Waits self.old self.new line.now ⊎ IsLeftOut self.old self.new }
+    {
         let size = self.lines.len().saturating_add(line.len());
         if size > MAX_WAITING || self.lines.extend_from_slice(line).is_err() {
             self.left_out = self.left_out.saturating_add(1);

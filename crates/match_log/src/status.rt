@@ -1,4 +1,5 @@
 //! The status line: one line of a terminal with the progress of matches, which is rewritten as they go on.
+ghost use Rattle.std.specs.Prelude.{IsFalse};
 
 use game_core::Counted;
 use match_messages::MessageKind;
@@ -94,7 +95,9 @@ pub struct StatusStream<E> {
 
 impl<E: Write> StatusStream<E> {
     /// A stream without a status line yet.
-    pub fn new(stream: E) -> StatusStream<E> {
+    pub fn new(stream: E) -> StatusStream<E>
+        ensures { IsFalse result.is_shown }
+    {
         StatusStream {
             stream,
             is_shown: false,
@@ -114,7 +117,9 @@ impl<E: Write> StatusStream<E> {
     }
 
     /// Erases the line.
-    pub fn clear(&mut self) {
+    pub fn clear(&mut self)
+        ensures { IsFalse self.new.is_shown }
+    {
         if self.is_shown {
             self.is_shown = false;
             write_text(&mut self.stream, CLEAR);

@@ -1,0 +1,2 @@
+pub mod ShownTexts
+pub mod WaitingLines

@@ -1,0 +1,31 @@
+-- How a line shows a text of any bytes.
+use Rattle.std.specs.Prelude.{ℕ, ◌&&◌, Bool, nat_le, nat_lt, List, [], ◌++◌, length, take, map, codes, if◌then◌else◌, Option, Some, None}
+use Rattle.match_book.specs.declared.answer.Answer.{Answer}
+use Rattle.match_book.specs.declared.answer.Answer.TheVariants.{Text, Silent, Broken}
+use Rattle.network_players.specs.declared.contacting.ContactFault.{ContactFault}
+
+-- a byte from the space to the tilde
+abbrev pub is_visible : ℕ → Bool
+is_visible byte = nat_le 32 byte && nat_le byte 126
+
+-- ? stands for every other byte
+abbrev pub shown_byte : ℕ → ℕ
+shown_byte byte = if is_visible byte then byte else 63
+
+-- the limit of the bytes that are shown
+abbrev pub max_shown : ℕ
+max_shown = 200
+
+-- two dots say that there are further bytes
+abbrev pub further : List ℕ → List ℕ
+further text = if nat_lt max_shown (length text) then codes ".." else []
+
+abbrev pub shown_text : List ℕ → List ℕ
+shown_text text = map shown_byte (take max_shown text) ++ further text
+
+-- an answer for which no fault is known; the words of a fault are not said here
+abbrev pub shown_answer : Answer → Option ContactFault → Option (List ℕ)
+shown_answer (Text text) None = Some (shown_text text)
+shown_answer Silent None = Some (codes "TO")
+shown_answer Broken None = Some (codes "CE")
+shown_answer answer (Some fault) = None

@@ -1,0 +1,21 @@
+-- The lines of the log that wait to be written.
+use Rattle.std.specs.Prelude.{◌≡◌, ℕ, ◌≤◌, Bool, false, List, [], ◌++◌, length}
+use Rattle.game_core.specs.Counting.{one_more}
+use Rattle.match_log.specs.declared.notices.Waiting.{Waiting}
+
+-- nothing waits, and the reports end there or go on
+abbrev pub IsNothing : Waiting → Bool → Type 0
+IsNothing waiting closed =
+    (waiting.lines.items ≡ []) × (waiting.left_out ≡ 0) × (waiting.has_moved ≡ false) × (waiting.is_closed ≡ closed)
+
+-- the limit of the bytes that wait with a new line of the log
+abbrev pub max_waiting : ℕ
+max_waiting = 1048576
+
+-- the line waits behind the others
+abbrev pub Waits : Waiting → Waiting → List ℕ → Type 0
+Waits old new line = (new.lines.items ≡ old.lines.items ++ line) × (length new.lines.items ≤ max_waiting) × (new.left_out ≡ old.left_out)
+
+-- no byte of the line waits, and it is counted
+abbrev pub IsLeftOut : Waiting → Waiting → Type 0
+IsLeftOut old new = (new.lines.items ≡ old.lines.items) × (new.left_out ≡ one_more old.left_out)

@@ -1,0 +1,98 @@
+//! What a line shows of a text.
+ghost use Rattle.std.specs.Prelude.{◌≡◌, map, take};
+ghost use Rattle.std.specs.Fmt.{WritesOnOk};
+ghost use Rattle.match_log.specs.ShownTexts.{further, shown_byte};
+
+use shared_text::SharedText;
+use std::fmt;
+use std::marker::Model;
+
+/// The number of bytes of a text that a line shows.
+const SHOWN: usize = 200;
+
+/// The first 200 bytes of a text of any bytes. `?` stands for a byte outside 0x20 to 0x7E, and two dots for further bytes. Contracts see
+/// the text.
+#[derive(Drop)]
+pub struct Shown<'a> {
+    /// The parts of the text, one after the other.
+    parts: (&'a [u8], &'a [u8], &'a [u8]),
+}
+
+impl<'a> Model for Shown<'a> {
+    ghost use Rattle.std.specs.Prelude.{List, ℕ, ◌++◌};
+
+    ghost Value = { List ℕ };
+
+    ghost view = { λ s. s.parts.0.now ++ (s.parts.1.now ++ s.parts.2.now) };
+}
+
+/// A byte as a line shows it.
+fn shown_byte(byte: u8) -> char
+    ensures { result ≡ shown_byte byte }
+{
+    if byte == b' ' || byte.is_ascii_graphic() {
+        char::from(byte)
+    } else {
+        '?'
+    }
+}
+
+/// Writes the first bytes of a part, `room` at most.
+fn write_part<F: fmt::Write>(f: &mut fmt::Formatter<F>, part: &[u8], room: usize) -> fmt::Result
+    ensures { WritesOnOk F.write_str_gives f.old result (map shown_byte (take room part.now)) f.new }
+{
+    for byte in &part[..part.len().min(room)] {
+        f.write_char(shown_byte(*byte))?;
+    }
+    Ok(())
+}
+
+impl<'a> Shown<'a> {
+    /// Shows a text.
+    pub fn text(text: &'a [u8]) -> Shown<'a>
+        ensures { result ≡ text.now }
+    {
+        Shown {
+            parts: (text, b"".as_slice(), b"".as_slice()),
+        }
+    }
+
+    /// Shows a message.
+    pub fn message(message: &'a SharedText<'_>) -> Shown<'a>
+        ensures { result ≡ message.now }
+    {
+        Shown {
+            parts: message.parts(),
+        }
+    }
+
+    /// What stands for the bytes that are not shown.
+    fn further(&self) -> &'static str
+        ensures { result.now ≡ further self.now }
+    {
+        let (before, shared, after) = self.parts;
+        let length = before.len().saturating_add(shared.len());
+        if length.saturating_add(after.len()) > SHOWN {
+            ".."
+        } else {
+            ""
+        }
+    }
+}
+
+impl fmt::Display for Shown<'_> {
+    ghost use Rattle.std.specs.Prelude.{Some};
+    ghost use Rattle.match_log.specs.ShownTexts.{shown_text};
+
+    ghost output = { λ shown. Some (shown_text shown) };
+
+    fn fmt<F: fmt::Write>(&self, f: &mut fmt::Formatter<F>) -> fmt::Result {
+        let (before, shared, after) = self.parts;
+        let left = SHOWN.saturating_sub(before.len());
+        let last = left.saturating_sub(shared.len());
+        write_part(f, before, SHOWN)?;
+        write_part(f, shared, left)?;
+        write_part(f, after, last)?;
+        f.write_str(self.further())
+    }
+}
