@@ -1,1 +1,4 @@
 pub mod Verdicts
+pub mod Answers
+pub mod Rows
+pub mod Seats

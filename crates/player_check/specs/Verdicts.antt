@@ -1,5 +1,5 @@
 -- What an answer counted as.
-use Rattle.std.specs.Prelude.{◌==◌, ℕ, Bool, true, false, List, Option, Some, None, length, bytes_eq}
+use Rattle.std.specs.Prelude.{◌==◌, ℕ, Bool, true, false, List, Option, Some, None, length, bytes_eq, codes}
 use Rattle.match_book.specs.Judgement.{unreadable_text}
 use Rattle.player_check.specs.declared.watched.Brought.{Brought}
 use Rattle.player_check.specs.declared.watched.Brought.TheVariants.{Text, Silence, Break}
@@ -29,3 +29,12 @@ is_good Taken = true
 is_good Legal = true
 is_good Dropped = true
 is_good verdict = false
+
+abbrev pub verdict_text : Verdict → List ℕ
+verdict_text Taken = codes "taken"
+verdict_text Legal = codes "legal"
+verdict_text Illegal = codes "not legal"
+verdict_text NoMove = codes "no move"
+verdict_text Late = codes "none in time"
+verdict_text Broken = codes "broken"
+verdict_text Dropped = codes "dropped"

@@ -1,5 +1,9 @@
 //! The check of a player: a match for each role of a game, in which the player is watched.
-ghost use Rattle.std.specs.Prelude.{◌<◌};
+ghost use Rattle.std.specs.Prelude.{◌≡◌, ◌≢◌, ◌<◌, Err, IfErr, IfOk, OnOk, option_copied};
+ghost use Rattle.game_core.specs.Counting.{one_more};
+ghost use Rattle.player_check.specs.Rows.{bad_answers, later_turns, next_turn};
+ghost use Rattle.player_check.specs.Seats.{IsPlanFor, nobody};
+ghost use Rattle.player_check.specs.declared.check.CheckFault.TheVariants as faults;
 
 use crate::table::{HEADER, Row};
 use crate::watched::{Exchanges, Participant, Watching};
@@ -31,24 +35,32 @@ pub enum CheckFault {
 }
 
 impl From<AllocError> for CheckFault {
+    ghost from_gives = { λ _ fault. fault ≡ faults.Memory };
+
     fn from(_: AllocError) -> CheckFault {
         CheckFault::Memory
     }
 }
 
 impl<T: Drop> From<AllocFailed<T>> for CheckFault {
+    ghost from_gives = { λ _ fault. fault ≡ faults.Memory };
+
     fn from(_: AllocFailed<T>) -> CheckFault {
         CheckFault::Memory
     }
 }
 
 impl From<MatchFault> for CheckFault {
+    ghost from_gives = { λ given fault. fault ≡ faults.Match given };
+
     fn from(fault: MatchFault) -> CheckFault {
         CheckFault::Match(fault)
     }
 }
 
 impl From<WriteFault> for CheckFault {
+    ghost from_gives = { λ _ fault. fault ≡ faults.WriteFault };
+
     fn from(_: WriteFault) -> CheckFault {
         CheckFault::WriteFault
     }
@@ -57,6 +69,22 @@ impl From<WriteFault> for CheckFault {
 /// The name of the players that answer nothing.
 const NOBODY: &str = "nobody";
 
+/// The player at this place of the match in which the player has this role.
+fn seated<'a>(player: PlayerAddress<'a>, role: usize, place: usize) -> PlayerAddress<'a>
+    ensures player { place ≡ role → result ≡ player.entry }
+    ensures other { place ≢ role → result.name.now ≡ nobody }
+{
+    if place == role {
+        player
+    } else {
+        PlayerAddress {
+            name: NOBODY,
+            host: "",
+            port: 0,
+        }
+    }
+}
+
 /// The plan of the match in which the player has this role, of `roles` roles.
 fn match_plan<'a>(
     alloc: Global,
@@ -64,15 +92,12 @@ fn match_plan<'a>(
     id: &'a str,
     role: usize,
     roles: usize,
-) -> Result<MatchPlan<'a>, AllocError> {
-    let nobody = PlayerAddress {
-        name: NOBODY,
-        host: "",
-        port: 0,
-    };
+) -> Result<MatchPlan<'a>, AllocError>
+    ensures { IfOk result (IsPlanFor plan.now id.entry.now role roles) }
+{
     let mut players = Vec::with_capacity(alloc, roles)?;
     for place in 0..roles {
-        players.push(if place == role { plan.player } else { nobody })?;
+        players.push(seated(plan.player, role, place))?;
     }
     Ok(MatchPlan {
         id,
@@ -83,6 +108,17 @@ fn match_plan<'a>(
     })
 }
 
+/// The turn of the next exchange, and the turns of those after it. Only an exchange that asks for a move has a turn.
+fn next_turn(is_play: bool, turns: &[RoleTurn]) -> (Option<&RoleTurn>, &[RoleTurn])
+    ensures turn { option_copied result.0 ≡ next_turn is_play turns.now }
+    ensures later { result.1.now ≡ later_turns is_play turns.now }
+{
+    match turns {
+        [turn, later @ ..] if is_play => (Some(turn), later),
+        _ => (None, turns),
+    }
+}
+
 /// Appends a row for each exchange to the table. The turns belong to the exchanges that asked for a move, in their order. Returns the
 /// number of bad answers.
 fn push_rows(
@@ -91,22 +127,23 @@ fn push_rows(
     role: &[u8],
     exchanges: &Exchanges,
     turns: &[RoleTurn],
-) -> Result<u64, AllocError> {
+) -> Result<u64, AllocError>
+    ensures { IfOk result (λ bad. bad ≡ bad_answers exchanges.now.items.items turns.now) }
+{
     if exchanges.is_cut {
         return Err(AllocError);
     }
     let mut bad: u64 = 0;
-    let mut turns = turns.iter();
+    let mut left = turns;
     for exchange in &exchanges.items {
-        let turn = if exchange.is_play { turns.next() } else { None };
+        let (turn, later) = next_turn(exchange.is_play, left);
+        left = later;
         let row = Row {
             role,
             exchange,
             turn,
         };
-        if !row.verdict().is_good() {
-            bad = bad.saturating_add(1);
-        }
+        bad = bad.saturating_add(u64::from(!row.verdict().is_good()));
         table.extend_from_slice(format!(in alloc; "{row}")?.as_bytes())?;
     }
     Ok(bad)
@@ -127,6 +164,7 @@ where
     P: Player + Explains + Drop + Send,
     S: Reach<P> + TellsShortages,
     requires { role < (⟦<PackedGame as Game>⟧.rules game.game.now).roles }
+    ensures { IfErr result (λ fault. fault ≢ faults.WriteFault) }
 {
     let id = format!(in alloc; "check-{role}")?;
     let signal = Signal::new();
@@ -159,6 +197,9 @@ where
     H: Clock + Threads + Wait + Sync,
     P: Player + Explains + Drop + Send,
     S: Reach<P> + TellsShortages,
+    ensures written { OnOk result (writer.new.faults ≡ writer.old.faults) }
+    ensures failed { result ≡ Err faults.WriteFault → writer.new.faults ≡ one_more writer.old.faults }
+    ensures others { IfErr result (λ fault. fault ≢ faults.WriteFault → writer.new.faults ≡ writer.old.faults) }
 {
     let mut table = Vec::new(alloc);
     table.extend_from_slice(HEADER)?;

@@ -1,5 +1,6 @@
 //! The table of the messages to a player, with its answers and what these counted as.
 ghost use Rattle.std.specs.Prelude.{◌≡◌, option_copied};
+ghost use Rattle.player_check.specs.Rows.{row_verdict};
 ghost use Rattle.player_check.specs.Verdicts.{verdict_of};
 
 use crate::watched::{Brought, Exchange};
@@ -42,6 +43,11 @@ impl Verdict {
 }
 
 impl fmt::Display for Verdict {
+    ghost use Rattle.std.specs.Prelude.{Some};
+    ghost use Rattle.player_check.specs.Verdicts.{verdict_text};
+
+    ghost output = { λ verdict. Some (verdict_text verdict) };
+
     fn fmt<F: fmt::Write>(&self, f: &mut fmt::Formatter<F>) -> fmt::Result {
         f.write_str(match self {
             Verdict::Taken => "taken",
@@ -81,7 +87,9 @@ pub struct Row<'a> {
 
 impl Row<'_> {
     /// What the row's answer counted as.
-    pub fn verdict(&self) -> Verdict {
+    pub fn verdict(&self) -> Verdict
+        ensures { result ≡ row_verdict self.now.exchange.now (option_copied self.now.turn) }
+    {
         let error = self.turn.map(|turn| turn.error.as_slice());
         verdict_of(self.exchange.is_play, self.exchange.brought, error)
     }

@@ -1,4 +1,9 @@
 //! A watched player, among players that answer nothing.
+ghost use Rattle.std.specs.Prelude.{◌≡◌, ◌↔◌, ◌⊎◌, ◌++◌, ◌∷◌, [], IfOk, IsTrue, OnErr};
+ghost use mathlib.Core.List.{IsPrefix};
+ghost use Rattle.match_messages.specs.MessageKinds.{kind_word};
+ghost use Rattle.match_messages.specs.declared.kind.MessageKind.TheVariants.{Play};
+ghost use Rattle.player_check.specs.Answers.{answer_text, brought_by};
 
 use match_book::Answer;
 use match_log::Shown;
@@ -54,7 +59,12 @@ impl Exchanges {
         }
     }
 
-    fn keep(&mut self, exchange: Result<Exchange, AllocError>) {
+    /// Keeps the exchange, or notes that it is missing.
+    fn keep(&mut self, exchange: Result<Exchange, AllocError>)
+        ensures kept { IfOk exchange (λ exchange. (self.new.items.items ≡ self.old.items.items ++ exchange ∷ []) ⊎ IsTrue self.new.is_cut) }
+        ensures missing { OnErr exchange (IsTrue self.new.is_cut) }
+        ensures cut { IsTrue self.old.is_cut → IsTrue self.new.is_cut }
+    {
         let is_kept = match exchange {
             Ok(exchange) => self.items.push(exchange).is_ok(),
             Err(_) => false,
@@ -65,6 +75,28 @@ impl Exchanges {
     }
 }
 
+/// Whether a message asks for a move.
+fn asks_for_move(message: &SharedText<'_>) -> bool
+    ensures { IsTrue result ↔ IsPrefix (kind_word Play) message.now }
+{
+    match MessageKind::of(message) {
+        Some(kind) => kind == MessageKind::Play,
+        None => false,
+    }
+}
+
+/// What an answer brought, and its text. The text is empty without an answer.
+fn brought_of(answer: &Answer) -> (Brought, &[u8])
+    ensures brought { result.0 ≡ brought_by answer.now }
+    ensures text { result.1.now ≡ answer_text answer.now }
+{
+    match answer {
+        Answer::Text(text) => (Brought::Text, text.as_slice()),
+        Answer::Silent => (Brought::Silence, &[]),
+        Answer::Broken => (Brought::Break, &[]),
+    }
+}
+
 /// The exchange of a message, with the time that it took and the reason if there is no answer.
 fn exchange_of(
     alloc: Global,
@@ -72,15 +104,15 @@ fn exchange_of(
     answer: &Answer,
     fault: Option<ContactFault>,
     millis: u128,
-) -> Result<Exchange, AllocError> {
-    let (text, brought) = match answer {
-        Answer::Text(text) => (text.as_slice(), Brought::Text),
-        Answer::Silent => (&[][..], Brought::Silence),
-        Answer::Broken => (&[][..], Brought::Break),
-    };
+) -> Result<Exchange, AllocError>
+    ensures asks { IfOk result (λ exchange. IsTrue exchange.is_play ↔ IsPrefix (kind_word Play) message.now) }
+    ensures brought { IfOk result (λ exchange. exchange.brought ≡ brought_by answer.now) }
+    ensures given { IfOk result (λ exchange. (exchange.fault ≡ fault) × (exchange.millis ≡ millis)) }
+{
+    let (brought, text) = brought_of(answer);
     Ok(Exchange {
         message: format!(in alloc; "{}", Shown::message(message))?,
-        is_play: MessageKind::of(message) == Some(MessageKind::Play),
+        is_play: asks_for_move(message),
         answer: format!(in alloc; "{}", Shown::text(text))?,
         brought,
         fault,
