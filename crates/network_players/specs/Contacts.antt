@@ -1,5 +1,5 @@
 -- What an exchange with a player counts as.
-use Rattle.std.specs.Prelude.{ℕ, List, Option, Some, None, Result, Ok, Err}
+use Rattle.std.specs.Prelude.{◌≡◌, ℕ, List, Option, Some, None, Result, Ok, Err}
 use Rattle.std.specs.declared.io.ErrorKind.{ErrorKind}
 use Rattle.std.specs.declared.io.ErrorKind.TheVariants.{WouldBlock, TimedOut}
 use Rattle.match_book.specs.declared.answer.Answer.{Answer}
@@ -12,6 +12,10 @@ use Rattle.network_players.specs.declared.deadline.Halt.{Halt}
 use Rattle.network_players.specs.declared.deadline.Halt.TheVariants as halts
 use Rattle.network_players.specs.declared.contacting.ContactFault.{ContactFault}
 use Rattle.network_players.specs.declared.contacting.ContactFault.TheVariants as faults
+
+-- the answer is a text
+abbrev pub IsText : Answer → Type 0
+IsText answer = (text : List ℕ) × (answer ≡ Text text)
 
 -- no answer in time is a silence, every other fault a broken answer
 abbrev pub answer_of : Result (List ℕ) WireFault → Answer

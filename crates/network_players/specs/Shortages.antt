@@ -1,5 +1,5 @@
 -- Shortages of the referee.
-use Rattle.std.specs.Prelude.{ℕ, ℤ, unsigned_abs, ◌==◌, if◌then◌else◌, List, [], ◌∷◌, Option, Some, None}
+use Rattle.std.specs.Prelude.{◌≡◌, ◌⊎◌, ℕ, ℤ, unsigned_abs, ◌==◌, if◌then◌else◌, List, [], ◌∷◌, Option, Some, None}
 use Rattle.std.specs.declared.io.ErrorKind.{ErrorKind}
 use Rattle.std.specs.declared.io.ErrorKind.TheVariants.{WouldBlock, TimedOut, AddrNotAvailable, OutOfMemory}
 use Rattle.match_plans.specs.declared.shortages.Shortage.{Shortage}
@@ -30,6 +30,10 @@ system_shortage kind number = number_shortage number
 abbrev pub short_halt : Option Shortage → Option Halt
 short_halt (Some shortage) = Some (Short shortage)
 short_halt None = None
+
+-- a read or a write failed so where it ran out of time
+abbrev pub IsTimeOut : ErrorKind → Type 0
+IsTimeOut kind = (kind ≡ TimedOut) ⊎ (kind ≡ WouldBlock)
 
 -- a read or a write that ran out of time is late, and one that failed by a shortage is short of it; otherwise the player was the cause
 abbrev pub failed_halt : ErrorKind → Option Shortage → Option Halt

@@ -171,8 +171,8 @@ fn connect<N: Net + Clock>(
 ) -> Result<N::Stream, ContactFault> {
     let Errand { player, deadline } = errand;
     for _ in 0..MAX_CONNECTS {
-        let connected = match lookup.addresses(net, alloc, player) {
-            Ok(addresses) => connect_once(net, addresses, deadline),
+        let connected = match lookup.look_up(net, alloc, player) {
+            Ok(()) => connect_once(net, lookup.addresses(), deadline),
             Err(shortage) => Err(ContactFault::Shortage(shortage)),
         };
         let Err(ContactFault::Shortage(shortage)) = connected else {

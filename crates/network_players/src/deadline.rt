@@ -1,9 +1,12 @@
 //! One deadline for all steps of a message.
-ghost use Rattle.std.specs.Prelude.{◌≡◌, ◌+◌, ◌*◌, ◌<◌, ◌≤◌, ◌↔◌, ◌⊎◌, Err, IfErr, IfOk, IfSome, IsOkAnd, IsSome, MatchResult, None, OnErr, take};
+ghost use Rattle.std.specs.Prelude.{◌≡◌, ◌+◌, ◌-◌, ◌*◌, ◌<◌, ◌≤◌, ◌↔◌, ◌⊎◌, ◌++◌, Err, IfErr, IfOk, IfSome, IsOkAnd, IsSome, MatchResult, None, OnErr, OnOk, take};
 ghost use Rattle.std.specs.Duration.{as_nanos};
+ghost use Rattle.std.specs.Io.{ReadsAtMost, WritesAtMost};
+ghost use Rattle.std.specs.Io.KnownBytes.{ReadConsumes, WriteAppends};
+ghost use Rattle.std.specs.IoError.{error_kind};
 ghost use Rattle.match_plans.specs.declared.shortages.Shortage.TheVariants.{Clock};
 ghost use Rattle.network_players.specs.Fronts.{reply_status};
-ghost use Rattle.network_players.specs.Shortages.{failed_halt};
+ghost use Rattle.network_players.specs.Shortages.{IsTimeOut, failed_halt};
 ghost use Rattle.network_players.specs.declared.deadline.Halt.TheVariants.{Late, Short};
 
 use crate::reply_front::ReplyFront;
@@ -150,7 +153,12 @@ impl<'a, C: Clock, S: OpenStream> TimedStream<'a, C, S> {
 impl<C: Clock, S: Read + OpenStream> Read for TimedStream<'_, C, S> {
     ghost remaining = { λ t. S.remaining t.stream };
 
-    fn read(&mut self, buf: &mut [u8]) -> io::Result<usize> {
+    fn read(&mut self, buf: &mut [u8]) -> io::Result<usize>
+        ensures bound { ReadsAtMost result buf.new }
+        ensures bytes { ReadConsumes (S.remaining self.old.stream) (S.remaining self.new.stream) result buf.new }
+        ensures front { IfOk result (λ count. take self.new.front.count self.new.front.bytes ≡ take self.old.front.count self.old.front.bytes ++ take (64 - self.old.front.count) (take count buf.new)) }
+        ensures late { IfErr result (λ error. IsTimeOut (error_kind error) → IsSome self.new.halt) }
+    {
         let left = match self.deadline.left(self.clock) {
             Ok(left) => left,
             Err(halt) => {
@@ -176,7 +184,12 @@ impl<C: Clock, S: Read + OpenStream> Read for TimedStream<'_, C, S> {
 impl<C: Clock, S: Write + OpenStream> Write for TimedStream<'_, C, S> {
     ghost contents = { λ t. S.contents t.stream };
 
-    fn write(&mut self, buf: &[u8]) -> io::Result<usize> {
+    fn write(&mut self, buf: &[u8]) -> io::Result<usize>
+        ensures bound { WritesAtMost result buf.now }
+        ensures bytes { WriteAppends (S.contents self.old.stream) (S.contents self.new.stream) result buf.now }
+        ensures counts { OnOk result (self.new.halt ≡ None) }
+        ensures late { IfErr result (λ error. IsTimeOut (error_kind error) → IsSome self.new.halt) }
+    {
         let left = match self.deadline.left(self.clock) {
             Ok(left) => left,
             Err(halt) => {

@@ -1,4 +1,5 @@
 //! The addresses of a player's host.
+ghost use Rattle.std.specs.Prelude.{◌≡◌, IfSome, IsSome, None, OnErr, OnOk, Some};
 
 use crate::shortage::shortage_of;
 use match_plans::{PlayerAddress, Shortage};
@@ -46,23 +47,36 @@ fn addresses<N: Net>(
 
 impl Lookup {
     /// A host that is not looked up yet.
-    pub const fn new() -> Lookup {
+    pub const fn new() -> Lookup
+        ensures { result.found ≡ None }
+    {
         Lookup { found: None }
     }
 
-    /// The addresses of the player's host, which is the same at each call. Only after a shortage is it looked up again.
-    pub fn addresses<N: Net>(
+    /// Looks up the addresses of the player's host, which is the same at each call. Only after a shortage is it looked up again.
+    pub fn look_up<N: Net>(
         &mut self,
         net: &N,
         alloc: Global,
         player: &PlayerAddress<'_>,
-    ) -> Result<&[SocketAddr], Shortage> {
+    ) -> Result<(), Shortage>
+        ensures once { IfSome self.old.found (λ found. self.new.found ≡ Some found) }
+        ensures found { OnOk result (IsSome self.new.found) }
+        ensures short { OnErr result (self.new.found ≡ self.old.found) }
+    {
         if self.found.is_none() {
             self.found = Some(addresses(net, alloc, player)?);
         }
+        Ok(())
+    }
+
+    /// The addresses that were found. There are none before the host is looked up.
+    pub fn addresses(&self) -> &[SocketAddr]
+        ensures { IfSome self.now.found (λ found. result.now ≡ found.items) }
+    {
         match &self.found {
-            Some(found) => Ok(found.as_slice()),
-            None => Ok(&[]),
+            Some(found) => found.as_slice(),
+            None => &[],
         }
     }
 }

@@ -1,5 +1,5 @@
 //! The rests of a match's players between their messages, and the signal that wakes them and keeps the match's shortage.
-ghost use Rattle.std.specs.Prelude.{◌≡◌, ◌*◌, min, IfOk, IsTrue, length};
+ghost use Rattle.std.specs.Prelude.{◌≡◌, ◌+◌, ◌-◌, ◌*◌, ◌^◌, min, IfOk, IsFalse, IsTrue, length};
 ghost use Rattle.std.specs.Duration.{as_nanos};
 
 use crate::shortage::{code_of, coded};
@@ -165,7 +165,8 @@ impl Drop for Pace<'_> {
 impl<'a> Pace<'a> {
     /// The pace of a new player, in the match of this signal.
     pub fn new(signal: &'a Signal) -> Pace<'a>
-        ensures { as_nanos result.rest ≡ 100_000_000 }
+        ensures rest { as_nanos result.rest ≡ 100_000_000 }
+        ensures here { IsFalse result.has_left }
     {
         signal.players.fetch_add(1, Ordering::SeqCst);
         Pace {
@@ -179,14 +180,17 @@ impl<'a> Pace<'a> {
     }
 
     /// Notes that the player gets a message, with which a round has begun.
-    pub fn begin(&mut self) {
+    pub fn begin(&mut self)
+        ensures { self.new.messages ≡ min (2 ^ 64 - 1) (self.old.messages + 1) }
+    {
         self.messages = self.messages.saturating_add(1);
         self.signal.raise(self.messages);
     }
 
     /// Notes that the player has answered the message.
     pub fn end(&mut self)
-        ensures { as_nanos self.new.rest ≡ 100_000_000 }
+        ensures rest { as_nanos self.new.rest ≡ 100_000_000 }
+        ensures rested { IsFalse self.new.has_rested }
     {
         self.seen = self.signal.calls();
         self.rest = first_rest();
@@ -206,7 +210,8 @@ impl<'a> Pace<'a> {
     /// Rests. If the others rest already they are woken, once after each message: the player's answer may have retired it, and the
     /// round may have begun without a message to it.
     pub fn rest<R: Wait>(&mut self, rt: &R)
-        ensures { as_nanos self.new.rest ≡ min 2_000_000_000 (as_nanos self.old.rest * 2) }
+        ensures rest { as_nanos self.new.rest ≡ min 2_000_000_000 (as_nanos self.old.rest * 2) }
+        ensures rested { IsTrue self.new.has_rested }
     {
         if self.signal.begin_rest() && !self.has_rested && self.signal.call() == self.seen {
             // Its own call must not end its rest.

@@ -1,6 +1,6 @@
 //! Players that are reached over the network.
-ghost use Rattle.std.specs.Prelude.{◌≡◌, ◌<◌, IsTrue, length};
-ghost use Rattle.network_players.specs.Contacts.{answer_of, contact_answer};
+ghost use Rattle.std.specs.Prelude.{◌≡◌, ◌<◌, Err, IfOk, IsTrue, MatchOption, None, length, string_bytes};
+ghost use Rattle.network_players.specs.Contacts.{IsText, answer_of, contact_answer};
 
 use crate::contacting::{ContactFault, Explains, contact_found};
 use crate::lookup::Lookup;
@@ -65,7 +65,11 @@ impl<'a, H: Net + Clock> Reach<SocketPlayer<'a, H>> for Sockets<'a, H> {
         alloc: Global,
         at: RolePlace<'_>,
         address: &PlayerAddress<'_>,
-    ) -> Result<SocketPlayer<'a, H>, AllocError> {
+    ) -> Result<SocketPlayer<'a, H>, AllocError>
+        ensures place { IfOk result (λ p. (string_bytes p.host ≡ address.now.host.now) × (p.port ≡ address.now.port)) }
+        ensures name { IfOk result (λ p. string_bytes p.name ≡ address.now.name.now) }
+        ensures nothing_yet { IfOk result (λ p. (p.fault ≡ None) × (p.lookup.found ≡ None)) }
+    {
         let signal = self.signal_at(at.place);
         let name = String::from_str(alloc, address.name)?;
         let host = String::from_str(alloc, address.host)?;
@@ -113,14 +117,18 @@ fn contact_answer(reached: Result<Text, ContactFault>) -> Answer
 }
 
 impl<H> Explains for SocketPlayer<'_, H> {
-    fn why(&self) -> Option<ContactFault> {
+    fn why(&self) -> Option<ContactFault>
+        ensures { result ≡ self.now.fault }
+    {
         self.fault
     }
 }
 
 impl<H: Net + Clock> SocketPlayer<'_, H> {
     /// Hands the message over, and notes why it brought no answer.
-    fn hand_over(&mut self, seconds: u32, message: &SharedText<'_>) -> Answer {
+    fn hand_over(&mut self, seconds: u32, message: &SharedText<'_>) -> Answer
+        ensures { MatchOption self.new.fault (IsText result) (λ fault. result ≡ contact_answer (Err fault)) }
+    {
         self.pace.begin();
         let address = PlayerAddress {
             name: self.name.as_str(),
@@ -145,12 +153,12 @@ impl<H: Net + Clock> SocketPlayer<'_, H> {
 }
 
 impl<H: Net + Clock + Wait> Player for SocketPlayer<'_, H> {
-    ghost use Rattle.std.specs.Prelude.{None};
-
     // No contract can name what a socket carries.
     ghost handed = { λ p. None };
 
-    fn ask(&mut self, seconds: u32, body: &[u8]) -> Answer {
+    fn ask(&mut self, seconds: u32, body: &[u8]) -> Answer
+        ensures { MatchOption self.new.fault (IsText result) (λ fault. result ≡ contact_answer (Err fault)) }
+    {
         self.hand_over(seconds, &SharedText::lent(self.alloc, body))
     }
 
