@@ -1,5 +1,5 @@
 //! A watched player, among players that answer nothing.
-ghost use Rattle.std.specs.Prelude.{◌≡◌, ◌↔◌, ◌⊎◌, ◌++◌, ◌∷◌, [], IfOk, IsTrue, OnErr};
+ghost use Rattle.std.specs.Prelude.{◌≡◌, ◌==◌, ◌↔◌, ◌⊎◌, ◌++◌, ◌∷◌, [], IfOk, IsTrue, OnErr, is_some};
 ghost use mathlib.Core.List.{IsPrefix};
 ghost use Rattle.match_messages.specs.MessageKinds.{kind_word};
 ghost use Rattle.match_messages.specs.declared.kind.MessageKind.TheVariants.{Play};
@@ -148,7 +148,9 @@ impl<'a, H, P, S: Reach<P>> Reach<Participant<'a, H, P>> for Watching<'a, H, S> 
         alloc: Global,
         at: RolePlace<'_>,
         address: &PlayerAddress<'_>,
-    ) -> Result<Participant<'a, H, P>, AllocError> {
+    ) -> Result<Participant<'a, H, P>, AllocError>
+        ensures { IfOk result (λ p. is_some p.watched ≡ (at.entry.role == self.now.role)) }
+    {
         let watched = if at.role == self.role {
             Some(self.reach.player(alloc, at, address)?)
         } else {
