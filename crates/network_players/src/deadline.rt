@@ -135,6 +135,20 @@ impl<'a, C: Clock, S: OpenStream> TimedStream<'a, C, S> {
         }
     }
 
+    /// The time left for a read or a write. Without any the error is `TimedOut`, and the halt is noted.
+    fn time_left(&mut self) -> io::Result<Duration>
+        ensures kept { (self.new.stream ≡ self.old.stream) × (self.new.front ≡ self.old.front) }
+        ensures halted { OnErr result (IsSome self.new.halt) }
+    {
+        match self.deadline.left(self.clock) {
+            Ok(left) => Ok(left),
+            Err(halt) => {
+                self.halt = Some(halt);
+                Err(io::Error::from(ErrorKind::TimedOut))
+            }
+        }
+    }
+
     /// The halt of the last read or write. `None` if it counts, or if the player made it fail.
     pub fn halt(&self) -> Option<Halt>
         ensures { result ≡ self.now.halt }
@@ -159,13 +173,7 @@ impl<C: Clock, S: Read + OpenStream> Read for TimedStream<'_, C, S> {
         ensures front { IfOk result (λ count. take self.new.front.count self.new.front.bytes ≡ take self.old.front.count self.old.front.bytes ++ take (64 - self.old.front.count) (take count buf.new)) }
         ensures late { IfErr result (λ error. IsTimeOut (error_kind error) → IsSome self.new.halt) }
     {
-        let left = match self.deadline.left(self.clock) {
-            Ok(left) => left,
-            Err(halt) => {
-                self.halt = Some(halt);
-                return Err(io::Error::from(ErrorKind::TimedOut));
-            }
-        };
+        let left = self.time_left()?;
         let given = match self.stream.set_read_timeout(Some(left)) {
             Ok(()) => self.stream.read(buf),
             Err(error) => Err(error),
@@ -190,13 +198,7 @@ impl<C: Clock, S: Write + OpenStream> Write for TimedStream<'_, C, S> {
         ensures counts { OnOk result (self.new.halt ≡ None) }
         ensures late { IfErr result (λ error. IsTimeOut (error_kind error) → IsSome self.new.halt) }
     {
-        let left = match self.deadline.left(self.clock) {
-            Ok(left) => left,
-            Err(halt) => {
-                self.halt = Some(halt);
-                return Err(io::Error::from(ErrorKind::TimedOut));
-            }
-        };
+        let left = self.time_left()?;
         let taken = match self.stream.set_write_timeout(Some(left)) {
             Ok(()) => self.stream.write(buf),
             Err(error) => Err(error),
