@@ -1,7 +1,8 @@
 //! How a message is read, by one read after another.
-ghost use Rattle.std.specs.Prelude.{◌≡◌, ◌<◌, ◌≤◌, List, ℕ, length, slice_range, IfOk, IfErr};
+ghost use Rattle.std.specs.Prelude.{◌≡◌, ◌<◌, ◌≤◌, ◌⊎◌, false, length, slice_range, IfOk, IfErr};
 ghost use Rattle.http_exchange.specs.Exchange.{TakesBody, TakesNone};
 ghost use Rattle.http_exchange.specs.Internal.Reads.{ReadsOnce, ReadOnceFails};
+ghost use Rattle.http_exchange.specs.WireFaults.{HasFailed};
 
 use crate::head::{Head, HttpKind, head_after};
 use crate::look::{Look, look_past};
@@ -22,6 +23,7 @@ fn read_once<S: Read>(
     requires { 0 < length chunk.old }
     ensures read { IfOk result (λ ended. ReadsOnce S.remaining stream.old stream.new bytes.old.items bytes.new.items ended) }
     ensures fails { IfErr result (λ fault. ReadOnceFails S.remaining stream.old stream.new fault) }
+    ensures goes_on { IfOk result (λ ended. ended ≡ false → (length bytes.old.items < length bytes.new.items) ⊎ HasFailed stream.old.faults stream.new.faults) }
 {
     match stream.read(chunk) {
         Ok(0) => Ok(true),
