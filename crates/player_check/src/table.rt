@@ -90,7 +90,10 @@ impl Row<'_> {
     pub fn verdict(&self) -> Verdict
         ensures { result ≡ row_verdict self.now.exchange.now (option_copied self.now.turn) }
     {
-        let error = self.turn.map(|turn| turn.error.as_slice());
+        let error = match self.turn {
+            Some(turn) => Some(turn.error.as_slice()),
+            None => None,
+        };
         verdict_of(self.exchange.is_play, self.exchange.brought, error)
     }
 }
