@@ -1,3 +1,4 @@
+mod Numbering
 mod Sitting
 mod Waiting
 mod WrittenLines

@@ -5,9 +5,9 @@ use Rattle.std.specs.List.{AllWithin}
 use Rattle.std.proofs.lemmas.Bool.{false≢true, not-true, not-false, eqb-false, cases_lt}
 use Rattle.std.proofs.lemmas.Option.{slice_get_cases, slice_get_within, get_or_from_slice_get}
 use Rattle.std.proofs.lemmas.List.{get_or_append_left, get_or_push}
-use Rattle.std.proofs.lemmas.List.Elements.{All-from_all_within, All-get_or, All-push, All-same, All-weaker}
+use Rattle.std.proofs.lemmas.List.Elements.{All-from_all_within, All-get_or}
 use Rattle.std.proofs.lemmas.List.Folds.{length-prefix_len}
-use Rattle.match_season.specs.Lineups.{IsBusy, are_free, times, turn_of}
+use Rattle.match_season.specs.Lineups.{IsBusy, are_free, turn_of}
 use Rattle.match_season.specs.declared.lineup.Fixture.{Fixture}
 use Rattle.match_season.specs.declared.lineup.Lineup.{Lineup}
 
@@ -87,17 +87,3 @@ in-order-more waiting new fixture place is each here before k d lt =
           let same : k ≡ place = omega (arith, past, lt) in
           at ∙ (ap (λ (it : Fixture). it.place) (get_or_push waiting fixture d k (each ∙ sym same)) ∙ (here ∙ sym same))
     ]
-
-pub once-more : (waiting new : List Fixture) (fixture : Fixture) → new ≡ waiting ++ fixture ∷ [] → ((player : ℕ) → times fixture.players.items player ≤ 1)
-    → All (λ (it : Fixture). (player : ℕ) → times it.players.items player ≤ 1) waiting → All (λ (it : Fixture). (player : ℕ) → times it.players.items player ≤ 1) new
-once-more waiting new fixture is one before =
-    let P : Fixture → Type 0 = λ it. (player : ℕ) → times it.players.items player ≤ 1 in
-    All-same P new (waiting ++ fixture ∷ []) is (All-push P waiting fixture before one)
-
-pub counted-more : (waiting new : List Fixture) (fixture : Fixture) (bound more : ℕ) → new ≡ waiting ++ fixture ∷ [] → bound ≤ more → All (λ player. player < more) fixture.players.items
-    → All (λ (it : Fixture). All (λ player. player < bound) it.players.items) waiting → All (λ (it : Fixture). All (λ player. player < more) it.players.items) new
-counted-more waiting new fixture bound more is le one before =
-    let P : Fixture → Type 0 = λ it. All (λ (player : ℕ). player < bound) it.players.items in
-    let Q : Fixture → Type 0 = λ it. All (λ (player : ℕ). player < more) it.players.items in
-    let kept = All-weaker P Q (λ it h. All-weaker (λ (player : ℕ). player < bound) (λ (player : ℕ). player < more) (λ player l. omega (arith, l, le)) it.players.items h) waiting before in
-    All-same Q new (waiting ++ fixture ∷ []) is (All-push Q waiting fixture kept one)

@@ -1,8 +1,10 @@
 -- The waiting matches of a season, and the players of the running ones.
-use Rattle.std.specs.Prelude.{◌≡◌, ◌≤◌, ◌<◌, ◌+◌, ◌-◌, ◌^◌, ◌==◌, ◌∷◌, ◌++◌, ◌⊎◌, ℕ, Bool, true, false, List, [], Some, All, Contains, count_by, get_or, insert, length, nat_lt, remove, replicate, slice_get, take}
+use Rattle.std.specs.Prelude.{◌≡◌, ◌<◌, ◌+◌, ◌-◌, ◌^◌, ◌==◌, ◌&&◌, ◌∷◌, ◌++◌, ◌⊎◌, ℕ, Bool, true, false, List, [], Some, All, count_by, get_or, insert, length, map, min, nat_lt, remove, replicate, slice_get, take}
 use Rattle.std.specs.Borrow.{Bor}
-use Rattle.std.specs.List.{list_all, list_any, position_or_len}
+use Rattle.std.specs.List.{AllZip, list_all, list_any, position_or_len}
+use Rattle.std.specs.Str.{bytes_eq}
 use Rattle.match_plans.specs.declared.addresses.PlayerAddress.{PlayerAddress}
+use Rattle.match_plans.specs.declared.plan.MatchPlan.{MatchPlan}
 use Rattle.match_season.specs.declared.lineup.Fixture.{Fixture}
 use Rattle.match_season.specs.declared.lineup.Lineup.{Lineup}
 
@@ -11,14 +13,21 @@ abbrev pub ListsOnce : List ℕ → List ℕ → ℕ → Type 0
 ListsOnce old new number =
     ((list_any (λ it. it == number) old ≡ true) × (new ≡ old)) ⊎ ((list_any (λ it. it == number) old ≡ false) × (new ≡ old ++ number ∷ []))
 
--- The player's address is listed, by its host and its port, and the number of its place there is among these numbers.
-pub record IsNumbered (addresses : List (Bor (List ℕ) × ℕ)) (numbers : List ℕ) (player : PlayerAddress) : Type 0 where
-  pub number : ℕ
-  pub address : Bor (List ℕ) × ℕ
-  pub listed : slice_get addresses number ≡ Some address
-  pub host : address.0.now ≡ player.host.now
-  pub port : address.1 ≡ player.port
-  pub among : Contains numbers number
+-- hosts with their ports
+abbrev pub Addresses : Type 0
+Addresses = List (Bor (List ℕ) × ℕ)
+
+-- the player is at this address: it has the same host and the same port
+abbrev pub is_at : PlayerAddress → Bor (List ℕ) × ℕ → Bool
+is_at player address = bytes_eq player.host.now address.0.now && (player.port == address.1)
+
+-- the number of a player: the index of its address among these
+abbrev pub number_of : Addresses → PlayerAddress → ℕ
+number_of addresses player = position_or_len (is_at player) addresses
+
+-- further addresses may stand behind these
+abbrev pub Lengthens : Addresses → Addresses → Type 0
+Lengthens old new = (more : Addresses) × (new ≡ old ++ more)
 
 -- Each of these players sits in fewer running matches than it may. A player's number is its index in the list of their counts.
 abbrev pub are_free : List ℕ → ℕ → List ℕ → Bool
@@ -32,6 +41,11 @@ IsBusy lineup fixture = are_free lineup.sitting.items lineup.concurrent fixture.
 abbrev pub times : List ℕ → ℕ → ℕ
 times players player = count_by (λ it. it == player) players
 
+-- The numbers of these players. The address of each is listed, each number is there once, and no other one is.
+pub record AreNumbersOf (addresses : Addresses) (players : List PlayerAddress) (numbers : List ℕ) : Type 0 where
+  pub listed : All (λ player. number_of addresses player < length addresses) players
+  pub once : (number : ℕ) → times numbers number ≡ min 1 (times (map (number_of addresses) players) number)
+
 -- Each of these players sits in one match more, up to the limit of its count. No other player does.
 abbrev pub SitDown : List ℕ → List ℕ → List ℕ → Type 0
 SitDown old new players =
@@ -42,13 +56,13 @@ SitDown old new players =
 abbrev pub StandUp : List ℕ → List ℕ → List ℕ → Type 0
 StandUp old new players = (length new ≡ length old) × ((player : ℕ) → get_or new player 0 ≡ get_or old player 0 - times players player)
 
--- All matches of a schedule wait, in its order. None has a player twice, and each of its players has a count, which is 0.
-pub record AllWait (lineup : Lineup) (matches : ℕ) : Type 0 where
-  pub each : length lineup.waiting.items ≡ matches
-  pub in_order : (place : ℕ) (d : Fixture) → place < matches → (get_or lineup.waiting.items place d).place ≡ place
-  pub once : All (λ fixture. (player : ℕ) → times fixture.players.items player ≤ 1) lineup.waiting.items
-  pub counted : All (λ fixture. All (λ player. player < length lineup.sitting.items) fixture.players.items) lineup.waiting.items
-  pub nobody_sits : lineup.sitting.items ≡ replicate (length lineup.sitting.items) 0
+-- All matches of a schedule wait, in its order, each with the numbers of its players among the same addresses. Each address has a count,
+-- which is 0.
+pub record AllWait (lineup : Lineup) (plans : List MatchPlan) : Type 0 where
+  pub in_order : (place : ℕ) (d : Fixture) → place < length plans → (get_or lineup.waiting.items place d).place ≡ place
+  pub addresses : Addresses
+  pub numbered : AllZip (λ plan fixture. AreNumbersOf addresses plan.players.items fixture.players.items) plans lineup.waiting.items
+  pub nobody_sits : lineup.sitting.items ≡ replicate (length addresses) 0
 
 -- The first waiting match with free players begins. The others wait on, in their order, and its players sit in one match more.
 pub record Begins (old new : Lineup) (first : Fixture) : Type 0 where

@@ -102,6 +102,7 @@ impl Table {
     fn close(&mut self)
         ensures none_waits { self.new.lineup.waiting.items ≡ [] }
         ensures closed { self.new.is_closed ≡ true }
+        ensures same { (self.new.under_way ≡ self.old.under_way) × (self.new.threads ≡ self.old.threads) × (self.new.lineup.sitting ≡ self.old.lineup.sitting) }
     {
         self.lineup.clear();
         self.is_closed = true;

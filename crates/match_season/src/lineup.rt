@@ -1,8 +1,7 @@
 //! The waiting matches of a season, and in how many running matches each player sits.
 ghost use Rattle.std.specs.Prelude.{◌≡◌, ◌≤◌, ◌<◌, ◌+◌, ◌-◌, ◌^◌, ◌↔◌, ℕ, [], true, All, IfNone, IfOk, IfSome, IsTrue, OnErr, OnOk, Some, get_or, length, min, slice_get, slice_set, take};
 ghost use Rattle.std.specs.VecDeque.{deque_capacity, deque_len};
-ghost use Rattle.indexmap.specs.IndexSet.{index_set_len};
-ghost use Rattle.match_season.specs.Lineups.{AllWait, Begins, IsBusy, IsNumbered, ListsOnce, SitDown, StandUp, are_free, times, turn_of, with_match};
+ghost use Rattle.match_season.specs.Lineups.{AllWait, AreNumbersOf, Begins, IsBusy, Lengthens, ListsOnce, SitDown, StandUp, are_free, number_of, turn_of, with_match};
 
 use indexmap::IndexSet;
 use match_plans::{MatchPlan, PlayerAddress, SeasonForm};
@@ -37,20 +36,38 @@ fn list_once(numbers: &mut Vec<usize>, number: usize) -> Result<(), AllocError>
     Ok(())
 }
 
-/// The numbers of a match's players, each once. An address without a number gets the next one.
+/// The address of a player, by which it gets its number.
+fn address<'a>(player: &PlayerAddress<'a>) -> (&'a str, u16)
+    ensures { result ≡ (player.now.host, player.now.port) }
+{
+    (player.host, player.port)
+}
+
+/// The number of a player. An address without a number gets the next one.
+fn number_of<'a>(
+    addresses: &mut IndexSet<(&'a str, u16)>,
+    player: &PlayerAddress<'a>,
+) -> Result<usize, AllocError>
+    ensures number { IfOk result (λ number. number ≡ number_of addresses.new.keys player.now) }
+    ensures listed { IfOk result (λ number. number < length addresses.new.keys) }
+    ensures kept { OnOk result (Lengthens addresses.old.keys addresses.new.keys) }
+{
+    let (number, _) = addresses.insert_full(address(player))?;
+    Ok(number)
+}
+
+/// The numbers of a match's players, each once.
 fn numbers<'a>(
     alloc: Global,
     addresses: &mut IndexSet<(&'a str, u16)>,
     players: &[PlayerAddress<'a>],
 ) -> Result<Vec<usize>, AllocError>
-    ensures all { IfOk result (λ numbers. All (IsNumbered addresses.new.keys numbers.items) players.now) }
-    ensures once { IfOk result (λ numbers. (player : ℕ) → times numbers.items player ≤ 1) }
-    ensures counted { IfOk result (λ numbers. All (λ player. player < index_set_len addresses.new) numbers.items) }
-    ensures kept { index_set_len addresses.old ≤ index_set_len addresses.new }
+    ensures numbers { IfOk result (λ numbers. AreNumbersOf addresses.new.keys players.now numbers.items) }
+    ensures kept { OnOk result (Lengthens addresses.old.keys addresses.new.keys) }
 {
     let mut numbers = Vec::with_capacity(alloc, players.len())?;
     for player in players {
-        let (number, _) = addresses.insert_full((player.host, player.port))?;
+        let number = number_of(addresses, player)?;
         list_once(&mut numbers, number)?;
     }
     Ok(numbers)
@@ -118,7 +135,7 @@ impl Lineup {
         plans: &[MatchPlan<'_>],
         form: SeasonForm,
     ) -> Result<Lineup, AllocError>
-        ensures wait { IfOk result (λ lineup. AllWait lineup (length plans.now)) }
+        ensures wait { IfOk result (λ lineup. AllWait lineup plans.now) }
         ensures concurrent { IfOk result (λ lineup. lineup.concurrent ≡ form.concurrent) }
     {
         let mut addresses = IndexSet::new(alloc);

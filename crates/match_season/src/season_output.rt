@@ -1,5 +1,6 @@
 //! Writes a season: the record of each match, followed by its account.
-ghost use Rattle.std.specs.Prelude.{◌≡◌, ◌≤◌, ◌-◌, ℕ, false, true, IfOk, OnErr, OnOk, Some, length, replicate, slice_set, vec_len};
+ghost use Rattle.std.specs.Prelude.{◌≡◌, ◌<◌, ◌≤◌, ◌-◌, ℕ, false, true, IfOk, OnErr, OnOk, None, Some, is_some, length, replicate, slice_set, vec_len};
+ghost use Rattle.std.specs.List.{AllWithin, HoldsAt};
 ghost use Rattle.match_season.specs.Seasons.{Settles, WritesMatches, WritesUpTo, faults_after, records_of};
 
 use crossbeam_channel::Receiver;
@@ -171,6 +172,8 @@ fn write_waiting<R: Wait, W: Write, E: Write>(
 ) -> Result<usize, SeasonFault>
     ensures written { IfOk result (λ place. WritesUpTo (place - next) written.old written.new (W.contents writer.old.stream) (W.contents writer.new.stream)) }
     ensures place { IfOk result (λ place. (place ≤ length waiting.old) × (next ≤ length waiting.old → next ≤ place)) }
+    ensures over { IfOk result (λ place. AllWithin (λ it. is_some it ≡ true) waiting.old next place) }
+    ensures stops { IfOk result (λ place. place < length waiting.old → HoldsAt (λ it. is_some it ≡ false) waiting.old place) }
     ensures faults { writer.new.faults ≡ faults_after result writer.old.faults }
 {
     let count = waiting.len();
@@ -195,7 +198,7 @@ fn keep(waiting: &mut [Option<Over>], over: Over)
 
 /// `count` empty places.
 fn none_waiting(alloc: Global, count: usize) -> Result<Vec<Option<Over>>, AllocError>
-    ensures { IfOk result (λ waiting. vec_len waiting ≡ count) }
+    ensures { IfOk result (λ waiting. waiting.items ≡ replicate count None) }
 {
     let mut waiting = Vec::with_capacity(alloc, count)?;
     for _place in 0..count {

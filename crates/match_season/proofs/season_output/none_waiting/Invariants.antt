@@ -1,5 +1,5 @@
-use Rattle.std.proofs.Common.{◌≡◌, vec_len}
+use Rattle.std.proofs.Common.{◌≡◌, None, replicate}
 use Rattle.match_season.proofs.season_output.none_waiting.Given as goal
 
 abbrev pub invariant-loop-place : goal.invariant-loop-place
-invariant-loop-place l = vec_len l.waiting ≡ l._place
+invariant-loop-place l = l.waiting.items ≡ replicate l._place None

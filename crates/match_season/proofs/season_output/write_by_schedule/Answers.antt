@@ -1,9 +1,12 @@
-use Rattle.std.proofs.Common.{◌-◌, ◌+◌, ◌∙◌, refl, arith}
+use Rattle.std.proofs.Common.{◌-◌, ◌+◌, ◌∙◌, ap, length, refl, arith}
+use Rattle.std.proofs.lemmas.List.{length-replicate}
 use Rattle.match_season.proofs.WrittenLines.{up-to-none, up-to-trans, up-to-weaker}
 use Rattle.match_season.proofs.season_output.write_by_schedule.Goals as goal
 
 pub loop-number-init : goal.loop-number-init
-loop-number-init g c = record { within = omega arith; places = c.in_ok-waiting.ensures; written = up-to-none _ _; faults = refl }
+loop-number-init g c =
+    let long = ap length c.in_ok-waiting.ensures ∙ length-replicate _ _ in
+    record { within = omega arith; places = omega (arith, long, c.in_ok-waiting.waiting.ok.0); written = up-to-none _ _; faults = refl }
 
 pub loop-number-preserved : goal.loop-number-preserved
 loop-number-preserved g c =
