@@ -11,7 +11,7 @@ use game_core::Counted;
 use match_plans::{Reach, TellsShortages};
 use match_workers::Player;
 use network_players::Explains;
-use std::alloc::Global;
+use std::alloc::{AllocError, Global};
 use std::fmt::Write as _;
 use std::io::{Read, Write};
 use std::net::Net;
@@ -39,18 +39,26 @@ where
     S: Reach<P> + TellsShortages + Sync,
 {
     let mut remarks = Remarks::new(alloc, terminals.errors || has_own_word(words));
-    let performed = perform::<H, P, S, R, W, E>(
-        rt,
-        alloc,
-        reach,
-        words,
-        reader,
-        writer,
-        errors,
-        terminals,
-        &mut remarks,
-    );
+    let performed = match texts(alloc, words) {
+        Ok(words) => perform::<H, P, S, R, W, E>(
+            rt,
+            alloc,
+            reach,
+            &words,
+            reader,
+            writer,
+            errors,
+            terminals,
+            &mut remarks,
+        ),
+        Err(AllocError) => Err(Fault::Memory),
+    };
     end(performed, &remarks, errors)
+}
+
+/// The words as texts.
+fn texts<'a>(alloc: Global, words: &'a [String]) -> Result<Vec<&'a str>, AllocError> {
+    words.iter().map(|word| word.as_str()).collect(alloc)
 }
 
 /// Reports the fault of a command, if it has one. Returns the program's status.
@@ -97,12 +105,12 @@ fn task_of<'a>(
     }
 }
 
-/// Performs a task.
-fn perform_task<H, P, S, R: Read, W: Write, E: Write + Send>(
+/// Performs the command of the words.
+fn perform<H, P, S, R: Read, W: Write, E: Write + Send>(
     rt: &H,
     alloc: Global,
     reach: &S,
-    task: &Task<'_>,
+    words: &[&str],
     reader: &mut Counted<R>,
     writer: &mut Counted<W>,
     errors: &mut E,
@@ -114,7 +122,8 @@ where
     P: Player + Explains + Drop + Send,
     S: Reach<P> + TellsShortages + Sync,
 {
-    match task {
+    let task = task_of(alloc, words, remarks)?;
+    match &task {
         Task::Show(text) => Ok(write_all(writer, text.as_bytes())?),
         Task::Game(command, game) => for_game(rt, alloc, *command, *game, reader, writer, remarks),
         Task::Info(player) => info(rt, alloc, player, writer, errors, terminals),
@@ -136,28 +145,4 @@ where
             )
         }
     }
-}
-
-/// Performs the command of the words.
-fn perform<H, P, S, R: Read, W: Write, E: Write + Send>(
-    rt: &H,
-    alloc: Global,
-    reach: &S,
-    words: &[String],
-    reader: &mut Counted<R>,
-    writer: &mut Counted<W>,
-    errors: &mut E,
-    terminals: Terminals,
-    remarks: &mut Remarks,
-) -> Result<(), Fault>
-where
-    H: Net + Clock + Files + Threads + Wait + Sync,
-    P: Player + Explains + Drop + Send,
-    S: Reach<P> + TellsShortages + Sync,
-{
-    let words: Vec<&str> = words.iter().map(|word| word.as_str()).collect(alloc)?;
-    let task = task_of(alloc, words.as_slice(), remarks)?;
-    perform_task::<H, P, S, R, W, E>(
-        rt, alloc, reach, &task, reader, writer, errors, terminals, remarks,
-    )
 }

@@ -1,6 +1,7 @@
 //! Single messages to players: a question whether one is free, and ABORT for a match whose referee is gone.
-ghost use Rattle.std.specs.Prelude.{◌≡◌, IfOk, OnOk, string_bytes};
+ghost use Rattle.std.specs.Prelude.{◌≡◌, ℕ, List, IfOk, OnOk, string_bytes};
 ghost use Rattle.std.specs.Io.KnownBytes.{Appends};
+ghost use Rattle.match_messages.specs.InfoReading.{info_reading};
 ghost use Rattle.ggp_commands.specs.Errands.{abort_line, abort_text, aborted_lines, info_line};
 
 use crate::faults::contact_fault;
@@ -57,7 +58,9 @@ pub fn info<N: Net + Clock, W: Write, E: Write>(
     writer: &mut Counted<W>,
     errors: &mut E,
     terminals: Terminals,
-) -> Result<(), Fault> {
+) -> Result<(), Fault>
+    ensures { OnOk result ((answer : List ℕ) × Appends (W.contents writer.old.stream) (W.contents writer.new.stream) (info_line (info_reading answer))) }
+{
     let answer = match contact(rt, alloc, player, SECONDS, &info_message()) {
         Ok(answer) => answer,
         Err(fault) => {

@@ -1,5 +1,6 @@
 //! The matches of a game, and the reports on them.
-ghost use Rattle.std.specs.Prelude.{◌≡◌, [], false, IfOk, OnOk};
+ghost use Rattle.std.specs.Prelude.{◌≡◌, [], false, true, IfOk, OnOk};
+ghost use Rattle.std.specs.Io.KnownBytes.{Consumes, IsAtEnd};
 ghost use denote.Param.Send.{IsSend, IsSync};
 ghost use Rattle.ggp_commands.specs.Runs.{WritesRun};
 ghost use Rattle.ggp_commands.specs.Schedules.{WritesSeason, has_schedule};
@@ -96,6 +97,8 @@ pub fn input_of<R: Read>(
 ) -> Result<Vec<u8>, Fault>
     ensures unread { has_schedule task.now ≡ false → reader.new ≡ reader.old }
     ensures none { has_schedule task.now ≡ false → IfOk result (λ input. input.items ≡ []) }
+    ensures whole { has_schedule task.now ≡ true → IfOk result (λ input. Consumes (R.remaining reader.old.stream) (R.remaining reader.new.stream) input.items
+        × IsAtEnd (R.remaining reader.new.stream)) }
 {
     match task {
         HostedTask::Season(_) => Ok(read_to_end(alloc, reader, MAX_SCHEDULE)?),
