@@ -1,3 +1,2 @@
 mod LargestNumbers
-mod Leftovers
 mod SeasonEnds

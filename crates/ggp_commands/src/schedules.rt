@@ -1,6 +1,6 @@
 //! The matches of a season that are played.
 ghost use Rattle.std.specs.Prelude.{◌≡◌, IfOk};
-ghost use Rattle.ggp_commands.specs.Schedules.{AreToPlay, left_of};
+ghost use Rattle.ggp_commands.specs.Schedules.{AreToPlay, is_left, left_of};
 
 use command_line::SeasonPlan;
 use game_commands::{DoneMatches, Fault, done_matches};
@@ -9,6 +9,13 @@ use match_plans::{MatchPlan, read_schedule};
 use packed_rules::PackedGame;
 use std::alloc::{AllocError, Global};
 use std::rt::Files;
+
+/// Whether a match is not done.
+fn is_left(alloc: Global, done: &DoneMatches, plan: &MatchPlan<'_>) -> Result<bool, AllocError>
+    ensures { IfOk result (λ left. left ≡ is_left done.now plan.now) }
+{
+    Ok(!done.has(alloc, plan)?)
+}
 
 /// The matches that are not done, in their order.
 fn left_over<'a>(
@@ -20,7 +27,7 @@ fn left_over<'a>(
 {
     let mut left = Vec::with_capacity(alloc, plans.len())?;
     for plan in plans {
-        if !done.has(alloc, &plan)? {
+        if is_left(alloc, done, &plan)? {
             left.push(plan)?;
         }
     }
