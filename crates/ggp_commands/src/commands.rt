@@ -1,4 +1,5 @@
 //! The commands, over any streams, runtime and players.
+ghost use Rattle.std.specs.Prelude.{◌≡◌, OnOk};
 
 use crate::errands::{abort, info};
 use crate::faults::argument_fault;
@@ -62,7 +63,9 @@ fn texts<'a>(alloc: Global, words: &'a [String]) -> Result<Vec<&'a str>, AllocEr
 }
 
 /// Reports the fault of a command, if it has one. Returns the program's status.
-fn end<E: Write>(performed: Result<(), Fault>, remarks: &Remarks, errors: &mut E) -> u8 {
+fn end<E: Write>(performed: Result<(), Fault>, remarks: &Remarks, errors: &mut E) -> u8
+    ensures { OnOk performed (result ≡ 0) }
+{
     match performed {
         Ok(()) => 0,
         Err(fault) => {
