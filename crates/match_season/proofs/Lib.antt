@@ -1,4 +1,5 @@
 mod Numbering
+mod Placed
 mod Sitting
 mod Waiting
 mod WrittenLines

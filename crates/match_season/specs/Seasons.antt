@@ -1,11 +1,12 @@
 -- The output of a season.
-use Rattle.std.specs.Prelude.{◌≡◌, ◌≤◌, ◌<◌, ◌+◌, ◌^◌, ℕ, true, List, Option, Result, Ok, Err, All, if◌then◌else◌, is_ok, length, slice_set}
+use Rattle.std.specs.Prelude.{◌≡◌, ◌≤◌, ◌<◌, ◌+◌, ◌^◌, ℕ, zero, suc, Bool, true, List, Option, None, Some, Result, Ok, Err, All, get_or, if◌then◌else◌, is_ok, length, slice_set}
 use Rattle.std.specs.List.{concat}
 use Rattle.std.specs.Io.KnownBytes.{Appends}
 use Rattle.game_core.specs.Counting.{one_more}
 use Rattle.match_play.specs.EndedMatches.{IsEndedMatch}
 use Rattle.match_season.specs.declared.season_output.SeasonFault.{SeasonFault}
 use Rattle.match_season.specs.declared.season_output.SeasonFault.TheVariants.{WriteFault, Memory}
+use Rattle.match_season.specs.declared.season_output.Over.{Over}
 use Rattle.match_season.specs.declared.season_output.Written.{Written}
 
 -- Between the two contents of a stream this number of matches was written, one after another: the record of each as a line, followed by
@@ -28,6 +29,15 @@ Counts old new more = old.records + more < 2 ^ 64 → new.records ≡ old.record
 pub record Settles (old new : Written) (place more : ℕ) : Type 0 where
   pub settled : new.is_settled.items ≡ slice_set old.is_settled.items place true
   pub counted : Counts old new more
+
+-- each result is kept at the place of its match
+abbrev pub ArePlaced : List (Option Over) → Type 0
+ArePlaced waiting = (place : ℕ) (over : Over) → get_or waiting place None ≡ Some over → over.place ≡ place
+
+-- this number of matches from this place on is settled, too
+abbrev pub settled_on : List Bool → ℕ → ℕ → List Bool
+settled_on settled from zero = settled
+settled_on settled from (suc count) = slice_set (settled_on settled from count) (from + count) true
 
 -- At most this number of matches was written, and as many further records are counted.
 pub record WritesUpTo (most : ℕ) (before after : Written) (old new : Option (List ℕ)) : Type 0 where

@@ -1,7 +1,8 @@
 //! Writes a season: the record of each match, followed by its account.
 ghost use Rattle.std.specs.Prelude.{◌≡◌, ◌<◌, ◌≤◌, ◌-◌, ℕ, false, true, IfOk, OnErr, OnOk, None, Some, is_some, length, replicate, slice_set, vec_len};
 ghost use Rattle.std.specs.List.{AllWithin, HoldsAt};
-ghost use Rattle.match_season.specs.Seasons.{Settles, WritesMatches, WritesUpTo, faults_after, records_of};
+ghost use Rattle.match_plans.specs.declared.season_form.RecordOrder.TheVariants.{OfSchedule};
+ghost use Rattle.match_season.specs.Seasons.{ArePlaced, Settles, WritesMatches, WritesUpTo, faults_after, records_of, settled_on};
 
 use crossbeam_channel::Receiver;
 use game_core::Counted;
@@ -174,6 +175,8 @@ fn write_waiting<R: Wait, W: Write, E: Write>(
     ensures place { IfOk result (λ place. (place ≤ length waiting.old) × (next ≤ length waiting.old → next ≤ place)) }
     ensures over { IfOk result (λ place. AllWithin (λ it. is_some it ≡ true) waiting.old next place) }
     ensures stops { IfOk result (λ place. place < length waiting.old → HoldsAt (λ it. is_some it ≡ false) waiting.old place) }
+    ensures placed { ArePlaced waiting.old → ArePlaced waiting.new }
+    ensures settled { ArePlaced waiting.old → IfOk result (λ place. written.new.is_settled.items ≡ settled_on written.old.is_settled.items next (place - next)) }
     ensures faults { writer.new.faults ≡ faults_after result writer.old.faults }
 {
     let count = waiting.len();
@@ -188,7 +191,8 @@ fn write_waiting<R: Wait, W: Write, E: Write>(
 
 /// Keeps a match that is over at its place.
 fn keep(waiting: &mut [Option<Over>], over: Over)
-    ensures { waiting.new ≡ slice_set waiting.old over.place (Some over) }
+    ensures kept { waiting.new ≡ slice_set waiting.old over.place (Some over) }
+    ensures placed { ArePlaced waiting.old → ArePlaced waiting.new }
 {
     let place = over.place;
     if place < waiting.len() {
@@ -216,6 +220,7 @@ fn write_by_schedule<R: Wait, W: Write, E: Write>(
     writer: &mut Counted<W>,
 ) -> Result<(), SeasonFault>
     ensures written { OnOk result (WritesUpTo (length reports.now.plans.now) written.old written.new (W.contents writer.old.stream) (W.contents writer.new.stream)) }
+    ensures settled { OnOk result ((count : ℕ) × (written.new.is_settled.items ≡ settled_on written.old.is_settled.items 0 count)) }
     ensures faults { writer.new.faults ≡ faults_after result writer.old.faults }
 {
     let count = reports.plans.len();
@@ -260,6 +265,7 @@ pub fn write_season<R: Wait, W: Write, E: Write>(
     writer: &mut Counted<W>,
 ) -> Result<(), SeasonFault>
     ensures written { OnOk result (WritesUpTo (length reports.now.plans.now) written.old written.new (W.contents writer.old.stream) (W.contents writer.new.stream)) }
+    ensures settled { order ≡ OfSchedule → OnOk result ((count : ℕ) × (written.new.is_settled.items ≡ settled_on written.old.is_settled.items 0 count)) }
     ensures faults { writer.new.faults ≡ faults_after result writer.old.faults }
 {
     match order {

@@ -1,8 +1,10 @@
-use Rattle.std.proofs.Common.{◌≡◌, ◌-◌, ◌+◌, ◌∙◌, Bool, Option, List, HoldsAt, true, false, get_or, is_some, refl, sym, ap, subst, arith}
+use Rattle.std.proofs.Common.{◌≡◌, ◌-◌, ◌+◌, ◌∙◌, ℕ, Bool, Option, Some, None, List, HoldsAt, true, false, get_or, is_some, length, refl, sym, ap, subst, arith}
 use Rattle.std.proofs.lemmas.List.{get_or-set_other}
 use Rattle.std.proofs.lemmas.List.Elements.{AllWithin-more, at_read}
+use Rattle.match_season.specs.Seasons.{settled_on}
 use Rattle.match_season.specs.declared.season_output.Over.{Over}
 use Rattle.match_season.proofs.WrittenLines.{up-to-none, up-to-more, up-to-weaker}
+use Rattle.match_season.proofs.Placed.{placed-set, settled-next, settled-none}
 use Rattle.match_season.proofs.season_output.write_waiting.Goals as goal
 
 pub loop-place-init : goal.loop-place-init
@@ -10,6 +12,8 @@ loop-place-init g c = record {
   bound = omega arith;
   ahead = λ k d le. refl;
   over = λ k d low high. absurd (omega (arith, low, high));
+  placed = λ placed. placed;
+  settled = λ _. settled-none c.args.written.now.is_settled.items c.args.next (c.args.next - c.args.next) (omega arith);
   written = up-to-weaker 0 _ _ _ _ _ (omega arith) (up-to-none _ _);
   faults = refl;
 }
@@ -22,10 +26,15 @@ loop-place-preserved g c =
     let it = c.index-waiting-place in
     let some : P it.result = ap (λ (o : Option Over). is_some o) (it.is ∙ (sym c.take.ensures.value ∙ c.in-Some.is)) in
     let here : HoldsAt P c.loop-place.waiting place = at_read c.loop-place.waiting P place it.result (omega arith) it.is some in
+    let is : it.result ≡ Some c.in-Some.over = it.is ∙ (sym c.take.ensures.value ∙ c.in-Some.is) in
+    let at : get_or c.loop-place.waiting place None ≡ Some c.in-Some.over = at_read c.loop-place.waiting (λ o. o ≡ Some c.in-Some.over) place it.result (omega arith) it.is is None in
     record {
       bound = omega arith;
       ahead = λ k d past. get_or-set_other c.loop-place.waiting place k _ d (λ e. absurd (omega (arith, past, e))) ∙ before.ahead k d (omega (arith, past));
       over = AllWithin-more P c.args.waiting.now c.args.next place before.over (λ d. subst P (before.ahead place d (omega arith)) (here d));
+      placed = λ placed. placed-set c.loop-place.waiting place _ (λ over found. cc (sym c.take.ensures.after ∙ found)) (before.placed placed);
+      settled = λ placed.
+          settled-next _ _ _ c.args.next place _ (omega arith) (before.placed placed place c.in-Some.over at) (before.settled placed) c.in_ok-write_outcome.ensures.settled.settled;
       written = up-to-weaker (place - c.args.next + 1) _ _ _ _ _ (omega arith) (up-to-more _ _ _ _ _ _ _ _ _ before.written c.in_ok-write_outcome.ensures.written c.in_ok-write_outcome.ensures.settled);
       faults = c.in_ok-write_outcome.ensures.faults ∙ before.faults;
     }
@@ -42,6 +51,8 @@ returns-in_default g c =
       written = before.written;
       place = (omega arith, λ within. omega (arith, within));
       over = before.over;
+      placed = λ placed. placed-set c.loop-place.waiting place _ (λ over found. cc (sym c.take.ensures.after ∙ found)) (before.placed placed);
+      settled = before.settled;
       stops = λ _ d. subst P (before.ahead place d (omega arith)) (here d);
       faults = before.faults;
     }
@@ -49,10 +60,13 @@ returns-in_default g c =
 pub returns : goal.returns
 returns g c =
     let before = c.loop-place.invariant in
+    let all : c.loop-place.place - c.args.next ≡ length c.args.waiting.now - c.args.next = omega (arith, c.loop-place-test.false, before.bound) in
     record {
       written = up-to-weaker (c.loop-place.place - c.args.next) _ _ _ _ _ (omega arith) before.written;
       place = (omega arith, λ within. omega (arith, within));
       over = λ k d low high. before.over k d low (omega (arith, high, c.loop-place-test.false));
       stops = λ lt. absurd (omega (arith, lt));
+      placed = before.placed;
+      settled = λ placed. before.settled placed ∙ ap (λ (n : ℕ). settled_on c.args.written.now.is_settled.items c.args.next n) all;
       faults = before.faults;
     }
