@@ -1,6 +1,6 @@
 -- The numbers of the players of a match, as one player after another gets its number, and as further addresses are listed.
 use Rattle.std.proofs.Common.{◌≡◌, ℕ, ◌+◌, ◌<◌, ◌≤◌, min, Bool, true, false, cond, Bor, List, [], ◌∷◌, ◌++◌, take, length, get_or, map, All, refl, sym, ◌∙◌, ap, subst, arith, inl, inr}
-use Rattle.std.specs.Prelude.{◌==◌, ◌||◌, if◌then◌else◌, not}
+use Rattle.std.specs.Prelude.{◌==◌, if◌then◌else◌, not}
 use Rattle.std.specs.List.{AllZip, list_any, position_or_len}
 use Rattle.std.proofs.lemmas.Bool.{cases_eq, eq-eqb, ne_eqb, or_cases, or_parts, false≢true}
 use Rattle.std.proofs.lemmas.List.{append_assoc, append-nil, length-append, map_more, take_more}

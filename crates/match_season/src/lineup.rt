@@ -1,5 +1,5 @@
 //! The waiting matches of a season, and in how many running matches each player sits.
-ghost use Rattle.std.specs.Prelude.{◌≡◌, ◌≤◌, ◌<◌, ◌+◌, ◌-◌, ◌^◌, ◌↔◌, ℕ, [], true, All, IfNone, IfOk, IfSome, IsTrue, OnErr, OnOk, Some, get_or, length, min, slice_get, slice_set, take};
+ghost use Rattle.std.specs.Prelude.{◌≡◌, ◌≤◌, ◌<◌, ◌+◌, ◌-◌, ◌^◌, ◌↔◌, [], true, All, IfNone, IfOk, IfSome, IsTrue, OnErr, OnOk, Some, get_or, length, min, slice_get, slice_set, take};
 ghost use Rattle.std.specs.VecDeque.{deque_capacity, deque_len};
 ghost use Rattle.match_season.specs.Lineups.{AllWait, AreNumbersOf, Begins, IsBusy, Lengthens, ListsOnce, SitDown, StandUp, are_free, number_of, turn_of, with_match};
 
