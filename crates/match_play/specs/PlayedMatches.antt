@@ -14,6 +14,8 @@ use Rattle.match_workers.specs.declared.attend_fault.AttendFault.{AttendFault}
 use Rattle.match_workers.specs.Handing.{Handed}
 use Rattle.match_workers.specs.Refereeing.{IsRefereed}
 use Rattle.match_play.specs.Matches.{IsEndedRecord}
+use Rattle.match_play.specs.RoleTurns.{AreEndedTurns}
+use Rattle.match_play.specs.declared.role_turns.RoleTurn.{RoleTurn}
 
 -- the setup has the plan's id, clocks, strikes and names
 pub record IsSetupOf (plan : MatchPlan) (setup : Setup) : Type 0 where
@@ -28,6 +30,17 @@ pub record IsSetupOf (plan : MatchPlan) (setup : Setup) : Type 0 where
 pub record IsPlayedMatch {P : Type 0} (handed : P → Option (List Handed)) (game : PackedGame) (rules : List Expr) (tries : ℕ) (setup : Setup) (players : List P) (text : List ℕ) (history : List (Entry Call Reply)) : Type 0 where
   pub desk : ManagerValue PackedGame _
   pub ended : IsEndedRecord (λ g. loaded_game (tables_of g)) desk text
+  pub made_by_line : List ℕ
+  -- how attending each of its players ended, and the players afterwards
+  pub ends : List (Result ℕ AttendFault)
+  pub left : List P
+  pub refereed : IsRefereed (λ g. loaded_game (tables_of g)) handed game setup rules tries players left desk history made_by_line ends
+
+-- A match of this game was opened with this setup and played by these players, who got these rules. These are the role's turns in it.
+pub record ArePlayedTurns {P : Type 0} (handed : P → Option (List Handed)) (game : PackedGame) (rules : List Expr) (tries : ℕ) (setup : Setup) (players : List P) (role : ℕ) (told : List RoleTurn) : Type 0 where
+  pub desk : ManagerValue PackedGame _
+  pub ended : AreEndedTurns (λ g. loaded_game (tables_of g)) desk role told
+  pub history : List (Entry Call Reply)
   pub made_by_line : List ℕ
   -- how attending each of its players ended, and the players afterwards
   pub ends : List (Result ℕ AttendFault)

@@ -1,5 +1,6 @@
 //! The game of a match, and the rules for its players.
-ghost use Rattle.std.specs.Prelude.{◌≡◌, map, IfOk};
+ghost use Rattle.std.specs.Prelude.{◌≡◌, map, IfOk, IfErr};
+ghost use Rattle.kif_text.specs.Faults.{IsFault, any_number};
 ghost use Rattle.game_core.specs.Expression.{Expressions, all_folded};
 ghost use Rattle.kif_text.specs.Spelling.{SpellsAll};
 ghost use Rattle.kif_text.specs.View.{view, views};
@@ -39,7 +40,8 @@ pub fn own_rules(alloc: Global, game: &PackedGame) -> Result<PrintedRules, Alloc
 /// The sentences of another description, without capitals, printed. Players get it in place of the game's own. The error is the first
 /// fault of the text as KIF, or `Memory`.
 pub fn other_rules(alloc: Global, text: &[u8]) -> Result<PrintedRules, KifFault>
-    ensures { IfOk result (λ printed. (sentences : Expressions) × SpellsAll text.now sentences × (views printed.items ≡ all_folded sentences)) }
+    ensures spelled { IfOk result (λ printed. (sentences : Expressions) × SpellsAll text.now sentences × (views printed.items ≡ all_folded sentences)) }
+    ensures fault { IfErr result (IsFault any_number text.now) }
 {
     let sentences = read_all(alloc, text)?;
     match PrintedRules::without_capitals(alloc, sentences.as_slice()) {

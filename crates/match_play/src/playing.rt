@@ -58,6 +58,11 @@ impl From<AllocError> for MatchFault {
 }
 
 impl<T: Drop> From<AllocFailed<T>> for MatchFault {
+    ghost use Rattle.std.specs.Prelude.{◌≡◌};
+    ghost use Rattle.match_play.specs.declared.playing.MatchFault.TheVariants.{Memory};
+
+    ghost from_gives = { λ _ given. given ≡ Memory };
+
     fn from(_: AllocFailed<T>) -> MatchFault {
         MatchFault::Memory
     }

@@ -1,6 +1,7 @@
 //! The turns of a match for one of its roles.
-ghost use Rattle.std.specs.Prelude.{◌≡◌, ◌≢◌, ◌<◌, ◌∷◌, [], IfOk, IfErr, length};
-ghost use Rattle.match_desk.specs.ManagerValue.{ManagerValue};
+ghost use Rattle.std.specs.Prelude.{◌≡◌, ◌≢◌, ◌<◌, IfOk, IfErr};
+ghost use Rattle.match_play.specs.Limits.{max_tries};
+ghost use Rattle.match_play.specs.PlayedMatches.{ArePlayedTurns};
 ghost use Rattle.match_play.specs.RoleTurns.{AreTurnsOf, AreEndedTurns, HasNoEndedTurns};
 
 use crate::hosting::HostedGame;
@@ -78,7 +79,7 @@ where
     R: Threads + Wait + Sync,
     P: Player + Drop + Send,
     ensures clear { IfOk result (λ told. S.is_clear reach.now entrants.place) }
-    ensures ended { IfOk result (λ told. (d : ManagerValue _ _) × (d.games ≡ game.entry.game.now ∷ []) × AreEndedTurns ⟦<PackedGame as Game>⟧.rules d role told.items) }
+    ensures played { IfOk result (λ told. ArePlayedTurns P.handed game.entry.game.now game.entry.rules.now.items max_tries entrants.setup entrants.players.items role told.items) }
 {
     let refereed = refereed_match(rt, alloc, reach, entrants, game)?;
     let turns = ended_turns(alloc, &refereed.closed.object, role)?;

@@ -1,10 +1,14 @@
-use Rattle.std.proofs.Common.{ap}
-use Rattle.match_desk.specs.ManagerValue.{ManagerValue}
 use Rattle.match_play.proofs.role_turns.played_turns.Goals as goal
 
-pub returns-clause-ended : goal.returns-clause-ended
-returns-clause-ended g c = (
-  c.in_ok-refereed.refereed.closed.object,
-  ap (λ (d : ManagerValue _ _). d.games) c.in_ok-refereed.ensures.refereed.1.begins,
-  c.in_ok-turns.ensures.ended,
-)
+pub returns-clause-played : goal.returns-clause-played
+returns-clause-played g c =
+    let refereed = c.in_ok-refereed.ensures.refereed in
+    record {
+      desk = c.in_ok-refereed.refereed.closed.object;
+      ended = c.in_ok-turns.ensures.ended;
+      history = c.in_ok-refereed.refereed.closed.history.items;
+      made_by_line = c.in_ok-refereed.refereed.closed.made_by_line.items;
+      ends = c.in_ok-refereed.refereed.ends.items;
+      left = refereed.0;
+      refereed = refereed.1;
+    }
