@@ -8,3 +8,4 @@ pub mod RoleCalls
 pub mod LeftLines
 pub mod LineParts
 pub mod Sent
+pub mod GivenUp

@@ -1,6 +1,5 @@
 -- Seats and their results, place by place.
-use Rattle.std.proofs.Common.{◌≡◌, ℕ, List, Some, Result}
-use Rattle.std.specs.Prelude.{slice_get}
+use Rattle.std.proofs.Common.{◌≡◌, ℕ, List, Result}
 use Rattle.call_history.specs.declared.wire.Wire as Wire
 use Rattle.match_desk.specs.declared.call.Call.{Call}
 use Rattle.match_desk.specs.declared.call.Reply.{Reply}
@@ -13,16 +12,7 @@ use Rattle.match_workers.specs.declared.player.Player as Player
 use Rattle.match_workers.specs.declared.seat.Seat.{Seat}
 use Rattle.match_workers.specs.declared.seat.Attended.{Attended}
 use Rattle.match_workers.specs.declared.seats.LeftBy.{LeftBy}
-
--- the promise is that of the seat at this place
-pub record IsPromisedFor {P W : Type 0} (tries : ℕ) (seats : List (Seat P W)) (k : ℕ) (promise : LeftBy P W) : Type 0 where
-  pub seat : Seat P W
-  pub is_seat : slice_get seats k ≡ Some seat
-  pub brief : promise.brief.now ≡ seat.brief.now
-  pub role : promise.role ≡ seat.role
-  pub tries_are : promise.tries ≡ tries
-  pub player : promise.player.value ≡ seat.player
-  pub wire : promise.wire.value ≡ seat.wire
+use Rattle.match_workers.specs.Internal.Promises.{IsPromisedFor}
 
 -- a result that keeps the promise is that of attending the seat
 pub left_at : {P W : Type 0} (w : Wire.Ghosts W Call Reply) (p : Player.Ghosts P) (tries : ℕ) (seats : List (Seat P W)) (k : ℕ) (promise : LeftBy P W) (left : Attended P W) → IsPromisedFor tries seats k promise

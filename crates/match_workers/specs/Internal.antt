@@ -2,5 +2,6 @@
 pub mod LeftLines
 pub mod Seats
 pub mod Promises
+pub mod GivenUp
 pub mod Closings
 pub mod SharedDesks

@@ -42,7 +42,7 @@ fn next_due<W: Wire<Call = Call, Reply = Reply>>(
 }
 
 /// The call that brings a player's answer to the desk for a round.
-fn answer_call(
+pub(crate) fn answer_call(
     alloc: Global,
     brief: &SharedBrief<'_>,
     role: usize,

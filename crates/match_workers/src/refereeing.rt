@@ -1,9 +1,10 @@
 //! A whole match between players.
-ghost use Rattle.std.specs.Prelude.{◌≡◌, ◌∷◌, ◌++◌, [], ◌+◌, ◌<◌, List, Some, map, IfOk, OnOk, length, vec_len};
+ghost use Rattle.std.specs.Prelude.{◌≡◌, ◌∷◌, ◌++◌, [], ◌+◌, ◌<◌, List, Some, map, IfOk, IfErr, OnOk, length, vec_len};
 ghost use Rattle.call_history.specs.Faults.{ask_fault};
 ghost use Rattle.call_history.specs.Limits.{max_entries};
 ghost use Rattle.call_history.specs.RingLines.{posted_calls, taken_replies, SameLine, SamePorts, AreEndsOf, IsLineOf, IsNewLine};
-ghost use Rattle.match_desk.specs.declared.call.Reply.TheVariants.{Opened as IsOpened};
+ghost use Rattle.match_desk.specs.declared.call.Refusal.{Refusal as Reason};
+ghost use Rattle.match_desk.specs.declared.call.Reply.TheVariants.{Opened as IsOpened, Refused as IsRefused};
 ghost use Rattle.match_messages.specs.StartRules.{sentences_of};
 ghost use Rattle.match_workers.specs.Briefs.{AreRoleNames};
 ghost use Rattle.match_workers.specs.LineParts.{open_call};
@@ -61,6 +62,8 @@ impl From<AllocError> for RefereeFault {
 }
 
 impl<T: Drop> From<AllocFailed<T>> for RefereeFault {
+    ghost from_gives = { λ _ fault. fault ≡ IsMemory };
+
     fn from(_: AllocFailed<T>) -> RefereeFault {
         RefereeFault::Memory
     }
@@ -179,8 +182,12 @@ fn open_match<G: Game + Drop>(
     ensures games { holder.new.desk.journal.object.games ≡ holder.old.desk.journal.object.games }
     ensures call { OnOk result (posted_calls holder.new.line ≡ posted_calls holder.old.line ++ open_call setup ∷ []) }
     ensures reply { OnOk result (taken_replies holder.new.line ≡ taken_replies holder.old.line ++ IsOpened ∷ []) }
+    ensures refused { IfErr result (λ fault. (reason : Reason) → fault ≡ RefereeFault.Refused reason
+        → (posted_calls holder.new.line ≡ posted_calls holder.old.line ++ open_call setup ∷ [])
+        × (taken_replies holder.new.line ≡ taken_replies holder.old.line ++ IsRefused reason ∷ [])) }
 {
-    match ask_own(holder, open_call(0, setup))? {
+    let reply = ask_own(holder, open_call(0, setup))?;
+    match reply {
         Reply::Opened => Ok(()),
         Reply::Refused(refusal) => Err(RefereeFault::Refused(refusal)),
         _ => Err(RefereeFault::Unclosed),
@@ -311,8 +318,8 @@ where
 /// Referees a match of the game between these players to its end. There is one player for each name in the setup.
 ///
 /// A desk of this one game is opened, with a line for the calling thread and one for each role. The calling thread opens the match.
-/// Then each role is attended in a thread of its own, in at most `tries` tries, and these threads serve the desk. START carries these
-/// rules. Then the desk is closed.
+/// Then each role is attended in a thread of its own, in at most `tries` tries. These threads serve the desk, and so does the calling
+/// thread. START carries these rules. Then the desk is closed.
 ///
 /// The result is that of any closed desk of matches. Its history replays: made again call by call on one thread, by a manager of
 /// the same game without a match, it gives every kept reply and the manager as it stands. It holds as many calls as the lines

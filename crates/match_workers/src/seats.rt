@@ -1,23 +1,24 @@
 //! Roles of matches, each attended over a wire of its own in a thread of its own.
-ghost use Rattle.std.specs.Prelude.{◌≡◌, ◌<◌, ℕ, [], Some, length, map, slice_get, IfOk};
+ghost use Rattle.std.specs.Prelude.{◌≡◌, ◌<◌, ◌≤◌, ℕ, [], ◌∷◌, Some, length, map, min, slice_get, IfOk, OnOk};
 ghost use Rattle.match_workers.specs.Internal.Seats.{AreSeatsOf, IsLeftBy, AreLeftBy};
-ghost use Rattle.match_workers.specs.Internal.Promises.{IsKept};
+ghost use Rattle.match_workers.specs.Internal.Promises.{IsKept, ArePromisedFor};
+ghost use Rattle.match_workers.specs.Internal.GivenUp.{due_round, AreGivenUp};
 ghost use denote.Param.Send.{IsSend, IsSync};
 
 use crate::attend_fault::AttendFault;
-use crate::attending::attend_shared;
+use crate::attending::{answer_call, attend_shared};
 use crate::player::Player;
 use crate::seat::{Attended, Seat};
 use crate::shared_desk::{Naming, SharedDesk};
 use call_history::{Bell, Object, Wire};
-use match_book::Due;
+use match_book::{Answer, Due};
 use match_desk::{Call, Reply};
 use match_messages::SharedBrief;
 use std::alloc::{AllocError, Global};
 use std::snapshot::Snapshot;
 use std::sync::Wait;
 use std::thread;
-use std::thread::{Promise, PromisedHandle, Threads};
+use std::thread::{Promise, PromisedHandle, Scope, Threads};
 
 /// The result of `attend_all`: the calling thread's own wire, and one result for each seat in order.
 #[derive(Drop)]
@@ -57,7 +58,8 @@ pub fn seat_players<'a, P: Drop, W: Drop>(
     wires: Vec<W>,
     players: Vec<P>,
 ) -> Result<Vec<Seat<'a, P, W>>, AllocError>
-    ensures { IfOk result (λ seats. AreSeatsOf brief.now players.items wires.items seats.items) }
+    ensures count { IfOk result (λ seats. length seats.items ≡ min (length brief.now.roles) (min (length wires.items) (length players.items))) }
+    ensures seats { IfOk result (λ seats. AreSeatsOf brief.now players.items wires.items seats.items) }
 {
     let mut seats = Vec::with_capacity(alloc, players.len())?;
     let mut wires = wires.into_iter();
@@ -106,7 +108,7 @@ fn roles_of<'a, P, W>(
     seats: &[Seat<'a, P, W>],
 ) -> Result<Vec<Unattended<'a>>, AllocError>
     ensures count { IfOk result (λ roles. length roles.items ≡ length seats.entry.now) }
-    ensures roles { IfOk result (λ roles. map (λ u. u.role) roles.items ≡ map (λ s. s.role) seats.entry.now) }
+    ensures roles { IfOk result (λ roles. roles.items ≡ map (λ s. record { brief = s.brief; role = s.role }) seats.entry.now) }
 {
     let mut roles = Vec::with_capacity(alloc, seats.len())?;
     for seat in seats {
@@ -118,29 +120,47 @@ fn roles_of<'a, P, W>(
     Ok(roles)
 }
 
-/// Aborts the matches of these roles, and reports that the roles have no answer. So the matches end, and with them the work of the
-/// threads that attend the other roles.
-fn abort_without<W: Wire<Call = Call, Reply = Reply>>(
+/// The round of the message that is due, if one is.
+fn due_round(reply: &Reply) -> Option<u64>
+    ensures { result ≡ due_round reply.now }
+{
+    match reply {
+        Reply::Due(Due::Owe { round, .. }) => Some(*round),
+        _ => None,
+    }
+}
+
+/// Gives a role up: aborts its match, and if a message is due to the role, reports its answer as broken.
+fn give_up<W: Wire<Call = Call, Reply = Reply>>(
+    alloc: Global,
+    own: &mut W,
+    unattended: Unattended<'_>,
+) -> Result<(), AttendFault>
+    ensures { OnOk result (AreGivenUp W.Wire (unattended.entry ∷ []) own.old own.new) }
+{
+    let Unattended { brief, role } = unattended;
+    let id = brief.copy_id(alloc)?;
+    own.ask(Call::Abort { id })?;
+    let id = brief.copy_id(alloc)?;
+    let due = own.ask(Call::Next { id, role })?;
+    let Some(round) = due_round(&due) else {
+        return Ok(());
+    };
+    let call = answer_call(alloc, brief, role, round, Answer::Broken)?;
+    own.ask(call)?;
+    Ok(())
+}
+
+/// Gives these roles up. So their matches end, and with them the work of the threads that attend the other roles.
+fn give_up_all<W: Wire<Call = Call, Reply = Reply>>(
     alloc: Global,
     own: &mut W,
     roles: &[Unattended<'_>],
-) -> Result<(), AttendFault> {
+) -> Result<(), AttendFault>
+    ensures { OnOk result (AreGivenUp W.Wire roles.now own.old own.new) }
+{
     for unattended in roles {
-        let Unattended { brief, role } = *unattended;
-        let id = brief.copy_id(alloc)?;
-        own.ask(Call::Abort { id })?;
-        let id = brief.copy_id(alloc)?;
-        let reply = own.ask(Call::Next { id, role })?;
-        if let Reply::Due(Due::Owe { round, .. }) = reply {
-            let id = brief.copy_id(alloc)?;
-            let broken = true;
-            own.ask(Call::Miss {
-                id,
-                role,
-                round,
-                broken,
-            })?;
-        }
+        give_up(alloc, own, *unattended)?;
     }
     Ok(())
 }
@@ -152,13 +172,82 @@ fn join_seats<'a, P: Player + Drop, W: Wire<Call = Call, Reply = Reply> + Drop, 
     attended: Vec<Attended<P, W>>,
 ) -> Result<Vec<Attended<P, W>>, AllocError>
     requires { attended.items ≡ [] }
-    ensures { IfOk result (λ all. (k : ℕ) (left : _) → slice_get all.items k ≡ Some left → IsKept W.Wire P.Player handles.entry.items k left) }
+    ensures count { IfOk result (λ all. length all.items ≡ length handles.entry.items) }
+    ensures kept { IfOk result (λ all. (k : ℕ) (left : _) → slice_get all.items k ≡ Some left → IsKept W.Wire P.Player handles.entry.items k left) }
 {
     let mut attended = attended;
     for handle in handles {
         attended.push(handle.join(rt))?;
     }
     Ok(attended)
+}
+
+/// Starts a thread for each seat, in their order, which attends it in at most `tries` tries. If a thread can't be made, no further one
+/// starts.
+fn start_seats<'s, 'a: 's, E, P, W>(
+    alloc: Global,
+    scope: &'s Scope<'s, E>,
+    seats: Vec<Seat<'a, P, W>>,
+    tries: u64,
+    bell: &'a Bell,
+) -> Result<Vec<PromisedHandle<Attended<P, W>, LeftBy<'a, P, W>>>, AllocError>
+where
+    P: Player + Drop + Send + 's,
+    W: Wire<Call = Call, Reply = Reply> + Drop + Send + 's,
+    ensures count { IfOk result (λ handles. length handles.items ≤ length seats.entry.items) }
+    ensures promised { IfOk result (λ handles. ArePromisedFor tries seats.entry.items handles.items) }
+{
+    let mut handles = Vec::with_capacity(alloc, seats.len())?;
+    for seat in seats {
+        let Seat {
+            brief,
+            role,
+            player,
+            wire,
+        } = seat;
+        let promise = LeftBy {
+            brief,
+            role,
+            tries,
+            player: Snapshot::of(&player),
+            wire: Snapshot::of(&wire),
+        };
+        let work = move || -> Attended<P, W>
+            requires { role < length brief.now.roles }
+            ensures { IsLeftBy W.Wire P.Player brief.entry.now role tries player wire result }
+        { attend_seat(alloc, brief, role, player, wire, tries, bell) };
+        let Ok(handle) = scope.spawn_with(promise, work) else {
+            break;
+        };
+        handles.push(handle)?;
+    }
+    Ok(handles)
+}
+
+/// Ends the work of these threads, where the other roles have none: gives those up over the calling thread's own wire, and joins the
+/// threads, whose results are dropped.
+fn end_seats<O, N, W, P, R>(
+    rt: &R,
+    alloc: Global,
+    desk: &SharedDesk<O, N>,
+    own: &mut W,
+    others: &[Unattended<'_>],
+    handles: Vec<PromisedHandle<Attended<P, W>, LeftBy<'_, P, W>>>,
+) -> Result<(), AttendFault>
+where
+    O: Object<Call = Call, Reply = Reply> + Drop,
+    N: Naming<O>,
+    W: Wire<Call = Call, Reply = Reply> + Drop,
+    P: Player + Drop,
+    R: Threads + Wait,
+    ensures { OnOk result (AreGivenUp W.Wire others.now own.old own.new) }
+{
+    let given_up = give_up_all(alloc, own, others);
+    desk.serve_until(rt, handles.len() as u64);
+    for handle in handles {
+        let _ = handle.join(rt);
+    }
+    given_up
 }
 
 /// Attends each seat in a thread of its own, in at most `tries` tries, while the calling thread serves the desk, too, until all have
@@ -181,6 +270,7 @@ where
     P: Player + Drop + Send,
     R: Threads + Wait + Sync,
     ensures own { IfOk result (λ a. a.own ≡ own) }
+    ensures count { IfOk result (λ a. length a.attended.items ≡ length seats.entry.items) }
     ensures left { IfOk result (λ a. AreLeftBy W.Wire P.Player tries seats.entry.items a.attended.items) }
 {
     thread::scope(
@@ -189,44 +279,17 @@ where
         move |scope| -> Result<Attendance<P, W>, AllocError>
             requires sent { IsSend W.row × IsSend P.row }
             ensures own { IfOk result (λ a. a.own ≡ own) }
+            ensures count { IfOk result (λ a. length a.attended.items ≡ length seats.entry.items) }
             ensures left { IfOk result (λ a. AreLeftBy W.Wire P.Player tries seats.entry.items a.attended.items) }
         {
-            let bell = desk.bell();
             let count = seats.len();
             let roles = roles_of(alloc, seats.as_slice())?;
-            let mut handles = Vec::with_capacity(alloc, count)?;
             let attended = Vec::with_capacity(alloc, count)?;
-            for seat in seats {
-                let Seat {
-                    brief,
-                    role,
-                    player,
-                    wire,
-                } = seat;
-                let promise = LeftBy {
-                    brief,
-                    role,
-                    tries,
-                    player: Snapshot::of(&player),
-                    wire: Snapshot::of(&wire),
-                };
-                let work = move || -> Attended<P, W>
-                    requires { role < length brief.now.roles }
-                    ensures { IsLeftBy W.Wire P.Player brief.entry.now role tries player wire result }
-                { attend_seat(alloc, brief, role, player, wire, tries, bell) };
-                let Ok(handle) = scope.spawn_with(promise, work) else {
-                    break;
-                };
-                handles.push(handle)?;
-            }
+            let handles = start_seats(alloc, scope, seats, tries, desk.bell())?;
             let started = handles.len();
             if started < count {
                 let mut own = own;
-                let _ = abort_without(alloc, &mut own, &roles[started..]);
-                desk.serve_until(rt, started as u64);
-                for handle in handles {
-                    let _ = handle.join(rt);
-                }
+                let _ = end_seats(rt, alloc, desk, &mut own, &roles[started..], handles);
                 return Err(AllocError);
             }
             desk.serve_until(rt, started as u64);

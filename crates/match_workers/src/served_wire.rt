@@ -25,7 +25,8 @@ pub struct ServedWire<'a, O: Object<Call = Call, Reply = Reply>, N: Naming<O>> {
 impl<'a, O: Object<Call = Call, Reply = Reply>, N: Naming<O>> ServedWire<'a, O, N> {
     /// A wire that makes the line's calls on its desk.
     pub fn new(line: RingLine<O>, desk: &'a SharedDesk<O, N>) -> ServedWire<'a, O, N>
-        ensures { result.line ≡ line }
+        ensures line { result.line ≡ line }
+        ensures going { IsFalse result.has_stalled }
     {
         ServedWire {
             line,

@@ -1,7 +1,7 @@
 //! A desk over rings under a lock. A thread that waits for a reply serves the lines, so no call is handed from thread to thread.
-ghost use Rattle.std.specs.Prelude.{◌≡◌, Option, Some};
+ghost use Rattle.std.specs.Prelude.{◌≡◌, Option, Some, MatchResult, length};
 ghost use Rattle.std.specs.Option.{ForSome};
-ghost use Rattle.call_history.specs.Rounds.{RingDeskValue};
+ghost use Rattle.call_history.specs.Rounds.{RingDeskValue, Visits};
 ghost use Rattle.match_desk.specs.declared.call.Call.{Call};
 ghost use Rattle.match_desk.specs.declared.call.Reply.{Reply};
 ghost use Rattle.match_workers.specs.Internal.SharedDesks.{IsDeskAfter};
@@ -36,8 +36,12 @@ struct NamedDesk<O: Object<Call = Call, Reply = Reply>, N: Naming<O>> {
 }
 
 impl<O: Object<Call = Call, Reply = Reply>, N: Naming<O>> NamedDesk<O, N> {
-    /// Serves a round.
-    fn round(&mut self) -> Result<u64, DeskFault> {
+    /// Serves a round: no line is left out, before the one at which it stops.
+    fn round(&mut self) -> Result<u64, DeskFault>
+        ensures visits { MatchResult result
+            (λ _. Visits self.old.desk.journal.history self.new.desk.journal.history self.old.desk.ports self.new.desk.ports (length self.old.desk.ports))
+            (λ fault. Visits self.old.desk.journal.history self.new.desk.journal.history self.old.desk.ports self.new.desk.ports fault.line) }
+    {
         desks_stay::<O>();
         self.desk.round()
     }

@@ -16,5 +16,6 @@ loop-handle-preserved g c =
     let count : length all ≡ length old + 1 = omega (arith, ap length pushed, length-append old (left ∷ [])) in
     record {
       rest = first.left ∙ ap (λ n. drop n c.args.handles.items) (sym count);
+      left = omega (arith, was.left, steps.1, count);
       each = EachAt-push (IsKept g.W.Wire g.P.Player c.args.handles.items) old all left pushed was.each here;
     }

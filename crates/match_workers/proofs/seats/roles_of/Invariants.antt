@@ -4,5 +4,5 @@ use Rattle.match_workers.proofs.seats.roles_of.Given as goal
 abbrev pub invariant-loop-seat : goal.invariant-loop-seat
 invariant-loop-seat g l = record {
   count : length l.roles.items ≡ l.seat-index;
-  roles : map (λ u. u.role) l.roles.items ≡ map (λ s. s.role) (take l.seat-index l.seats);
+  roles : l.roles.items ≡ map (λ s. record { brief = s.brief; role = s.role }) (take l.seat-index l.seats);
 }

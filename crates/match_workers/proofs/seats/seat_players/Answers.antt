@@ -16,6 +16,7 @@ loop-role-preserved g c =
       wires = w.left;
       players = p.left;
       count = omega (arith, ap length c.in_ok-push.ensures.items, length-append old (seat ∷ []), was.count);
+      within = (omega (arith, w.within), omega (arith, p.within));
       each = EachAt-push (IsSeatOf c.args.brief.now c.args.players.items c.args.wires.items) old c.push.new.self.items seat c.in_ok-push.ensures.items was.each
           (subst (λ n. IsSeatOf c.args.brief.now c.args.players.items c.args.wires.items n seat) (sym was.count) here);
     }
