@@ -62,7 +62,7 @@ impl Waiting {
             let mut pieces = Pieces { stream };
             let _ = writeln!(
                 pieces,
-                "ggp_manager: {} lines of the log were left out",
+                "ggp_manager: lines left out of the log: {}",
                 self.left_out
             );
         }
