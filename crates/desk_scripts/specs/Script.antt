@@ -6,9 +6,9 @@ use Rattle.game_core.specs.Bytes.{line_feed}
 use Rattle.game_core.specs.Play.{Rules}
 use Rattle.match_desk.specs.ManagerValue.{ManagerValue, DeskMatch, game_match}
 use Rattle.match_desk.specs.Steps.{reply, after}
-use Rattle.match_desk.specs.declared.call.Call.{Call}
+use Rattle.desk_calls.specs.declared.call.Call.{Call}
 use Rattle.match_record.specs.RecordTree.{record_text}
-use Rattle.match_desk.specs.declared.call.Reply.{Reply}
+use Rattle.desk_calls.specs.declared.call.Reply.{Reply}
 use Rattle.desk_text.specs.ScriptLines.{call_of, reply_text}
 use Rattle.desk_text.specs.Account.{no_matches}
 

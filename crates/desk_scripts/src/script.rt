@@ -6,9 +6,10 @@ ghost use Rattle.desk_text.specs.ScriptLines.{call_of};
 ghost use Rattle.desk_scripts.specs.Script.{line_answer, after_line, answer_lines, after_lines, bad_lines, records, script_output};
 
 use call_history::Object;
+use desk_calls::{Call, Reply};
 use desk_text::{call_of, first_line, push_reply};
 use game_core::Game;
-use match_desk::{Call, Manager, Reply};
+use match_desk::Manager;
 use match_record::push_record;
 use std::alloc::{AllocError, Global};
 

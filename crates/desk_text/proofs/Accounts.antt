@@ -6,8 +6,8 @@ use Rattle.std.specs.Str.Lines.{lines}
 use Rattle.std.proofs.lemmas.Slice.Eq.{bytes_eq-Decides}
 use Rattle.call_history.specs.History.{IsLegalHistory, run}
 use Rattle.call_history.specs.declared.journal.Entry.{Entry}
-use Rattle.match_desk.specs.declared.call.Call.{Call}
-use Rattle.match_desk.specs.declared.call.Reply.{Reply}
+use Rattle.desk_calls.specs.declared.call.Call.{Call}
+use Rattle.desk_calls.specs.declared.call.Reply.{Reply}
 use Rattle.desk_text.specs.Account.{IsAccount, IsRead, entry_text}
 use Rattle.desk_text.specs.Replaying.{IsFirstFault, RefusesLine}
 use Rattle.desk_text.specs.declared.replaying.ReplayFault.{ReplayFault}

@@ -2,7 +2,7 @@
 use Rattle.std.proofs.Common.{◌≡◌, ℕ, List, ◌∷◌, ◌++◌, codes, ap, sym, ◌∙◌, append_assoc, append-nil}
 use Rattle.std.specs.Fmt.{decimal}
 use Rattle.game_core.specs.Bytes.{space}
-use Rattle.match_desk.specs.declared.call.Call.TheVariants.{Submit}
+use Rattle.desk_calls.specs.declared.call.Call.TheVariants.{Submit}
 use Rattle.desk_text.specs.Account.{call_text}
 use Rattle.desk_text.specs.Escapes.{escaped_name, escaped_text}
 

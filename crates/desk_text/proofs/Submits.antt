@@ -1,7 +1,7 @@
 -- The text of a `submit` line is the unchanged rest of the line.
 use Rattle.std.proofs.Common.{◌≡◌, ℕ, List, [], ◌∷◌, Option, Some, None, refl, sym, Bor}
 use Rattle.std.specs.Prelude.{option_copied, unwrap_or}
-use Rattle.match_desk.specs.declared.call.Call.TheVariants.{Submit}
+use Rattle.desk_calls.specs.declared.call.Call.TheVariants.{Submit}
 use Rattle.game_core.specs.Numerals.{plain_number}
 use Rattle.desk_text.specs.Words.{words, words_behind, max_in_64_bits}
 use Rattle.desk_text.specs.ScriptLines.{submit_call}

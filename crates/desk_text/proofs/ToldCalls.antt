@@ -5,8 +5,8 @@ use Rattle.std.specs.Fmt.{decimal}
 use Rattle.std.specs.List.{AllByRecursion}
 use Rattle.game_core.specs.Bytes.{space}
 use Rattle.game_core.specs.Numerals.{plain_number}
-use Rattle.match_desk.specs.declared.call.Call.{Call}
-use Rattle.match_desk.specs.declared.call.Call.TheVariants.{Open, Next, Submit, Miss, Query, Abort}
+use Rattle.desk_calls.specs.declared.call.Call.{Call}
+use Rattle.desk_calls.specs.declared.call.Call.TheVariants.{Open, Next, Submit, Miss, Query, Abort}
 use Rattle.desk_text.specs.Account.{AreBytes, IsCall, call_words, call_text, told_call, unescaped_call}
 use Rattle.desk_text.specs.Escapes.{escaped_name, escaped_text, unescaped}
 use Rattle.desk_text.specs.ScriptLines.{call_of_words}

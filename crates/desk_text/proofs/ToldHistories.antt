@@ -8,8 +8,8 @@ use Rattle.std.proofs.lemmas.List.Splits.{length-slice_split}
 use Rattle.game_core.specs.Bytes.{line_feed, carriage_return, tab}
 use Rattle.call_history.specs.History.{IsLegalHistory, run}
 use Rattle.call_history.specs.declared.journal.Entry.{Entry}
-use Rattle.match_desk.specs.declared.call.Call.{Call}
-use Rattle.match_desk.specs.declared.call.Reply.{Reply}
+use Rattle.desk_calls.specs.declared.call.Call.{Call}
+use Rattle.desk_calls.specs.declared.call.Reply.{Reply}
 use Rattle.desk_text.specs.Account.{IsEntry, IsRead, Tell, call_text, entry_text, history_text, told, told_fields}
 use Rattle.desk_text.specs.Escapes.{escaped_text}
 use Rattle.desk_text.specs.Replaying.{IsFirstFault, RefusesLine, TellNoHistory}

@@ -6,9 +6,9 @@ use Rattle.game_core.specs.Bytes.{line_feed, tab}
 use Rattle.game_core.specs.Numerals.{plain_number}
 use Rattle.call_history.specs.History.{IsLegalHistory, run}
 use Rattle.call_history.specs.declared.journal.Entry.{Entry}
-use Rattle.match_desk.specs.declared.call.Call.{Call}
-use Rattle.match_desk.specs.declared.call.Call.TheVariants.{Open, Next, Submit, Miss, Query, Abort}
-use Rattle.match_desk.specs.declared.call.Reply.{Reply}
+use Rattle.desk_calls.specs.declared.call.Call.{Call}
+use Rattle.desk_calls.specs.declared.call.Call.TheVariants.{Open, Next, Submit, Miss, Query, Abort}
+use Rattle.desk_calls.specs.declared.call.Reply.{Reply}
 use Rattle.match_desk.specs.ManagerValue.{ManagerValue}
 use Rattle.desk_text.specs.Escapes.{escaped_name, escaped_text, unescaped, all_unescaped}
 use Rattle.desk_text.specs.Words.{pieces, words, spaced, max_in_32_bits, max_in_64_bits}

@@ -3,8 +3,8 @@ use Rattle.std.specs.Prelude.{◌≡◌, ◌≢◌, ℕ, ◌+◌, List, ◌∷�
 use Rattle.std.specs.List.{AllByRecursion}
 use Rattle.call_history.specs.History.{IsLegalHistory, run}
 use Rattle.call_history.specs.declared.journal.Entry.{Entry}
-use Rattle.match_desk.specs.declared.call.Call.{Call}
-use Rattle.match_desk.specs.declared.call.Reply.{Reply}
+use Rattle.desk_calls.specs.declared.call.Call.{Call}
+use Rattle.desk_calls.specs.declared.call.Reply.{Reply}
 use Rattle.desk_text.specs.Account.{IsAccount, IsRead, entry_text, told}
 use Rattle.desk_text.specs.declared.replaying.ReplayFault.{ReplayFault}
 use Rattle.desk_text.specs.declared.replaying.ReplayFault.TheVariants.{Memory, NoEntry, Differs}

@@ -2,7 +2,7 @@
 ghost use Rattle.std.specs.Prelude.{◌≡◌, [], ◌∷◌, ◌++◌, map, OnOk};
 ghost use Rattle.std.specs.Fmt.{decimal};
 ghost use Rattle.game_core.specs.Bytes.{space};
-ghost use Rattle.match_desk.specs.declared.call.Call.TheVariants.{Open};
+ghost use Rattle.desk_calls.specs.declared.call.Call.TheVariants.{Open};
 ghost use Rattle.desk_text.specs.Account.{call_text, entry_text, history_text};
 ghost use Rattle.desk_text.specs.Escapes.{escaped_name, escaped_text};
 ghost use Rattle.desk_text.specs.Words.{behind_spaces};
@@ -10,8 +10,8 @@ ghost use Rattle.desk_text.specs.Words.{behind_spaces};
 use crate::escapes::push_escaped;
 use crate::reply_lines::{push_number, push_reply};
 use call_history::Entry;
+use desk_calls::{Call, Reply};
 use game_core::{Text, Texts};
-use match_desk::{Call, Reply};
 use std::alloc::{AllocError, Global};
 
 /// Appends a space and the number to `out`.

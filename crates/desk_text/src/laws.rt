@@ -3,7 +3,7 @@ ghost use Rattle.std.specs.Prelude.{◌≡◌, List, Some};
 ghost use Rattle.std.specs.List.{AllByRecursion};
 ghost use Rattle.std.specs.Str.Lines.{lines};
 ghost use Rattle.call_history.specs.declared.journal.Entry.{Entry};
-ghost use Rattle.match_desk.specs.declared.call.Call.{Call};
+ghost use Rattle.desk_calls.specs.declared.call.Call.{Call};
 ghost use Rattle.desk_text.specs.Account.{IsCall, IsEntry, Tell, call_text, history_text, told_call};
 
 /// A call can be read from its text, so no two calls have the same text.

@@ -11,8 +11,9 @@ use crate::account::push_entry;
 use crate::lines::first_line;
 use crate::told_calls::told;
 use call_history::Object;
+use desk_calls::{Call, Reply};
 use game_core::Game;
-use match_desk::{Call, Manager, Reply};
+use match_desk::Manager;
 use std::alloc::{AllocError, Global};
 
 /// The result of making an account's calls again.

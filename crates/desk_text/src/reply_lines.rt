@@ -4,10 +4,9 @@ ghost use Rattle.std.specs.Fmt.{decimal};
 ghost use Rattle.desk_text.specs.Words.{spaced};
 ghost use Rattle.desk_text.specs.ScriptLines.{joint_text, owed_text, due_text, status_text, refusal_word, refusal_text, reply_text};
 
+use desk_calls::{Due, Owed, Refusal, Reply, Status};
 use game_core::{Text, Texts};
 use itoa::Buffer;
-use match_book::{Due, Owed, Status};
-use match_desk::{Refusal, Reply};
 use record_reading::phase_text;
 use std::alloc::AllocError;
 

@@ -6,8 +6,8 @@ ghost use Rattle.desk_text.specs.Words.{words, max_number, max_in_64_bits};
 ghost use Rattle.desk_text.specs.ScriptLines.{opening_call, open_call, next_call, submit_call, miss_call, query_call, abort_call, strict_call, call_of_words, call_of, is_named, names_in, numbers_in, is_broken};
 
 use crate::words::{first_word, number_up_to, small_number, words};
+use desk_calls::Call;
 use game_core::{Text, Texts};
-use match_desk::Call;
 use std::alloc::{AllocError, Global};
 
 /// The number of a word, if 64 bits hold it.

@@ -6,7 +6,7 @@ ghost use Rattle.desk_text.specs.Escapes.{read_as};
 use crate::escapes::{unescape, unescape_all};
 use crate::script_lines::worded_call;
 use crate::words::{first_piece, small_number};
-use match_desk::Call;
+use desk_calls::Call;
 use std::alloc::{AllocError, Global};
 
 /// Removes the escapes from a call's names and its text. Returns whether each of them could be read.

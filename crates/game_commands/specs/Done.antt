@@ -5,7 +5,7 @@ use Rattle.indexmap.specs.IndexSet.{contains_by}
 use Rattle.serde_json.specs.Data.{Data}
 use Rattle.game_core.specs.Bytes.{space}
 use Rattle.game_core.specs.Play.{Rules}
-use Rattle.match_book.specs.Phase.{is_last}
+use Rattle.desk_calls.specs.Phases.{is_last}
 use Rattle.record_reading.specs.LawfulRecord.{IsJson, IsLawfulRecord}
 use Rattle.record_reading.specs.RecordTree.{Holds}
 use Rattle.record_reading.specs.declared.record_parts.RecordParts.{RecordParts}

@@ -3,7 +3,7 @@ ghost use Rattle.std.specs.Prelude.{◌≡◌, ◌⊎◌, ◌∷◌, ◌++◌, [
 ghost use Rattle.std.specs.Io.KnownBytes.{Consumes, IsAtEnd};
 ghost use Rattle.std.specs.Str.Lines.{lines};
 ghost use Rattle.game_core.specs.Bytes.{space};
-ghost use Rattle.match_book.specs.Phase.{is_last};
+ghost use Rattle.desk_calls.specs.Phases.{is_last};
 ghost use Rattle.game_commands.specs.Done.{AreDone, IsDone, is_noted, match_names};
 ghost use Rattle.game_commands.specs.declared.fault.Fault.TheVariants.{Memory};
 

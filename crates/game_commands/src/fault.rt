@@ -2,8 +2,8 @@
 
 use crate::rules::FileFault;
 use crate::script_fault::ScriptFault;
+use desk_calls::Refusal;
 use desk_text::refusal_word;
-use match_desk::Refusal;
 use match_plans::{LineFault, ScheduleFault, Shortage};
 use match_record::VerifyFault;
 use std::alloc::{AllocError, AllocFailed};

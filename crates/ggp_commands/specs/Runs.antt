@@ -1,7 +1,7 @@
 -- What a match of its own writes.
 use Rattle.std.specs.Prelude.{ℕ, List, Option}
 use Rattle.std.specs.Io.KnownBytes.{Appends}
-use Rattle.match_workers.specs.Handing.{Handed}
+use Rattle.role_workers.specs.Handing.{Handed}
 use Rattle.match_play.specs.EndedMatches.{match_text}
 use Rattle.match_play.specs.Limits.{max_tries}
 use Rattle.match_play.specs.PlayedMatches.{IsPlayedMatch, IsSetupOf}

@@ -7,10 +7,9 @@ ghost use Rattle.ggp_commands.specs.Errands.{abort_line, abort_text, aborted_lin
 use crate::faults::contact_fault;
 use crate::terminals::Terminals;
 use command_line::AbortPlan;
+use desk_calls::{Owed, Refusal, is_name};
 use game_commands::Fault;
 use game_core::{Counted, Text, Texts};
-use match_book::{Owed, is_name};
-use match_desk::Refusal;
 use match_messages::{Brief, Info, info_message, message, read_info};
 use match_plans::PlayerAddress;
 use network_players::{ContactFault, contact};

@@ -18,9 +18,9 @@ use match_log::{
 use match_plans::{CheckPlan, Reach, TellsShortages};
 use match_play::{Entrants, HostedGame, ended_match, entrants_of};
 use match_season::play_season;
-use match_workers::Player;
 use network_players::Explains;
 use player_check::check_player;
+use role_workers::Player;
 use std::alloc::Global;
 use std::io::{Read, Write};
 use std::rt::Files;

@@ -13,8 +13,8 @@ use Rattle.match_book.specs.Phase.{stage, is_over, still_answers, answered_in, h
 use Rattle.match_book.specs.Lawful.{AreLawful, IsLawfulMatch}
 use Rattle.match_book.specs.Steps.{refusal, turn_of, parts, with_answer_in, with_answer, with_open_answer, with_abort, after_answer}
 use Rattle.match_book.specs.Laws.{NewMatchIsLawful, AnswersKeepLawful, AbortKeepsLawful, RecordedMovesAreLegal, NoErrorMeansNamed, IsPlayed, AnswersInPlay, AnswersOutOfPlay, TakenForTheRound, ReadingsAreFolded}
-use Rattle.match_book.specs.declared.answer.Answer.{Answer}
-use Rattle.match_book.specs.declared.answer.Answer.TheVariants.{Text, Silent, Broken}
+use Rattle.desk_calls.specs.declared.answer.Answer.{Answer}
+use Rattle.desk_calls.specs.declared.answer.Answer.TheVariants.{Text, Silent, Broken}
 use Rattle.match_book.specs.declared.answer.AnswerRefusal.{AnswerRefusal}
 use Rattle.match_book.specs.declared.answer.AnswerRefusal.TheVariants.{NoRole, Over, Stale, Twice}
 use Rattle.match_book.specs.declared.judgement.Judgement.{Judgement}

@@ -9,8 +9,8 @@ use Rattle.match_book.specs.Judgement.{move_named, error_text, substitute, taken
 use Rattle.match_book.specs.declared.judgement.Judgement.{Judgement}
 use Rattle.match_book.specs.declared.judgement.Substitution.{Substitution}
 use Rattle.match_book.specs.declared.judgement.Substitution.TheVariants.{TimeOut, ConnectionError, Unreadable, Illegal}
-use Rattle.match_book.specs.declared.answer.Answer.{Answer}
-use Rattle.match_book.specs.declared.answer.Answer.TheVariants.{Text, Silent, Broken}
+use Rattle.desk_calls.specs.declared.answer.Answer.{Answer}
+use Rattle.desk_calls.specs.declared.answer.Answer.TheVariants.{Text, Silent, Broken}
 use Rattle.match_book.proofs.NamedMoves.{same_text}
 
 none_here : {M : Type 0} (b : Bool) (m : M) (o : Option M) → b ≡ true → (if b then Some m else o) ≡ None → ⊥

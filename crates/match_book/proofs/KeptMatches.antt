@@ -20,8 +20,8 @@ use Rattle.match_book.specs.RoleStrikes.{unstruck, is_retired_in, count_roles, A
 use Rattle.match_book.specs.Internal.Kept.{ArePast, IsKept}
 use Rattle.match_book.specs.declared.retirement.RoleStrikes.{RoleStrikes}
 use Rattle.match_book.specs.declared.judgement.Substitution.TheVariants.{Retired}
-use Rattle.match_book.specs.declared.setup.Setup.{Setup}
-use Rattle.match_book.specs.declared.answer.Answer.{Answer}
+use Rattle.desk_calls.specs.declared.setup.Setup.{Setup}
+use Rattle.desk_calls.specs.declared.answer.Answer.{Answer}
 use Rattle.match_book.specs.declared.answer.Mark.{Mark}
 use Rattle.match_book.specs.declared.judgement.Judgement.{Judgement}
 use Rattle.match_book.specs.declared.turn.Turn.{Turn}

@@ -11,8 +11,8 @@ use Rattle.match_book.specs.Phase.{stage, still_answers, answered_in, is_live, m
 use Rattle.match_book.specs.Lawful.{IsLawfulTurn, AreLawful, IsLawfulMatch}
 use Rattle.match_book.specs.Laws.{HasPart, IsInPlay}
 use Rattle.match_book.specs.Steps.{new_match, with_abort, with_start_mark, with_end_mark, turn_of, part, parts}
-use Rattle.match_book.specs.declared.setup.Setup.{Setup}
-use Rattle.match_book.specs.declared.answer.Answer.{Answer}
+use Rattle.desk_calls.specs.declared.setup.Setup.{Setup}
+use Rattle.desk_calls.specs.declared.answer.Answer.{Answer}
 use Rattle.match_book.specs.declared.answer.Mark.{Mark}
 use Rattle.match_book.specs.declared.judgement.Judgement.{Judgement}
 use Rattle.match_book.specs.declared.judgement.Substitution.TheVariants.{Retired}

@@ -1,4 +1,3 @@
-pub mod NamesAreAtoms
 pub mod RoleTests
 pub mod NamedMoves
 pub mod AnswerReadings

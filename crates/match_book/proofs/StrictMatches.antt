@@ -12,14 +12,14 @@ use Rattle.match_book.specs.Judgement.{judgement}
 use Rattle.match_book.specs.Retirement.{retired_by}
 use Rattle.match_book.specs.Due.{due}
 use Rattle.match_book.specs.Steps.{new_match, after_answer, refusal}
-use Rattle.match_book.specs.declared.setup.Setup.{Setup}
-use Rattle.match_book.specs.declared.answer.Answer.{Answer}
-use Rattle.match_book.specs.declared.answer.Answer.TheVariants.{Text, Silent, Broken}
+use Rattle.desk_calls.specs.declared.setup.Setup.{Setup}
+use Rattle.desk_calls.specs.declared.answer.Answer.{Answer}
+use Rattle.desk_calls.specs.declared.answer.Answer.TheVariants.{Text, Silent, Broken}
 use Rattle.match_book.specs.declared.answer.AnswerRefusal.TheVariants.{Twice}
 use Rattle.match_book.specs.declared.phase.Cause.TheVariants.{AllRetired}
-use Rattle.match_book.specs.declared.phase.Phase.TheVariants.{Playing, Aborting}
-use Rattle.match_book.specs.declared.due.Owed.TheVariants.{Play, Stop, Abort}
-use Rattle.match_book.specs.declared.due.Due.TheVariants.{Owe, Hold}
+use Rattle.desk_calls.specs.declared.phase.Phase.TheVariants.{Playing, Aborting}
+use Rattle.desk_calls.specs.declared.due.Owed.TheVariants.{Play, Stop, Abort}
+use Rattle.desk_calls.specs.declared.due.Due.TheVariants.{Owe, Hold}
 
 -- the match after these answers, each with its role, for the round in which it comes
 abbrev pub after_answers : {S M : Type 0} → Rules S M → MatchValue M → List (ℕ × Answer) → MatchValue M

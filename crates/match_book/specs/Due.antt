@@ -6,10 +6,10 @@ use Rattle.match_book.specs.Phase.{stage, has_answered, is_over, round}
 use Rattle.match_book.specs.declared.turn.Turn.{Turn}
 use Rattle.match_book.specs.declared.phase.Stage.{Stage}
 use Rattle.match_book.specs.declared.phase.Stage.TheVariants.{Starting, Playing, Stopping, Aborting}
-use Rattle.match_book.specs.declared.due.Owed.{Owed}
-use Rattle.match_book.specs.declared.due.Owed.TheVariants.{Start, Play, Stop, Abort}
-use Rattle.match_book.specs.declared.due.Due.{Due}
-use Rattle.match_book.specs.declared.due.Due.TheVariants.{Owe, Hold, Over}
+use Rattle.desk_calls.specs.declared.due.Owed.{Owed}
+use Rattle.desk_calls.specs.declared.due.Owed.TheVariants.{Start, Play, Stop, Abort}
+use Rattle.desk_calls.specs.declared.due.Due.{Due}
+use Rattle.desk_calls.specs.declared.due.Due.TheVariants.{Owe, Hold, Over}
 use Rattle.match_book.specs.declared.due.OwedFault.{OwedFault}
 use Rattle.match_book.specs.declared.due.OwedFault.TheVariants.{NoRole, Memory}
 

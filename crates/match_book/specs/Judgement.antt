@@ -8,8 +8,8 @@ use Rattle.match_book.specs.Marks.{time_out_text, connection_error_text}
 use Rattle.match_book.specs.declared.judgement.Judgement.{Judgement}
 use Rattle.match_book.specs.declared.judgement.Substitution.{Substitution}
 use Rattle.match_book.specs.declared.judgement.Substitution.TheVariants.{TimeOut, ConnectionError, Unreadable, Illegal, Retired}
-use Rattle.match_book.specs.declared.answer.Answer.{Answer}
-use Rattle.match_book.specs.declared.answer.Answer.TheVariants.{Text, Silent, Broken}
+use Rattle.desk_calls.specs.declared.answer.Answer.{Answer}
+use Rattle.desk_calls.specs.declared.answer.Answer.TheVariants.{Text, Silent, Broken}
 
 -- the answer is no expression
 abbrev pub unreadable_text : List ℕ

@@ -1,7 +1,6 @@
 -- Laws of the definitions, for a lawful game.
 use Rattle.std.specs.Prelude.{◌≡◌, ◌≢◌, ◌↔◌, ◌⊎◌, ℕ, ◌<◌, ◌≤◌, true, false, List, [], ◌∷◌, ◌++◌, length, Some, None, All, replicate, slice_get, slice_index_or, slice_set}
 use Rattle.game_core.specs.Canonical.{IsFoldedText}
-use Rattle.game_core.specs.Expression.{IsAtom}
 use Rattle.game_core.specs.Play.{Rules, AreLegal}
 use Rattle.match_book.specs.Roles.{every_role, is_there, blank}
 use Rattle.match_book.specs.AnswerReading.{answer_reading, max_reading}
@@ -11,11 +10,10 @@ use Rattle.match_book.specs.Retirement.{are_all_retired}
 use Rattle.match_book.specs.RoleStrikes.{AreStrikes, after_turn, unstruck}
 use Rattle.match_book.specs.Phase.{stage, round, has_answered, has_no_goal, has_no_move, is_playing, max_turns}
 use Rattle.match_book.specs.Lawful.{IsLawfulTurn, AreLawful, IsLawfulMatch}
-use Rattle.match_book.specs.Names.{is_name}
 use Rattle.match_book.specs.Steps.{new_match, refusal, turn_of, part, parts, after_answer, after_abort}
-use Rattle.match_book.specs.declared.setup.Setup.{Setup}
-use Rattle.match_book.specs.declared.answer.Answer.{Answer}
-use Rattle.match_book.specs.declared.answer.Answer.TheVariants.{Text, Silent, Broken}
+use Rattle.desk_calls.specs.declared.setup.Setup.{Setup}
+use Rattle.desk_calls.specs.declared.answer.Answer.{Answer}
+use Rattle.desk_calls.specs.declared.answer.Answer.TheVariants.{Text, Silent, Broken}
 use Rattle.match_book.specs.declared.judgement.Judgement.{Judgement}
 use Rattle.match_book.specs.declared.retirement.RoleStrikes.{RoleStrikes}
 use Rattle.match_book.specs.declared.turn.Turn.{Turn}
@@ -134,7 +132,3 @@ BegunRoundsAreOpen {S} {M} g = (m : MatchValue M) → is_playing (stage g m) ≡
 -- what is read of an answer is a folded text within the limit
 abbrev pub ReadingsAreFolded : Type 0
 ReadingsAreFolded = (text x : List ℕ) → answer_reading text ≡ Some x → IsFoldedText x × (length x ≤ max_reading)
-
--- a lawful id, or name of a player, is an atom
-abbrev pub NamesAreAtoms : Type 0
-NamesAreAtoms = (w : List ℕ) → is_name w ≡ true → IsAtom w

@@ -11,5 +11,4 @@ pub mod Due
 pub mod Lawful
 pub mod Steps
 pub mod Laws
-pub mod Names
 pub mod Internal

@@ -1,17 +1,9 @@
--- Answers, and the marks that are kept of them outside of play.
+-- The marks that are kept of answers outside of play.
 use Rattle.std.specs.Prelude.{List, ℕ, [], codes}
-use Rattle.match_book.specs.declared.answer.Answer.{Answer}
-use Rattle.match_book.specs.declared.answer.Answer.TheVariants.{Text, Silent, Broken}
-use Rattle.match_book.specs.declared.answer.LentAnswer.{LentAnswer}
-use Rattle.match_book.specs.declared.answer.LentAnswer.TheVariants.{Text as LentText, Silent as LentSilent, Broken as LentBroken}
+use Rattle.desk_calls.specs.declared.answer.Answer.{Answer}
+use Rattle.desk_calls.specs.declared.answer.Answer.TheVariants.{Text, Silent, Broken}
 use Rattle.match_book.specs.declared.answer.Mark.{Mark}
 use Rattle.match_book.specs.declared.answer.Mark.TheVariants.{Clear, TimeOut, ConnectionError}
-
--- the answer that is borrowed
-abbrev pub answer_lent : LentAnswer → Answer
-answer_lent (LentText text) = Text text.now
-answer_lent LentSilent = Silent
-answer_lent LentBroken = Broken
 
 -- no answer came in time
 abbrev pub time_out_text : List ℕ

@@ -1,7 +1,7 @@
 -- What a match is, as a plain value.
 use Rattle.std.specs.Prelude.{ℕ, Bool, List, Option, option_and_then, slice_get, length, not, ◌==◌, map, sum_by, count_by}
 use Rattle.game_core.specs.Play.{Rules, play}
-use Rattle.match_book.specs.declared.setup.Setup.{Setup}
+use Rattle.desk_calls.specs.declared.setup.Setup.{Setup}
 use Rattle.match_book.specs.declared.answer.Mark.{Mark}
 use Rattle.match_book.specs.declared.judgement.Judgement.{Judgement}
 use Rattle.match_book.specs.declared.turn.Turn.{Turn}

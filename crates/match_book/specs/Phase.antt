@@ -6,11 +6,12 @@ use Rattle.match_book.specs.MatchValue.{MatchValue, state_after, substitutions}
 use Rattle.match_book.specs.Retirement.{is_retired, are_all_retired}
 use Rattle.match_book.specs.declared.phase.Cause.{Cause}
 use Rattle.match_book.specs.declared.phase.Cause.TheVariants.{Asked, NoLegal, NoGoal, TooLong, AllRetired}
+use Rattle.desk_calls.specs.Phases.{is_last}
 use Rattle.match_book.specs.declared.phase.Stage.{Stage}
 use Rattle.match_book.specs.declared.phase.Stage.TheVariants.{Starting, Playing, Stopping, Aborting}
-use Rattle.match_book.specs.declared.phase.Phase.{Phase}
-use Rattle.match_book.specs.declared.phase.Phase.TheVariants.{Starting as InStarting, Playing as InPlaying, Stopping as InStopping, Finished, Aborting as InAborting, Aborted}
-use Rattle.match_book.specs.declared.phase.Status.{Status}
+use Rattle.desk_calls.specs.declared.phase.Phase.{Phase}
+use Rattle.desk_calls.specs.declared.phase.Phase.TheVariants.{Starting as InStarting, Playing as InPlaying, Stopping as InStopping, Finished, Aborting as InAborting, Aborted}
+use Rattle.desk_calls.specs.declared.phase.Status.{Status}
 
 -- the limit of turns in a match
 abbrev pub max_turns : ℕ
@@ -66,14 +67,6 @@ phase_in (Aborting c) all_ended = if all_ended then Aborted else InAborting
 -- a match has stopped or is aborted once all end marks are there
 abbrev pub phase : {S M : Type 0} → Rules S M → MatchValue M → Phase
 phase g m = phase_in (stage g m) (every_role g.roles (is_there m.end_marks))
-
-abbrev pub is_last : Phase → Bool
-is_last InStarting = false
-is_last InPlaying = false
-is_last InStopping = false
-is_last Finished = true
-is_last InAborting = false
-is_last Aborted = true
 
 -- the match is over
 abbrev pub is_over : {S M : Type 0} → Rules S M → MatchValue M → Bool

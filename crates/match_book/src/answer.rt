@@ -1,31 +1,13 @@
-//! What comes from a player, and why it is refused.
+//! What is kept of a player's answer, and why it is refused.
 ghost use Rattle.std.specs.Prelude.{◌≡◌};
 ghost use Rattle.match_book.specs.declared.answer.AnswerFault.TheVariants.{Memory};
-ghost use Rattle.match_book.specs.Marks.{answer_lent, mark_of, mark_text};
+ghost use Rattle.match_book.specs.Marks.{mark_of, mark_text};
+ghost use Rattle.desk_calls.specs.Answers.{answer_lent};
 ghost use Rattle.match_book.specs.Steps.{fault_of};
 
-use game_core::Text;
+use desk_calls::LentAnswer;
 use std::alloc::AllocError;
 use thiserror::Error;
-
-/// A player's answer to a message.
-#[derive(Drop)]
-pub enum Answer {
-    /// The body of the reply, as it was sent.
-    Text(Text),
-    /// No answer came in time.
-    Silent,
-    /// No answer came: the connection failed.
-    Broken,
-}
-
-/// An answer that borrows its text.
-#[derive(Clone, Copy)]
-pub enum LentAnswer<'a> {
-    Text(&'a Text),
-    Silent,
-    Broken,
-}
 
 /// The part of an answer to START, STOP or ABORT that is kept, whatever its text says.
 #[derive(Clone, Copy)]
@@ -98,32 +80,18 @@ pub enum AbortFault {
     Ended,
 }
 
-impl Answer {
-    /// Borrows the answer.
-    pub fn lend(&self) -> LentAnswer<'_>
-        ensures { answer_lent result ≡ self.now }
+impl Mark {
+    /// The mark of an answer.
+    pub(crate) fn of(answer: &LentAnswer<'_>) -> Mark
+        ensures { result ≡ mark_of (answer_lent answer.now) }
     {
-        match self {
-            Answer::Text(text) => LentAnswer::Text(text),
-            Answer::Silent => LentAnswer::Silent,
-            Answer::Broken => LentAnswer::Broken,
-        }
-    }
-}
-
-impl<'a> LentAnswer<'a> {
-    pub(crate) fn mark(&self) -> Mark
-        ensures { result ≡ mark_of (answer_lent self.now) }
-    {
-        match self {
+        match answer {
             LentAnswer::Text(_) => Mark::Clear,
             LentAnswer::Silent => Mark::TimeOut,
             LentAnswer::Broken => Mark::ConnectionError,
         }
     }
-}
 
-impl Mark {
     /// The mark as it stands in a match's record.
     pub fn text(self) -> &'static [u8]
         ensures { result.now ≡ mark_text self }

@@ -1,11 +1,12 @@
 //! How answers are judged in play.
 ghost use Rattle.std.specs.Prelude.{◌≡◌, IfOk, All, Some, []};
 ghost use Rattle.match_book.specs.AnswerReading.{answer_reading};
-ghost use Rattle.match_book.specs.Marks.{answer_lent};
+ghost use Rattle.desk_calls.specs.Answers.{answer_lent};
 ghost use Rattle.match_book.specs.Judgement.{error_text, substitute, move_named, IsPlaceOf, taken_or_substituted, judged_reading, judged_answer};
 
-use crate::answer::{LentAnswer, Mark};
+use crate::answer::Mark;
 use crate::answer_text::{MAX_ANSWER, read_answer};
+use desk_calls::LentAnswer;
 use game_core::{Game, Text};
 use kif_text::laws::folded_text_reads_back;
 use std::alloc::{AllocError, Global};

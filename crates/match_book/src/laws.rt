@@ -2,7 +2,7 @@
 //!
 //! The laws have no arguments, as they speak of every game of a type: call them with that type.
 ghost use Rattle.game_core.specs.Play.{Rules};
-ghost use Rattle.match_book.specs.Laws.{NewMatchIsLawful, AnswersKeepLawful, AbortKeepsLawful, RecordedMovesAreLegal, NoErrorMeansNamed, AnswersInPlay, AnswersOutOfPlay, TakenForTheRound, TurnsLeadToStates, TurnsHaveMoves, OneMoreTurn, StrikesBegin, StrikesOfOneMore, FewStrikes, StartingMeans, PlayingMeans, StoppingMeans, BegunRoundsAreOpen, ReadingsAreFolded, NamesAreAtoms};
+ghost use Rattle.match_book.specs.Laws.{NewMatchIsLawful, AnswersKeepLawful, AbortKeepsLawful, RecordedMovesAreLegal, NoErrorMeansNamed, AnswersInPlay, AnswersOutOfPlay, TakenForTheRound, TurnsLeadToStates, TurnsHaveMoves, OneMoreTurn, StrikesBegin, StrikesOfOneMore, FewStrikes, StartingMeans, PlayingMeans, StoppingMeans, BegunRoundsAreOpen, ReadingsAreFolded};
 
 use game_core::Game;
 use kif_text::laws::{reading_is_proper, reading_under_double};
@@ -90,8 +90,3 @@ pub fn readings_are_folded()
     reading_is_proper();
     reading_under_double();
 }
-
-/// A lawful id, or name of a player, is an atom.
-pub fn names_are_atoms()
-    ensures { NamesAreAtoms }
-{}

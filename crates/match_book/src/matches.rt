@@ -2,7 +2,8 @@
 ghost use Rattle.std.specs.Prelude.{◌≡◌, ◌<◌, ◌≤◌, ◌+◌, length, true, false, IfOk, OnOk, OnErr, Err, None, IsSome, option_copied, option_map, Some, slice_set, take, ◌++◌, ◌∷◌, []};
 ghost use Rattle.game_core.specs.Play.{Rules};
 ghost use Rattle.match_book.specs.Roles.{at_role, is_there, every_role};
-ghost use Rattle.match_book.specs.Marks.{answer_lent, mark_text};
+ghost use Rattle.match_book.specs.Marks.{mark_text};
+ghost use Rattle.desk_calls.specs.Answers.{answer_lent};
 ghost use Rattle.match_book.specs.Judgement.{judgement, IsJudged};
 ghost use Rattle.match_book.specs.MatchValue.{state_after, move_at, error_at};
 ghost use Rattle.match_book.specs.declared.answer.AnswerFault.TheVariants.{Memory};
@@ -12,19 +13,19 @@ ghost use Rattle.match_book.specs.Due.{IsDueAnswer, CarriesMoves, owed_in, last_
 ghost use Rattle.match_book.specs.Lawful.{IsLawfulMatch};
 ghost use Rattle.match_book.specs.Steps.{new_match, turn_of, parts, after_abort, after_answer, with_start_mark, with_open_answer, with_end_mark, refusal, IsTakenUnless, IsLastToStart, MayWantMemory};
 
-use crate::answer::{AbortFault, Answer, AnswerFault, AnswerRefusal, LentAnswer, Mark};
-use crate::due::{Due, Owed, OwedFault};
+use crate::answer::{AbortFault, AnswerFault, AnswerRefusal, Mark};
+use crate::due::OwedFault;
 use crate::judgement::{Judgement, judge};
 use crate::laws::readings_are_folded;
-use crate::phase::{Cause, Stage, Status};
+use crate::phase::{Cause, Stage};
 use crate::places::{are_all_there, blank, clear};
 use crate::retirement::{
     RoleStrikes, all_unstruck, answered_at_first, count_retired, strikes_after,
 };
 use crate::role_moves::RoleMoves;
 use crate::settlement::settle;
-use crate::setup::Setup;
 use crate::turn::{Turn, count_errors, move_texts, parts_with, turn_of};
+use desk_calls::{Answer, Due, LentAnswer, Owed, Setup, Status};
 use game_core::{Game, Texts};
 use std::alloc::{AllocError, Global};
 use std::marker::Model;
@@ -374,13 +375,13 @@ impl<G: Game> Match<G> {
             return Ok(Some(refusal));
         }
         match self.stage() {
-            Stage::Starting => self.take_start_mark(alloc, game, role, answer.mark())?,
+            Stage::Starting => self.take_start_mark(alloc, game, role, Mark::of(answer))?,
             Stage::Playing => {
                 readings_are_folded();
                 let judged = self.judged(alloc, game, role, answer)?;
                 self.take_open_answer(alloc, game, role, judged)?;
             }
-            Stage::Stopping | Stage::Aborting(_) => self.take_end_mark(role, answer.mark()),
+            Stage::Stopping | Stage::Aborting(_) => self.take_end_mark(role, Mark::of(answer)),
         }
         Ok(None)
     }

@@ -9,9 +9,9 @@ use Rattle.match_book.specs.MatchValue.{MatchValue, GameMatch}
 use Rattle.match_book.specs.Lawful.{IsLawfulMatch}
 use Rattle.match_book.specs.Phase.{round}
 use Rattle.match_book.specs.Steps.{new_match, refusal, with_answer, after_answer, after_abort}
-use Rattle.match_book.specs.declared.setup.Setup.{Setup}
-use Rattle.match_book.specs.declared.answer.Answer.{Answer}
-use Rattle.match_book.specs.declared.answer.Answer.TheVariants.{Text}
+use Rattle.desk_calls.specs.declared.setup.Setup.{Setup}
+use Rattle.desk_calls.specs.declared.answer.Answer.{Answer}
+use Rattle.desk_calls.specs.declared.answer.Answer.TheVariants.{Text}
 use Rattle.match_book.specs.declared.answer.AnswerRefusal.{AnswerRefusal}
 use Rattle.match_book.specs.declared.answer.AnswerRefusal.TheVariants.{NoRole, Over, Stale, Twice}
 use Rattle.call_history.specs.History.{run, IsLegalHistory, IsReplay}
@@ -22,12 +22,12 @@ use Rattle.match_desk.specs.Steps.{setup_of, missed, answer_refused, refused_or,
 use Rattle.match_desk.specs.Accepted.{answer_if, is_taken, taken_answer, taken_answers, AreAccounted}
 use Rattle.match_desk.specs.Headline.{ArePlayedLegally, HasHeadline}
 use Rattle.match_desk.specs.Internal.MatchLaws.{MatchLaws}
-use Rattle.match_desk.specs.declared.call.Call.{Call}
-use Rattle.match_desk.specs.declared.call.Call.TheVariants.{Open, Next, Submit, Miss, Query, Abort}
-use Rattle.match_desk.specs.declared.call.Reply.{Reply}
-use Rattle.match_desk.specs.declared.call.Reply.TheVariants.{Taken, Refused}
-use Rattle.match_desk.specs.declared.call.Refusal.{Refusal}
-use Rattle.match_desk.specs.declared.call.Refusal.TheVariants.{NoMatch}
+use Rattle.desk_calls.specs.declared.call.Call.{Call}
+use Rattle.desk_calls.specs.declared.call.Call.TheVariants.{Open, Next, Submit, Miss, Query, Abort}
+use Rattle.desk_calls.specs.declared.call.Reply.{Reply}
+use Rattle.desk_calls.specs.declared.call.Reply.TheVariants.{Taken, Refused}
+use Rattle.desk_calls.specs.declared.call.Refusal.{Refusal}
+use Rattle.desk_calls.specs.declared.call.Refusal.TheVariants.{NoMatch}
 use Rattle.match_desk.proofs.Managers.{IsKeptBy, keeps-answer, keeps-abort, lawful-opening}
 use Rattle.match_desk.proofs.OpenTests.{IsOpenable, openable}
 use Rattle.match_desk.proofs.LawfulSteps.{lawful-after}

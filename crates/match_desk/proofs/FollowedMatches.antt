@@ -14,8 +14,8 @@ use Rattle.match_book.specs.Phase.{stage, is_over, is_live, is_playing, still_an
 use Rattle.match_book.specs.Lawful.{IsLawfulMatch}
 use Rattle.match_book.specs.Laws.{HasPart, StartingMeans}
 use Rattle.match_book.specs.Steps.{new_match, refusal, turn_of, parts, with_answer_in, with_abort, with_end_mark, after_answer, after_abort}
-use Rattle.match_book.specs.declared.setup.Setup.{Setup}
-use Rattle.match_book.specs.declared.answer.Answer.{Answer}
+use Rattle.desk_calls.specs.declared.setup.Setup.{Setup}
+use Rattle.desk_calls.specs.declared.answer.Answer.{Answer}
 use Rattle.match_book.specs.Marks.{mark_of}
 use Rattle.match_book.specs.declared.answer.Mark.{Mark}
 use Rattle.match_book.specs.declared.answer.AnswerRefusal.TheVariants.{NoRole, Over, Stale, Twice}

@@ -6,16 +6,16 @@ use Rattle.std.proofs.lemmas.Slice.Eq.{bytes_eq-Decides}
 use Rattle.std.specs.Prelude.{find, is_none, slice_get, bytes_eq, if◌then◌else◌}
 use Rattle.game_core.specs.Play.{Rules}
 use Rattle.match_book.specs.Steps.{new_match}
-use Rattle.match_book.specs.declared.setup.Setup.{Setup}
-use Rattle.match_book.specs.declared.answer.Answer.TheVariants.{Text}
+use Rattle.desk_calls.specs.declared.setup.Setup.{Setup}
+use Rattle.desk_calls.specs.declared.answer.Answer.TheVariants.{Text}
 use Rattle.match_book.specs.Laws.{NewMatchIsLawful}
 use Rattle.match_desk.specs.ManagerValue.{DeskMatch, ManagerValue, has_id, IsMatchOf, IsLawfulManager}
 use Rattle.match_desk.specs.Open.{open_refusal, with_new_match, after_open}
 use Rattle.match_desk.specs.Steps.{setup_of, missed, after}
 use Rattle.match_desk.specs.Internal.MatchLaws.{MatchLaws}
-use Rattle.match_desk.specs.declared.call.Call.{Call}
-use Rattle.match_desk.specs.declared.call.Call.TheVariants.{Open, Next, Submit, Miss, Query, Abort}
-use Rattle.match_desk.specs.declared.call.Refusal.{Refusal}
+use Rattle.desk_calls.specs.declared.call.Call.{Call}
+use Rattle.desk_calls.specs.declared.call.Call.TheVariants.{Open, Next, Submit, Miss, Query, Abort}
+use Rattle.desk_calls.specs.declared.call.Refusal.{Refusal}
 use Rattle.match_desk.proofs.Managers.{keeps-answer, keeps-abort, lawful-with_change}
 use Rattle.match_desk.proofs.OpenTests.{IsOpenable, openable}
 

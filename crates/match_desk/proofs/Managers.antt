@@ -13,11 +13,11 @@ use Rattle.match_book.specs.Phase.{stage, answered_in, is_live}
 use Rattle.match_book.specs.Steps.{refusal, recorded, turn_of, parts, with_answer_in, with_answer, with_abort, after_answer, after_abort}
 use Rattle.match_book.specs.declared.phase.Stage.{Stage}
 use Rattle.match_book.specs.declared.phase.Stage.TheVariants.{Starting, Playing, Stopping, Aborting}
-use Rattle.match_book.specs.declared.setup.Setup.{Setup}
-use Rattle.match_book.specs.declared.answer.Answer.{Answer}
+use Rattle.desk_calls.specs.declared.setup.Setup.{Setup}
+use Rattle.desk_calls.specs.declared.answer.Answer.{Answer}
 use Rattle.match_book.specs.Laws.{AnswersKeepLawful, AbortKeepsLawful}
 use Rattle.match_desk.specs.ManagerValue.{DeskMatch, ManagerValue, has_id, game_of, IsMatchOf, IsLawfulManager}
-use Rattle.match_book.specs.Names.{IsLawfulSetup}
+use Rattle.desk_calls.specs.Names.{IsLawfulSetup}
 use Rattle.match_desk.specs.Internal.Slots.{AreKept}
 use Rattle.match_desk.specs.declared.slot.Slot.{Slot}
 use Rattle.match_desk.specs.Steps.{changed_match, with_change}

@@ -10,9 +10,9 @@ use Rattle.std.specs.Map.{lookup}
 use Rattle.game_core.specs.Play.{Rules}
 use Rattle.match_book.specs.MatchValue.{GameMatch}
 use Rattle.match_book.specs.Laws.{NewMatchIsLawful}
-use Rattle.match_book.specs.Names.{max_strikes}
+use Rattle.desk_calls.specs.Names.{max_strikes}
 use Rattle.match_book.specs.Steps.{new_match}
-use Rattle.match_book.specs.declared.setup.Setup.{Setup}
+use Rattle.desk_calls.specs.declared.setup.Setup.{Setup}
 use Rattle.match_desk.specs.ManagerValue.{ManagerValue, DeskMatch, match_of, IsLawfulManager}
 use Rattle.match_desk.specs.Open.{open_refusal, with_new_match, after_open}
 use Rattle.match_desk.specs.Internal.Slots.{AreKept, IsSlotOf, desk_match, desk_matches}

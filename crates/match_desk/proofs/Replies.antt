@@ -7,8 +7,8 @@ use Rattle.match_book.specs.Steps.{refusal, MayWantMemory}
 use Rattle.match_desk.specs.ManagerValue.{ManagerValue, match_with_id}
 use Rattle.match_desk.specs.Memory.{AnswerWantsMemory}
 use Rattle.match_desk.specs.Steps.{answer_reply, answer_refused, refused_or, reply_of, is_refused}
-use Rattle.match_desk.specs.declared.call.Reply.TheVariants.{Taken, Refused}
-use Rattle.match_desk.specs.declared.call.Refusal.TheVariants.{NoMatch}
+use Rattle.desk_calls.specs.declared.call.Reply.TheVariants.{Taken, Refused}
+use Rattle.desk_calls.specs.declared.call.Refusal.TheVariants.{NoMatch}
 
 -- if the match with this id refuses no such answer, the reply is no refusal
 pub accepted-answer : {G S M : Type 0} (rules : G → Rules S M) (d : ManagerValue G M) (id : List ℕ) (role round : ℕ) (m : GameMatch G M) → Some m ≡ match_with_id d id

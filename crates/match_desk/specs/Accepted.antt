@@ -7,15 +7,15 @@ use Rattle.match_book.specs.Retirement.{retired_by}
 use Rattle.match_book.specs.Laws.{Names}
 use Rattle.match_book.specs.declared.judgement.Judgement.{Judgement}
 use Rattle.match_book.specs.declared.turn.Turn.{Turn}
-use Rattle.match_book.specs.declared.answer.Answer.{Answer}
-use Rattle.match_book.specs.declared.answer.Answer.TheVariants.{Text}
+use Rattle.desk_calls.specs.declared.answer.Answer.{Answer}
+use Rattle.desk_calls.specs.declared.answer.Answer.TheVariants.{Text}
 use Rattle.call_history.specs.declared.journal.Entry.{Entry}
 use Rattle.match_desk.specs.ManagerValue.{DeskMatch, ManagerValue}
 use Rattle.match_desk.specs.Steps.{missed}
-use Rattle.match_desk.specs.declared.call.Call.{Call}
-use Rattle.match_desk.specs.declared.call.Call.TheVariants.{Open, Next, Submit, Miss, Query, Abort}
-use Rattle.match_desk.specs.declared.call.Reply.{Reply}
-use Rattle.match_desk.specs.declared.call.Reply.TheVariants.{Opened, Due, Taken, Status, Aborting, Refused}
+use Rattle.desk_calls.specs.declared.call.Call.{Call}
+use Rattle.desk_calls.specs.declared.call.Call.TheVariants.{Open, Next, Submit, Miss, Query, Abort}
+use Rattle.desk_calls.specs.declared.call.Reply.{Reply}
+use Rattle.desk_calls.specs.declared.call.Reply.TheVariants.{Opened, Due, Taken, Status, Aborting, Refused}
 
 -- the answer a, if these are the wanted match, role and round
 abbrev pub answer_if : Bool → Answer → Option Answer

@@ -7,8 +7,8 @@ use Rattle.call_history.specs.declared.journal.Entry.{Entry}
 use Rattle.match_desk.specs.ManagerValue.{DeskMatch, ManagerValue, opening, IsLawfulManager}
 use Rattle.match_desk.specs.Steps.{reply, after}
 use Rattle.match_desk.specs.Accepted.{AreAccounted}
-use Rattle.match_desk.specs.declared.call.Call.{Call}
-use Rattle.match_desk.specs.declared.call.Reply.{Reply}
+use Rattle.desk_calls.specs.declared.call.Call.{Call}
+use Rattle.desk_calls.specs.declared.call.Reply.{Reply}
 
 -- the match's joint moves are legal turns of its game
 pub record IsPlayedLegally {G S M : Type 0} (rules : G → Rules S M) (games : List G) (m : DeskMatch M) : Type 0 where

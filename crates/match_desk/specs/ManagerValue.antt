@@ -3,7 +3,7 @@ use Rattle.std.specs.Prelude.{◌≡◌, ◌≢◌, ◌≤◌, ℕ, Bool, List, 
 use Rattle.game_core.specs.Play.{Rules}
 use Rattle.match_book.specs.MatchValue.{MatchValue, GameMatch}
 use Rattle.match_book.specs.Lawful.{IsLawfulMatch}
-use Rattle.match_book.specs.Names.{IsLawfulSetup}
+use Rattle.desk_calls.specs.Names.{IsLawfulSetup}
 
 -- the limit of matches at a desk
 abbrev pub max_matches : ℕ

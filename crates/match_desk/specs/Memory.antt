@@ -4,10 +4,10 @@ use Rattle.game_core.specs.Play.{Rules}
 use Rattle.match_book.specs.Due.{OwesMoves}
 use Rattle.match_book.specs.Steps.{MayWantMemory}
 use Rattle.match_desk.specs.ManagerValue.{ManagerValue, match_with_id}
-use Rattle.match_desk.specs.declared.call.Call.{Call}
-use Rattle.match_desk.specs.declared.call.Call.TheVariants.{Open, Next, Submit, Miss, Query, Abort}
-use Rattle.match_desk.specs.declared.call.Reply.{Reply}
-use Rattle.match_desk.specs.declared.call.Reply.TheVariants.{Opened, Due, Taken, Status, Aborting, Refused}
+use Rattle.desk_calls.specs.declared.call.Call.{Call}
+use Rattle.desk_calls.specs.declared.call.Call.TheVariants.{Open, Next, Submit, Miss, Query, Abort}
+use Rattle.desk_calls.specs.declared.call.Reply.{Reply}
+use Rattle.desk_calls.specs.declared.call.Reply.TheVariants.{Opened, Due, Taken, Status, Aborting, Refused}
 
 -- the reply carries the texts of a joint move
 abbrev pub CarriesTexts : Reply → Type 0

@@ -3,11 +3,11 @@ use Rattle.std.specs.Prelude.{ℕ, Bool, false, ◌==◌, nat_lt, ◌&&◌, List
 use Rattle.std.specs.List.{list_all}
 use Rattle.game_core.specs.Play.{Rules}
 use Rattle.match_book.specs.Steps.{new_match}
-use Rattle.match_book.specs.declared.setup.Setup.{Setup}
-use Rattle.match_book.specs.Names.{is_name, is_clock, is_strikes}
+use Rattle.desk_calls.specs.declared.setup.Setup.{Setup}
+use Rattle.desk_calls.specs.Names.{is_name, is_clock, is_strikes}
 use Rattle.match_desk.specs.ManagerValue.{ManagerValue, match_of, max_matches}
-use Rattle.match_desk.specs.declared.call.Refusal.{Refusal}
-use Rattle.match_desk.specs.declared.call.Refusal.TheVariants.{BadId, IdUsed, NoGame, WrongPlayers, BadName, BadClock, BadStrikes, DeskFull}
+use Rattle.desk_calls.specs.declared.call.Refusal.{Refusal}
+use Rattle.desk_calls.specs.declared.call.Refusal.TheVariants.{BadId, IdUsed, NoGame, WrongPlayers, BadName, BadClock, BadStrikes, DeskFull}
 
 -- the refusal of the first test that fails
 abbrev pub first_refusal : List (Bool × Refusal) → Option Refusal

@@ -5,19 +5,19 @@ use Rattle.match_book.specs.MatchValue.{MatchValue}
 use Rattle.match_book.specs.Phase.{stage, status, is_live}
 use Rattle.match_book.specs.Due.{due}
 use Rattle.match_book.specs.Steps.{refusal, after_answer, after_abort}
-use Rattle.match_book.specs.declared.setup.Setup.{Setup}
-use Rattle.match_book.specs.declared.answer.Answer.{Answer}
-use Rattle.match_book.specs.declared.answer.Answer.TheVariants.{Text, Silent, Broken}
+use Rattle.desk_calls.specs.declared.setup.Setup.{Setup}
+use Rattle.desk_calls.specs.declared.answer.Answer.{Answer}
+use Rattle.desk_calls.specs.declared.answer.Answer.TheVariants.{Text, Silent, Broken}
 use Rattle.match_book.specs.declared.answer.AnswerRefusal.{AnswerRefusal}
 use Rattle.match_book.specs.declared.answer.AnswerRefusal.TheVariants.{NoRole as MatchNoRole, Over as MatchOver, Stale as MatchStale, Twice as MatchTwice}
 use Rattle.match_desk.specs.ManagerValue.{ManagerValue, DeskMatch, has_id, game_of, match_with_id}
 use Rattle.match_desk.specs.Open.{open_refusal, after_open}
-use Rattle.match_desk.specs.declared.call.Call.{Call}
-use Rattle.match_desk.specs.declared.call.Call.TheVariants.{Open, Next, Submit, Miss, Query, Abort}
-use Rattle.match_desk.specs.declared.call.Reply.{Reply}
-use Rattle.match_desk.specs.declared.call.Reply.TheVariants.{Opened, Due, Taken, Status, Aborting, Refused}
-use Rattle.match_desk.specs.declared.call.Refusal.{Refusal}
-use Rattle.match_desk.specs.declared.call.Refusal.TheVariants.{NoMatch, NoRole, Over, Stale, Twice, Ended}
+use Rattle.desk_calls.specs.declared.call.Call.{Call}
+use Rattle.desk_calls.specs.declared.call.Call.TheVariants.{Open, Next, Submit, Miss, Query, Abort}
+use Rattle.desk_calls.specs.declared.call.Reply.{Reply}
+use Rattle.desk_calls.specs.declared.call.Reply.TheVariants.{Opened, Due, Taken, Status, Aborting, Refused}
+use Rattle.desk_calls.specs.declared.call.Refusal.{Refusal}
+use Rattle.desk_calls.specs.declared.call.Refusal.TheVariants.{NoMatch, NoRole, Over, Stale, Twice, Ended}
 
 -- whether the reply refuses its call
 abbrev pub is_refused : Reply → Bool

@@ -1,12 +1,11 @@
 //! The setup that an `Open` carries.
 ghost use Rattle.std.specs.Prelude.{◌≡◌, ◌≤◌, IfOk};
-ghost use Rattle.match_book.specs.Names.{max_strikes};
+ghost use Rattle.desk_calls.specs.Names.{max_strikes};
 ghost use Rattle.match_desk.specs.Steps.{open_call};
 ghost use Rattle.match_desk.specs.Internal.AskedSetups.{asked_setup, IsOpen};
 
-use crate::call::Call;
+use desk_calls::{Call, Setup};
 use game_core::{Text, Texts};
-use match_book::Setup;
 use std::alloc::{AllocError, Global};
 
 /// The setup that an `Open` asks for, with its game's number. It borrows the call's texts.

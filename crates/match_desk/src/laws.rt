@@ -7,9 +7,9 @@ ghost use Rattle.match_desk.specs.Internal.MatchLaws.{MatchLaws};
 ghost use Rattle.match_desk.specs.Steps.{reply, after};
 ghost use Rattle.match_desk.specs.Accepted.{AreAccounted};
 
-use crate::call::{Call, Reply};
 use crate::manager::Manager;
 use call_history::Entry;
+use desk_calls::{Call, Reply};
 use game_core::Game;
 use match_book::laws::{
     abort_keeps_lawful, answers_in_play, answers_keep_lawful, new_match_is_lawful,

@@ -6,13 +6,12 @@
 #![tactic(auto)]
 
 mod asked_setup;
-mod call;
 mod closing;
 pub mod laws;
 mod manager;
 mod slot;
 
 pub use asked_setup::open_call;
-pub use call::{Call, Refusal, Reply};
 pub use closing::{close_desk, close_rings};
+pub use desk_calls::{Call, Refusal, Reply};
 pub use manager::Manager;

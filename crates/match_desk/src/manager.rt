@@ -1,22 +1,22 @@
 //! The manager of all matches.
 ghost use Rattle.std.specs.Prelude.{◌≡◌, [], false, None, IfOk, IfSome, OnOk, OnErr, length, slice_get, is_some, option_copied, option_map, option_and_then};
-ghost use Rattle.match_book.specs.Marks.{answer_lent};
+ghost use Rattle.desk_calls.specs.Answers.{answer_lent};
 ghost use Rattle.match_book.specs.Steps.{after_answer, after_abort};
 ghost use Rattle.match_desk.specs.ManagerValue.{game_of, game_match, match_of, match_with_id, IsLawfulManager};
 ghost use Rattle.match_desk.specs.Memory.{CarriesTexts, AnswerWantsMemory, WantsMemory};
 ghost use Rattle.match_desk.specs.Open.{open_refusal, after_open};
 ghost use Rattle.match_desk.specs.Internal.AskedSetups.{asked_setup};
 ghost use Rattle.match_desk.specs.Steps.{next_reply, answer_reply, query_reply, abort_reply, reply_of, refused_or, is_refused, with_change};
-ghost use Rattle.match_desk.specs.declared.call.Reply.TheVariants.{Opened};
+ghost use Rattle.desk_calls.specs.declared.call.Reply.TheVariants.{Opened};
 
 use crate::asked_setup::AskedSetup;
-use crate::call::{Call, Refusal, Reply};
 use crate::slot::{self, Slot};
 use call_history::Object;
+use desk_calls::{Call, LentAnswer, Refusal, Reply, are_clocks, are_names, is_name, is_strikes};
 use game_core::Game;
 use indexmap::IndexMap;
+use match_book::Match;
 use match_book::laws::{abort_keeps_lawful, answers_keep_lawful, new_match_is_lawful};
-use match_book::{LentAnswer, Match, are_clocks, are_names, is_name, is_strikes};
 use std::alloc::{AllocError, Global};
 use std::marker::Model;
 

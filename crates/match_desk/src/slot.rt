@@ -1,13 +1,13 @@
 //! One match of the desk.
 ghost use Rattle.std.specs.Prelude.{◌≡◌, false, None, IfOk, OnErr, OnOk};
-ghost use Rattle.match_book.specs.Marks.{answer_lent};
+ghost use Rattle.desk_calls.specs.Answers.{answer_lent};
 ghost use Rattle.match_book.specs.Steps.{refusal, after_answer, after_abort, MayWantMemory};
 ghost use Rattle.match_desk.specs.Memory.{CarriesTexts};
 ghost use Rattle.match_desk.specs.Steps.{next_reply, answer_reply, query_reply, abort_reply, missed, is_refused};
 
-use crate::call::{Refusal, Reply};
+use desk_calls::{LentAnswer, Phase, Refusal, Reply};
 use game_core::Game;
-use match_book::{AnswerRefusal, LentAnswer, Match, OwedFault, Phase};
+use match_book::{AnswerRefusal, Match, OwedFault};
 use std::alloc::{AllocError, Global};
 
 /// A match, and the number of its game.

@@ -1,7 +1,7 @@
 -- How a line shows a text of any bytes.
 use Rattle.std.specs.Prelude.{ℕ, ◌&&◌, Bool, nat_le, nat_lt, List, [], ◌++◌, length, take, map, codes, if◌then◌else◌, Option, Some, None}
-use Rattle.match_book.specs.declared.answer.Answer.{Answer}
-use Rattle.match_book.specs.declared.answer.Answer.TheVariants.{Text, Silent, Broken}
+use Rattle.desk_calls.specs.declared.answer.Answer.{Answer}
+use Rattle.desk_calls.specs.declared.answer.Answer.TheVariants.{Text, Silent, Broken}
 use Rattle.network_players.specs.declared.contacting.ContactFault.{ContactFault}
 
 -- a byte from the space to the tilde

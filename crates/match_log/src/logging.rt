@@ -4,11 +4,11 @@ ghost use Rattle.std.specs.Prelude.{◌≡◌, ◌==◌, ◌||◌, IfOk, string_
 use crate::notices::Notices;
 use crate::shown_text::Shown;
 use crate::status::Progress;
-use match_book::Answer;
+use desk_calls::Answer;
 use match_messages::MessageKind;
 use match_plans::{PlayerAddress, Reach, RolePlace, Shortage, TellsShortages};
-use match_workers::Player;
 use network_players::{ContactFault, Explains, time_since};
+use role_workers::Player;
 use shared_text::SharedText;
 use std::alloc::{AllocError, Global};
 use std::fmt;

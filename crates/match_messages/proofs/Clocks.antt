@@ -4,7 +4,7 @@ use Rattle.std.specs.Fmt.{decimal}
 use Rattle.std.proofs.lemmas.Bool.Decides.{nat_tests}
 use Rattle.game_core.specs.Expression.{IsAtom}
 use Rattle.game_core.specs.Laws.{NumbersAreAtoms, NumbersArePlain}
-use Rattle.match_book.specs.Names.{is_clock, max_clock}
+use Rattle.desk_calls.specs.Names.{is_clock, max_clock}
 use Rattle.match_messages.specs.Clock.{clock_of}
 
 clock_is_small : (n : ℕ) → is_clock n ≡ true → n < 2 ^ 64

@@ -5,9 +5,9 @@ use Rattle.game_core.specs.Canonical.{canonical, members, later}
 use Rattle.game_core.specs.Laws.{NumbersAreAtoms, NumbersArePlain}
 use Rattle.kif_text.specs.Laws.{CanonicalReadsBack}
 use Rattle.kif_text.specs.Reading.{reading}
-use Rattle.match_book.specs.Laws.{NamesAreAtoms}
-use Rattle.match_book.specs.declared.due.Owed.{Owed}
-use Rattle.match_book.specs.declared.due.Owed.TheVariants.{Start, Play, Stop, Abort}
+use Rattle.desk_calls.specs.Laws.{NamesAreAtoms}
+use Rattle.desk_calls.specs.declared.due.Owed.{Owed}
+use Rattle.desk_calls.specs.declared.due.Owed.TheVariants.{Start, Play, Stop, Abort}
 use Rattle.match_messages.specs.declared.brief.Brief.{Brief}
 use Rattle.match_messages.specs.MessageValue.{MessageValue, info, start, play, stop, abort, message_form, moves_form, folded_message}
 use Rattle.match_messages.specs.MessageText.{as_printed, message_text}

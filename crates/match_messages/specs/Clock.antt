@@ -2,7 +2,7 @@
 use Rattle.std.specs.Prelude.{ℕ, ◌&&◌, if◌then◌else◌, List, Option, Some, None}
 use Rattle.std.specs.Str.Parse.{digits_value}
 use Rattle.game_core.specs.Expression.{Expression, atom, list}
-use Rattle.match_book.specs.Names.{is_clock}
+use Rattle.desk_calls.specs.Names.{is_clock}
 use Rattle.game_core.specs.Numerals.{is_plain_numeral}
 
 -- the seconds that a word gives, if they are a lawful clock

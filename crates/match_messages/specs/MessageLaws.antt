@@ -4,9 +4,9 @@ use Rattle.game_core.specs.Expression.{Expressions, none, more, HasAtoms, AllHav
 use Rattle.game_core.specs.Canonical.{canonical}
 use Rattle.kif_text.specs.Spelling.{max_length}
 use Rattle.kif_text.specs.View.{views}
-use Rattle.match_book.specs.Names.{is_name, is_clock}
-use Rattle.match_book.specs.declared.due.Owed.{Owed}
-use Rattle.match_book.specs.declared.due.Owed.TheVariants.{Start, Play, Stop, Abort}
+use Rattle.desk_calls.specs.Names.{is_name, is_clock}
+use Rattle.desk_calls.specs.declared.due.Owed.{Owed}
+use Rattle.desk_calls.specs.declared.due.Owed.TheVariants.{Start, Play, Stop, Abort}
 use Rattle.match_messages.specs.declared.brief.Brief.{Brief}
 use Rattle.match_messages.specs.MessageValue.{MessageValue, info, start, play, stop, abort, message_form, folded_message}
 use Rattle.match_messages.specs.MessageText.{message_text}

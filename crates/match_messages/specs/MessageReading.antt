@@ -4,7 +4,7 @@ use Rattle.std.specs.Option.{option_zip}
 use Rattle.game_core.specs.Bytes.{lower}
 use Rattle.game_core.specs.Expression.{Expression, atom, list, Expressions, none, more, folded, all_folded}
 use Rattle.kif_text.specs.Reading.{reading}
-use Rattle.match_book.specs.Names.{is_name}
+use Rattle.desk_calls.specs.Names.{is_name}
 use Rattle.match_messages.specs.Clock.{clock_in}
 use Rattle.match_messages.specs.MessageValue.{MessageValue, info, start, play, stop, abort, message_value}
 use Rattle.match_messages.specs.declared.messages.Message.{Message}

@@ -3,8 +3,8 @@ use Rattle.std.specs.Prelude.{ℕ, List, [], ◌∷◌, option_map, slice_index_
 use Rattle.game_core.specs.Expression.{Expressions, atom, none, more}
 use Rattle.game_core.specs.Canonical.{canonical}
 use Rattle.kif_text.specs.View.{views}
-use Rattle.match_book.specs.declared.due.Owed.{Owed}
-use Rattle.match_book.specs.declared.due.Owed.TheVariants.{Start, Play, Stop, Abort}
+use Rattle.desk_calls.specs.declared.due.Owed.{Owed}
+use Rattle.desk_calls.specs.declared.due.Owed.TheVariants.{Start, Play, Stop, Abort}
 use Rattle.match_messages.specs.declared.brief.Brief.{Brief}
 use Rattle.match_messages.specs.MessageValue.{MessageValue, start, play, stop, abort, message_form}
 

@@ -3,9 +3,9 @@ ghost use Rattle.std.specs.Prelude.{◌≡◌};
 ghost use Rattle.kif_text.specs.View.{view};
 ghost use Rattle.match_messages.specs.Clock.{clock_of, clock_in};
 
+use desk_calls::{MAX_CLOCK, is_clock};
 use game_core::numeral::plain_number;
 use kif_text::Expr;
-use match_book::{MAX_CLOCK, is_clock};
 
 /// The seconds that a word gives, if they are a lawful clock.
 fn clock_of(word: &[u8]) -> Option<u32>

@@ -1,9 +1,9 @@
 //! Laws of messages, for any match.
 ghost use Rattle.match_messages.specs.MessageLaws.{MessagesReadBack, OwedMessagesReadBack};
 
+use desk_calls::laws::names_are_atoms;
 use game_core::laws::numerals_read_back;
 use kif_text::laws::canonical_reads_back;
-use match_book::laws::names_are_atoms;
 
 /// A lawful message is read back from its text, with role, rules and moves folded, if the text is
 /// within the limits of length and depth.

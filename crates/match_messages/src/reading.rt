@@ -8,9 +8,9 @@ ghost use Rattle.match_messages.specs.Internal.MessageParts.{GivesMoves, GivesId
 
 use crate::clock::clock_in;
 use crate::messages::{Message, MessageFault};
+use desk_calls::is_name;
 use game_core::Text;
 use kif_text::{Expr, KifFault, copy, fold, read_one};
-use match_book::is_name;
 use std::alloc::{AllocError, Global};
 
 /// Whether this is the word in any case. `small` gives the word in small letters.

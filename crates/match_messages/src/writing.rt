@@ -12,9 +12,9 @@ ghost use Rattle.match_messages.specs.StartRules.{sentences_of};
 use crate::brief::Brief;
 use crate::shared_brief::SharedBrief;
 use crate::start_rules::StartRules;
+use desk_calls::Owed;
 use game_core::{Text, Texts};
 use kif_text::{Expr, print};
-use match_book::Owed;
 use shared_text::SharedText;
 use std::alloc::{AllocError, Global};
 

@@ -9,7 +9,7 @@ use Rattle.std.proofs.lemmas.Bool.{and_from, and_left, and_right, cond-false, co
 use Rattle.std.proofs.lemmas.List.{drop_all, length-map, map_more, same_from_push}
 use Rattle.std.proofs.lemmas.Str.{IsUtf8-from_is_utf8, is_utf8-from_IsUtf8}
 use Rattle.std.proofs.lemmas.Str.Pattern.{NoCharPasses-char, drop_at_char}
-use Rattle.match_book.specs.Names.{is_name}
+use Rattle.desk_calls.specs.Names.{is_name}
 use Rattle.match_plans.specs.Addresses.{IsAddress, IsHostOf, IsIpv6, addressed_name, addressed_place, bracketed, cut_at_last, cut_here, has_port, is_address, is_player}
 use Rattle.match_plans.specs.Numbers.{port_of}
 use Rattle.match_plans.specs.Schedules.{IsPlanned, are_players, clock_of, is_heading, is_match}

@@ -4,7 +4,7 @@ use Rattle.std.specs.List.{before_first, after_first}
 use Rattle.std.specs.Net.Grammar.{IsIpv6Text}
 use Rattle.std.specs.Str.{is_utf8}
 use Rattle.std.specs.declared.net.ipv6_addr.Ipv6Addr.{Ipv6Addr}
-use Rattle.match_book.specs.Names.{is_name}
+use Rattle.desk_calls.specs.Names.{is_name}
 use Rattle.match_plans.specs.Numbers.{port_of}
 use Rattle.match_plans.specs.declared.addresses.PlayerAddress.{PlayerAddress}
 

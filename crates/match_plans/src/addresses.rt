@@ -4,7 +4,7 @@ ghost use Rattle.match_plans.specs.Addresses.{IsAddress, IsHostOf, IsIpv6, addre
 ghost use Rattle.match_plans.specs.Numbers.{port_of};
 
 use crate::numbers::decimal_from;
-use match_book::is_name;
+use desk_calls::is_name;
 use std::net::Ipv6Addr;
 
 /// The address of a player, written `NAME@HOST:PORT`. The first `@` and the last `:` after it cut the word. An IPv6 address has

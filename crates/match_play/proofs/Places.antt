@@ -1,6 +1,6 @@
 -- Lists, place by place.
 use Rattle.std.proofs.Common.{◌≡◌, ℕ, zero, suc, List, [], ◌∷◌, ◌++◌, length, subst, sym}
-use Rattle.match_workers.specs.Places.{EachAt}
+use Rattle.role_workers.specs.Places.{EachAt}
 
 push_at : {A : Type 0} (Q : ℕ → A → Type 0) (xs : List A) (x : A) → EachAt Q xs → Q (length xs) x → EachAt Q (xs ++ x ∷ [])
 push_at Q [] x each here zero a is = let same : x ≡ a = cc in subst (Q 0) same here

@@ -8,8 +8,8 @@ use Rattle.call_history.specs.History.{IsReplay}
 use Rattle.call_history.specs.declared.journal.Entry.{Entry}
 use Rattle.match_desk.specs.ManagerValue.{ManagerValue, opening}
 use Rattle.match_desk.specs.Steps.{reply, after}
-use Rattle.match_desk.specs.declared.call.Call.{Call}
-use Rattle.match_desk.specs.declared.call.Reply.{Reply}
+use Rattle.desk_calls.specs.declared.call.Call.{Call}
+use Rattle.desk_calls.specs.declared.call.Reply.{Reply}
 use Rattle.desk_text.specs.Account.{history_text}
 use Rattle.match_play.specs.Matches.{IsEndedRecord}
 

@@ -1,9 +1,9 @@
 //! A match between players on the network, from its plan to its record.
 ghost use Rattle.std.specs.Prelude.{◌≡◌, ◌≢◌, ℕ, List, IfOk, IfErr, IfSome, MatchOption, length, vec_len};
 ghost use Rattle.call_history.specs.declared.journal.Entry.{Entry};
-ghost use Rattle.match_book.specs.Names.{IsLawfulSetup};
-ghost use Rattle.match_desk.specs.declared.call.Call.{Call as DeskCall};
-ghost use Rattle.match_desk.specs.declared.call.Reply.{Reply as DeskReply};
+ghost use Rattle.desk_calls.specs.Names.{IsLawfulSetup};
+ghost use Rattle.desk_calls.specs.declared.call.Call.{Call as DeskCall};
+ghost use Rattle.desk_calls.specs.declared.call.Reply.{Reply as DeskReply};
 ghost use Rattle.match_workers.specs.Refereeing.{IsRefereed};
 ghost use Rattle.match_play.specs.Matches.{IsEndedRecord, HasEndedMatch, HasNoEndedMatch};
 ghost use Rattle.match_play.specs.EndedMatches.{IsEndedMatch, match_text};
@@ -12,15 +12,17 @@ ghost use Rattle.match_play.specs.PlayedMatches.{IsSetupOf, IsPlayedMatch};
 
 use crate::hosting::HostedGame;
 use call_history::Entry;
+use desk_calls::{Call, Phase, Refusal, Reply, Setup};
 use desk_text::{push_history, refusal_word};
 use game_core::{Game, Lent, Text, Texts};
-use match_book::{Match, Phase, Setup};
-use match_desk::{Call, Manager, Refusal, Reply};
+use match_book::Match;
+use match_desk::Manager;
 use match_messages::StartRules;
 use match_plans::{MatchPlan, Reach, RolePlace, Shortage, TellsShortages};
 use match_record::record_json;
-use match_workers::{Player, RefereeFault, Refereed, referee_shared};
+use match_workers::{RefereeFault, Refereed, referee_shared};
 use packed_rules::PackedGame;
+use role_workers::Player;
 use std::alloc::{AllocError, AllocFailed, Global};
 use std::sync::Wait;
 use std::thread::Threads;

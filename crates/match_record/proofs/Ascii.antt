@@ -11,7 +11,7 @@ use Rattle.game_core.specs.Bytes.{is_atom_byte, left_parenthesis, right_parenthe
 use Rattle.game_core.specs.Expression.{Expression, atom, list, Expressions, none, more, AreAtomBytes, HasAtoms, AllHaveAtoms}
 use Rattle.game_core.specs.Canonical.{canonical, members, later, IsCanonicalText, IsFoldedText}
 use Rattle.game_core.specs.Play.{Rules}
-use Rattle.match_book.specs.Names.{is_name, is_name_byte}
+use Rattle.desk_calls.specs.Names.{is_name, is_name_byte}
 use Rattle.match_book.specs.Marks.{mark_text}
 use Rattle.match_book.specs.Judgement.{IsSubstitution, IsJudged, IsPart, unreadable_text, retired_text, illegal_prefix}
 use Rattle.match_book.specs.Retirement.{retired_by}
@@ -20,8 +20,8 @@ use Rattle.match_book.specs.Lawful.{IsLawfulTurn, AreLawful}
 use Rattle.match_book.specs.declared.answer.Mark.{Mark}
 use Rattle.match_book.specs.declared.answer.Mark.TheVariants.{Clear, TimeOut, ConnectionError}
 use Rattle.match_book.specs.declared.judgement.Substitution.TheVariants.{TimeOut as OfTime, ConnectionError as OfConnection, Unreadable, Illegal, Retired}
-use Rattle.match_book.specs.declared.phase.Phase.{Phase}
-use Rattle.match_book.specs.declared.phase.Phase.TheVariants.{Starting, Playing, Stopping, Finished, Aborting, Aborted}
+use Rattle.desk_calls.specs.declared.phase.Phase.{Phase}
+use Rattle.desk_calls.specs.declared.phase.Phase.TheVariants.{Starting, Playing, Stopping, Finished, Aborting, Aborted}
 use Rattle.match_book.specs.declared.turn.Turn.{Turn}
 use Rattle.record_reading.specs.RecordTree.{phase_text}
 

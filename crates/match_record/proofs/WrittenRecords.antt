@@ -22,7 +22,7 @@ use Rattle.game_core.specs.Play.{Rules, max_goal}
 use Rattle.match_book.specs.Lawful.{IsLawfulMatch}
 use Rattle.match_book.specs.MatchValue.{MatchValue}
 use Rattle.match_book.specs.Marks.{mark_text}
-use Rattle.match_book.specs.Names.{is_clock, is_strikes, max_clock, max_strikes, IsLawfulSetup}
+use Rattle.desk_calls.specs.Names.{is_clock, is_strikes, max_clock, max_strikes, IsLawfulSetup}
 use Rattle.match_book.specs.declared.answer.Mark.{Mark}
 use Rattle.match_record.specs.Internal.Written.{HasAdded, IsWritten, HasBegun, HasMembers, tokens_of, each_tokens, member_tokens}
 use Rattle.record_reading.specs.LawfulRecord.{IsJson, LawfulPartsHaveShape}

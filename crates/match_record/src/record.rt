@@ -4,7 +4,7 @@ ghost use mathlib.Core.List.{IsPrefix};
 ghost use Rattle.serde_json.specs.Data.{Data};
 ghost use Rattle.serde_json.specs.Read.{read};
 ghost use Rattle.match_book.specs.Lawful.{IsLawfulMatch};
-ghost use Rattle.match_book.specs.Names.{IsLawfulSetup};
+ghost use Rattle.desk_calls.specs.Names.{IsLawfulSetup};
 ghost use Rattle.match_record.specs.Internal.Written.{HasAdded, IsWritten, each_tokens};
 ghost use Rattle.record_reading.specs.LawfulRecord.{IsLawfulRecord};
 ghost use Rattle.record_reading.specs.RecordParts.{each_role, parts_of};

@@ -16,7 +16,7 @@ use crossbeam_channel::{Receiver, Sender, bounded};
 use game_core::Counted;
 use match_plans::{MatchPlan, Reach, RecordOrder, SeasonForm, TellsShortages};
 use match_play::{EndedMatch, HostedGame, MatchFault, ended_match, entrants_of};
-use match_workers::Player;
+use role_workers::Player;
 use std::alloc::Global;
 use std::io::Write;
 use std::marker::PhantomData;

@@ -1,11 +1,3 @@
-pub mod Tellings
-pub mod CallStops
-pub mod HandedOver
-pub mod Workers
-pub mod Places
-pub mod SeatEnds
-pub mod RoleCalls
-pub mod LeftLines
-pub mod LineParts
-pub mod Sent
-pub mod GivenUp
+mod NewLines
+mod LineParts
+mod Sent

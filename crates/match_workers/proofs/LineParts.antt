@@ -1,6 +1,7 @@
 -- Each line's part of the closed desk's history.
-use Rattle.std.proofs.Common.{◌≡◌, ◌==◌, ℕ, ◌+◌, ◌<◌, ◌≤◌, true, ⊎_elim, List, [], ◌∷◌, ◌++◌, length, All, Option, Some, Result, ap, sym, subst, ◌∙◌, arith, append_assoc, append-nil, length-append, get_or}
+use Rattle.std.proofs.Common.{◌≡◌, ◌==◌, ℕ, ◌+◌, ◌<◌, ◌≤◌, true, ⊎_elim, List, [], ◌∷◌, ◌++◌, length, All, Option, Some, Result, Ok, ap, sym, subst, ◌∙◌, arith, append_assoc, append-nil, length-append, get_or}
 use Rattle.std.specs.Prelude.{Contains}
+use Rattle.std.proofs.lemmas.Option.{slice_get-get_or}
 use Rattle.std.proofs.lemmas.List.{length-map}
 use Rattle.std.proofs.lemmas.List.Elements.{All-contains, All-head, filter_passes}
 use Rattle.std.proofs.lemmas.Grind.{common_steps}
@@ -16,19 +17,21 @@ use Rattle.call_history.specs.Lines.{HasAll}
 use Rattle.call_history.specs.RingLines.{posted_calls, taken_replies, IsLineOf, AreEndsOf as DeskEnds}
 use Rattle.call_history.specs.RingClosing.{end_numbers, IsServed, TakesPrefix}
 use Rattle.call_history.specs.RingLaws.{NumbersAreOfEnds}
-use Rattle.match_book.specs.declared.setup.Setup.{Setup}
-use Rattle.match_desk.specs.declared.call.Call.{Call}
-use Rattle.match_desk.specs.declared.call.Reply.{Reply}
-use Rattle.match_desk.specs.declared.call.Reply.TheVariants.{Opened}
+use Rattle.desk_calls.specs.declared.setup.Setup.{Setup}
+use Rattle.desk_calls.specs.declared.call.Call.{Call}
+use Rattle.desk_calls.specs.declared.call.Reply.{Reply}
+use Rattle.desk_calls.specs.declared.call.Reply.TheVariants.{Opened}
 use Rattle.match_messages.specs.declared.brief.Brief.{Brief}
-use Rattle.match_workers.specs.declared.attend_fault.AttendFault.{AttendFault}
-use Rattle.match_workers.specs.Handing.{Handed}
-use Rattle.match_workers.specs.Events.{telling}
-use Rattle.match_workers.specs.Ends.{HasEnded, IsEndOf, AreEndsOf}
-use Rattle.match_workers.specs.LineParts.{open_call, OpensMatch, line_of, IsRoleCall, AreRoleLines}
-use Rattle.match_workers.specs.Internal.LeftLines.{HasFinished, IsLeftLine, AreLeftLines}
-use Rattle.match_workers.proofs.LeftLines.{place_of}
-use Rattle.match_workers.proofs.RoleCalls.{role_calls, all_replies}
+use Rattle.role_workers.specs.declared.attend_fault.AttendFault.{AttendFault}
+use Rattle.role_workers.specs.Handing.{Handed}
+use Rattle.role_workers.specs.Events.{telling}
+use Rattle.role_workers.specs.Attendances.{HasEnded}
+use Rattle.match_workers.specs.Ends.{IsEndOf, AreEndsOf}
+use Rattle.role_workers.specs.RoleCalls.{IsRoleCall}
+use Rattle.role_workers.specs.Laws.{CallsAreOfTheRole, CallsHaveReplies}
+use Rattle.role_workers.specs.RoleLines.{line_of}
+use Rattle.match_workers.specs.LineParts.{open_call, OpensMatch, AreRoleLines}
+use Rattle.role_workers.specs.RoleLines.{HasFinished, IsLeftLine, AreLeftLines}
 
 pub prefix_trans : {X : Type 0} (xs ys zs : List X) → IsPrefix xs ys → IsPrefix ys zs → IsPrefix xs zs
 prefix_trans xs ys zs (more, one) (still, other) = (more ++ still, sym (append_assoc xs more still) ∙ ap (λ l. l ++ still) one ∙ other)
@@ -79,8 +82,8 @@ module _ {O : Type 0} {G : Ghosts O Call Reply} where
         prefix_trans it.replies (taken_replies line.line) (replies_of (part (line_of role) history)) it.are_first
         (subst (λ n. IsPrefix (taken_replies line.line) (replies_of (part n history))) it.number (All-contains (TakesPrefix history) lines line replies among))
 
-    end_at : (role : ℕ) (end : Result ℕ AttendFault) (line : LineEnd O Call Reply G) → Contains lines line → (it : IsLeftLine handed brief tries players players_left role line end) → IsEndOf handed brief tries role it.player it.player_left (part (line_of role) history) end
-    end_at role end line among it =
+    end_at : CallsHaveReplies → (role : ℕ) (end : Result ℕ AttendFault) (line : LineEnd O Call Reply G) → Contains lines line → (it : IsLeftLine handed brief tries players players_left role line end) → IsEndOf handed brief tries role it.player it.player_left (part (line_of role) history) end
+    end_at have_replies role end line among it =
         let entries = part (line_of role) history in
         let calls = calls_at role end line among it in
         let first = replies_at role end line among it in
@@ -88,19 +91,19 @@ module _ {O : Type 0} {G : Ghosts O Call Reply} where
           replies = it.replies;
           are_first = first;
           are_all = λ ok. whole_prefix it.replies (replies_of entries) first
-              (omega (arith, all_replies brief role tries (posted_calls line.line) it.replies _ _ end ok it.ended, ap length calls, length-map entries (λ (e : Entry Call Reply). e.call), length-map entries (λ (e : Entry Call Reply). e.reply)));
+              (omega (arith, have_replies brief role tries (posted_calls line.line) it.replies _ _ end ok it.ended, ap length calls, length-map entries (λ (e : Entry Call Reply). e.call), length-map entries (λ (e : Entry Call Reply). e.reply)));
           ended = subst (λ cs. HasEnded brief role tries (telling (Some []) (Some []) (handed it.player)) (record { calls = Some cs; replies = Some it.replies; messages = handed it.player_left }) end) calls it.ended;
         }
 
-    pub ends_of : AreEndsOf handed brief tries players players_left history ends
-    ends_of = record {
+    pub ends_of : CallsHaveReplies → AreEndsOf handed brief tries players players_left history ends
+    ends_of have_replies = record {
       one_each = left.one_each;
       each = λ role end at. let found = left.each role end at in record {
         player = found.2.player;
         is_player = found.2.is_player;
         player_left = found.2.player_left;
         is_left = found.2.is_left;
-        is_end = end_at role end found.0 found.1 found.2;
+        is_end = end_at have_replies role end found.0 found.1 found.2;
       };
     }
 
@@ -111,16 +114,16 @@ module _ {O : Type 0} {G : Ghosts O Call Reply} where
         let not_fewer : roles ≤ length ends = omega (arith, All-contains (λ e. e.line.number ≤ length ends) lines last.0 left.within last.1, last.2) in
         ⊎_elim
         (λ (less : roles < length ends).
-        let place = place_of ends roles less in
-        let found = left.each roles place.0 place.1 in
+        let end : Result ℕ AttendFault = get_or ends roles (Ok 0) in
+        let found = left.each roles end (slice_get-get_or ends roles (Ok 0) less) in
         let line : IsLineOf ports found.0.line = All-contains (λ e. IsLineOf ports e.line) lines found.0 of_desk found.1 in
         absurd (omega (arith, line.within, found.2.number, count)))
         (λ not_more. omega (arith, not_fewer, not_more))
         (cases_lt roles (length ends))
 
-    pub role_lines : (id : List ℕ) (roles : ℕ) → brief.id ≡ id → length ends ≡ roles → AreRoleLines id roles history
-    role_lines id roles same count role below =
-        let place = place_of ends role (omega (arith, below, count)) in
-        let found = left.each role place.0 place.1 in
-        let calls = role_calls brief role tries (posted_calls found.0.line) _ _ _ _ place.0 found.2.ended in
-        subst (λ i. All (IsRoleCall i role) (calls_of (part (line_of role) history))) same (subst (All (IsRoleCall brief.id role)) (calls_at role place.0 found.0 found.1 found.2) calls)
+    pub role_lines : CallsAreOfTheRole → (id : List ℕ) (roles : ℕ) → brief.id ≡ id → length ends ≡ roles → AreRoleLines id roles history
+    role_lines of_the_role id roles same count role below =
+        let end : Result ℕ AttendFault = get_or ends role (Ok 0) in
+        let found = left.each role end (slice_get-get_or ends role (Ok 0) (omega (arith, below, count))) in
+        let calls = of_the_role brief role tries (posted_calls found.0.line) _ _ _ _ end found.2.ended in
+        subst (λ i. All (IsRoleCall i role) (calls_of (part (line_of role) history))) same (subst (All (IsRoleCall brief.id role)) (calls_at role end found.0 found.1 found.2) calls)

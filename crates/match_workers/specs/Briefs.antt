@@ -2,7 +2,7 @@
 use Rattle.std.specs.Prelude.{◌≡◌, ℕ, ◌<◌, List, [], length, slice_index_or}
 use Rattle.game_core.specs.Play.{Rules}
 use Rattle.kif_text.specs.declared.expr.Expr.{Expr}
-use Rattle.match_book.specs.declared.setup.Setup.{Setup}
+use Rattle.desk_calls.specs.declared.setup.Setup.{Setup}
 use Rattle.match_messages.specs.declared.brief.Brief.{Brief}
 
 -- the names of the game's roles, in their order

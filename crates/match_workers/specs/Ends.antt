@@ -1,32 +1,17 @@
 -- How attending the roles of a match ended.
-use Rattle.std.specs.Prelude.{◌≡◌, ℕ, List, [], length, Option, Some, Result, Ok, Err, IsOk, slice_get}
+use Rattle.std.specs.Prelude.{◌≡◌, ℕ, List, [], length, Option, Some, Result, IsOk, slice_get}
 use mathlib.Core.List.{IsPrefix}
 use Rattle.call_history.specs.declared.journal.Entry.{Entry}
 use Rattle.call_history.specs.Parts.{part, calls_of, replies_of}
-use Rattle.call_history.specs.declared.wire.Wire as Wire
-use Rattle.match_desk.specs.declared.call.Call.{Call}
-use Rattle.match_desk.specs.declared.call.Reply.{Reply}
+use Rattle.desk_calls.specs.declared.call.Call.{Call}
+use Rattle.desk_calls.specs.declared.call.Reply.{Reply}
 use Rattle.match_messages.specs.declared.brief.Brief.{Brief}
-use Rattle.match_workers.specs.declared.attend_fault.AttendFault.{AttendFault}
-use Rattle.match_workers.specs.declared.player.Player as Player
-use Rattle.match_workers.specs.Handing.{Handed}
-use Rattle.match_workers.specs.Events.{Telling, telling}
-use Rattle.match_workers.specs.Attending.{Attends, StopsEarly}
-use Rattle.match_workers.specs.LineParts.{line_of}
-use Rattle.match_workers.specs.Places.{EachAt}
-
--- with the end of the match, after this many messages, or with a fault
-abbrev pub HasEnded : Brief → ℕ → ℕ → Telling → Telling → Result ℕ AttendFault → Type 0
-HasEnded brief role tries before after (Ok messages) = Attends brief role tries before after messages
-HasEnded brief role tries before after (Err fault) = StopsEarly brief role tries before after fault
-
--- The role was attended with this player over this wire, and this was its end: the wire stands for the same line as before, and wire
--- and player show the events of attending.
-pub record IsAttended {P W : Type 0} (w : Wire.Ghosts W Call Reply) (p : Player.Ghosts P) (brief : Brief) (role tries : ℕ) (player player' : P) (wire wire' : W) (end : Result ℕ AttendFault) : Type 0 where
-  pub line : w.same_line wire wire'
-  pub ended : HasEnded brief role tries
-      (telling (w.calls wire) (w.replies wire) (p.handed player))
-      (telling (w.calls wire') (w.replies wire') (p.handed player')) end
+use Rattle.role_workers.specs.declared.attend_fault.AttendFault.{AttendFault}
+use Rattle.role_workers.specs.Handing.{Handed}
+use Rattle.role_workers.specs.Attendances.{HasEnded}
+use Rattle.role_workers.specs.Events.{telling}
+use Rattle.role_workers.specs.RoleLines.{line_of}
+use Rattle.role_workers.specs.Places.{EachAt}
 
 -- The role was attended with this player, which was left so, over a line that has these entries of the history, and this was its end.
 pub record IsEndOf {P : Type 0} (handed : P → Option (List Handed)) (brief : Brief) (tries role : ℕ) (player player_left : P) (entries : List (Entry Call Reply)) (end : Result ℕ AttendFault) : Type 0 where

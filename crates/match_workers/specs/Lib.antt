@@ -1,11 +1,5 @@
 pub mod Briefs
-pub mod Places
-pub mod Handing
-pub mod Events
-pub mod AttendFaults
 pub mod RefereeFaults
-pub mod Steps
-pub mod Attending
 pub mod LineParts
 pub mod Ends
 pub mod Refereeing

@@ -1,13 +1,15 @@
 -- The calls of the lines of a match's desk: the first line opened the match, and each other asked and answered for
 -- one role.
-use Rattle.std.specs.Prelude.{◌≡◌, ℕ, ◌+◌, ◌<◌, List, [], ◌∷◌, All, length, slice_index_or}
+use Rattle.std.specs.Prelude.{◌≡◌, ℕ, ◌<◌, List, [], ◌∷◌, All, length, slice_index_or}
 use Rattle.call_history.specs.declared.journal.Entry.{Entry}
 use Rattle.call_history.specs.Parts.{part, calls_of}
-use Rattle.match_book.specs.declared.setup.Setup.{Setup}
-use Rattle.match_desk.specs.declared.call.Call.{Call}
-use Rattle.match_desk.specs.declared.call.Call.TheVariants.{Open, Next, Submit, Miss}
-use Rattle.match_desk.specs.declared.call.Reply.{Reply}
-use Rattle.match_desk.specs.declared.call.Reply.TheVariants.{Opened}
+use Rattle.desk_calls.specs.declared.setup.Setup.{Setup}
+use Rattle.desk_calls.specs.declared.call.Call.{Call}
+use Rattle.desk_calls.specs.declared.call.Call.TheVariants.{Open}
+use Rattle.desk_calls.specs.declared.call.Reply.{Reply}
+use Rattle.desk_calls.specs.declared.call.Reply.TheVariants.{Opened}
+use Rattle.role_workers.specs.RoleCalls.{IsRoleCall}
+use Rattle.role_workers.specs.RoleLines.{line_of}
 
 -- the call that opens a match of the desk's first game with this setup
 abbrev pub open_call : Setup → Call
@@ -16,17 +18,6 @@ open_call setup = Open setup.id 0 setup.start setup.play setup.strikes setup.pla
 -- the first line made this one call, which opened the match
 abbrev pub OpensMatch : Setup → List (Entry Call Reply) → Type 0
 OpensMatch setup history = part 0 history ≡ record { line = 0; call = open_call setup; reply = Opened } ∷ []
-
--- the line of a role: the first is no role's
-abbrev pub line_of : ℕ → ℕ
-line_of role = role + 1
-
--- the call asks what is due to this role of the match with this id, or brings the role's answer
-abbrev pub IsRoleCall : List ℕ → ℕ → Call → Type 0
-IsRoleCall id role (Next match asked) = (match ≡ id) × (asked ≡ role)
-IsRoleCall id role (Submit match answering round text) = (match ≡ id) × (answering ≡ role)
-IsRoleCall id role (Miss match answering round broken) = (match ≡ id) × (answering ≡ role)
-IsRoleCall id role _ = ⊥
 
 -- only a role's own calls went over its line
 abbrev pub AreRoleLines : List ℕ → ℕ → List (Entry Call Reply) → Type 0

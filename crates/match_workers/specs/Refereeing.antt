@@ -3,16 +3,16 @@ use Rattle.std.specs.Prelude.{◌≡◌, ℕ, ◌+◌, List, [], ◌∷◌, leng
 use Rattle.game_core.specs.Play.{Rules}
 use Rattle.kif_text.specs.declared.expr.Expr.{Expr}
 use Rattle.call_history.specs.declared.journal.Entry.{Entry}
-use Rattle.match_book.specs.declared.setup.Setup.{Setup}
+use Rattle.desk_calls.specs.declared.setup.Setup.{Setup}
 use Rattle.match_desk.specs.Headline.{HasHeadline}
 use Rattle.match_desk.specs.ManagerValue.{ManagerValue, opening}
-use Rattle.match_desk.specs.declared.call.Call.{Call}
-use Rattle.match_desk.specs.declared.call.Reply.{Reply}
+use Rattle.desk_calls.specs.declared.call.Call.{Call}
+use Rattle.desk_calls.specs.declared.call.Reply.{Reply}
 use Rattle.match_messages.specs.declared.brief.Brief.{Brief}
-use Rattle.match_workers.specs.declared.attend_fault.AttendFault.{AttendFault}
+use Rattle.role_workers.specs.declared.attend_fault.AttendFault.{AttendFault}
 use Rattle.match_workers.specs.Briefs.{IsBriefOf}
 use Rattle.match_workers.specs.Ends.{AreEndsOf}
-use Rattle.match_workers.specs.Handing.{Handed}
+use Rattle.role_workers.specs.Handing.{Handed}
 use Rattle.match_workers.specs.LineParts.{OpensMatch, AreRoleLines, AreCounts}
 
 -- A match of this game with this setup was played between these players, which were told these sentences, in at most this many tries

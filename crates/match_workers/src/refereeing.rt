@@ -1,35 +1,28 @@
 //! A whole match between players.
-ghost use Rattle.std.specs.Prelude.{◌≡◌, ◌∷◌, ◌++◌, [], ◌+◌, ◌<◌, List, Some, map, IfOk, IfErr, OnOk, length, vec_len};
+ghost use Rattle.std.specs.Prelude.{◌≡◌, ◌∷◌, ◌++◌, [], ◌+◌, ◌<◌, List, IfOk, IfErr, OnOk, length, vec_len};
 ghost use Rattle.call_history.specs.Faults.{ask_fault};
 ghost use Rattle.call_history.specs.Limits.{max_entries};
-ghost use Rattle.call_history.specs.RingLines.{posted_calls, taken_replies, SameLine, SamePorts, AreEndsOf, IsLineOf, IsNewLine};
-ghost use Rattle.match_desk.specs.declared.call.Refusal.{Refusal as Reason};
-ghost use Rattle.match_desk.specs.declared.call.Reply.TheVariants.{Opened as IsOpened, Refused as IsRefused};
+ghost use Rattle.call_history.specs.RingLines.{posted_calls, taken_replies, SameLine, SamePorts, IsNewLine};
+ghost use Rattle.desk_calls.specs.declared.call.Refusal.{Refusal as Reason};
+ghost use Rattle.desk_calls.specs.declared.call.Reply.TheVariants.{Opened as IsOpened, Refused as IsRefused};
 ghost use Rattle.match_messages.specs.StartRules.{sentences_of};
 ghost use Rattle.match_workers.specs.Briefs.{AreRoleNames};
 ghost use Rattle.match_workers.specs.LineParts.{open_call};
 ghost use Rattle.match_workers.specs.Refereeing.{IsRefereed};
 ghost use Rattle.match_workers.specs.declared.refereeing.RefereeFault.TheVariants.{Memory as IsMemory};
 ghost use Rattle.match_workers.specs.RefereeFaults.{referee_fault};
-ghost use Rattle.match_workers.specs.Internal.LeftLines.{AreSeatLines, HasFinished, AreLeftLines};
+ghost use Rattle.role_workers.specs.RoleLines.{AreSeatLines};
 
-use crate::attend_fault::AttendFault;
-use crate::finishing::{Finished, ROOM, close_match, finish_all, finish_line};
-use crate::holder::{DeskHolder, ask_own};
-use crate::player::Player;
-use crate::seats::{Attendance, attend_all, seat_players};
-use crate::served_wire::ServedWire;
-use crate::shared_desk::{Naming, SharedDesk};
+use crate::closing::close_match;
 use call_history::laws::{lines_stay, new_lines_are_lines, numbers_are_of_ends};
-use call_history::{
-    AskFault, CallFault, Closed, DeskFault, LineEnd, MAX_ENTRIES, Object, RingDesk, RingLine,
-    open_rings,
-};
+use call_history::{AskFault, CallFault, Closed, DeskFault, MAX_ENTRIES, RingLine, open_rings};
+use desk_calls::{Refusal, Reply, Setup};
 use game_core::{Game, Text, Texts};
 use kif_text::Expr;
-use match_book::Setup;
-use match_desk::{Call, Manager, Refusal, Reply, open_call};
+use match_desk::{Manager, open_call};
 use match_messages::{SharedBrief, StartRules};
+use role_workers::laws::{calls_are_of_the_role, calls_have_replies};
+use role_workers::{AttendFault, DeskHolder, Plan, Played, Player, ROOM, ask_own, attend_match};
 use std::alloc::{AllocError, AllocFailed, Global};
 use std::marker::Brand;
 use std::sync::Wait;
@@ -100,23 +93,6 @@ pub struct Refereed<G: Game> {
     /// How attending each role ended, in the order of the roles: with the number of messages that its player was handed, or with a
     /// fault.
     pub ends: Vec<Result<u64, AttendFault>>,
-}
-
-/// The data for playing a match, beside its game and its setup.
-#[derive(Drop)]
-struct Plan<'r, P> {
-    brief: SharedBrief<'r>,
-    players: Vec<P>,
-    tries: u64,
-}
-
-/// A match that is over: its desk, all lines, which post no more, how attending each role ended, and the players.
-#[derive(Drop)]
-struct Played<O: Object, P> {
-    desk: RingDesk<O>,
-    lines: Vec<LineEnd<O>>,
-    ends: Vec<Result<u64, AttendFault>>,
-    players: Vec<P>,
 }
 
 /// The names of the game's roles, in their order.
@@ -194,82 +170,6 @@ fn open_match<G: Game + Drop>(
     }
 }
 
-/// A wire over each line of a desk.
-fn wires_over<'a, O, N>(
-    alloc: Global,
-    lines: Vec<RingLine<O>>,
-    desk: &'a SharedDesk<O, N>,
-) -> Result<Vec<ServedWire<'a, O, N>>, AllocError>
-where
-    O: Object<Call = Call, Reply = Reply> + Drop,
-    N: Naming<O>,
-    ensures { IfOk result (λ wires. map (λ w. w.line) wires.items ≡ lines.items) }
-{
-    let mut wires = Vec::with_capacity(alloc, lines.len())?;
-    for line in lines {
-        wires.push(ServedWire::new(line, desk))?;
-    }
-    Ok(wires)
-}
-
-/// Attends each role of a match over its line of the desk, which lies under a lock meanwhile. After that, no line posts any more.
-fn attend_match<N, O, P, R>(
-    rt: &R,
-    alloc: Global,
-    holder: DeskHolder<O>,
-    others: Vec<RingLine<O>>,
-    plan: Plan<'_, P>,
-) -> Result<Played<O, P>, AllocError>
-where
-    N: Naming<O> + Send + Sync,
-    O: Object<Call = Call, Reply = Reply> + Drop + Send,
-    P: Player + Drop + Send,
-    R: Threads + Wait + Sync,
-    requires named { N.desk ≡ Some holder.desk }
-    requires zeroth { holder.line.number ≡ 0 }
-    requires first { IsLineOf holder.desk.ports holder.line }
-    requires seats { AreSeatLines holder.desk.ports others.items }
-    requires ports { length holder.desk.ports ≡ length others.items + 1 }
-    ensures ports { IfOk result (λ played. SamePorts holder.desk.ports played.desk.ports) }
-    ensures opening { IfOk result (λ played. O.opening played.desk.journal.object ≡ O.opening holder.desk.journal.object) }
-    ensures lines { IfOk result (λ played. AreEndsOf played.desk.ports played.lines.items) }
-    ensures first { IfOk result (λ played. HasFinished holder.line played.lines.items) }
-    ensures ends { IfOk result (λ played. AreLeftLines P.handed plan.entry.brief plan.entry.tries plan.entry.players.items played.players.items played.lines.items played.ends.items) }
-{
-    lines_stay::<O>();
-    new_lines_are_lines::<O>();
-    let Plan {
-        brief,
-        players,
-        tries,
-    } = plan;
-    // The lists that are filled at the end get their room before the first thread starts.
-    let count = others.len();
-    let room = Finished {
-        lines: Vec::with_capacity(alloc, count + 1)?,
-        ends: Vec::with_capacity(alloc, count)?,
-        players: Vec::with_capacity(alloc, count)?,
-    };
-    let DeskHolder { desk, line } = holder;
-    let shared: SharedDesk<O, N> = SharedDesk::new(desk);
-    let wires = wires_over(alloc, others, &shared)?;
-    let seats = seat_players(alloc, &brief, wires, players)?;
-    let own = ServedWire::new(line, &shared);
-    let Attendance { own, attended } = attend_all(rt, alloc, &shared, own, seats, tries)?;
-    let Finished {
-        mut lines,
-        ends,
-        players,
-    } = finish_all(attended, room)?;
-    lines.push(finish_line(own.end()))?;
-    Ok(Played {
-        desk: shared.into_desk(),
-        lines,
-        ends,
-        players,
-    })
-}
-
 /// Referees a match of the game between these players to its end, as `referee` does, with rules that are lent. The players come back,
 /// in the order of the roles: each was handed the messages of its role, and nothing after them.
 pub fn referee_shared<G, P, R>(
@@ -295,6 +195,8 @@ where
     lines_stay::<Manager<G>>();
     new_lines_are_lines::<Manager<G>>();
     numbers_are_of_ends::<Manager<G>>();
+    calls_are_of_the_role();
+    calls_have_replies();
     let id = setup.id.copy(alloc)?;
     let roles = role_names(alloc, &game)?;
     let brief = brief_of(&id, &roles, rules, setup.start, setup.play);

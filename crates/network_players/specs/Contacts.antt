@@ -2,8 +2,8 @@
 use Rattle.std.specs.Prelude.{◌≡◌, ℕ, List, Option, Some, None, Result, Ok, Err}
 use Rattle.std.specs.declared.io.ErrorKind.{ErrorKind}
 use Rattle.std.specs.declared.io.ErrorKind.TheVariants.{WouldBlock, TimedOut}
-use Rattle.match_book.specs.declared.answer.Answer.{Answer}
-use Rattle.match_book.specs.declared.answer.Answer.TheVariants.{Text, Silent, Broken}
+use Rattle.desk_calls.specs.declared.answer.Answer.{Answer}
+use Rattle.desk_calls.specs.declared.answer.Answer.TheVariants.{Text, Silent, Broken}
 use Rattle.http_exchange.specs.declared.wire_fault.WireFault.{WireFault}
 use Rattle.http_exchange.specs.declared.wire_fault.WireFault.TheVariants as exchange_faults
 use Rattle.match_plans.specs.declared.shortages.Shortage.{Shortage}

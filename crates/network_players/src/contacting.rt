@@ -5,9 +5,9 @@ ghost use Rattle.network_players.specs.Contacts.{address_fault, fault_so_far, fa
 use crate::deadline::{Deadline, Halt, TimedStream};
 use crate::lookup::Lookup;
 use crate::shortage::shortage_of;
+use desk_calls::MAX_CLOCK;
 use game_core::{Counted, Text};
 use http_exchange::{WireFault, exchange_shared};
-use match_book::MAX_CLOCK;
 use match_plans::{PlayerAddress, Shortage};
 use shared_text::SharedText;
 use std::alloc::Global;

@@ -5,11 +5,11 @@ ghost use Rattle.network_players.specs.Contacts.{IsText, answer_of, contact_answ
 use crate::contacting::{ContactFault, Explains, contact_found};
 use crate::lookup::Lookup;
 use crate::signal::{Pace, Signal};
+use desk_calls::Answer;
 use game_core::Text;
 use http_exchange::WireFault;
-use match_book::Answer;
 use match_plans::{PlayerAddress, Reach, RolePlace, Shortage, TellsShortages};
-use match_workers::Player;
+use role_workers::Player;
 use shared_text::SharedText;
 use std::alloc::{AllocError, Global};
 use std::io::ErrorKind;

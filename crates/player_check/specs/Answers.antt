@@ -1,7 +1,7 @@
 -- What an answer brought.
 use Rattle.std.specs.Prelude.{ℕ, List, []}
-use Rattle.match_book.specs.declared.answer.Answer.{Answer}
-use Rattle.match_book.specs.declared.answer.Answer.TheVariants as answers
+use Rattle.desk_calls.specs.declared.answer.Answer.{Answer}
+use Rattle.desk_calls.specs.declared.answer.Answer.TheVariants as answers
 use Rattle.player_check.specs.declared.watched.Brought.{Brought}
 use Rattle.player_check.specs.declared.watched.Brought.TheVariants.{Text, Silence, Break}
 

@@ -5,12 +5,12 @@ ghost use Rattle.match_messages.specs.MessageKinds.{kind_word};
 ghost use Rattle.match_messages.specs.declared.kind.MessageKind.TheVariants.{Play};
 ghost use Rattle.player_check.specs.Answers.{answer_text, brought_by};
 
-use match_book::Answer;
+use desk_calls::Answer;
 use match_log::Shown;
 use match_messages::MessageKind;
 use match_plans::{PlayerAddress, Reach, RolePlace, Shortage, TellsShortages};
-use match_workers::Player;
 use network_players::{ContactFault, Explains, Pace, Signal, time_since};
+use role_workers::Player;
 use shared_text::SharedText;
 use std::alloc::{AllocError, Global};
 use std::sync::{Mutex, Wait};

@@ -10,8 +10,8 @@ use Rattle.match_book.specs.Retirement.{retired_by}
 use Rattle.match_book.specs.declared.judgement.Substitution.TheVariants.{Illegal as NotLegal}
 use Rattle.match_book.specs.declared.phase.Cause.{Cause}
 use Rattle.match_book.specs.declared.phase.Cause.TheVariants.{Asked, NoLegal, NoGoal, TooLong, AllRetired}
-use Rattle.match_book.specs.declared.phase.Phase.{Phase}
-use Rattle.match_book.specs.declared.phase.Phase.TheVariants.{Starting, Playing, Stopping, Finished, Aborting, Aborted}
+use Rattle.desk_calls.specs.declared.phase.Phase.{Phase}
+use Rattle.desk_calls.specs.declared.phase.Phase.TheVariants.{Starting, Playing, Stopping, Finished, Aborting, Aborted}
 use Rattle.match_book.specs.declared.turn.Turn.{Turn}
 use Rattle.record_reading.specs.declared.record_parts.RecordParts.{RecordParts}
 use Rattle.record_reading.specs.declared.verify_fault.VerifyFault.{VerifyFault}

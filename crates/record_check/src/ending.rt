@@ -6,8 +6,9 @@ ghost use Rattle.record_check.specs.Replaying.{AreGoalsIn, AreGoalsOf};
 ghost use Rattle.match_book.specs.Phase.{is_live};
 ghost use Rattle.record_check.specs.Internal.ReplaySteps.{AgreesWith, IsEndAnswer, stage_by};
 
+use desk_calls::Phase;
 use game_core::Game;
-use match_book::{Cause, Mark, Phase, Stage, are_all_there, settle};
+use match_book::{Cause, Mark, Stage, are_all_there, settle};
 use record_reading::RecordParts;
 use std::alloc::{AllocError, Global};
 

@@ -10,7 +10,7 @@ use Rattle.match_book.specs.Judgement.{IsJudged, IsPart, MayStand}
 use Rattle.match_book.specs.Retirement.{are_all_retired, retired_by}
 use Rattle.match_book.specs.Lawful.{IsLawfulTurn, IsLawfulMatch, AreLawful}
 use Rattle.match_book.specs.Laws.{TurnsLeadToStates, StoppingMeans}
-use Rattle.match_book.specs.Names.{IsLawfulSetup}
+use Rattle.desk_calls.specs.Names.{IsLawfulSetup}
 use Rattle.match_book.specs.MatchValue.{MatchValue, state_after}
 use Rattle.match_book.specs.Phase.{stage, settled, after_the_end, before_the_end, has_no_goal, cause_in, cause, goal_in, max_turns}
 use Rattle.match_book.specs.Roles.{lowest_role, every_role, is_there}

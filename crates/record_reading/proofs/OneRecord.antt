@@ -12,8 +12,8 @@ use Rattle.match_book.specs.declared.answer.Mark.{Mark}
 use Rattle.match_book.specs.declared.answer.Mark.TheVariants.{Clear, TimeOut, ConnectionError}
 use Rattle.match_book.specs.declared.phase.Cause.{Cause}
 use Rattle.match_book.specs.declared.phase.Cause.TheVariants.{Asked, NoLegal, NoGoal, TooLong, AllRetired}
-use Rattle.match_book.specs.declared.phase.Phase.{Phase}
-use Rattle.match_book.specs.declared.phase.Phase.TheVariants.{Starting, Playing, Stopping, Finished, Aborting, Aborted}
+use Rattle.desk_calls.specs.declared.phase.Phase.{Phase}
+use Rattle.desk_calls.specs.declared.phase.Phase.TheVariants.{Starting, Playing, Stopping, Finished, Aborting, Aborted}
 use Rattle.record_reading.specs.LawfulRecord.{IsJson, IsRecordOf, HasWrongLength, IsMisshapen, HoldsOnePartsAtMost, LawfulPartsHaveShape, RefusedIsUnlawful}
 use Rattle.record_reading.specs.RecordParts.{parts_in, NamesRole}
 use Rattle.record_reading.specs.RecordTree.{row_of, key_tree, Holds, HasShape, cause_tree, cause_text, phase_text, phase_tree, mark_tree, marks_tree, version_tree, whole_tree}

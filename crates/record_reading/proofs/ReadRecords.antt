@@ -5,7 +5,7 @@ use Rattle.std.proofs.lemmas.Result.{IfErr-weaker}
 use Rattle.serde_json.specs.Data.{Data}
 use Rattle.game_core.specs.Play.{Rules}
 use Rattle.match_book.specs.MatchValue.{MatchValue}
-use Rattle.match_book.specs.Names.{IsLawfulSetup}
+use Rattle.desk_calls.specs.Names.{IsLawfulSetup}
 use Rattle.record_reading.specs.LawfulRecord.{AreLawfulParts, IsJson, IsLawfulRecord, HasNoShape, HasWrongLength, HoldsOnePartsAtMost, LawfulPartsHaveShape, RefusedIsUnlawful}
 use Rattle.record_reading.specs.RecordParts.{parts_in}
 use Rattle.record_reading.specs.RecordTree.{Holds, HasShape, IsShapedAt}

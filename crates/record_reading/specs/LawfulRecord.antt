@@ -5,7 +5,7 @@ use Rattle.serde_json.specs.Read.{read}
 use Rattle.game_core.specs.Play.{Rules}
 use Rattle.match_book.specs.Lawful.{IsLawfulMatch}
 use Rattle.match_book.specs.MatchValue.{MatchValue}
-use Rattle.match_book.specs.Names.{IsLawfulSetup}
+use Rattle.desk_calls.specs.Names.{IsLawfulSetup}
 use Rattle.record_reading.specs.RecordParts.{parts_of, parts_in}
 use Rattle.record_reading.specs.RecordTree.{record_tree, row_of, keys, found_at, Holds, IsShapedAt, HasShape}
 use Rattle.record_reading.specs.declared.record_parts.Key.{Key}

@@ -5,7 +5,7 @@ use Rattle.game_core.specs.Canonical.{IsFoldedText}
 use Rattle.game_core.specs.Play.{Rules, max_goal}
 use Rattle.match_book.specs.AnswerReading.{max_reading}
 use Rattle.match_book.specs.Judgement.{error_text}
-use Rattle.match_book.specs.Names.{is_name}
+use Rattle.desk_calls.specs.Names.{is_name}
 use Rattle.match_book.specs.MatchValue.{MatchValue, state_after}
 use Rattle.match_book.specs.Phase.{phase, cause, goal_of, max_turns}
 use Rattle.match_book.specs.declared.judgement.Substitution.{Substitution}

@@ -9,12 +9,12 @@ use Rattle.serde_json.specs.Written.{compact_text}
 use Rattle.game_core.specs.Play.{Rules}
 use Rattle.match_book.specs.Marks.{mark_text}
 use Rattle.match_book.specs.MatchValue.{MatchValue}
-use Rattle.match_book.specs.Names.{is_name, is_clock, is_strikes}
+use Rattle.desk_calls.specs.Names.{is_name, is_clock, is_strikes}
 use Rattle.match_book.specs.declared.answer.Mark.{Mark}
 use Rattle.match_book.specs.declared.phase.Cause.{Cause}
 use Rattle.match_book.specs.declared.phase.Cause.TheVariants.{Asked, NoLegal, NoGoal, TooLong, AllRetired}
-use Rattle.match_book.specs.declared.phase.Phase.{Phase}
-use Rattle.match_book.specs.declared.phase.Phase.TheVariants.{Starting, Playing, Stopping, Finished, Aborting, Aborted}
+use Rattle.desk_calls.specs.declared.phase.Phase.{Phase}
+use Rattle.desk_calls.specs.declared.phase.Phase.TheVariants.{Starting, Playing, Stopping, Finished, Aborting, Aborted}
 use Rattle.record_reading.specs.RecordParts.{parts_of, each_role, NamesRole, AreErrors, AreGoals, AreMoves, ArePlayers}
 use Rattle.record_reading.specs.declared.record_parts.Key.{Key}
 use Rattle.record_reading.specs.declared.record_parts.Key.TheVariants.{Cause as AtCause, EndMarks, Errors, GoalValues, MatchId, Moves, Phase as AtPhase, PlayClock, Players, Roles, StartClock, StartMarks, States, Strikes, Version as AtVersion}

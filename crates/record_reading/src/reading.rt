@@ -3,7 +3,7 @@ ghost use Rattle.std.specs.Prelude.{◌≡◌, ◌≢◌, ◌≤◌, ◌<◌, �
 ghost use Rattle.serde_json.specs.Data.{Data, string};
 ghost use Rattle.serde_json.specs.View.{view};
 ghost use Rattle.game_core.specs.Play.{max_goal};
-ghost use Rattle.match_book.specs.Names.{is_clock, is_name, is_strikes};
+ghost use Rattle.desk_calls.specs.Names.{is_clock, is_name, is_strikes};
 ghost use Rattle.record_reading.specs.Internal.JsonValues.{data_in, data_of};
 ghost use Rattle.record_reading.specs.Internal.KeyReading.{IsReadInto, SayTheSame, keys_before};
 ghost use Rattle.record_reading.specs.Internal.Shown.{AnyShape, Shows};
@@ -20,8 +20,9 @@ use crate::laws::{holds_one_parts_at_most, lawful_parts_have_shape, refused_is_u
 use crate::record_parts::{Goals, Key, Marks, RecordParts, TextLists, Version};
 use crate::record_words::{cause_in, mark_in, phase_in};
 use crate::verify_fault::VerifyFault;
+use desk_calls::{MAX_CLOCK, MAX_STRIKES, are_names, is_clock, is_name};
 use game_core::{Game, MAX_GOAL, Text, Texts};
-use match_book::{MAX_CLOCK, MAX_STRIKES, MAX_TURNS, are_names, is_clock, is_name};
+use match_book::MAX_TURNS;
 use serde_json::Value;
 use std::alloc::{AllocError, Global};
 

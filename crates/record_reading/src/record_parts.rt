@@ -1,8 +1,9 @@
 //! The keys of a record, and what it says at each.
 ghost use Rattle.std.specs.Prelude.{◌≡◌, ◌<◌, Some, length, slice_get};
 
+use desk_calls::Phase;
 use game_core::{Text, Texts};
-use match_book::{Cause, Mark, Phase};
+use match_book::{Cause, Mark};
 use std::alloc::Global;
 use std::marker::Model;
 

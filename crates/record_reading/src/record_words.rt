@@ -8,9 +8,10 @@ ghost use Rattle.record_reading.specs.RecordTree.{cause_text, cause_tree, mark_t
 ghost use Rattle.record_reading.specs.Internal.Shown.{AnyShape, Shows};
 
 use crate::json_values::{bytes_in, is_null};
+use desk_calls::Phase;
 use game_core::laws::numerals_read_back;
 use game_core::numeral::plain_number;
-use match_book::{Cause, Mark, Phase};
+use match_book::{Cause, Mark};
 use serde_json::Value;
 
 /// The rest of the text after this word, if the text begins with it.

@@ -2,7 +2,7 @@
 #![tactic(auto)]
 
 ghost use Rattle.std.specs.Prelude.{◌≡◌, ◌<◌, true, IfOk, length};
-ghost use Rattle.match_book.specs.Names.{is_name};
+ghost use Rattle.desk_calls.specs.Names.{is_name};
 ghost use Rattle.match_wire.specs.MessageLaws.{Says, IsSayable};
 ghost use Rattle.match_wire.specs.MessageValue.{MessageValue, folded_message, message_value};
 

@@ -1,9 +1,9 @@
 -- The setup that an `Open` carries.
-use Rattle.match_book.specs.declared.setup.Setup.{Setup}
+use Rattle.desk_calls.specs.declared.setup.Setup.{Setup}
 use Rattle.match_desk.specs.Steps.{setup_of}
 use Rattle.match_desk.specs.declared.asked_setup.AskedSetup.{AskedSetup}
-use Rattle.match_desk.specs.declared.call.Call.{Call}
-use Rattle.match_desk.specs.declared.call.Call.TheVariants.{Open, Next, Submit, Miss, Query, Abort}
+use Rattle.desk_calls.specs.declared.call.Call.{Call}
+use Rattle.desk_calls.specs.declared.call.Call.TheVariants.{Open, Next, Submit, Miss, Query, Abort}
 
 -- the setup that is asked for
 abbrev pub asked_setup : AskedSetup → Setup

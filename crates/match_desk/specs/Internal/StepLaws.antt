@@ -1,12 +1,12 @@
 -- No call changes the opening of a manager.
 use Rattle.std.specs.Prelude.{◌≡◌, ℕ, if◌then◌else◌, Bool, true, false, Option, Some, None, is_none, slice_get, refl}
 use Rattle.game_core.specs.Play.{Rules}
-use Rattle.match_book.specs.declared.setup.Setup.{Setup}
+use Rattle.desk_calls.specs.declared.setup.Setup.{Setup}
 use Rattle.match_desk.specs.ManagerValue.{ManagerValue, opening}
 use Rattle.match_desk.specs.Open.{open_refusal, with_new_match, after_open}
 use Rattle.match_desk.specs.Steps.{setup_of, after}
-use Rattle.match_desk.specs.declared.call.Call.{Call}
-use Rattle.match_desk.specs.declared.call.Call.TheVariants.{Open, Next, Submit, Miss, Query, Abort}
+use Rattle.desk_calls.specs.declared.call.Call.{Call}
+use Rattle.desk_calls.specs.declared.call.Call.TheVariants.{Open, Next, Submit, Miss, Query, Abort}
 
 opening-with_new_match : {G S M : Type 0} (rules : G → Rules S M) (d : ManagerValue G M) (game : ℕ) (setup : Setup) (o : Option G) → opening (with_new_match rules d game setup o) ≡ opening d
 opening-with_new_match rules d game setup None = refl

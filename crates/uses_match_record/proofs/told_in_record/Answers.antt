@@ -5,7 +5,7 @@ use Rattle.serde_json.specs.Read.{read}
 use Rattle.game_core.specs.Play.{Rules}
 use Rattle.match_book.specs.Lawful.{IsLawfulMatch}
 use Rattle.match_book.specs.MatchValue.{MatchValue}
-use Rattle.match_book.specs.Names.{IsLawfulSetup}
+use Rattle.desk_calls.specs.Names.{IsLawfulSetup}
 use Rattle.record_reading.specs.LawfulRecord.{IsJson, RecordTreeHoldsParts, LawfulPartsHaveShape, HoldsOnePartsAtMost}
 use Rattle.record_reading.specs.RecordParts.{parts_of}
 use Rattle.record_reading.specs.RecordTree.{record_tree, Holds, HasShape}

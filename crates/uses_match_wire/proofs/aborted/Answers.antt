@@ -2,8 +2,8 @@ use Rattle.std.proofs.Common.{◌≡◌, ℕ, ◌≤◌, true, List, [], ◌∷�
 use Rattle.std.proofs.lemmas.Bool.{and_parts, leb-true}
 use Rattle.game_core.specs.Canonical.{canonical}
 use Rattle.kif_text.specs.Spelling.{max_length}
-use Rattle.match_book.specs.Names.{is_name}
-use Rattle.match_book.specs.declared.due.Owed.TheVariants.{Abort as OwesAbort}
+use Rattle.desk_calls.specs.Names.{is_name}
+use Rattle.desk_calls.specs.declared.due.Owed.TheVariants.{Abort as OwesAbort}
 use Rattle.match_messages.specs.declared.brief.Brief.{Brief}
 use Rattle.match_messages.specs.declared.messages.Message.{Message}
 use Rattle.match_messages.specs.declared.messages.Message.TheVariants.{Abort}

@@ -1,6 +1,6 @@
 use Rattle.std.proofs.Common.{◌++◌, ap, sym, ◌∙◌}
 use Rattle.std.proofs.lemmas.Result.{on_ok_weaker}
-use Rattle.match_desk.specs.declared.call.Call.TheVariants.{Submit}
+use Rattle.desk_calls.specs.declared.call.Call.TheVariants.{Submit}
 use Rattle.desk_text.specs.Account.{call_text}
 use Rattle.desk_text.proofs.CallTexts.{submit_text}
 use Rattle.desk_text.proofs.account.push_call.Goals as goal

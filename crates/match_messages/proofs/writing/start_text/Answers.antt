@@ -6,7 +6,7 @@ use Rattle.game_core.specs.Bytes.{right_parenthesis}
 use Rattle.game_core.specs.Canonical.{canonical}
 use Rattle.game_core.specs.Expression.{list}
 use Rattle.kif_text.specs.View.{views}
-use Rattle.match_book.specs.declared.due.Owed.TheVariants.{Start}
+use Rattle.desk_calls.specs.declared.due.Owed.TheVariants.{Start}
 use Rattle.match_messages.specs.MessageText.{message_text}
 use Rattle.match_messages.specs.StartRules.{sentences_of}
 use Rattle.match_messages.proofs.Printed.{start_joined}

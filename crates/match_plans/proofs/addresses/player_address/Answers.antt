@@ -1,5 +1,5 @@
 use Rattle.std.proofs.Common.{◌≡◌, ◌∙◌, true, false, sym, rules}
-use Rattle.match_book.specs.Names.{is_name}
+use Rattle.desk_calls.specs.Names.{is_name}
 use Rattle.match_plans.proofs.Words.{with-all, without-name, without-place, without-port}
 use Rattle.match_plans.proofs.addresses.player_address.Goals as goal
 

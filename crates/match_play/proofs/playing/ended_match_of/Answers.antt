@@ -1,7 +1,7 @@
 use Rattle.std.proofs.Common.{rules, ◌≡◌, ap, sym, ◌∙◌, true}
 use Rattle.std.specs.Prelude.{option_copied}
-use Rattle.match_book.specs.Phase.{is_last}
-use Rattle.match_book.specs.declared.phase.Status.{Status}
+use Rattle.desk_calls.specs.Phases.{is_last}
+use Rattle.desk_calls.specs.declared.phase.Status.{Status}
 use Rattle.match_play.proofs.playing.ended_match_of.Goals as goal
 
 pub returns-in-Finished-clause-ended : goal.returns-in-Finished-clause-ended

@@ -1,5 +1,5 @@
 use Rattle.std.proofs.Common.{◌≡◌, length}
-use Rattle.match_workers.specs.Places.{EachAt}
+use Rattle.role_workers.specs.Places.{EachAt}
 use Rattle.match_play.specs.RoleTurns.{IsTurnOf}
 use Rattle.match_play.proofs.role_turns.turns_of.Given as goal
 

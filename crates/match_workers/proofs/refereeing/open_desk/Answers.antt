@@ -1,6 +1,6 @@
 use Rattle.std.proofs.Common.{◌+◌, ◌<◌, length, sym, subst, arith}
 use Rattle.call_history.specs.RingLines.{IsNewLine}
-use Rattle.match_workers.proofs.Places.{behind_first_at}
+use Rattle.match_workers.proofs.NewLines.{behind_first_at}
 use Rattle.match_workers.proofs.refereeing.open_desk.Goals as goal
 
 pub returns-clause-first : goal.returns-clause-first

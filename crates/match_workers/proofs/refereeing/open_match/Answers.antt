@@ -2,7 +2,7 @@ use Rattle.std.proofs.Common.{◌≡◌, ◌∙◌, sym}
 use Rattle.std.proofs.lemmas.Result.{err_from_is_err_and}
 use Rattle.call_history.specs.declared.wire.AskFault.{AskFault}
 use Rattle.call_history.specs.declared.wire.AskFault.TheVariants.{Full, Memory, Stalled}
-use Rattle.match_desk.specs.declared.call.Refusal.{Refusal}
+use Rattle.desk_calls.specs.declared.call.Refusal.{Refusal}
 use Rattle.match_workers.specs.RefereeFaults.{referee_fault}
 use Rattle.match_workers.specs.declared.refereeing.RefereeFault.TheVariants.{Refused}
 use Rattle.match_workers.proofs.refereeing.open_match.Goals as goal

@@ -3,11 +3,11 @@ use denote.Param.Send.{param_send, arg_send}
 use Rattle.match_workers.proofs.Sent.{manager_send}
 use Rattle.std.proofs.Common.{◌≡◌, ◌∙◌, ◌+◌, ◌++◌, ◌∷◌, [], length, refl, sym, ap, subst, arith}
 use Rattle.match_desk.specs.Headline.{HasHeadline}
-use Rattle.match_desk.specs.declared.call.Reply.TheVariants.{Opened}
+use Rattle.desk_calls.specs.declared.call.Reply.TheVariants.{Opened}
 use Rattle.match_messages.specs.declared.brief.Brief.{Brief}
 use Rattle.match_workers.specs.Briefs.{IsBriefOf}
 use Rattle.match_workers.specs.LineParts.{open_call}
-use Rattle.match_workers.proofs.LeftLines.{seats_of_ports}
+use Rattle.match_workers.proofs.NewLines.{seats_of_ports}
 use Rattle.match_workers.proofs.LineParts.{opens_match, ends_of, as_many, role_lines}
 use Rattle.match_workers.proofs.refereeing.referee_shared.Goals as goal
 
@@ -50,12 +50,12 @@ returns g c =
           (c.in_ok-open_match.ensures.reply ∙ ap (λ l. l ++ Opened ∷ []) opened.first.taken)
           left.first of_closed.served of_closed.replies;
       role_lines = role_lines g.P.Player.handed brief c.args.tries c.args.players.items played.players.items closed.history.items played.lines.items played.ends.items left.ends of_closed.served of_closed.replies
-          c.args.setup.id rules.roles (ap (λ (b : Brief). b.id) c.brief_of-brief.ensures ∙ c.in_ok-id.ensures) as_roles;
+          c.calls_are_of_the_role.ensures c.args.setup.id rules.roles (ap (λ (b : Brief). b.id) c.brief_of-brief.ensures ∙ c.in_ok-id.ensures) as_roles;
       counts = of_closed.made;
       one_end_each = as_roles;
       told = brief;
       is_told = subst (IsBriefOf rules c.args.setup _) (sym c.brief_of-brief.ensures) (record { id = c.in_ok-id.ensures; roles = c.in_ok-roles.ensures; rules_are = refl; start = refl; play = refl });
-      attended = ends_of g.P.Player.handed brief c.args.tries c.args.players.items played.players.items closed.history.items played.lines.items played.ends.items left.ends of_closed.served of_closed.replies;
+      attended = ends_of g.P.Player.handed brief c.args.tries c.args.players.items played.players.items closed.history.items played.lines.items played.ends.items left.ends of_closed.served of_closed.replies c.calls_have_replies.ensures;
     }
 
 pub attend_match-requires-send-O : goal.attend_match-requires-send-O

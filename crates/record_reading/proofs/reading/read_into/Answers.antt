@@ -5,7 +5,7 @@ use Rattle.record_reading.specs.RecordParts.{NamesRole, each_role, AreErrors, Ar
 use Rattle.record_reading.specs.RecordTree.{cause_tree, marks_tree, text_lists_tree, goal_values_tree, phase_tree, since_second, texts_tree, unless_there, version_tree, whole_tree}
 use Rattle.serde_json.specs.Data.{Data, string}
 use Rattle.serde_json.specs.declared.value.Value.{Value}
-use Rattle.match_book.specs.Names.{is_clock, is_name, is_strikes}
+use Rattle.desk_calls.specs.Names.{is_clock, is_name, is_strikes}
 use Rattle.record_reading.specs.Internal.JsonValues.{data_in, data_of}
 use Rattle.record_reading.specs.Internal.Shown.{AnyShape, Shows}
 use Rattle.record_reading.specs.declared.record_parts.Version.{Version}

@@ -1,6 +1,6 @@
 use Rattle.std.proofs.Common.{◌≡◌, ap, ◌∙◌, arith, sym, subst}
 use Rattle.std.specs.Prelude.{All}
-use Rattle.match_book.specs.Marks.{answer_lent}
+use Rattle.desk_calls.specs.Answers.{answer_lent}
 use Rattle.match_book.specs.Judgement.{judged_answer}
 use Rattle.match_book.proofs.KeptMatches.{legal-within, legal-moves, judged-is, judged-some}
 use Rattle.match_book.proofs.matches.Match.judged.Goals as goal

@@ -1,4 +1,4 @@
-use Rattle.match_book.specs.Marks.{answer_lent}
+use Rattle.desk_calls.specs.Answers.{answer_lent}
 use Rattle.match_book.specs.MatchValue.{state_after}
 use Rattle.match_book.proofs.Judgements.{judgement-judged}
 use Rattle.match_book.proofs.matches.Match.offer.Goals as goal

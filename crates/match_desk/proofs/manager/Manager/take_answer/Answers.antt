@@ -1,7 +1,7 @@
 use Rattle.std.proofs.Common.{sym, arith, ap}
 use Rattle.std.proofs.lemmas.Result.{on_err_weaker}
 use Rattle.match_book.specs.Steps.{after_answer}
-use Rattle.match_book.specs.Marks.{answer_lent}
+use Rattle.desk_calls.specs.Answers.{answer_lent}
 use Rattle.match_desk.proofs.Managers.{keeps-answer}
 use Rattle.match_desk.proofs.MatchSlots.{lookup-within, lookup-read, match_with_id-found, value-none, kept-either, value-either, value-refused}
 use Rattle.match_desk.proofs.Replies.{accepted-answer, answer_wants_memory}

@@ -1,0 +1,4 @@
+pub mod Names
+pub mod Answers
+pub mod Phases
+pub mod Laws

@@ -1,0 +1,37 @@
+//! What comes from a player.
+ghost use Rattle.std.specs.Prelude.{◌≡◌};
+ghost use Rattle.desk_calls.specs.Answers.{answer_lent};
+
+use game_core::Text;
+
+/// A player's answer to a message.
+#[derive(Drop)]
+pub enum Answer {
+    /// The body of the reply, as it was sent.
+    Text(Text),
+    /// No answer came in time.
+    Silent,
+    /// No answer came: the connection failed.
+    Broken,
+}
+
+/// An answer that borrows its text.
+#[derive(Clone, Copy)]
+pub enum LentAnswer<'a> {
+    Text(&'a Text),
+    Silent,
+    Broken,
+}
+
+impl Answer {
+    /// Borrows the answer.
+    pub fn lend(&self) -> LentAnswer<'_>
+        ensures { answer_lent result ≡ self.now }
+    {
+        match self {
+            Answer::Text(text) => LentAnswer::Text(text),
+            Answer::Silent => LentAnswer::Silent,
+            Answer::Broken => LentAnswer::Broken,
+        }
+    }
+}

@@ -1,0 +1,7 @@
+//! What holds of the definitions.
+ghost use Rattle.desk_calls.specs.Laws.{NamesAreAtoms};
+
+/// A lawful id, or name of a player, is an atom.
+pub fn names_are_atoms()
+    ensures { NamesAreAtoms }
+{}

@@ -1,5 +1,0 @@
-use Rattle.match_workers.proofs.Workers.{messages_told}
-use Rattle.match_workers.proofs.laws.messages_are_counted.Goals as goal
-
-pub returns : goal.returns
-returns c = messages_told

@@ -1,6 +1,0 @@
-use Rattle.std.proofs.Common.{take}
-use Rattle.match_workers.specs.Internal.GivenUp.{AreGivenUp}
-use Rattle.match_workers.proofs.seats.give_up_all.Given as goal
-
-abbrev pub invariant-loop-unattended : goal.invariant-loop-unattended
-invariant-loop-unattended g l = AreGivenUp g.W.Wire (take l.unattended-index l.roles) l.fn.own l.own

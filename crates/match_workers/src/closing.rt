@@ -1,0 +1,40 @@
+//! The end of a match's desk.
+ghost use Rattle.std.specs.Prelude.{◌≡◌, IfOk, IfErr, length, All};
+ghost use Rattle.call_history.specs.Lines.{HasAll};
+ghost use Rattle.call_history.specs.RingLines.{AreEndsOf};
+ghost use Rattle.call_history.specs.RingClosing.{end_numbers, IsServed, TakesPrefix};
+ghost use Rattle.match_desk.specs.Headline.{HasHeadline};
+ghost use Rattle.match_workers.specs.Internal.Closings.{WasIdle};
+ghost use Rattle.match_workers.specs.declared.refereeing.RefereeFault.TheVariants.{Unclosed as IsUnclosed};
+ghost use Rattle.match_workers.specs.LineParts.{AreCounts};
+
+use crate::refereeing::RefereeFault;
+use call_history::laws::lines_stay;
+use call_history::{Closed, LineEnd, RingDesk};
+use game_core::Game;
+use match_desk::{Manager, close_rings};
+
+/// Serves the calls that still wait at the desk of a match, and closes it.
+pub fn close_match<G: Game + Drop>(
+    desk: RingDesk<Manager<G>>,
+    lines: Vec<LineEnd<Manager<G>>>,
+) -> Result<Closed<Manager<G>>, RefereeFault>
+    requires lines { AreEndsOf desk.ports lines.items }
+    ensures headline { IfOk result (λ c. HasHeadline G.rules (length desk.ports) c.object c.history.items c.made_by_line.items) }
+    ensures games { IfOk result (λ c. c.object.games ≡ desk.journal.object.games) }
+    ensures all { IfOk result (λ _. HasAll (end_numbers lines.items) (length desk.ports)) }
+    ensures served { IfOk result (λ c. All (IsServed c.history.items) lines.items) }
+    ensures replies { IfOk result (λ c. All (TakesPrefix c.history.items) lines.items) }
+    ensures made { IfOk result (λ c. AreCounts c.history.items c.made_by_line.items) }
+
+    // The waiting calls are served first, or else a full history would be reported as an unclosed desk.
+    ensures unclosed { IfErr result (λ fault. fault ≡ IsUnclosed → WasIdle desk lines.items) }
+{
+    lines_stay::<Manager<G>>();
+    let mut desk = desk;
+    desk.serve_all()?;
+    match close_rings(desk, lines) {
+        Ok(closed) => Ok(closed),
+        Err(_) => Err(RefereeFault::Unclosed),
+    }
+}

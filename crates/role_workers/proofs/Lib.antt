@@ -1,0 +1,9 @@
+mod Tellings
+mod CallStops
+mod HandedOver
+mod Workers
+mod Places
+mod SeatEnds
+mod RoleCalls
+mod GivenUp
+mod RoleLines

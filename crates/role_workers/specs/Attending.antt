@@ -1,0 +1,68 @@
+-- How a role of a match is attended.
+use Rattle.std.specs.Prelude.{◌≡◌, ℕ, ◌+◌, ◌<◌, true, List, [], ◌∷◌, ◌++◌, length, All, Option, Some, ◌⊎◌}
+use Rattle.std.specs.List.{flat_map, filter_map}
+use Rattle.call_history.specs.Told.{told_with}
+use Rattle.call_history.specs.declared.wire.AskFault.{AskFault}
+use Rattle.desk_calls.specs.declared.call.Call.{Call}
+use Rattle.desk_calls.specs.declared.call.Reply.{Reply}
+use Rattle.match_messages.specs.declared.brief.Brief.{Brief}
+use Rattle.role_workers.specs.declared.attend_fault.AttendFault.{AttendFault}
+use Rattle.role_workers.specs.declared.attend_fault.AttendFault.TheVariants.{Stalled, Memory}
+use Rattle.role_workers.specs.Handing.{Handed}
+use Rattle.role_workers.specs.Events.{Event, makes, takes, message_in, Telling, telling_with}
+use Rattle.role_workers.specs.AttendFaults.{attend_fault}
+use Rattle.role_workers.specs.Steps.{Step, finds_the_end, events_of, goes_on, fault_after}
+
+-- the events of these steps, one after another
+abbrev pub events_of_all : Brief → ℕ → List Step → List Event
+events_of_all brief role steps = flat_map (events_of brief role) steps
+
+-- The worker attended the role to the end of the match, in at most this many tries: some steps after which it goes on, and the step
+-- that finds the end. It handed over this many messages.
+pub record Attends (brief : Brief) (role tries : ℕ) (before after : Telling) (messages : ℕ) : Type 0 where
+  pub steps : List Step
+  pub go_on : All (λ step. goes_on step ≡ true) steps
+  pub within : length steps < tries
+  pub told : after ≡ telling_with before (events_of_all brief role (steps ++ finds_the_end ∷ []))
+  pub count : messages ≡ length (filter_map message_in (events_of_all brief role steps))
+
+-- what a player shows that shows its messages: as many more as were counted
+abbrev pub MessagesAreCounted : Type 0
+MessagesAreCounted = (brief : Brief) (role tries : ℕ) (before after : Telling) (messages : ℕ) (old new : List Handed)
+    → Attends brief role tries before after messages → before.messages ≡ Some old → after.messages ≡ Some new → length new ≡ length old + messages
+
+-- The events that happened, among these, when the worker stopped at a fault.
+pub data StopsAmid (whole : List Event) (last_fault : Option AttendFault) (fault : AttendFault) (events : List Event) : Type 0 where
+  -- all of them: the last reply brings the fault
+  at_the_last : last_fault ≡ Some fault → events ≡ whole → StopsAmid whole last_fault fault events
+  -- the events before a call that gets no reply; the call went out or did not
+  at_a_call : (cause : AskFault) (front : List Event) (call : Call) (reply : Reply) (others : List Event)
+      → fault ≡ attend_fault cause → front ++ makes call ∷ takes reply ∷ others ≡ whole
+      → (events ≡ front) ⊎ (events ≡ front ++ makes call ∷ []) → StopsAmid whole last_fault fault events
+  -- the events before one for which memory ran out
+  for_memory : (next : Event) (others : List Event) → fault ≡ Memory → events ++ next ∷ others ≡ whole → StopsAmid whole last_fault fault events
+
+-- Why the worker stopped after these steps, with these events of a further one.
+pub data StopsAfter (brief : Brief) (role tries : ℕ) (steps : List Step) (fault : AttendFault) (events : List Event) : Type 0 where
+  -- its tries are used up
+  out_of_tries : length steps ≡ tries → fault ≡ Stalled → events ≡ [] → StopsAfter brief role tries steps fault events
+  -- a step, whose end may be missing
+  in_a_step : length steps < tries → (step : Step) → StopsAmid (events_of brief role step) (fault_after step) fault events
+      → StopsAfter brief role tries steps fault events
+
+-- The worker stopped early: some whole steps after which it goes on, and a part of one more step, or none.
+pub record StopsEarly (brief : Brief) (role tries : ℕ) (before after : Telling) (fault : AttendFault) : Type 0 where
+  pub steps : List Step
+  pub go_on : All (λ step. goes_on step ≡ true) steps
+  pub events : List Event
+  pub told : after ≡ telling_with before (events_of_all brief role steps ++ events)
+  pub why : StopsAfter brief role tries steps fault events
+
+-- A call stopped the worker with this fault. Either there is no memory for the call; or no reply came, and the call went out or did
+-- not; or the reply brings the fault.
+pub data CallStops (call : Call) (fault_at : Reply → Option AttendFault) (fault : AttendFault) (calls calls' : Option (List Call)) (replies replies' : Option (List Reply)) : Type 0 where
+  not_made : fault ≡ Memory → calls' ≡ calls → replies' ≡ replies → CallStops call fault_at fault calls calls' replies replies'
+  without_reply : (cause : AskFault) → fault ≡ attend_fault cause → (calls' ≡ calls) ⊎ (calls' ≡ told_with calls (call ∷ [])) → replies' ≡ replies
+      → CallStops call fault_at fault calls calls' replies replies'
+  at_reply : (reply : Reply) → fault_at reply ≡ Some fault → calls' ≡ told_with calls (call ∷ []) → replies' ≡ told_with replies (reply ∷ [])
+      → CallStops call fault_at fault calls calls' replies replies'

@@ -1,0 +1,46 @@
+-- The events between a worker, its wire and its player, and what a wire and a player show of them.
+use Rattle.std.specs.Prelude.{List, Option, Some, None}
+use Rattle.std.specs.List.{filter_map}
+use Rattle.call_history.specs.Told.{told_with}
+use Rattle.desk_calls.specs.declared.call.Call.{Call}
+use Rattle.desk_calls.specs.declared.call.Reply.{Reply}
+use Rattle.role_workers.specs.Handing.{Handed}
+
+-- the worker makes a call over the wire, takes a reply, or hands a message to the player, who answers it
+pub data Event : Type 0 where
+  makes : (call : Call) → Event
+  takes : (reply : Reply) → Event
+  hands : (message : Handed) → Event
+
+abbrev pub call_in : Event → Option Call
+call_in (makes call) = Some call
+call_in (takes reply) = None
+call_in (hands message) = None
+
+abbrev pub reply_in : Event → Option Reply
+reply_in (makes call) = None
+reply_in (takes reply) = Some reply
+reply_in (hands message) = None
+
+abbrev pub message_in : Event → Option Handed
+message_in (makes call) = None
+message_in (takes reply) = None
+message_in (hands message) = Some message
+
+-- What a wire and a player show: the calls that went out, the replies that came and the messages that were handed over, each in
+-- their order. Any of these may be hidden.
+pub record Telling : Type 0 where
+  pub calls : Option (List Call)
+  pub replies : Option (List Reply)
+  pub messages : Option (List Handed)
+
+abbrev pub telling : Option (List Call) → Option (List Reply) → Option (List Handed) → Telling
+telling calls replies messages = record { calls = calls; replies = replies; messages = messages }
+
+-- what they show after these events
+abbrev pub telling_with : Telling → List Event → Telling
+telling_with t events = record {
+  calls = told_with t.calls (filter_map call_in events);
+  replies = told_with t.replies (filter_map reply_in events);
+  messages = told_with t.messages (filter_map message_in events);
+}

@@ -1,0 +1,3 @@
+-- What only private functions cite: nothing in it needs to be believed.
+pub mod Promises
+pub mod GivenUp

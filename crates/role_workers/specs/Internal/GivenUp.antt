@@ -1,0 +1,45 @@
+-- Roles that no thread attends.
+use Rattle.std.specs.Prelude.{◌≡◌, ℕ, List, [], ◌∷◌, ◌++◌, map, Option, Some, None}
+use Rattle.std.specs.List.{flat_map}
+use Rattle.call_history.specs.declared.wire.Wire as Wire
+use Rattle.desk_calls.specs.declared.due.Due.TheVariants.{Owe}
+use Rattle.desk_calls.specs.declared.answer.Answer.TheVariants.{Broken}
+use Rattle.desk_calls.specs.declared.call.Call.{Call}
+use Rattle.desk_calls.specs.declared.call.Call.TheVariants.{Abort}
+use Rattle.desk_calls.specs.declared.call.Reply.{Reply}
+use Rattle.desk_calls.specs.declared.call.Reply.TheVariants.{Due}
+use Rattle.match_messages.specs.declared.brief.Brief.{Brief}
+use Rattle.role_workers.specs.Events.{Event, makes, takes, telling, telling_with}
+use Rattle.role_workers.specs.Steps.{answer_call, asking}
+use Rattle.role_workers.specs.declared.seats.Unattended.{Unattended}
+
+-- the round of the message that is due, if one is
+abbrev pub due_round : Reply → Option ℕ
+due_round (Due (Owe round owed)) = Some round
+due_round _ = None
+
+-- if a message of such a round is due to the role, its answer is reported as broken, and this reply comes
+abbrev pub answering : Brief → ℕ → Option ℕ → Reply → List Event
+answering brief role None reply = []
+answering brief role (Some round) reply = makes (answer_call brief.id role round Broken) ∷ takes reply ∷ []
+
+-- a role that is given up, with the replies to the calls for that; the last one counts only if a message is due
+pub record GivenUp : Type 0 where
+  pub of : Unattended
+  pub aborted : Reply
+  pub due : Reply
+  pub answered : Reply
+
+-- its match is aborted, and the desk is asked what is due to the role
+abbrev pub aborting : GivenUp → List Event
+aborting it = makes (Abort it.of.brief.now.id) ∷ takes it.aborted ∷ asking it.of.brief.now it.of.role it.due
+
+-- then a message that is due gets its answer
+abbrev pub giving_up : GivenUp → List Event
+giving_up it = aborting it ++ answering it.of.brief.now it.of.role (due_round it.due) it.answered
+
+-- each of these roles was given up over this wire, in their order
+pub record AreGivenUp {W : Type 0} (w : Wire.Ghosts W Call Reply) (roles : List Unattended) (wire wire' : W) : Type 0 where
+  pub given : List GivenUp
+  pub in_order : map (λ it. it.of) given ≡ roles
+  pub told : telling (w.calls wire') (w.replies wire') None ≡ telling_with (telling (w.calls wire) (w.replies wire) None) (flat_map giving_up given)

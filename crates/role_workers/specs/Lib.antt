@@ -1,0 +1,13 @@
+pub mod Places
+pub mod Handing
+pub mod Events
+pub mod AttendFaults
+pub mod Steps
+pub mod Attending
+pub mod Attendances
+pub mod RoleCalls
+pub mod Seats
+pub mod SharedDesks
+pub mod RoleLines
+pub mod Laws
+pub mod Internal

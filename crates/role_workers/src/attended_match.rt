@@ -1,0 +1,112 @@
+//! A match whose roles are attended, each over a line of the match's desk.
+ghost use Rattle.std.specs.Prelude.{◌≡◌, ◌+◌, Some, map, IfOk, length};
+ghost use Rattle.call_history.specs.RingLines.{SamePorts, AreEndsOf, IsLineOf};
+ghost use Rattle.role_workers.specs.RoleLines.{AreSeatLines, HasFinished, AreLeftLines};
+
+use crate::attend_fault::AttendFault;
+use crate::finishing::{Finished, finish_all, finish_line};
+use crate::holder::DeskHolder;
+use crate::player::Player;
+use crate::seats::{Attendance, attend_all, seat_players};
+use crate::served_wire::ServedWire;
+use crate::shared_desk::{Naming, SharedDesk};
+use call_history::laws::{lines_stay, new_lines_are_lines};
+use call_history::{LineEnd, Object, RingDesk, RingLine};
+use desk_calls::{Call, Reply};
+use match_messages::SharedBrief;
+use std::alloc::{AllocError, Global};
+use std::sync::Wait;
+use std::thread::Threads;
+
+/// The data for playing a match, beside its game and its setup.
+#[derive(Drop)]
+pub struct Plan<'r, P> {
+    pub brief: SharedBrief<'r>,
+    pub players: Vec<P>,
+    pub tries: u64,
+}
+
+/// A match that is over: its desk, all lines, which post no more, how attending each role ended, and the players.
+#[derive(Drop)]
+pub struct Played<O: Object, P> {
+    pub desk: RingDesk<O>,
+    pub lines: Vec<LineEnd<O>>,
+    pub ends: Vec<Result<u64, AttendFault>>,
+    pub players: Vec<P>,
+}
+
+/// A wire over each line of a desk.
+fn wires_over<'a, O, N>(
+    alloc: Global,
+    lines: Vec<RingLine<O>>,
+    desk: &'a SharedDesk<O, N>,
+) -> Result<Vec<ServedWire<'a, O, N>>, AllocError>
+where
+    O: Object<Call = Call, Reply = Reply> + Drop,
+    N: Naming<O>,
+    ensures { IfOk result (λ wires. map (λ w. w.line) wires.items ≡ lines.items) }
+{
+    let mut wires = Vec::with_capacity(alloc, lines.len())?;
+    for line in lines {
+        wires.push(ServedWire::new(line, desk))?;
+    }
+    Ok(wires)
+}
+
+/// Attends each role of a match over its line of the desk, which lies under a lock meanwhile. After that, no line posts any more.
+pub fn attend_match<N, O, P, R>(
+    rt: &R,
+    alloc: Global,
+    holder: DeskHolder<O>,
+    others: Vec<RingLine<O>>,
+    plan: Plan<'_, P>,
+) -> Result<Played<O, P>, AllocError>
+where
+    N: Naming<O> + Send + Sync,
+    O: Object<Call = Call, Reply = Reply> + Drop + Send,
+    P: Player + Drop + Send,
+    R: Threads + Wait + Sync,
+    requires named { N.desk ≡ Some holder.desk }
+    requires zeroth { holder.line.number ≡ 0 }
+    requires first { IsLineOf holder.desk.ports holder.line }
+    requires seats { AreSeatLines holder.desk.ports others.items }
+    requires ports { length holder.desk.ports ≡ length others.items + 1 }
+    ensures ports { IfOk result (λ played. SamePorts holder.desk.ports played.desk.ports) }
+    ensures opening { IfOk result (λ played. O.opening played.desk.journal.object ≡ O.opening holder.desk.journal.object) }
+    ensures lines { IfOk result (λ played. AreEndsOf played.desk.ports played.lines.items) }
+    ensures first { IfOk result (λ played. HasFinished holder.line played.lines.items) }
+    ensures ends { IfOk result (λ played. AreLeftLines P.handed plan.entry.brief plan.entry.tries plan.entry.players.items played.players.items played.lines.items played.ends.items) }
+{
+    lines_stay::<O>();
+    new_lines_are_lines::<O>();
+    let Plan {
+        brief,
+        players,
+        tries,
+    } = plan;
+    // The lists that are filled at the end get their room before the first thread starts.
+    let count = others.len();
+    let room = Finished {
+        lines: Vec::with_capacity(alloc, count + 1)?,
+        ends: Vec::with_capacity(alloc, count)?,
+        players: Vec::with_capacity(alloc, count)?,
+    };
+    let DeskHolder { desk, line } = holder;
+    let shared: SharedDesk<O, N> = SharedDesk::new(desk);
+    let wires = wires_over(alloc, others, &shared)?;
+    let seats = seat_players(alloc, &brief, wires, players)?;
+    let own = ServedWire::new(line, &shared);
+    let Attendance { own, attended } = attend_all(rt, alloc, &shared, own, seats, tries)?;
+    let Finished {
+        mut lines,
+        ends,
+        players,
+    } = finish_all(attended, room)?;
+    lines.push(finish_line(own.end()))?;
+    Ok(Played {
+        desk: shared.into_desk(),
+        lines,
+        ends,
+        players,
+    })
+}

@@ -1,0 +1,18 @@
+//! Laws of the definitions.
+ghost use Rattle.role_workers.specs.Attending.{MessagesAreCounted};
+ghost use Rattle.role_workers.specs.Laws.{CallsAreOfTheRole, CallsHaveReplies};
+
+/// Where attending a role found the end of the match, a player that shows its messages shows as many more as were counted.
+pub fn messages_are_counted()
+    ensures { MessagesAreCounted }
+{}
+
+/// A worker makes only calls of its role.
+pub fn calls_are_of_the_role()
+    ensures { CallsAreOfTheRole }
+{}
+
+/// A worker that found the end of its match took a reply to each of its calls.
+pub fn calls_have_replies()
+    ensures { CallsHaveReplies }
+{}

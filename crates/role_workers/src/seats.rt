@@ -1,0 +1,299 @@
+//! Roles of matches, each attended over a wire of its own in a thread of its own.
+ghost use Rattle.std.specs.Prelude.{◌≡◌, ◌<◌, ◌≤◌, ℕ, [], ◌∷◌, Some, length, map, min, slice_get, IfOk, OnOk};
+ghost use Rattle.role_workers.specs.Seats.{AreSeatsOf, IsLeftBy, AreLeftBy};
+ghost use Rattle.role_workers.specs.Internal.Promises.{IsKept, ArePromisedFor};
+ghost use Rattle.role_workers.specs.Internal.GivenUp.{due_round, AreGivenUp};
+ghost use denote.Param.Send.{IsSend, IsSync};
+
+use crate::attend_fault::AttendFault;
+use crate::attending::{answer_call, attend_shared};
+use crate::player::Player;
+use crate::seat::{Attended, Seat};
+use crate::shared_desk::{Naming, SharedDesk};
+use call_history::{Bell, Object, Wire};
+use desk_calls::{Answer, Call, Due, Reply};
+use match_messages::SharedBrief;
+use std::alloc::{AllocError, Global};
+use std::snapshot::Snapshot;
+use std::sync::Wait;
+use std::thread;
+use std::thread::{Promise, PromisedHandle, Scope, Threads};
+
+/// The result of `attend_all`: the calling thread's own wire, and one result for each seat in order.
+#[derive(Drop)]
+pub struct Attendance<P, W> {
+    pub own: W,
+    pub attended: Vec<Attended<P, W>>,
+}
+
+/// The promise that a seat's thread gives of its result.
+#[derive(Drop)]
+struct LeftBy<'a, P, W> {
+    brief: &'a SharedBrief<'a>,
+    role: usize,
+    tries: u64,
+    player: Snapshot<P>,
+    wire: Snapshot<W>,
+}
+
+impl<'a, P: Player, W: Wire<Call = Call, Reply = Reply>> Promise<Attended<P, W>>
+    for LeftBy<'a, P, W> {
+    ghost use Rattle.role_workers.specs.Seats.{IsLeftBy};
+
+    ghost kept_by = { λ p left. IsLeftBy W.Wire P.Player p.brief.now p.role p.tries p.player.value p.wire.value left };
+}
+
+/// A role of a match without a thread that attends it.
+#[derive(Clone, Copy)]
+struct Unattended<'a> {
+    brief: &'a SharedBrief<'a>,
+    role: usize,
+}
+
+/// A seat for each role of the match. The roles, the wires and the players are taken in their order.
+pub fn seat_players<'a, P: Drop, W: Drop>(
+    alloc: Global,
+    brief: &'a SharedBrief<'a>,
+    wires: Vec<W>,
+    players: Vec<P>,
+) -> Result<Vec<Seat<'a, P, W>>, AllocError>
+    ensures count { IfOk result (λ seats. length seats.items ≡ min (length brief.now.roles) (min (length wires.items) (length players.items))) }
+    ensures seats { IfOk result (λ seats. AreSeatsOf brief.now players.items wires.items seats.items) }
+{
+    let mut seats = Vec::with_capacity(alloc, players.len())?;
+    let mut wires = wires.into_iter();
+    let mut players = players.into_iter();
+    for role in 0..brief.role_count() {
+        let Some(wire) = wires.next() else {
+            return Ok(seats);
+        };
+        let Some(player) = players.next() else {
+            return Ok(seats);
+        };
+        seats.push(Seat {
+            brief,
+            role,
+            player,
+            wire,
+        })?;
+    }
+    Ok(seats)
+}
+
+/// Attends a role over its wire, and then signals its end.
+fn attend_seat<P: Player + Drop, W: Wire<Call = Call, Reply = Reply>>(
+    alloc: Global,
+    brief: &SharedBrief<'_>,
+    role: usize,
+    player: P,
+    wire: W,
+    tries: u64,
+    bell: &Bell,
+) -> Attended<P, W>
+    requires { role < length brief.now.roles }
+    ensures { IsLeftBy W.Wire P.Player brief.now role tries player wire result }
+{
+    let mut player = player;
+    let mut wire = wire;
+    let end = attend_shared(alloc, &mut wire, &mut player, brief, role, tries);
+    player.leave();
+    bell.leave();
+    Attended { wire, end, player }
+}
+
+/// The roles of these seats.
+fn roles_of<'a, P, W>(
+    alloc: Global,
+    seats: &[Seat<'a, P, W>],
+) -> Result<Vec<Unattended<'a>>, AllocError>
+    ensures count { IfOk result (λ roles. length roles.items ≡ length seats.entry.now) }
+    ensures roles { IfOk result (λ roles. roles.items ≡ map (λ s. record { brief = s.brief; role = s.role }) seats.entry.now) }
+{
+    let mut roles = Vec::with_capacity(alloc, seats.len())?;
+    for seat in seats {
+        roles.push(Unattended {
+            brief: seat.brief,
+            role: seat.role,
+        })?;
+    }
+    Ok(roles)
+}
+
+/// The round of the message that is due, if one is.
+fn due_round(reply: &Reply) -> Option<u64>
+    ensures { result ≡ due_round reply.now }
+{
+    match reply {
+        Reply::Due(Due::Owe { round, .. }) => Some(*round),
+        _ => None,
+    }
+}
+
+/// Gives a role up: aborts its match, and if a message is due to the role, reports its answer as broken.
+fn give_up<W: Wire<Call = Call, Reply = Reply>>(
+    alloc: Global,
+    own: &mut W,
+    unattended: Unattended<'_>,
+) -> Result<(), AttendFault>
+    ensures { OnOk result (AreGivenUp W.Wire (unattended.entry ∷ []) own.old own.new) }
+{
+    let Unattended { brief, role } = unattended;
+    let id = brief.copy_id(alloc)?;
+    own.ask(Call::Abort { id })?;
+    let id = brief.copy_id(alloc)?;
+    let due = own.ask(Call::Next { id, role })?;
+    let Some(round) = due_round(&due) else {
+        return Ok(());
+    };
+    let call = answer_call(alloc, brief, role, round, Answer::Broken)?;
+    own.ask(call)?;
+    Ok(())
+}
+
+/// Gives these roles up. So their matches end, and with them the work of the threads that attend the other roles.
+fn give_up_all<W: Wire<Call = Call, Reply = Reply>>(
+    alloc: Global,
+    own: &mut W,
+    roles: &[Unattended<'_>],
+) -> Result<(), AttendFault>
+    ensures { OnOk result (AreGivenUp W.Wire roles.now own.old own.new) }
+{
+    for unattended in roles {
+        give_up(alloc, own, *unattended)?;
+    }
+    Ok(())
+}
+
+/// Joins the threads of seats. Their results go into `attended`, which is empty and has room for them.
+fn join_seats<'a, P: Player + Drop, W: Wire<Call = Call, Reply = Reply> + Drop, R: Threads>(
+    rt: &R,
+    handles: Vec<PromisedHandle<Attended<P, W>, LeftBy<'a, P, W>>>,
+    attended: Vec<Attended<P, W>>,
+) -> Result<Vec<Attended<P, W>>, AllocError>
+    requires { attended.items ≡ [] }
+    ensures count { IfOk result (λ all. length all.items ≡ length handles.entry.items) }
+    ensures kept { IfOk result (λ all. (k : ℕ) (left : _) → slice_get all.items k ≡ Some left → IsKept W.Wire P.Player handles.entry.items k left) }
+{
+    let mut attended = attended;
+    for handle in handles {
+        attended.push(handle.join(rt))?;
+    }
+    Ok(attended)
+}
+
+/// Starts a thread for each seat, in their order, which attends it in at most `tries` tries. If a thread can't be made, no further one
+/// starts.
+fn start_seats<'s, 'a: 's, E, P, W>(
+    alloc: Global,
+    scope: &'s Scope<'s, E>,
+    seats: Vec<Seat<'a, P, W>>,
+    tries: u64,
+    bell: &'a Bell,
+) -> Result<Vec<PromisedHandle<Attended<P, W>, LeftBy<'a, P, W>>>, AllocError>
+where
+    P: Player + Drop + Send + 's,
+    W: Wire<Call = Call, Reply = Reply> + Drop + Send + 's,
+    ensures count { IfOk result (λ handles. length handles.items ≤ length seats.entry.items) }
+    ensures promised { IfOk result (λ handles. ArePromisedFor tries seats.entry.items handles.items) }
+{
+    let mut handles = Vec::with_capacity(alloc, seats.len())?;
+    for seat in seats {
+        let Seat {
+            brief,
+            role,
+            player,
+            wire,
+        } = seat;
+        let promise = LeftBy {
+            brief,
+            role,
+            tries,
+            player: Snapshot::of(&player),
+            wire: Snapshot::of(&wire),
+        };
+        let work = move || -> Attended<P, W>
+            requires { role < length brief.now.roles }
+            ensures { IsLeftBy W.Wire P.Player brief.entry.now role tries player wire result }
+        { attend_seat(alloc, brief, role, player, wire, tries, bell) };
+        let Ok(handle) = scope.spawn_with(promise, work) else {
+            break;
+        };
+        handles.push(handle)?;
+    }
+    Ok(handles)
+}
+
+/// Ends the work of these threads, where the other roles have none: gives those up over the calling thread's own wire, and joins the
+/// threads, whose results are dropped.
+fn end_seats<O, N, W, P, R>(
+    rt: &R,
+    alloc: Global,
+    desk: &SharedDesk<O, N>,
+    own: &mut W,
+    others: &[Unattended<'_>],
+    handles: Vec<PromisedHandle<Attended<P, W>, LeftBy<'_, P, W>>>,
+) -> Result<(), AttendFault>
+where
+    O: Object<Call = Call, Reply = Reply> + Drop,
+    N: Naming<O>,
+    W: Wire<Call = Call, Reply = Reply> + Drop,
+    P: Player + Drop,
+    R: Threads + Wait,
+    ensures { OnOk result (AreGivenUp W.Wire others.now own.old own.new) }
+{
+    let given_up = give_up_all(alloc, own, others);
+    desk.serve_until(rt, handles.len() as u64);
+    for handle in handles {
+        let _ = handle.join(rt);
+    }
+    given_up
+}
+
+/// Attends each seat in a thread of its own, in at most `tries` tries, while the calling thread serves the desk, too, until all have
+/// ended. The results stand in the order of the seats.
+///
+/// If a thread can't be made, no further one starts. A match waits for all its roles, so the matches of the remaining seats are
+/// aborted over the calling thread's own wire. Once the running threads have ended, the result is out of memory.
+pub fn attend_all<O, N, W, P, R>(
+    rt: &R,
+    alloc: Global,
+    desk: &SharedDesk<O, N>,
+    own: W,
+    seats: Vec<Seat<'_, P, W>>,
+    tries: u64,
+) -> Result<Attendance<P, W>, AllocError>
+where
+    O: Object<Call = Call, Reply = Reply> + Drop,
+    N: Naming<O>,
+    W: Wire<Call = Call, Reply = Reply> + Drop + Send,
+    P: Player + Drop + Send,
+    R: Threads + Wait + Sync,
+    ensures own { IfOk result (λ a. a.own ≡ own) }
+    ensures count { IfOk result (λ a. length a.attended.items ≡ length seats.entry.items) }
+    ensures left { IfOk result (λ a. AreLeftBy W.Wire P.Player tries seats.entry.items a.attended.items) }
+{
+    thread::scope(
+        thread::scope_env(),
+        rt,
+        move |scope| -> Result<Attendance<P, W>, AllocError>
+            requires sent { IsSend W.row × IsSend P.row }
+            ensures own { IfOk result (λ a. a.own ≡ own) }
+            ensures count { IfOk result (λ a. length a.attended.items ≡ length seats.entry.items) }
+            ensures left { IfOk result (λ a. AreLeftBy W.Wire P.Player tries seats.entry.items a.attended.items) }
+        {
+            let count = seats.len();
+            let roles = roles_of(alloc, seats.as_slice())?;
+            let attended = Vec::with_capacity(alloc, count)?;
+            let handles = start_seats(alloc, scope, seats, tries, desk.bell())?;
+            let started = handles.len();
+            if started < count {
+                let mut own = own;
+                let _ = end_seats(rt, alloc, desk, &mut own, &roles[started..], handles);
+                return Err(AllocError);
+            }
+            desk.serve_until(rt, started as u64);
+            let attended = join_seats(rt, handles, attended)?;
+            Ok(Attendance { own, attended })
+        },
+    )
+}

@@ -1,0 +1,129 @@
+//! A wire whose own thread serves the desk while it waits for a reply.
+ghost use Rattle.std.specs.Prelude.{◌≡◌, ◌⊎◌, ◌∷◌, ◌++◌, [], Some, IfOk, IfErr, IfSome, IfNone, OnOk, OnErr, IsErr, IsTrue, IsFalse};
+ghost use Rattle.call_history.specs.Told.{told_with};
+ghost use Rattle.call_history.specs.RingLines.{posted_calls, taken_replies, SameLine};
+
+use crate::shared_desk::{Naming, SharedDesk};
+use call_history::{AskFault, Object, RingLine, Wire};
+use desk_calls::{Call, Reply};
+use std::{hint, thread};
+
+/// A wire gives up after this many looks for a reply.
+const TURNS: u64 = 1_000_000_000;
+
+/// The number of looks in a row of which one gives the processor to another thread.
+const YIELD_EACH: u64 = 64;
+
+/// A line of a desk that any thread can serve. It has at most one call under way, so that its ring has room for the next.
+#[derive(Drop)]
+pub struct ServedWire<'a, O: Object<Call = Call, Reply = Reply>, N: Naming<O>> {
+    line: RingLine<O>,
+    desk: &'a SharedDesk<O, N>,
+    has_stalled: bool,
+}
+
+impl<'a, O: Object<Call = Call, Reply = Reply>, N: Naming<O>> ServedWire<'a, O, N> {
+    /// A wire that makes the line's calls on its desk.
+    pub fn new(line: RingLine<O>, desk: &'a SharedDesk<O, N>) -> ServedWire<'a, O, N>
+        ensures line { result.line ≡ line }
+        ensures going { IsFalse result.has_stalled }
+    {
+        ServedWire {
+            line,
+            desk,
+            has_stalled: false,
+        }
+    }
+
+    /// Returns the line.
+    pub fn end(self) -> RingLine<O>
+        ensures { result ≡ self.entry.line }
+    {
+        self.line
+    }
+}
+
+impl<'a, O: Object<Call = Call, Reply = Reply>, N: Naming<O>> Wire for ServedWire<'a, O, N> {
+    ghost use Rattle.std.proofs.Common.{rules};
+
+    type Call = Call;
+
+    type Reply = Reply;
+
+    ghost calls = { λ w. Some (posted_calls w.line) };
+
+    ghost replies = { λ w. Some (taken_replies w.line) };
+
+    ghost same_line = { λ v w. SameLine v.line w.line };
+
+    /// Posts the call and takes one reply. This is the reply to the call if the line had taken as many replies as it posted calls.
+    /// The wire stalls if no reply comes within its turns, or if the desk's history is full. A stalled wire does nothing more, but a
+    /// call that was posted stays posted.
+    fn ask(&mut self, call: Call) -> Result<Reply, AskFault>
+        ensures line { SameLine self.old.line self.new.line }
+        ensures call { OnOk result (Some (posted_calls self.new.line) ≡ told_with (Some (posted_calls self.old.line)) (call ∷ [])) }
+        ensures reply { IfOk result (λ r. Some (taken_replies self.new.line) ≡ told_with (Some (taken_replies self.old.line)) (r ∷ [])) }
+        ensures maybe_call { OnErr result ((Some (posted_calls self.new.line) ≡ Some (posted_calls self.old.line))
+            ⊎ (Some (posted_calls self.new.line) ≡ told_with (Some (posted_calls self.old.line)) (call ∷ []))) }
+        ensures no_reply { OnErr result (Some (taken_replies self.new.line) ≡ Some (taken_replies self.old.line)) }
+
+        ensures fault { IfErr result (λ fault. (fault ≡ AskFault.Stalled) × IsTrue self.new.has_stalled) }
+        ensures going { OnOk result (IsFalse self.new.has_stalled) }
+        ensures stays { IsTrue self.old.has_stalled → IsErr result × (self.new ≡ self.old) }
+    {
+        if self.has_stalled {
+            return Err(AskFault::Stalled);
+        }
+        // The wire counts as stalled until the reply is there.
+        self.has_stalled = true;
+        if self.line.post(call).is_err() {
+            return Err(AskFault::Stalled);
+        }
+        let Some(reply) = take_served(&mut self.line, self.desk) else {
+            return Err(AskFault::Stalled);
+        };
+        self.has_stalled = false;
+        Ok(reply)
+    }
+
+    ghost same_line_refl = { λ w. Prim.search rules };
+
+    ghost same_line_trans = { λ a b c ab bc. Prim.search rules };
+}
+
+/// Takes the reply that the line waits for. While it is not there, the thread serves rounds, or lets moments pass in which another
+/// one does. It gives up after its turns, or once the history is full.
+fn take_served<O: Object<Call = Call, Reply = Reply>, N: Naming<O>>(
+    line: &mut RingLine<O>,
+    desk: &SharedDesk<O, N>,
+) -> Option<Reply>
+    ensures line { SameLine line.old line.new }
+    ensures posted { posted_calls line.new ≡ posted_calls line.old }
+    ensures some { IfSome result (λ r. taken_replies line.new ≡ taken_replies line.old ++ r ∷ []) }
+    ensures none { IfNone result (taken_replies line.new ≡ taken_replies line.old) }
+{
+    for tried in 0..TURNS {
+        // A reply is sent before the history is found full, so the last look comes after that.
+        let is_last = desk.is_full();
+        if let Some(reply) = line.take() {
+            return Some(reply);
+        }
+        if is_last {
+            return None;
+        }
+        if !desk.serve() {
+            pause(tried);
+        }
+    }
+    None
+}
+
+/// Lets a moment pass. Most moments are shorter than a round takes, since on a busy computer a thread that gives its processor away
+/// gets it back late.
+fn pause(tried: u64) {
+    if tried % YIELD_EACH == YIELD_EACH - 1 {
+        thread::yield_now();
+    } else {
+        hint::spin_loop();
+    }
+}

@@ -1,0 +1,118 @@
+//! A desk over rings under a lock. A thread that waits for a reply serves the lines, so no call is handed from thread to thread.
+ghost use Rattle.std.specs.Prelude.{◌≡◌, Option, Some, MatchResult, length};
+ghost use Rattle.std.specs.Option.{ForSome};
+ghost use Rattle.call_history.specs.Rounds.{RingDeskValue, Visits};
+ghost use Rattle.desk_calls.specs.declared.call.Call.{Call};
+ghost use Rattle.desk_calls.specs.declared.call.Reply.{Reply};
+ghost use Rattle.role_workers.specs.SharedDesks.{IsDeskAfter};
+
+use call_history::laws::desks_stay;
+use call_history::{Bell, CallFault, DeskFault, Object, Pause, RingDesk};
+use desk_calls::{Call, Reply};
+use std::marker::{Brand, PhantomData};
+use std::sync::{Mutex, Wait};
+use std::time::Duration;
+
+/// The longest sleep of the thread that opened the desk, in milliseconds. Then a call that could not be made is tried again.
+const LONGEST_SLEEP: u64 = 1_000;
+
+/// The desk that is put under a lock. Each match picks it, since a contract can't name what lies under a lock.
+pub trait Naming<O> {
+    ghost desk: { Option (RingDeskValue O Call Reply) };
+}
+
+impl<O> Naming<O> for Brand {
+    ghost use Rattle.std.specs.Prelude.{None};
+
+    ghost desk = { None };
+}
+
+/// The picked desk, after some rounds.
+#[derive(Drop)]
+struct NamedDesk<O: Object<Call = Call, Reply = Reply>, N: Naming<O>> {
+    desk: RingDesk<O>,
+    of: PhantomData<N>,
+    ghost same: { ForSome N.desk (λ first. IsDeskAfter O.opening first desk) },
+}
+
+impl<O: Object<Call = Call, Reply = Reply>, N: Naming<O>> NamedDesk<O, N> {
+    /// Serves a round: no line is left out, before the one at which it stops.
+    fn round(&mut self) -> Result<u64, DeskFault>
+        ensures visits { MatchResult result
+            (λ _. Visits self.old.desk.journal.history self.new.desk.journal.history self.old.desk.ports self.new.desk.ports (length self.old.desk.ports))
+            (λ fault. Visits self.old.desk.journal.history self.new.desk.journal.history self.old.desk.ports self.new.desk.ports fault.line) }
+    {
+        desks_stay::<O>();
+        self.desk.round()
+    }
+}
+
+/// A desk over rings that any thread can serve.
+#[derive(Drop)]
+pub struct SharedDesk<O: Object<Call = Call, Reply = Reply>, N: Naming<O>> {
+    locked: Mutex<NamedDesk<O, N>>,
+    bell: Bell,
+}
+
+impl<O: Object<Call = Call, Reply = Reply>, N: Naming<O>> SharedDesk<O, N> {
+    /// Puts the picked desk under a lock.
+    pub fn new(desk: RingDesk<O>) -> SharedDesk<O, N>
+        requires { N.desk ≡ Some desk }
+    {
+        desks_stay::<O>();
+        let named = NamedDesk {
+            desk,
+            of: PhantomData,
+        };
+        SharedDesk {
+            locked: Mutex::new(named),
+            bell: Bell::new(),
+        }
+    }
+
+    /// Serves a round, unless another thread serves one now. Returns whether it served a whole round. A call that can't be made
+    /// is tried again in the next one.
+    pub fn serve(&self) -> bool {
+        let Some(mut named) = self.locked.try_lock() else {
+            return false;
+        };
+        let served = named.round();
+        if let Err(DeskFault { cause, .. }) = served {
+            if cause == CallFault::Full {
+                self.bell.stop();
+            }
+        }
+        served.is_ok()
+    }
+
+    /// Whether a round found the history full, so that no call can be made any more.
+    pub fn is_full(&self) -> bool {
+        self.bell.has_stopped()
+    }
+
+    /// The bell that a worker rings when it ends.
+    pub fn bell(&self) -> &Bell {
+        &self.bell
+    }
+
+    /// Serves rounds until `workers` workers have ended. Workers serve their own calls, so it sleeps in between, and only the end of
+    /// a worker wakes it.
+    pub fn serve_until<R: Wait>(&self, rt: &R, workers: u64) {
+        let mut pause = Pause::new(&self.bell, Duration::from_millis(LONGEST_SLEEP));
+        for _ in rt.forever() {
+            if self.bell.left() >= workers {
+                break;
+            }
+            self.serve();
+            pause.rest(rt);
+        }
+    }
+
+    /// The desk, once no thread serves it any more.
+    pub fn into_desk(self) -> RingDesk<O>
+        ensures { ForSome N.desk (λ first. IsDeskAfter O.opening first result) }
+    {
+        let SharedDesk { locked, bell: _ } = self;
+        locked.into_inner().desk
+    }
+}
