@@ -22,7 +22,9 @@ use kif_text::Expr;
 use match_desk::{Manager, open_call};
 use match_messages::{SharedBrief, StartRules};
 use role_workers::laws::{calls_are_of_the_role, calls_have_replies};
-use role_workers::{AttendFault, DeskHolder, Plan, Played, Player, ROOM, ask_own, attend_match};
+use role_workers::{
+    AttendFault, AttendancePlan, AttendedMatch, DeskHolder, Player, ROOM, ask_own, attend_match,
+};
 use std::alloc::{AllocError, AllocFailed, Global};
 use std::marker::Brand;
 use std::sync::Wait;
@@ -200,14 +202,14 @@ where
     let id = setup.id.copy(alloc)?;
     let roles = role_names(alloc, &game)?;
     let brief = brief_of(&id, &roles, rules, setup.start, setup.play);
-    let plan = Plan {
+    let plan = AttendancePlan {
         brief,
         players,
         tries,
     };
     let (mut holder, others) = open_desk(alloc, game)?;
     open_match(&mut holder, setup)?;
-    let Played {
+    let AttendedMatch {
         desk,
         lines,
         ends,

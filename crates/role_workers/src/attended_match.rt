@@ -18,9 +18,9 @@ use std::alloc::{AllocError, Global};
 use std::sync::Wait;
 use std::thread::Threads;
 
-/// The data for playing a match, beside its game and its setup.
+/// How the roles of a match are attended: what START says, the players in the order of the roles, and each role's limit of questions.
 #[derive(Drop)]
-pub struct Plan<'r, P> {
+pub struct AttendancePlan<'r, P> {
     pub brief: SharedBrief<'r>,
     pub players: Vec<P>,
     pub tries: u64,
@@ -28,7 +28,7 @@ pub struct Plan<'r, P> {
 
 /// A match that is over: its desk, all lines, which post no more, how attending each role ended, and the players.
 #[derive(Drop)]
-pub struct Played<O: Object, P> {
+pub struct AttendedMatch<O: Object, P> {
     pub desk: RingDesk<O>,
     pub lines: Vec<LineEnd<O>>,
     pub ends: Vec<Result<u64, AttendFault>>,
@@ -59,8 +59,8 @@ pub fn attend_match<N, O, P, R>(
     alloc: Global,
     holder: DeskHolder<O>,
     others: Vec<RingLine<O>>,
-    plan: Plan<'_, P>,
-) -> Result<Played<O, P>, AllocError>
+    plan: AttendancePlan<'_, P>,
+) -> Result<AttendedMatch<O, P>, AllocError>
 where
     N: Naming<O> + Send + Sync,
     O: Object<Call = Call, Reply = Reply> + Drop + Send,
@@ -79,7 +79,7 @@ where
 {
     lines_stay::<O>();
     new_lines_are_lines::<O>();
-    let Plan {
+    let AttendancePlan {
         brief,
         players,
         tries,
@@ -103,7 +103,7 @@ where
         players,
     } = finish_all(attended, room)?;
     lines.push(finish_line(own.end()))?;
-    Ok(Played {
+    Ok(AttendedMatch {
         desk: shared.into_desk(),
         lines,
         ends,

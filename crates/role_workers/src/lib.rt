@@ -18,7 +18,7 @@ mod served_wire;
 mod shared_desk;
 
 pub use attend_fault::AttendFault;
-pub use attended_match::{Plan, Played, attend_match};
+pub use attended_match::{AttendancePlan, AttendedMatch, attend_match};
 pub use attending::{attend, attend_shared};
 pub use finishing::ROOM;
 pub use holder::{DeskHolder, ask_own};
