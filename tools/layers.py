@@ -1,5 +1,5 @@
 """What the crates' code, definitions and proofs import from one another that is no public definition: a lemma, or a definition that another
-crate keeps to itself."""
+crate keeps to itself. And which crates a crate stands on by crates.txt, and not by its text."""
 import re
 
 COMMENT = re.compile(r"(?<!\S)--(?!\S).*|(?<!\S)//.*")
@@ -21,3 +21,9 @@ def reaching(path, text, known):
             continue
         for name in [it.split()[0] for it in names.strip("{}").split(",") if it.strip()] or ["*"]:
             yield module, name
+
+
+def unmentioned(deps, texts):
+    """Returns those of the crates that a crate names in crates.txt which no text of it mentions."""
+    words = {it for text in texts for it in re.findall(r"\w+", COMMENT.sub("", text))}
+    return [it for it in deps if it not in words]

@@ -1,10 +1,10 @@
-"""Which imports reach past the public definitions of another crate."""
+"""Which imports reach past the public definitions of another crate, and which crates are named and not used."""
 import os
 import sys
 import unittest
 
 sys.path.insert(0, os.path.dirname(os.path.dirname(os.path.realpath(__file__))))
-from layers import reaching
+from layers import reaching, unmentioned
 
 KNOWN = ("low", "high")
 
@@ -38,6 +38,18 @@ class Reaching(unittest.TestCase):
 
     def test_a_comment_is_none(self):
         self.assertEqual(found("-- use Rattle.low.proofs.Laws.{one}\n"), [])
+
+
+class Unmentioned(unittest.TestCase):
+    def test_a_crate_is_mentioned_in_code_or_in_a_proof(self):
+        self.assertEqual(unmentioned(["low", "json"], ["use low::Game;\n", "use Rattle.json.specs.Value.{Value}\n"]), [])
+
+    def test_a_crate_that_no_text_mentions(self):
+        self.assertEqual(unmentioned(["low", "json"], ["use low::Game;\n"]), ["json"])
+        self.assertEqual(unmentioned(["low"], ["use lower::Game;\n"]), ["low"])
+
+    def test_a_comment_is_no_mention(self):
+        self.assertEqual(unmentioned(["low"], ["// low\n", "-- as low says\n"]), ["low"])
 
 
 if __name__ == "__main__":
