@@ -11,7 +11,8 @@ use Rattle.desk_calls.specs.declared.call.Call.TheVariants.{Abort}
 use Rattle.desk_calls.specs.declared.call.Reply.{Reply}
 use Rattle.role_workers.specs.Events.{Event, makes, takes, Telling, telling, telling_with}
 use Rattle.role_workers.specs.Steps.{answer_call, asking}
-use Rattle.role_workers.specs.Internal.GivenUp.{due_round, answering, GivenUp, aborting, giving_up, AreGivenUp}
+use Rattle.role_workers.specs.RoleCalls.{due_round}
+use Rattle.role_workers.specs.Internal.GivenUp.{answering, GivenUp, aborting, giving_up, AreGivenUp}
 use Rattle.role_workers.specs.declared.seats.Unattended.{Unattended}
 use Rattle.role_workers.proofs.Tellings.{telling_with-nil, told_after}
 use Rattle.role_workers.proofs.CallStops.{told_reply}

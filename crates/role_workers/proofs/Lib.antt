@@ -5,5 +5,6 @@ mod Workers
 mod Places
 mod SeatEnds
 mod RoleCalls
+mod OwedReplies
 mod GivenUp
 mod RoleLines

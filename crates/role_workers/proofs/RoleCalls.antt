@@ -73,7 +73,7 @@ module _ (brief : Brief) (role : ℕ) where
       → telling (Some cs) rs' ms' ≡ telling_with (telling (Some []) rs ms) events → cs ≡ filter_map call_in events
   told_calls cs rs rs' ms ms' events told = ap (λ (t : Telling). unwrap_or t.calls []) told
 
-  told_replies : (cs cs' : Option (List Call)) (rs : List Reply) (ms ms' : Option (List Handed)) (events : List Event)
+  pub told_replies : (cs cs' : Option (List Call)) (rs : List Reply) (ms ms' : Option (List Handed)) (events : List Event)
       → telling cs' (Some rs) ms' ≡ telling_with (telling cs (Some []) ms) events → rs ≡ filter_map reply_in events
   told_replies cs cs' rs ms ms' events told = ap (λ (t : Telling). unwrap_or t.replies []) told
 

@@ -35,7 +35,7 @@ pub record Goes (brief : Brief) (role : ℕ) (tried : ℕ) (before now : Telling
 pub goes-start : (brief : Brief) (role : ℕ) (before : Telling) → Goes brief role 0 before before 0
 goes-start brief role before = record { steps = []; go_on = grind (arith, common_steps); tries = refl; told = sym (telling_with-nil before); count = refl }
 
-events_of_all-push : (brief : Brief) (role : ℕ) (steps : List Step) (last : Step) → events_of_all brief role (steps ++ last ∷ []) ≡ events_of_all brief role steps ++ events_of brief role last
+pub events_of_all-push : (brief : Brief) (role : ℕ) (steps : List Step) (last : Step) → events_of_all brief role (steps ++ last ∷ []) ≡ events_of_all brief role steps ++ events_of brief role last
 events_of_all-push brief role steps last =
     flat_map-append (events_of brief role) steps (last ∷ []) ∙ ap (λ events. events_of_all brief role steps ++ events) (append-nil (events_of brief role last))
 

@@ -1,7 +1,10 @@
--- The calls of a worker.
-use Rattle.std.specs.Prelude.{◌≡◌, ℕ, List}
+-- The calls of a worker, and what their replies owe.
+use Rattle.std.specs.Prelude.{◌≡◌, ℕ, List, Option, Some, None}
+use Rattle.desk_calls.specs.declared.due.Due.TheVariants.{Owe}
 use Rattle.desk_calls.specs.declared.call.Call.{Call}
 use Rattle.desk_calls.specs.declared.call.Call.TheVariants.{Next, Submit, Miss}
+use Rattle.desk_calls.specs.declared.call.Reply.{Reply}
+use Rattle.desk_calls.specs.declared.call.Reply.TheVariants.{Due}
 
 -- the call asks what is due to this role of the match with this id, or brings the role's answer
 abbrev pub IsRoleCall : List ℕ → ℕ → Call → Type 0
@@ -9,3 +12,8 @@ IsRoleCall id role (Next match asked) = (match ≡ id) × (asked ≡ role)
 IsRoleCall id role (Submit match answering round text) = (match ≡ id) × (answering ≡ role)
 IsRoleCall id role (Miss match answering round broken) = (match ≡ id) × (answering ≡ role)
 IsRoleCall id role _ = ⊥
+
+-- the round of the message that is due, if one is
+abbrev pub due_round : Reply → Option ℕ
+due_round (Due (Owe round owed)) = Some round
+due_round _ = None

@@ -1,5 +1,5 @@
 //! A match whose roles are attended, each over a line of the match's desk.
-ghost use Rattle.std.specs.Prelude.{◌≡◌, ◌+◌, Some, map, IfOk, length};
+ghost use Rattle.std.specs.Prelude.{◌≡◌, ◌+◌, Some, map, min, IfOk, length};
 ghost use Rattle.call_history.specs.RingLines.{SamePorts, AreEndsOf, IsLineOf};
 ghost use Rattle.role_workers.specs.RoleLines.{AreSeatLines, HasFinished, AreLeftLines};
 
@@ -75,6 +75,7 @@ where
     ensures opening { IfOk result (λ played. O.opening played.desk.journal.object ≡ O.opening holder.desk.journal.object) }
     ensures lines { IfOk result (λ played. AreEndsOf played.desk.ports played.lines.items) }
     ensures first { IfOk result (λ played. HasFinished holder.line played.lines.items) }
+    ensures count { IfOk result (λ played. length played.ends.items ≡ min (length plan.entry.brief.roles) (min (length others.items) (length plan.entry.players.items))) }
     ensures ends { IfOk result (λ played. AreLeftLines P.handed plan.entry.brief plan.entry.tries plan.entry.players.items played.players.items played.lines.items played.ends.items) }
 {
     lines_stay::<O>();

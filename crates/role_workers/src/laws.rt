@@ -1,6 +1,6 @@
 //! Laws of the definitions.
 ghost use Rattle.role_workers.specs.Attending.{MessagesAreCounted};
-ghost use Rattle.role_workers.specs.Laws.{CallsAreOfTheRole, CallsHaveReplies};
+ghost use Rattle.role_workers.specs.Laws.{CallsAreOfTheRole, CallsHaveReplies, OwedAreCounted};
 
 /// Where attending a role found the end of the match, a player that shows its messages shows as many more as were counted.
 pub fn messages_are_counted()
@@ -15,4 +15,9 @@ pub fn calls_are_of_the_role()
 /// A worker that found the end of its match took a reply to each of its calls.
 pub fn calls_have_replies()
     ensures { CallsHaveReplies }
+{}
+
+/// A worker that found the end after so many messages took as many replies that owe one, and last the reply that the match is over.
+pub fn owed_are_counted()
+    ensures { OwedAreCounted }
 {}

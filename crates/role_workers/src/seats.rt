@@ -2,7 +2,8 @@
 ghost use Rattle.std.specs.Prelude.{◌≡◌, ◌<◌, ◌≤◌, ℕ, [], ◌∷◌, Some, length, map, min, slice_get, IfOk, OnOk};
 ghost use Rattle.role_workers.specs.Seats.{AreSeatsOf, IsLeftBy, AreLeftBy};
 ghost use Rattle.role_workers.specs.Internal.Promises.{IsKept, ArePromisedFor};
-ghost use Rattle.role_workers.specs.Internal.GivenUp.{due_round, AreGivenUp};
+ghost use Rattle.role_workers.specs.RoleCalls.{due_round};
+ghost use Rattle.role_workers.specs.Internal.GivenUp.{AreGivenUp};
 ghost use denote.Param.Send.{IsSend, IsSync};
 
 use crate::attend_fault::AttendFault;

@@ -2,21 +2,15 @@
 use Rattle.std.specs.Prelude.{◌≡◌, ℕ, List, [], ◌∷◌, ◌++◌, map, Option, Some, None}
 use Rattle.std.specs.List.{flat_map}
 use Rattle.call_history.specs.declared.wire.Wire as Wire
-use Rattle.desk_calls.specs.declared.due.Due.TheVariants.{Owe}
 use Rattle.desk_calls.specs.declared.answer.Answer.TheVariants.{Broken}
 use Rattle.desk_calls.specs.declared.call.Call.{Call}
 use Rattle.desk_calls.specs.declared.call.Call.TheVariants.{Abort}
 use Rattle.desk_calls.specs.declared.call.Reply.{Reply}
-use Rattle.desk_calls.specs.declared.call.Reply.TheVariants.{Due}
 use Rattle.match_messages.specs.declared.brief.Brief.{Brief}
 use Rattle.role_workers.specs.Events.{Event, makes, takes, telling, telling_with}
 use Rattle.role_workers.specs.Steps.{answer_call, asking}
+use Rattle.role_workers.specs.RoleCalls.{due_round}
 use Rattle.role_workers.specs.declared.seats.Unattended.{Unattended}
-
--- the round of the message that is due, if one is
-abbrev pub due_round : Reply → Option ℕ
-due_round (Due (Owe round owed)) = Some round
-due_round _ = None
 
 -- if a message of such a round is due to the role, its answer is reported as broken, and this reply comes
 abbrev pub answering : Brief → ℕ → Option ℕ → Reply → List Event

@@ -1,5 +1,6 @@
 use Rattle.std.proofs.Common.{◌∙◌, refl, ap, sym, subst}
-use Rattle.std.specs.Prelude.{Contains}
+use Rattle.std.specs.Prelude.{Contains, length, min}
+use Rattle.std.proofs.lemmas.List.{length-map}
 use Rattle.std.proofs.lemmas.List.Elements.{All-push, Contains-push}
 use Rattle.call_history.specs.RingLines.{IsLineOf, AreEndsOf}
 use Rattle.role_workers.specs.RoleLines.{IsFinishedOf}
@@ -29,6 +30,15 @@ returns-clause-first g c = (
   subst (λ lines. Contains lines c.finish_line.result) (sym c.in_ok-push.ensures.items) (Contains-push c.in_ok-lines.field-0.lines.items c.finish_line.result),
   subst (λ l. IsFinishedOf l c.finish_line.result) (c.end.ensures ∙ ap (λ w. w.line) c.in_ok-own.ensures.own ∙ c.new-own.ensures.line) c.finish_line.ensures,
 )
+
+pub returns-clause-count : goal.returns-clause-count
+returns-clause-count g c =
+    let wires = sym (length-map c.in_ok-wires.wires.items (λ w. w.line)) ∙ ap length c.in_ok-wires.ensures in
+    ap length c.in_ok-lines.ensures.ends
+    ∙ length-map c.in_ok-own.field-0.attended.items (λ a. a.end)
+    ∙ c.in_ok-own.ensures.count
+    ∙ c.in_ok-seats.ensures.count
+    ∙ ap (λ lines. min (length c.args.plan.brief.roles) (min lines (length c.args.plan.players.items))) wires
 
 pub returns-clause-ends : goal.returns-clause-ends
 returns-clause-ends g c =
