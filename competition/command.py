@@ -48,7 +48,7 @@ def arguments(words):
         command = commands.add_parser(name)
         command.add_argument("folder", nargs="?", default=".")
         if name == "play":
-            command.add_argument("--at-once", type=count, default=4, metavar="N", help="so many matches at once at most (4)")
+            command.add_argument("--at-once", type=count, default=4, metavar="N", help="at most N matches at once (4)")
             command.add_argument("--watch", action="store_true", help="write the pages anew as matches end")
         if name == "publish":
             command.add_argument("--to", metavar="FILE", help="the archive (NAME.tar.gz in the folder)")

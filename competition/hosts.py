@@ -8,7 +8,7 @@ from competition.messages import reached
 SSH = "setpriv --pdeathsig KILL ssh -o BatchMode=yes -o ConnectTimeout=5 -o ServerAliveInterval=2 -o ServerAliveCountMax=3"
 # There is one parallel for each open match, with all hosts to choose from. Fed through a pipe, one for all matches would see that a match
 # is over only when it reads the next line, which waits for just that.
-# A player of a match whose referee is lost waits for it, so each try begins with an ABORT, which may take so many seconds.
+# A player of a match whose referee is lost waits for it, so each try begins with an ABORT, which may take ABORT_SECONDS.
 ABORT_SECONDS = 5
 ABORT = (
     "exec 3<>/dev/tcp/$1/$2 && printf 'POST / HTTP/1.0\\r\\nAccept: text/delim\\r\\nSender: GAMESERVER\\r\\nReceiver: %s\\r\\n"

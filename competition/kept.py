@@ -4,7 +4,7 @@ import os
 
 from competition.results import fault_of_record, read_record, result_of
 
-# So many matches are looked at together, so that their records stand in memory at once and no more.
+# This many matches are checked together, so that only their records are in memory at once.
 TOGETHER = 250
 
 

@@ -23,7 +23,7 @@ def reached(place):
 
 
 def answers(place, body, seconds):
-    """Returns whether the player answers the message with status 200 in so many seconds."""
+    """Returns whether the player answers the message with status 200 within this number of seconds."""
     name, host, port = reached(place)
     until, reply = time.monotonic() + seconds, b""
     try:

@@ -44,7 +44,7 @@ class OpenMatch:
         self.close()
 
     def close(self):
-        """Takes the match's room away, but for a match that broke off: its players are still to be freed."""
+        """Removes the match's room, except for a match that broke off: its players have yet to be freed."""
         if self.stage == "asking":
             self.seats.leave(self.match)
         self.stage = "over"

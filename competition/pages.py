@@ -12,7 +12,7 @@ from competition.table import tables_of
 from competition.table_text import METHOD, crosstable_rows, notes, standings_rows
 
 SHOW_RECORD = TOP / "examples/show-record"
-# While matches are played the pages are written anew after so many seconds at the earliest, and never for more than a tenth of the time.
+# While matches are played, the pages are written again after SECONDS seconds at the earliest, and for at most a tenth of the time.
 SECONDS, SHARE = 2, 10
 
 STYLE = """

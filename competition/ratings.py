@@ -1,10 +1,10 @@
 """Ratings by the model of Bradley and Terry: a player with strength s beats one with strength t with the chance s / (s + t).
 
-The strengths are those under which what was played is likeliest, found by the iteration of Hunter, "MM algorithms for generalized
-Bradley-Terry models", The Annals of Statistics 32 (2004), where a draw counts as half a win for each. They are unique, but for a
-factor, exactly within players of whom each group has won something against the others; so each such group is rated by itself, and a
-player outside of all has no rating. A rating is 400 times the decimal logarithm of the strength, with the mean 0 in its group. The
-intervals of 95% come from the observed information: the negative second derivatives of the logarithm of the likelihood, inverted
+The strengths are those under which the results are likeliest, found by the iteration of Hunter, "MM algorithms for generalized
+Bradley-Terry models", The Annals of Statistics 32 (2004), where a draw counts as half a win for each. They are unique, up to a
+factor, exactly for players of whom each group has won something against the others. So each such set of players is rated by itself,
+and a player outside of all sets has no rating. A rating is 400 times the decimal logarithm of the strength, with the mean 0 in its
+group. The intervals of 95% come from the observed information: the negative second derivatives of the logarithm of the likelihood, inverted
 where the sum of the ratings is 0."""
 
 import math

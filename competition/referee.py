@@ -9,7 +9,7 @@ import sys
 import tempfile
 
 PROGRAM = "ggp_manager"
-# A desk opens a match only with a player for each role, so of so many tries one tells the roles.
+# A desk opens a match only with a player for each role, so one of this many tries tells the number of roles.
 MOST_ROLES = 16
 # Accounts that are replayed in one run: their bytes, and a desk's matches.
 MOST_BYTES, MOST_MATCHES = 200_000_000, 1_000

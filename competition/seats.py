@@ -1,4 +1,4 @@
-"""Which players are free: each sits in so many matches at a time, and rests for a while after it was busy or silent."""
+"""Which players are free: each sits in a limited number of matches at a time, and rests for a while after it was busy or silent."""
 
 import time
 

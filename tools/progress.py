@@ -54,7 +54,7 @@ def behind(deps, seconds):
 
 
 def time_left(deps, seconds, begun, ended, lanes):
-    """Returns the seconds until all crates have ended, each begun once those below it have, the longest chains first, on so many lanes.
+    """Returns the seconds until all crates have ended, each begun once those below it have, the longest chains first, on `lanes` lanes.
     `begun` has the seconds that each running crate has taken so far."""
     now, done, chain = 0.0, set(ended), behind(deps, seconds)
     running = [(max(seconds[name] - taken, 1.0), name) for name, taken in begun.items()]

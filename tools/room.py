@@ -29,6 +29,6 @@ def processors(group=GROUP):
 
 
 def at_once(needs, free=None, lanes=None):
-    """Returns how many processes that need so many bytes run well side by side: one a processor, as many as memory holds."""
+    """Returns how many processes run well side by side if each needs `needs` bytes: one a processor, as many as memory holds."""
     free = free_memory() if free is None else free
     return max(1, min(lanes or processors(), free // needs))

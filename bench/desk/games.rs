@@ -40,7 +40,7 @@ pub struct Position {
     on_turn: usize,
 }
 
-/// Two roles in turn take one or two from a heap. Who finds it empty has goal 0, the other 100.
+/// Two roles in turn take one or two from a heap. The role that finds it empty has goal 0, the other 100.
 pub struct Countdown {
     pub size: u8,
 }
@@ -92,7 +92,7 @@ impl Game for Countdown {
     }
 }
 
-/// Two roles in turn take one or two, without an end, and each state has so many terms more that stay. The script `desk` writes
+/// Two roles in turn take one or two, without an end, and each state has this many further terms that stay. The script `desk` writes
 /// the same game as a ground description.
 pub struct Endless {
     pub terms: usize,

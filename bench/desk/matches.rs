@@ -136,7 +136,7 @@ pub struct Settlement<M> {
     pub goals: Vec<u8>,
 }
 
-/// What comes in a state after so many turns.
+/// What comes in a state after this many turns.
 pub fn settle<G: Game>(game: &G, state: &G::State, turns: usize, retired: usize) -> Settlement<G::Move> {
     let roles = game.roles().len();
     let mut settlement = Settlement { stage: Stage::Playing, legal: vec![], goals: vec![] };

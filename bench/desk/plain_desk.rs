@@ -16,7 +16,7 @@ use verify::verify;
 const MAX_SCRIPT: u64 = 1_048_576;
 const MAX_RECORD: u64 = 16_777_216;
 
-/// All of standard input, where it has so many bytes at most.
+/// All of standard input, if it has at most this many bytes.
 fn input(most: u64) -> Result<Vec<u8>, String> {
     let mut input = vec![];
     io::stdin().lock().take(most + 1).read_to_end(&mut input).map_err(|_| "read fault")?;

@@ -43,7 +43,7 @@ def asked_in_shell(program, words, streams, text=b"", before=""):
 
 
 def asked_by_bytes(program, words, count):
-    """Does so on an input of so many bytes of which each takes a read of its own."""
+    """Does so on an input of this many bytes, each of which takes a read of its own."""
     ours, theirs = socket.socketpair(socket.AF_UNIX, socket.SOCK_SEQPACKET)
     with subprocess.Popen([program, *words], stdin=theirs, stdout=subprocess.PIPE, stderr=subprocess.PIPE) as child:
         theirs.close()
@@ -148,7 +148,7 @@ def reset(connection):
 
 
 def answers(reply, thinking=0):
-    """Returns what serves each connection with these bytes, so many seconds after the request is read."""
+    """Returns what serves each connection with these bytes, this many seconds after the request is read."""
 
     def serve(connection):
         body_of(connection)
@@ -159,5 +159,5 @@ def answers(reply, thinking=0):
 
 
 def told(answer, thinking=0):
-    """Returns what serves each connection with this answer, after so many seconds."""
+    """Returns what serves each connection with this answer, after this many seconds."""
     return answers(f"HTTP/1.0 200 OK\r\nContent-Length: {len(answer)}\r\n\r\n{answer}".encode(), thinking)

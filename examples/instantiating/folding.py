@@ -168,7 +168,7 @@ class Folded:
             self.settle()
 
     def costs_of_placing(self):
-        """Of each head that is asked for alone, how many bytes it costs to put its formula there."""
+        """For each head that is only asked for, how many bytes it costs to put its formula there."""
         uses, sizes, depths = self.uses(), self.formulas.sizes, self.formulas.depths
         deepest = max((depths[it] for bodies in self.bodies.values() for body in bodies for it in body), default=0)
         for head, bodies in self.bodies.items():
@@ -202,7 +202,7 @@ class Folded:
         return frozenset(found)
 
     def share_bodies(self, most):
-        """Makes a sentence of each body that is that of many, where that makes the text smaller, up to so many sentences."""
+        """Makes a sentence of each body that many sentences have, if that makes the text smaller, up to this many sentences."""
         counts = Counter(body for bodies in self.bodies.values() for body in bodies if len(body) > 1)
         name_size, gains = len(self.word) + 4, []
         for place, (body, count) in enumerate(counts.items()):
@@ -222,7 +222,7 @@ class Folded:
         return self.formulas.atom(f"{self.word}{self.part_count}")
 
     def share(self, most):
-        """Makes a sentence of each formula that stands in many, where that makes the text smaller, up to so many sentences."""
+        """Makes a sentence of each formula that stands in many, if that makes the text smaller, up to this many sentences."""
         refs = Counter(it for bodies in self.bodies.values() for body in bodies for it in body)
         nodes, sizes = self.formulas.nodes, self.formulas.sizes
         for number in range(len(nodes) - 1, -1, -1):
@@ -318,7 +318,7 @@ def fresh_part(taken):
 
 
 def folded(rules, most_sentences, most_bytes):
-    """The game folded, to so many sentences and bytes at most where that can be."""
+    """The game folded, if possible to at most this many sentences and bytes."""
     game = Folded(rules)
     game.settle()
     game.merge()

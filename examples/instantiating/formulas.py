@@ -83,7 +83,7 @@ class Formulas:
         return [number]
 
     def allowed(self, number):
-        """Of a formula that speaks of one role's moves alone: the role, and the moves with which it is true. Of others none."""
+        """For a formula that speaks of one role's moves alone: the role, and the moves with which it is true. Otherwise none."""
         node = self.nodes[number]
         if node[0] == "not":
             found = self.allowed(node[1])

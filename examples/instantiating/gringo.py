@@ -152,7 +152,7 @@ class Grounder:
                 yield int(name[1:]), term_list(rest.rpartition(")")[0])
 
     def lists_in(self, rule):
-        """How many lists the largest of the sentences has that were found of a rule's relation."""
+        """How many lists the largest sentence has among those that were found for a rule's relation."""
         return self.lists.get(self.program.name(relation(rule.head)), 0)
 
     def largest(self):

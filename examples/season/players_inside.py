@@ -15,7 +15,7 @@ class Seat:
         self.role, self.heap, self.sent = role, heap, []
 
     def move(self, message, most):
-        """Returns a legal move: the role whose turn it is takes so many at most. Red begins."""
+        """Returns a legal move: the role whose turn it is takes at most this many. Red begins."""
         self.heap -= sum(map(int, re.findall(r"\(take (\d+)\)", message)))
         turn = ROLES[len(self.sent) % 2]
         self.sent.append(f"(take {min(self.heap, most)})" if turn == self.role else "noop")
@@ -24,7 +24,7 @@ class Seat:
 
 class Player:
     """A player that thinks for some seconds before each answer. It sits in any number of matches at a time; one that is strict sits in
-    one, and answers START with `busy` until that is over. Its answers may be made longer, by so many spaces."""
+    one, and answers START with `busy` until that is over. Its answers may be made longer, by this many spaces."""
 
     def __init__(self, name, heap, think=0.0, is_strict=False, padding=0):
         self.name, self.heap, self.think, self.is_strict, self.padding = name, heap, think, is_strict, padding

@@ -122,7 +122,7 @@ impl<O: Object> RingDesk<O> {
             (λ served. Gains self.old.journal.history self.new.journal.history (length self.old.ports) served)
             (λ fault. Gains self.old.journal.history self.new.journal.history fault.line fault.served) }
 
-        // No line is left out before the one at which it stops, and no call is taken from a line that is passed by.
+        // No line before the one at which it stops is left out, and no call is taken from a line that is skipped.
         ensures visits { MatchResult result
             (λ _. Visits self.old.journal.history self.new.journal.history self.old.ports self.new.ports (length self.old.ports))
             (λ fault. Visits self.old.journal.history self.new.journal.history self.old.ports self.new.ports fault.line) }

@@ -30,7 +30,7 @@ pub enum WrongValue<'a> {
 /// Why a command line is refused.
 #[derive(Clone, Copy)]
 pub enum ArgumentFault<'a> {
-    /// The words have not the form of a command line.
+    /// The words do not have the form of a command line.
     Form,
     /// A value is wrong.
     Value(WrongValue<'a>),

@@ -19,7 +19,7 @@ fn is_option(word: &str, option: &str) -> bool {
     }
 }
 
-/// Whether a command line has one of the commands or options that explain a fault before its own line, even where standard error is no
+/// Whether a command line has one of the commands or options that explain a fault before its own line, even if standard error is no
 /// terminal.
 pub fn has_own_word(words: &[String]) -> bool {
     let is_own = |word: &String| OWN_OPTIONS

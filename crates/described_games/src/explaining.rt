@@ -46,7 +46,7 @@ fn push_together(
     Ok(())
 }
 
-/// The words about a part that has not its form, if its first word names no form.
+/// The words about a part that does not have its form, if its first word names no form.
 fn form_words(part: Part) -> &'static str {
     match part {
         Part::Fact | Part::Rule => "neither a fact nor a rule",

@@ -11,7 +11,7 @@ pub enum Words {
     /// The same as at the place before.
     Same,
     Plain(&'static str),
-    /// The expression there has not this form.
+    /// The expression there does not have this form.
     NoForm(&'static str),
     /// This byte does not belong to KIF text.
     BadByte(u8),

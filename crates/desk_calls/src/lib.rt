@@ -1,8 +1,7 @@
 //! What is said at a desk: the calls, their replies, and what these speak of, which are names and clocks, the setup of a
 //! match, what a role is owed, a player's answer, and where a match stands.
 //!
-//! It says what a call is and not what it does: that is `match_desk`, over the matches of `match_book`. So whatever makes calls
-//! needs neither.
+//! It says what a call is, and not what it does: `match_desk` says that, over the matches of `match_book`. A caller needs neither.
 #![tactic(auto)]
 
 mod answer;

@@ -1,8 +1,8 @@
 //! The commands over standard input and output that need one game and no players: a script on a desk, the check of a record or of each
 //! line as one, and the calls of an account made again.
 //!
-//! `for_game` performs one of them for the game of the command line. `done_matches` reads which matches a file of records has finished
-//! or aborted. `Fault` is every fault of the program.
+//! `for_game` performs one of them for the game of the command line. `done_matches` reads from a file of records which matches have
+//! finished or were aborted. `Fault` is every fault of the program.
 //!
 //! Free functions take the allocator first, behind a handle for files.
 #![tactic(auto)]

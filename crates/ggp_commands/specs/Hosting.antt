@@ -11,6 +11,6 @@ use Rattle.packed_rules.specs.declared.packed_game.PackedGame.{PackedGame}
 abbrev pub AreSpelled : List ℕ → List Expr → Type 0
 AreSpelled text rules = (sentences : Expressions) × SpellsAll text sentences × (views rules ≡ all_folded sentences)
 
--- the game's own sentences, or where a file of other rules is given those of a text
+-- the game's own sentences, or if a file of other rules is given, those of a text
 abbrev pub AreRulesFor : {F : Type 0} → Option F → PackedGame → List Expr → Type 0
 AreRulesFor told game rules = MatchOption told (map view rules ≡ sentences_of game) (λ file. (text : List ℕ) × AreSpelled text rules)

@@ -1,4 +1,4 @@
--- What a match of its own writes.
+-- What a single match writes.
 use Rattle.std.specs.Prelude.{ℕ, List, Option}
 use Rattle.std.specs.Io.KnownBytes.{Appends}
 use Rattle.role_workers.specs.Handing.{Handed}

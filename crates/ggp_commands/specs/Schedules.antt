@@ -22,7 +22,7 @@ is_left noted plan = not (is_noted noted (match_names plan.id.now (map (λ p. p.
 abbrev pub left_of : DoneMatches → List MatchPlan → List MatchPlan
 left_of noted plans = filter (is_left noted) plans
 
--- the matches of a schedule with this number of strikes, without those that are noted where a file of matches that are done is given
+-- the matches of a schedule with this number of strikes; if a file of finished matches is given, without those that are noted
 abbrev pub AreToPlay : {F : Type 0} → ℕ → Option F → List ℕ → List MatchPlan → Type 0
 AreToPlay strikes done schedule plans = (all : List MatchPlan) × AllZip (IsPlanned strikes) (match_lines schedule) all
     × MatchOption done (plans ≡ all) (λ file. (noted : DoneMatches) × (plans ≡ left_of noted all))

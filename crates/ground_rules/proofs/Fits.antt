@@ -58,7 +58,7 @@ fits-below w number u v rules sound ranked fu fv (suc k) a below =
 pub fits-unique : {A T : Type 0} (w : Situation A T) (number : A → ℕ) (u v : A → Bool) (rules : List (Rule A T)) → ((x y : A) → w.same x y ≡ true → x ≡ y) → IsNumbering number rules → Fits w rules u → Fits w rules v → (a : A) → u a ≡ v a
 fits-unique w number u v rules sound ranked fu fv a = fits-below w number u v rules sound ranked fu fv (suc (number a)) a (omega arith)
 
--- the truth of an atom, as far as so many steps find it
+-- the truth of an atom, as far as this many steps find it
 abbrev pub found : {A T : Type 0} → Situation A T → List (Rule A T) → ℕ → A → Bool
 found w rules zero a = false
 found w rules (suc k) a = derived w (found w rules k) rules a

@@ -14,7 +14,7 @@ pub record HasRoles (d : Description) : Type 0 where
   pub some' : role_names d ≢ []
   pub differ : are_different (role_names d) ≡ true
 
--- the first fault of a description of so many sentences
+-- the first fault of a description with this number of sentences
 abbrev pub IsDescriptionFault : ℕ → Description → LoadFault → Type 0
 IsDescriptionFault n d NoRole = role_names d ≡ []
 IsDescriptionFault n d RoleTwice = (role_names d ≢ []) × (are_different (role_names d) ≡ false)
@@ -26,7 +26,7 @@ IsDescriptionFault n d (Variable i) = ⊥
 IsDescriptionFault n d (BadForm i) = ⊥
 IsDescriptionFault n d (Misplaced i) = ⊥
 
--- a description of so many sentences without fault
+-- a description with this number of sentences, without fault
 pub record IsSound (n : ℕ) (d : Description) : Type 0 where
   pub roles : HasRoles d
   pub small : is_small n d ≡ true

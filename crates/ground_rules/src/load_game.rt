@@ -29,7 +29,7 @@ pub fn load(alloc: Global, sentences: &[Expr]) -> Result<GroundGame, LoadFault>
     load_folded(alloc, description)
 }
 
-/// What `load` returns, of sentences that are given up: the game keeps them, where `load` makes copies.
+/// What `load` returns. The game keeps these sentences, whereas `load` makes copies.
 pub fn load_own(alloc: Global, sentences: Vec<Expr>) -> Result<GroundGame, LoadFault>
     ensures { IsLoadAnswer (map folded (map expression sentences.items)) result }
 {

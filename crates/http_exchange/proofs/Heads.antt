@@ -128,7 +128,7 @@ starts kind bytes head is =
           ]
     ]
 
--- ---- what is said of a head stays said
+-- ---- a verdict on a head stays
 
 front_on : (bytes more : List ℕ) → front (bytes ++ more) ≡ front bytes ++ take (max_head - length bytes) more
 front_on bytes more = front_split bytes max_head more

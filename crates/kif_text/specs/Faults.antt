@@ -1,4 +1,4 @@
--- Which fault a text has: the one at the least place, or else one at its end.
+-- Which fault a text has: the one at the lowest place, or else one at its end.
 use Rattle.std.specs.Prelude.{◌≡◌, ℕ, zero, suc, ◌+◌, ◌-◌, ◌<◌, ◌≤◌, List, [], ◌∷◌, length, take, slice_index, count_by, Bool, true, false, not, ◌&&◌, ◌||◌, ◌==◌, if◌then◌else◌}
 use Rattle.game_core.specs.Bytes.{is_white, is_atom_byte, line_feed, space, semicolon, left_parenthesis, right_parenthesis}
 use Rattle.game_core.specs.Expression.{max_depth}
@@ -90,8 +90,7 @@ IsUnclosed t i = (0 < level t (length t)) × StaysOpen t i × ((k : ℕ) → Sta
 abbrev pub IsNothing : List ℕ → Type 0
 IsNothing t = (level t (length t) ≡ 0) × (started t (length t) ≡ 0)
 
--- why a text is refused: its length, or else the fault at the least place, or else a fault at its end; or out of
--- memory
+-- why a text is refused: its length, or else the fault at the lowest place, or else a fault at its end; or out of memory
 abbrev pub IsFault : Bool → List ℕ → KifFault → Type 0
 IsFault one text (BadByte at) = (length text ≤ max_length) × IsFirst one (bare text) (BadByte at)
 IsFault one text (Unopened at) = (length text ≤ max_length) × IsFirst one (bare text) (Unopened at)

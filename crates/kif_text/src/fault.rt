@@ -7,7 +7,7 @@ use thiserror::Error;
 
 /// Why a text is refused. Places count the bytes of the text from 0.
 ///
-/// `TooLong` comes before all other faults. Then the fault at the least place counts. `Unclosed`
+/// `TooLong` comes before all other faults. Then the fault at the lowest place counts. `Unclosed`
 /// and `Nothing` stand at the end of the text, so they count only if there is no other fault.
 #[derive(Clone, Copy, Debug, PartialEq, Eq, Error)]
 pub enum KifFault {

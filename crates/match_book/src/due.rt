@@ -1,11 +1,11 @@
-//! Why it is not said what a match owes to a role.
+//! The fault of asking what a match owes to a role.
 ghost use Rattle.std.specs.Prelude.{◌≡◌};
 ghost use Rattle.match_book.specs.declared.due.OwedFault.TheVariants.{Memory};
 
 use std::alloc::AllocError;
 use thiserror::Error;
 
-/// Why `owed` does not say what is due.
+/// Why `owed` fails.
 #[derive(Clone, Copy, Debug, PartialEq, Eq, Error)]
 pub enum OwedFault {
     /// The game has no such role.

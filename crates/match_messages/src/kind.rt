@@ -38,7 +38,7 @@ impl MessageKind {
     ghost use Rattle.match_messages.specs.MessageKinds.{kind_word};
     ghost use Rattle.match_messages.specs.declared.kind.MessageKind.{MessageKind};
 
-    /// The kind of a message, by the word that its text begins with: none if that is no kind's word.
+    /// The kind of a message, by the word that its text begins with. `None` if that is no kind's word.
     pub fn of(message: &SharedText<'_>) -> Option<MessageKind>
         ensures { MatchOption result ((kind : MessageKind) → ¬ (IsPrefix (kind_word kind) message.now)) (λ kind. IsPrefix (kind_word kind) message.now) }
     {

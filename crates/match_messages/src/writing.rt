@@ -78,7 +78,7 @@ pub(crate) fn push_sentences(
     Ok(())
 }
 
-/// The beginning of START's text: what stands before its rules.
+/// The beginning of START's text, before its rules.
 fn start_front(alloc: Global, id: &Text, role: &Text) -> Result<Vec<u8>, AllocError>
     ensures { IfOk result (λ front. front.items ≡ ((codes "(START" ++ space ∷ id.now) ++ space ∷ role.now) ++ space ∷ []) }
 {
@@ -89,7 +89,7 @@ fn start_front(alloc: Global, id: &Text, role: &Text) -> Result<Vec<u8>, AllocEr
     Ok(front)
 }
 
-/// The end of START's text: what stands behind its rules.
+/// The end of START's text, after its rules.
 fn start_end(alloc: Global, start: u32, play: u32) -> Result<Vec<u8>, AllocError>
     ensures { IfOk result (λ end. end.items ≡ ((space ∷ decimal start) ++ space ∷ decimal play) ++ right_parenthesis ∷ []) }
 {
@@ -100,7 +100,7 @@ fn start_end(alloc: Global, start: u32, play: u32) -> Result<Vec<u8>, AllocError
     Ok(end)
 }
 
-/// The rules of START between these two texts. Where they are printed already they are shared.
+/// The rules of START between these two texts. Rules that are printed already are shared.
 fn around_rules<'r>(
     alloc: Global,
     front: Vec<u8>,

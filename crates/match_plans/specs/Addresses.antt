@@ -12,7 +12,7 @@ use Rattle.match_plans.specs.declared.addresses.PlayerAddress.{PlayerAddress}
 abbrev pub addressed_name : List ℕ → List ℕ
 addressed_name word = before_first (λ b. b == 64) word
 
--- what stands before and behind the last c of a text, by what does so in the text without its first byte
+-- what stands before and after the last c of a text, given the same for the text without its first byte
 abbrev pub cut_here : ℕ → ℕ → List ℕ → Option (List ℕ × List ℕ) → Option (List ℕ × List ℕ)
 cut_here c b more None = if b == c then Some ([], more) else None
 cut_here c b more (Some cut) = Some (b ∷ cut.0, cut.1)
@@ -21,7 +21,7 @@ abbrev pub cut_at_last : ℕ → List ℕ → Option (List ℕ × List ℕ)
 cut_at_last c [] = None
 cut_at_last c (b ∷ more) = cut_here c b more (cut_at_last c more)
 
--- the host and the port in a player's address: the last : behind its first @ cuts them apart
+-- the host and the port in a player's address: the last : after its first @ separates them
 abbrev pub addressed_place : List ℕ → Option (List ℕ × List ℕ)
 addressed_place word = cut_at_last 58 (after_first (λ b. b == 64) word)
 

@@ -65,7 +65,7 @@ IsPlanned strikes (id ∷ start ∷ play ∷ players) plan =
     × AllZip IsAddress players plan.players.items
 IsPlanned strikes words plan = ⊥
 
--- the fault of a match with this id and so many players, behind matches with these ids
+-- the fault of a match with this id and this number of players, after matches with these ids
 abbrev pub misplaced : ℕ → List (List ℕ) → List ℕ → ℕ → Option LineFault
 misplaced roles ids id players = if players == roles then (if list_any (bytes_eq id) ids then Some IdTwice else None) else Some WrongPlayers
 

@@ -4,7 +4,8 @@ ghost use Rattle.match_plans.specs.Numbers.{at_least, decimal_of};
 
 use game_core::numeral::are_digits;
 
-/// Reads a number in decimal digits; leading zeros are taken. `None` if the text is empty, has another byte, or is above `limit`.
+/// Reads a number in decimal digits; leading zeros are accepted. `None` if the text is empty, has another byte, or is above
+/// `limit`.
 pub fn decimal(text: &str, limit: u64) -> Option<u64>
     ensures within { IfSome result (λ number. number ≤ limit) }
     ensures value { result ≡ decimal_of text.now limit }

@@ -1,6 +1,6 @@
 //! A season: the matches of a schedule, some of them at once.
 //!
-//! `play_season` plays the matches and writes their records, each with its account behind it where that is wanted. No player sits in
+//! `play_season` plays the matches and writes their records, each with its account behind it if that is wanted. No player sits in
 //! more of them at a time than it may.
 //!
 //! Free functions take the allocator first, behind a handle for threads and waiting.

@@ -13,7 +13,8 @@ use Rattle.role_workers.specs.Events.{telling}
 use Rattle.role_workers.specs.RoleLines.{line_of}
 use Rattle.role_workers.specs.Places.{EachAt}
 
--- The role was attended with this player, which was left so, over a line that has these entries of the history, and this was its end.
+-- The role was attended with this player, who was left in this state, over a line that has these entries of the history, and this was
+-- its end.
 pub record IsEndOf {P : Type 0} (handed : P → Option (List Handed)) (brief : Brief) (tries role : ℕ) (player player_left : P) (entries : List (Entry Call Reply)) (end : Result ℕ AttendFault) : Type 0 where
   -- the replies that came to the worker: the first replies to its calls, and all of them if it found the end of the match
   pub replies : List Reply

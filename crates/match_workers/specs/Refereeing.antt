@@ -15,8 +15,9 @@ use Rattle.match_workers.specs.Ends.{AreEndsOf}
 use Rattle.role_workers.specs.Handing.{Handed}
 use Rattle.match_workers.specs.LineParts.{OpensMatch, AreRoleLines, AreCounts}
 
--- A match of this game with this setup was played between these players, which were told these sentences, in at most this many tries
--- of each role. It left the players so, and its desk closed with this manager, this history and these numbers of calls by line.
+-- A match of this game with this setup was played between these players, who got these sentences, with at most this many tries for
+-- each role. It left the players in this state, and its desk closed with this manager, this history and these numbers of calls by
+-- line.
 pub record IsRefereed {G S M P : Type 0} (rules : G → Rules S M) (handed : P → Option (List Handed)) (game : G) (setup : Setup) (sentences : List Expr) (tries : ℕ) (players left : List P)
     (d : ManagerValue G M) (history : List (Entry Call Reply)) (made_by_line : List ℕ) (ends : List (Result ℕ AttendFault)) : Type 0 where
   pub headline : HasHeadline rules ((rules game).roles + 1) d history made_by_line

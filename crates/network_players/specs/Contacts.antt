@@ -46,8 +46,8 @@ abbrev pub address_fault : ErrorKind → Option Shortage → ContactFault
 address_fault TimedOut shortage = faults.Late
 address_fault kind shortage = short_fault shortage
 
--- the fault of all addresses so far, by the fault of those before and of the last one; a lack of ports counts only where no other was
--- tried
+-- the fault of all addresses so far, by the fault of those before and of the last one; a lack of ports counts only if no address gave
+-- another fault
 abbrev pub fault_so_far : ContactFault → ContactFault → ContactFault
 fault_so_far (faults.Shortage Ports) last = last
 fault_so_far (faults.Shortage shortage) last = faults.Shortage shortage

@@ -31,7 +31,7 @@ abbrev pub short_halt : Option Shortage → Option Halt
 short_halt (Some shortage) = Some (Short shortage)
 short_halt None = None
 
--- a read or a write failed so where it ran out of time
+-- a read or a write that ran out of time fails so
 abbrev pub IsTimeOut : ErrorKind → Type 0
 IsTimeOut kind = (kind ≡ TimedOut) ⊎ (kind ≡ WouldBlock)
 

@@ -89,7 +89,7 @@ fn address_fault(kind: ErrorKind, shortage: Option<Shortage>) -> ContactFault
 }
 
 /// The fault of all addresses so far. `before` is that of the earlier ones, `last` that of the last one. A lack of ports counts only if
-/// no other address was tried.
+/// no address gave another fault.
 fn fault_so_far(before: ContactFault, last: ContactFault) -> ContactFault
     ensures { result ≡ fault_so_far before last }
 {

@@ -1,5 +1,5 @@
--- Dependence as a fit: an atom depends on something given where a rule of it speaks of that, or of an atom that depends on it.
---
+-- Dependence as a fit: an atom depends on something given if a rule of it speaks of that, or of an atom that depends on it.
+
 use Rattle.std.specs.Prelude.{Bool, true, false, List, map}
 use Rattle.numbered_rules.specs.Literals.{Literal, Literals, Holds, InState, Does, Distinct, Not, Or, End, More, Rule}
 use Rattle.numbered_rules.specs.Numbered.{known}

@@ -32,7 +32,7 @@ abbrev pub derived : {A T : Type 0} → Situation A T → (A → Bool) → List 
 derived w v [] a = false
 derived w v (r ∷ rs) a = (w.same r.head a && all_true w v r.body) || derived w v rs a
 
--- the assignment v fits: a derived atom is true exactly where some rule derives it
+-- the assignment v fits: a derived atom is true exactly if some rule derives it
 abbrev pub Fits : {A T : Type 0} → Situation A T → List (Rule A T) → (A → Bool) → Type 0
 Fits w rules v = (a : _) → v a ≡ derived w v rules a
 

@@ -8,7 +8,7 @@ use Rattle.match_plans.specs.declared.plan.MatchPlan.{MatchPlan}
 abbrev pub nobody : List ℕ
 nobody = codes "nobody"
 
--- of so many players, the one at this role is the player, and every other is nobody
+-- of this many players, the one at this role is the player, and every other is nobody
 pub record AreSeated (player : PlayerAddress) (role roles : ℕ) (players : List PlayerAddress) : Type 0 where
   pub count : length players ≡ roles
   pub seat : role < roles → HoldsAt (λ it. it ≡ player) players role

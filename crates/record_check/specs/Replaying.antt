@@ -40,7 +40,8 @@ abbrev pub IsWrongFor : Bool → List ℕ → Type 0
 IsWrongFor true error = error ≢ retired_text
 IsWrongFor false error = error ≡ retired_text
 
--- The text is that of one of these moves, and the error may stand beside it, but not of a role that is so retired.
+-- The text is that of one of these moves, and the error may stand beside it, but not for a role that is retired, or not retired, as
+-- this one is.
 abbrev pub IsWrongRetired : {S M : Type 0} → Rules S M → Bool → List M → List ℕ → List ℕ → Type 0
 IsWrongRetired {S} {M} g retired moves text error =
     (m : M) × Contains moves m × (g.move_text m ≡ text) × ((error ≡ []) ⊎ ((slice_get moves 0 ≡ Some m) × ¬ (DeniesOne g moves error))) × IsWrongFor retired error
@@ -53,7 +54,7 @@ turn_at lists t = slice_index_or lists t []
 abbrev pub text_at : List (List ℕ) → ℕ → List ℕ
 text_at texts r = slice_index_or texts r []
 
--- In the state s the game goes on, and of these moves and errors those of the roles below r are right, where these roles are retired.
+-- In the state s the game goes on. Of these moves and errors, those of the roles below r are right, given which roles are retired.
 pub record AreRightBelow {S M : Type 0} (g : Rules S M) (retired : ℕ → Bool) (s : S) (moves errors : List (List ℕ)) (r : ℕ) : Type 0 where
   pub goes_on : GoesOn g retired s
   pub within : r < g.roles

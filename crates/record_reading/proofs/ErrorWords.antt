@@ -58,7 +58,7 @@ names_something text o shown is other active (inr (why, same, may)) = named_why 
 fits : (n : ℕ) → n ≤ max_reading → n ≤ max_length
 fits n short = omega arith
 
--- a text that is read is a folded text exactly where it is printed back
+-- a text that is read is a folded text exactly if it is printed back
 pub folded_where_printed : ReadingIsProper → FoldedTextReadsBack → (text : List ℕ) (x : Expression) (b : Bool) → length text ≤ max_reading → reading text ≡ Some x → Decides b (canonical (folded x) ≡ text) → IsTrue b ↔ (IsFoldedText text × (length text ≤ max_reading))
 folded_where_printed proper reads_back text x b short is decides = (to, from)
   where

@@ -26,7 +26,7 @@ abbrev pub prefixes : {A : Type 0} → List A → List (List A)
 prefixes [] = [] ∷ []
 prefixes (x ∷ xs) = [] ∷ map (λ front. x ∷ front) (prefixes xs)
 
--- the goal of each role that has one: these are all roles where the match stops, and else none
+-- the goal of each role that has one: all roles if the match stops, and otherwise none
 abbrev pub goals_from : ℕ → (ℕ → Option ℕ) → List ℕ
 goals_from zero goal = []
 goals_from (suc n) goal = goals_from n goal ++ option_to_list (goal n)

@@ -332,8 +332,8 @@ fn tree_of(alloc: Global, text: &[u8]) -> Result<Value, VerifyFault>
     }
 }
 
-/// What a text says, if it has the shape of a record of the game. The text is a lawful record exactly where the record
-/// of some lawful match says the same.
+/// What a text says, if it has the shape of a record of the game. The text is a lawful record exactly if the record of some lawful
+/// match says the same.
 pub fn read_record<G: Game>(
     alloc: Global,
     game: &G,

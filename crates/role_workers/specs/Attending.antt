@@ -26,7 +26,7 @@ pub record Attends (brief : Brief) (role tries : ℕ) (before after : Telling) (
   pub told : after ≡ telling_with before (events_of_all brief role (steps ++ finds_the_end ∷ []))
   pub count : messages ≡ length (filter_map message_in (events_of_all brief role steps))
 
--- what a player shows that shows its messages: as many more as were counted
+-- what a player that shows its messages shows: as many more as were counted
 abbrev pub MessagesAreCounted : Type 0
 MessagesAreCounted = (brief : Brief) (role tries : ℕ) (before after : Telling) (messages : ℕ) (old new : List Handed)
     → Attends brief role tries before after messages → before.messages ≡ Some old → after.messages ≡ Some new → length new ≡ length old + messages

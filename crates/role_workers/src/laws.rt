@@ -2,7 +2,7 @@
 ghost use Rattle.role_workers.specs.Attending.{MessagesAreCounted};
 ghost use Rattle.role_workers.specs.Laws.{CallsAreOfTheRole, CallsHaveReplies, OwedAreCounted};
 
-/// Where attending a role found the end of the match, a player that shows its messages shows as many more as were counted.
+/// If attending a role found the end of the match, a player that shows its messages shows as many more as were counted.
 pub fn messages_are_counted()
     ensures { MessagesAreCounted }
 {}

@@ -224,8 +224,8 @@ where
     Ok(handles)
 }
 
-/// Ends the work of these threads, where the other roles have none: gives those up over the calling thread's own wire, and joins the
-/// threads, whose results are dropped.
+/// Ends the work of these threads when the other roles have no thread. Gives the other roles up over the calling thread's own wire,
+/// and joins the threads; their results are dropped.
 fn end_seats<O, N, W, P, R>(
     rt: &R,
     alloc: Global,

@@ -57,8 +57,8 @@ impl<'a, O: Object<Call = Call, Reply = Reply>, N: Naming<O>> Wire for ServedWir
     ghost same_line = { λ v w. SameLine v.line w.line };
 
     /// Posts the call and takes one reply. This is the reply to the call if the line had taken as many replies as it posted calls.
-    /// The wire stalls if no reply comes within its turns, or if the desk's history is full. A stalled wire does nothing more, but a
-    /// call that was posted stays posted.
+    /// The wire stalls if no reply comes within `TURNS` looks, or if the desk's history is full. A stalled wire does nothing more,
+    /// but a call that was posted stays posted.
     fn ask(&mut self, call: Call) -> Result<Reply, AskFault>
         ensures line { SameLine self.old.line self.new.line }
         ensures call { OnOk result (Some (posted_calls self.new.line) ≡ told_with (Some (posted_calls self.old.line)) (call ∷ [])) }
@@ -92,7 +92,7 @@ impl<'a, O: Object<Call = Call, Reply = Reply>, N: Naming<O>> Wire for ServedWir
 }
 
 /// Takes the reply that the line waits for. While it is not there, the thread serves rounds, or lets moments pass in which another
-/// one does. It gives up after its turns, or once the history is full.
+/// thread does. It gives up after `TURNS` looks, or once the history is full.
 fn take_served<O: Object<Call = Call, Reply = Reply>, N: Naming<O>>(
     line: &mut RingLine<O>,
     desk: &SharedDesk<O, N>,

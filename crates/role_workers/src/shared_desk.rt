@@ -36,7 +36,7 @@ struct NamedDesk<O: Object<Call = Call, Reply = Reply>, N: Naming<O>> {
 }
 
 impl<O: Object<Call = Call, Reply = Reply>, N: Naming<O>> NamedDesk<O, N> {
-    /// Serves a round: no line is left out, before the one at which it stops.
+    /// Serves a round. No line before the one at which it stops is left out.
     fn round(&mut self) -> Result<u64, DeskFault>
         ensures visits { MatchResult result
             (λ _. Visits self.old.desk.journal.history self.new.desk.journal.history self.old.desk.ports self.new.desk.ports (length self.old.desk.ports))

@@ -13,7 +13,7 @@ use Rattle.rule_sentences.specs.Sentences.{TextLiteral, TextLiterals, literal_of
 use Rattle.rule_sentences.specs.Terms.{term_text}
 use Rattle.rule_sentences.specs.Words.{word_of}
 
--- both values, where there are both
+-- both values, if there are both
 abbrev pub both : {A B C : Type 0} → (A → B → C) → Option A → Option B → Option C
 both f (Some x) (Some y) = Some (f x y)
 both f (Some x) None = None

@@ -48,7 +48,7 @@ abbrev pub have_few_moves : List (List ℕ) → Description → Bool
 have_few_moves [] d = true
 have_few_moves (n ∷ ns) d = nat_le (length (moves_in n (heads d))) max_moves && have_few_moves ns d
 
--- the size is within the limits, for a description of so many sentences
+-- the size is within the limits, for a description with this number of sentences
 abbrev pub is_small : ℕ → Description → Bool
 is_small sentences d =
     nat_le sentences max_sentences

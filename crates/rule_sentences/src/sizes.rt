@@ -74,7 +74,7 @@ pub fn count_atomic_sentences(alloc: Global, rules: &[Rule]) -> Result<usize, Al
     Ok(set.len())
 }
 
-/// What is left of the room beside the atomic sentences of the literal, each counted as often as it stands there.
+/// The room that is left after the atomic sentences of the literal, each counted as often as it stands there.
 #[cycle(room_beside)]
 fn room_beside(literal: &Literal, room: usize) -> usize
     ensures { result ≡ room - length (atomics_in (view literal.now)) }
@@ -109,8 +109,8 @@ fn name_few_atomic_sentences(rules: &[Rule]) -> bool
     left > 0
 }
 
-/// Whether the rules have at most `MAX_ATOMIC_SENTENCES` distinct atomic sentences: where they name no more at all, which takes no
-/// set, and else by their count.
+/// Whether the rules have at most `MAX_ATOMIC_SENTENCES` distinct atomic sentences. If they name no more at all, this takes no set;
+/// otherwise the distinct ones are counted.
 pub fn have_few_atomic_sentences(alloc: Global, rules: &[Rule]) -> Result<bool, AllocError>
     ensures { IfOk result (λ b. b ≡ nat_le (length (each_once same_atomic (atomics (rules_of rules.now)))) max_atomic_sentences) }
 {

@@ -1,7 +1,7 @@
 //! A text that lies in parts, from some place on.
 ghost use Rattle.std.specs.Prelude.{◌≡◌, ◌<◌, ◌≤◌, ◌++◌, ℕ, List, length, drop};
 
-/// What stands from the place on in one of two parts that follow each other: the rest of the first, or else that of the second.
+/// The text from the place on in one of two parts that follow each other: the rest of the first part, or else that of the second.
 pub(crate) fn rest_of<'a>(first: &'a [u8], second: &'a [u8], place: usize) -> &'a [u8]
     requires { place ≤ length (first.now ++ second.now) }
     ensures front { (more : List ℕ) × (result.now ++ more ≡ drop place (first.now ++ second.now)) }

@@ -80,7 +80,7 @@ impl<'a> SharedText<'a> {
         self.own.len() + self.shared.len()
     }
 
-    /// What stands from the place on, up to the end of a part at the most.
+    /// The text from the place on, at most up to the end of a part.
     pub fn rest(&self, place: usize) -> &[u8]
         requires { place ≤ length self.now }
         ensures front { (more : List ℕ) × (result.now ++ more ≡ drop place self.now) }

@@ -41,7 +41,8 @@ pub record IsTestOf (b : Bool) (P : Type 0) : Type 0 where
   pub yes : b ≡ true → P
   pub no : b ≡ false → ¬ P
 
--- a description of so many sentences without fault, with its names and what its roles look up
+-- a description with this number of sentences, without fault, with its names and what its roles
+-- look up
 pub record AreNamesOf (n : ℕ) (d : Description) (t : NameTable) (roles : List RoleTable) : Type 0 where
   pub sound : IsSound n d
   pub table : IsTableOf d t

@@ -74,12 +74,12 @@ abbrev pub head_terms : TermKind → Description → List (List ℕ)
 head_terms kind [] = []
 head_terms kind (r ∷ rs) = terms_in kind r.head ++ head_terms kind rs
 
--- the mentions behind one of the term in the head numbered n, where it has one
+-- the mentions, with one more of the term in the head numbered n before them, if the head has one
 abbrev pub with_mention : List (List ℕ) → ℕ → Option (List ℕ) → List Mention → List Mention
 with_mention terms n (Some t) ms = record { term = place bytes_eq terms t; atom = n } ∷ ms
 with_mention terms n None ms = ms
 
--- the mentions in the heads, numbered from n on, of which pick gives the terms
+-- the mentions in the heads, which are numbered from n on; pick gives their terms
 abbrev pub mentions_by : (Derived → Option (List ℕ)) → List (List ℕ) → ℕ → List Derived → List Mention
 mentions_by pick terms n [] = []
 mentions_by pick terms n (a ∷ as') = with_mention terms n (pick a) (mentions_by pick terms (n + 1) as')

@@ -27,7 +27,7 @@ abbrev pub all_agree : List ℕ → List MoveTest → Bool
 all_agree joint [] = true
 all_agree joint (t ∷ ts) = agrees joint t && all_agree joint ts
 
--- the literals are true, in a row of so many terms and behind them the derived atoms
+-- the literals are true, in a row of this many terms and then the derived atoms
 abbrev pub all_fire : ℕ → List ℕ → List Bool → List Test → List MoveTest → List CodeLiteral → Bool
 all_fire terms joint bits tests moves others = all_agree joint moves && (all_pass bits tests && all_true (numbered (take terms bits) joint) (bit (drop terms bits)) (views others))
 
