@@ -243,6 +243,10 @@ where
     ensures { OnOk result (AreGivenUp W.Wire others.now own.old own.new) }
 {
     let given_up = give_up_all(alloc, own, others);
+    if given_up.is_err() {
+        // Roles that are not given up hold the match up for good, so the other workers are stopped.
+        desk.stop();
+    }
     desk.serve_until(rt, handles.len() as u64);
     for handle in handles {
         let _ = handle.join(rt);

@@ -57,7 +57,7 @@ impl<'a, O: Object<Call = Call, Reply = Reply>, N: Naming<O>> Wire for ServedWir
     ghost same_line = { λ v w. SameLine v.line w.line };
 
     /// Posts the call and takes one reply. This is the reply to the call if the line had taken as many replies as it posted calls.
-    /// The wire stalls if no reply comes within `TURNS` looks, or if the desk's history is full. A stalled wire does nothing more,
+    /// The wire stalls if no reply comes within `TURNS` looks, or if the desk has stopped. A stalled wire does nothing more,
     /// but a call that was posted stays posted.
     fn ask(&mut self, call: Call) -> Result<Reply, AskFault>
         ensures line { SameLine self.old.line self.new.line }
@@ -92,7 +92,7 @@ impl<'a, O: Object<Call = Call, Reply = Reply>, N: Naming<O>> Wire for ServedWir
 }
 
 /// Takes the reply that the line waits for. While it is not there, the thread serves rounds, or lets moments pass in which another
-/// thread does. It gives up after `TURNS` looks, or once the history is full.
+/// thread does. It gives up after `TURNS` looks, or once the desk has stopped.
 fn take_served<O: Object<Call = Call, Reply = Reply>, N: Naming<O>>(
     line: &mut RingLine<O>,
     desk: &SharedDesk<O, N>,
@@ -104,7 +104,7 @@ fn take_served<O: Object<Call = Call, Reply = Reply>, N: Naming<O>>(
 {
     for tried in 0..TURNS {
         // A reply is sent before the history is found full, so the last look comes after that.
-        let is_last = desk.is_full();
+        let is_last = desk.has_stopped();
         if let Some(reply) = line.take() {
             return Some(reply);
         }

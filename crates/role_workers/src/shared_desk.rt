@@ -79,14 +79,19 @@ impl<O: Object<Call = Call, Reply = Reply>, N: Naming<O>> SharedDesk<O, N> {
         let served = named.round();
         if let Err(DeskFault { cause, .. }) = served {
             if cause == CallFault::Full {
-                self.bell.stop();
+                self.stop();
             }
         }
         served.is_ok()
     }
 
-    /// Whether a round found the history full, so that no call can be made any more.
-    pub fn is_full(&self) -> bool {
+    /// Ends the work of all threads over this desk: a wire that waits for a reply, or makes a further call, stalls.
+    pub fn stop(&self) {
+        self.bell.stop();
+    }
+
+    /// Whether all threads over this desk are to end: a round found the history full, or the desk was stopped.
+    pub fn has_stopped(&self) -> bool {
         self.bell.has_stopped()
     }
 
