@@ -7,8 +7,8 @@ use game_core::Counted;
 use std::alloc::Global;
 use std::fmt::Write as _;
 use std::io::{ErrorKind, Write};
-use std::sync::{Condvar, Mutex, Wait};
-use std::time::Clock;
+use std::sync::{Condvar, CondvarTimeouts, Mutex, Wait};
+use std::time::{Clock, Duration};
 use std::{io, mem};
 use whole_streams::{Pieces, write_all};
 
@@ -106,31 +106,42 @@ impl Notices {
         self.changed.notify_one();
     }
 
-    /// Waits for reports, and takes them.
-    fn take<R: Wait>(&self, rt: &R) -> Waiting {
-        let mut waiting = self
-            .changed
-            .wait_while(rt, self.waiting.lock(rt), |waiting| waiting.is_idle());
+    /// Waits for reports, for this time at most if one is given, and takes them.
+    fn take<H: Clock + Wait>(&self, rt: &H, at_most: Option<Duration>) -> Waiting {
+        let waiting = self.waiting.lock(rt);
+        let mut waiting = match at_most {
+            Some(time) => {
+                self.changed
+                    .wait_timeout_while(rt, waiting, time, |waiting| waiting.is_idle())
+                    .0
+            }
+            None => self
+                .changed
+                .wait_while(rt, waiting, |waiting| waiting.is_idle()),
+        };
         let nothing = Waiting::nothing(self.alloc, waiting.is_closed);
         mem::replace(&mut *waiting, nothing)
     }
 
-    /// Writes the reports until they end. Rewrites the status line whenever the matches have gone on.
+    /// Writes the reports until they end. Rewrites the status line whenever the matches have gone on: at once, or as soon as the line
+    /// has stood for a moment.
     pub fn write_until_closed<H: Clock + Wait, E: Write>(
         &self,
         rt: &H,
         progress: &Progress,
         stream: &Mutex<StatusStream<E>>,
     ) {
+        // How long the status line has to wait, if it is behind the matches.
+        let mut behind = None;
         for _ in rt.forever() {
-            let waiting = self.take(rt);
+            let waiting = self.take(rt, behind);
             let mut stream = stream.lock(rt);
             waiting.write_to(&mut *stream);
             if waiting.is_closed {
                 return;
             }
-            if waiting.has_moved {
-                stream.show(rt, progress);
+            if waiting.has_moved || behind.is_some() {
+                behind = stream.show(rt, progress);
             }
         }
     }

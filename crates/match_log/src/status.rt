@@ -1,5 +1,5 @@
 //! The status line: one line of a terminal with the progress of matches, which is rewritten as they go on.
-ghost use Rattle.std.specs.Prelude.{IsFalse};
+ghost use Rattle.std.specs.Prelude.{◌≡◌, IsTrue, IsFalse, IfSome, IfNone};
 
 use game_core::Counted;
 use match_messages::MessageKind;
@@ -105,15 +105,22 @@ impl<E: Write> StatusStream<E> {
         }
     }
 
-    /// Rewrites the line, unless that was done a moment ago.
-    pub(crate) fn show(&mut self, clock: &impl Clock, progress: &Progress) {
-        let period = Duration::from_millis(PERIOD_MILLIS);
-        if self.shown_at.is_some() && time_since(clock, self.shown_at) < period {
-            return;
+    /// Rewrites the line, unless that was done a moment ago. Then it returns how long the line has to wait.
+    pub(crate) fn show(&mut self, clock: &impl Clock, progress: &Progress) -> Option<Duration>
+        ensures shown { IfNone result (IsTrue self.new.is_shown) }
+        ensures waits { IfSome result (λ _. self.new ≡ self.old) }
+    {
+        if self.shown_at.is_some() {
+            let period = Duration::from_millis(PERIOD_MILLIS);
+            let left = period.saturating_sub(time_since(clock, self.shown_at));
+            if !left.is_zero() {
+                return Some(left);
+            }
         }
         self.shown_at = Instant::now(clock).ok();
         self.is_shown = true;
         show_progress(&mut self.stream, progress);
+        None
     }
 
     /// Erases the line.
