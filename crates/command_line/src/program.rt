@@ -288,7 +288,8 @@ pub fn program<'a>(alloc: Global) -> Result<Command<'a>, AllocError> {
         .about("The referee of General Game Playing")
         .version(VERSION)
         .no_binary_name(true)
-        .subcommand_required(true);
+        .subcommand_required(true)
+        .bin_name(PROGRAM)?;
     for name in COMMANDS {
         program = program.subcommand(command_named(alloc, name)?)?;
     }

@@ -67,8 +67,7 @@ fn wrong_value(alloc: Global, command: &str, wrong: WrongValue<'_>) -> Result<St
 
 /// The words about a command line of a wrong form, and the usage.
 fn wrong_form<'a>(alloc: Global, words: &'a [&'a str]) -> Result<String, AllocError> {
-    let program = program(alloc)?.bin_name(PROGRAM)?;
-    match program.try_get_matches_from(words) {
+    match program(alloc)?.try_get_matches_from(words) {
         Ok(_) => Ok(String::new(alloc)),
         Err(error) => error.to_string(alloc),
     }
