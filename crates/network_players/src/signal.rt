@@ -1,5 +1,5 @@
 //! The rests of a match's players between their messages, and the signal that wakes them and keeps the match's shortage.
-ghost use Rattle.std.specs.Prelude.{◌≡◌, ◌+◌, ◌-◌, ◌*◌, ◌^◌, min, IfOk, IsFalse, IsTrue, length};
+ghost use Rattle.std.specs.Prelude.{◌≡◌, ◌+◌, ◌-◌, ◌*◌, ◌^◌, min, IfNone, IfOk, IsFalse, IsTrue, length};
 ghost use Rattle.std.specs.Duration.{as_nanos};
 
 use crate::shortage::{code_of, coded};
@@ -107,7 +107,9 @@ impl Signal {
 }
 
 /// The time since `moment`. It is 0 if there is no moment or the clock can't be read.
-pub fn time_since(clock: &impl Clock, moment: Option<Instant>) -> Duration {
+pub fn time_since(clock: &impl Clock, moment: Option<Instant>) -> Duration
+    ensures { IfNone moment (as_nanos result ≡ 0) }
+{
     match moment {
         Some(moment) => moment.elapsed(clock).unwrap_or(Duration::ZERO),
         None => Duration::ZERO,

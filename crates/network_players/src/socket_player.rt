@@ -1,5 +1,5 @@
 //! Players that are reached over the network.
-ghost use Rattle.std.specs.Prelude.{◌≡◌, ◌<◌, Err, IfOk, IsTrue, MatchOption, None, length, string_bytes};
+ghost use Rattle.std.specs.Prelude.{◌≡◌, ◌<◌, Err, IfOk, IsOkAnd, IsTrue, MatchOption, None, length, string_bytes};
 ghost use Rattle.network_players.specs.Contacts.{IsText, answer_of, contact_answer};
 
 use crate::contacting::{ContactFault, Explains, contact_found};
@@ -167,7 +167,9 @@ impl<H: Net + Clock + Wait> Player for SocketPlayer<'_, H> {
         _: Global,
         seconds: u32,
         message: &SharedText<'_>,
-    ) -> Result<Answer, AllocError> {
+    ) -> Result<Answer, AllocError>
+        ensures { IsOkAnd result (λ answer. MatchOption self.new.fault (IsText answer) (λ fault. answer ≡ contact_answer (Err fault))) }
+    {
         Ok(self.hand_over(seconds, message))
     }
 
