@@ -1,4 +1,5 @@
 //! Reaching the players of a match.
+ghost use Rattle.std.specs.Prelude.{◌≡◌, Ok};
 
 use crate::addresses::PlayerAddress;
 use std::alloc::{AllocError, Global};
@@ -15,11 +16,18 @@ pub struct RolePlace<'a> {
 
 /// Reaches players.
 pub trait Reach<P> {
+    ghost use Rattle.match_plans.specs.declared.addresses.PlayerAddress.{PlayerAddress};
+    ghost use Rattle.match_plans.specs.declared.reach.RolePlace.{RolePlace};
+
+    /// It reaches this player at this address, for this role of a match. By default this says nothing.
+    ghost is_reached: { Self → RolePlace → PlayerAddress → P → Type 0 } = { λ s at address player. Unit {0} };
+
     /// Makes the player at this address, for this role of a match. Nothing is asked of it yet. The error is out of memory.
     fn player(
         &self,
         alloc: Global,
         at: RolePlace<'_>,
         address: &PlayerAddress<'_>,
-    ) -> Result<P, AllocError>;
+    ) -> Result<P, AllocError>
+        ensures { (player : P) → result ≡ Ok player → is_reached self.now at.entry address.now player };
 }
