@@ -1,3 +1,4 @@
 pub mod Shortages
 pub mod Contacts
 pub mod Fronts
+pub mod Players

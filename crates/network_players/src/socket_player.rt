@@ -1,5 +1,5 @@
 //! Players that are reached over the network.
-ghost use Rattle.std.specs.Prelude.{◌≡◌, ◌<◌, Err, IfOk, IsOkAnd, IsTrue, MatchOption, None, length, string_bytes};
+ghost use Rattle.std.specs.Prelude.{◌≡◌, ◌<◌, Err, IsOkAnd, IsTrue, MatchOption, None, length};
 ghost use Rattle.network_players.specs.Contacts.{IsText, answer_of, contact_answer};
 
 use crate::contacting::{ContactFault, Explains, contact_found};
@@ -60,16 +60,16 @@ impl<H> TellsShortages for Sockets<'_, H> {
 }
 
 impl<'a, H: Net + Clock> Reach<SocketPlayer<'a, H>> for Sockets<'a, H> {
+    ghost use Rattle.network_players.specs.Players.{IsPlayerAt};
+
+    ghost is_reached = { λ s at address p. IsPlayerAt address p };
+
     fn player(
         &self,
         alloc: Global,
         at: RolePlace<'_>,
         address: &PlayerAddress<'_>,
-    ) -> Result<SocketPlayer<'a, H>, AllocError>
-        ensures place { IfOk result (λ p. (string_bytes p.host ≡ address.now.host.now) × (p.port ≡ address.now.port)) }
-        ensures name { IfOk result (λ p. string_bytes p.name ≡ address.now.name.now) }
-        ensures nothing_yet { IfOk result (λ p. (p.fault ≡ None) × (p.lookup.found ≡ None)) }
-    {
+    ) -> Result<SocketPlayer<'a, H>, AllocError> {
         let signal = self.signal_at(at.place);
         let name = String::from_str(alloc, address.name)?;
         let host = String::from_str(alloc, address.host)?;
