@@ -1,5 +1,5 @@
 -- The result of a match between players, with the promises of its referee.
-use Rattle.std.specs.Prelude.{◌≡◌, ℕ, List, map, Option, Result}
+use Rattle.std.specs.Prelude.{◌≡◌, ℕ, List, length, map, slice_get, Option, IfSome, Result}
 use Rattle.ground_rules.specs.LoadedGame.{loaded_game}
 use Rattle.packed_rules.specs.PackedGames.{tables_of}
 use Rattle.packed_rules.specs.declared.packed_game.PackedGame.{PackedGame}
@@ -9,9 +9,12 @@ use Rattle.desk_calls.specs.declared.setup.Setup.{Setup}
 use Rattle.match_desk.specs.ManagerValue.{ManagerValue}
 use Rattle.desk_calls.specs.declared.call.Call.{Call}
 use Rattle.desk_calls.specs.declared.call.Reply.{Reply}
+use Rattle.match_plans.specs.declared.addresses.PlayerAddress.{PlayerAddress}
 use Rattle.match_plans.specs.declared.plan.MatchPlan.{MatchPlan}
+use Rattle.match_plans.specs.declared.reach.RolePlace.{RolePlace}
 use Rattle.role_workers.specs.declared.attend_fault.AttendFault.{AttendFault}
 use Rattle.role_workers.specs.Handing.{Handed}
+use Rattle.role_workers.specs.Places.{EachAt}
 use Rattle.match_workers.specs.Refereeing.{IsRefereed}
 use Rattle.match_play.specs.Matches.{IsEndedRecord}
 use Rattle.match_play.specs.RoleTurns.{AreEndedTurns}
@@ -24,6 +27,15 @@ pub record IsSetupOf (plan : MatchPlan) (setup : Setup) : Type 0 where
   pub play : setup.play ≡ plan.play
   pub strikes : setup.strikes ≡ plan.strikes
   pub names : setup.players ≡ map (λ p. p.name.now) plan.players.items
+
+-- the role of a planned match at this place of its season
+abbrev pub role_place : ℕ → MatchPlan → ℕ → RolePlace
+role_place place plan role = record { place = place; id = plan.id; role = role }
+
+-- There is a player for each address of the plan, and each is reached at the address of its role.
+pub record AreReached {S P : Type 0} (is_reached : S → RolePlace → PlayerAddress → P → Type 0) (reach : S) (place : ℕ) (plan : MatchPlan) (players : List P) : Type 0 where
+  pub count : length players ≡ length plan.players.items
+  pub each : EachAt (λ role player. IfSome (slice_get plan.players.items role) (λ address. is_reached reach (role_place place plan role) address player)) players
 
 -- A match of this game was opened with this setup and played by these players, who got these rules. Its record is this text, and its
 -- desk has this history.

@@ -8,7 +8,7 @@ ghost use Rattle.match_workers.specs.Refereeing.{IsRefereed};
 ghost use Rattle.match_play.specs.Matches.{IsEndedRecord, HasEndedMatch, HasNoEndedMatch};
 ghost use Rattle.match_play.specs.EndedMatches.{IsEndedMatch, match_text};
 ghost use Rattle.match_play.specs.Limits.{max_tries};
-ghost use Rattle.match_play.specs.PlayedMatches.{IsSetupOf, IsPlayedMatch};
+ghost use Rattle.match_play.specs.PlayedMatches.{AreReached, IsSetupOf, IsPlayedMatch};
 
 use crate::hosting::HostedGame;
 use call_history::Entry;
@@ -108,7 +108,8 @@ fn players_of<P: Drop, S: Reach<P>>(
     place: usize,
     plan: &MatchPlan<'_>,
 ) -> Result<Vec<P>, AllocError>
-    ensures { IfOk result (λ v. vec_len v ≡ vec_len plan.now.players) }
+    ensures count { IfOk result (λ v. vec_len v ≡ vec_len plan.now.players) }
+    ensures reached { IfOk result (λ v. AreReached S.is_reached reach.now place plan.now v.items) }
 {
     let mut players = Vec::with_capacity(alloc, plan.players.len())?;
     for (role, address) in plan.players.iter().enumerate() {
@@ -140,6 +141,7 @@ pub fn entrants_of<P: Drop, S: Reach<P>>(
 ) -> Result<Entrants<P>, AllocError>
     ensures setup { IfOk result (λ e. IsSetupOf plan.now e.setup) }
     ensures place { IfOk result (λ e. e.place ≡ place) }
+    ensures reached { IfOk result (λ e. AreReached S.is_reached reach.now place plan.now e.players.items) }
 {
     let setup = setup_of(alloc, plan)?;
     let players = players_of(alloc, reach, place, plan)?;
