@@ -1,5 +1,5 @@
 //! A watched player, among players that answer nothing.
-ghost use Rattle.std.specs.Prelude.{◌≡◌, ◌==◌, ◌↔◌, ◌⊎◌, ◌++◌, ◌∷◌, [], IfOk, IsTrue, OnErr, is_some};
+ghost use Rattle.std.specs.Prelude.{◌≡◌, ◌==◌, ◌↔◌, ◌⊎◌, ◌++◌, ◌∷◌, [], IfOk, IfSome, IsTrue, OnErr, is_some};
 ghost use mathlib.Core.List.{IsPrefix};
 ghost use Rattle.match_messages.specs.MessageKinds.{kind_word};
 ghost use Rattle.match_messages.specs.declared.kind.MessageKind.TheVariants.{Play};
@@ -143,14 +143,14 @@ pub struct Participant<'a, H, P> {
 }
 
 impl<'a, H, P, S: Reach<P>> Reach<Participant<'a, H, P>> for Watching<'a, H, S> {
+    ghost is_reached = { λ w at address p. (is_some p.watched ≡ (at.role == w.role)) × IfSome p.watched (S.is_reached w.reach.now at address) };
+
     fn player(
         &self,
         alloc: Global,
         at: RolePlace<'_>,
         address: &PlayerAddress<'_>,
-    ) -> Result<Participant<'a, H, P>, AllocError>
-        ensures { IfOk result (λ p. is_some p.watched ≡ (at.entry.role == self.now.role)) }
-    {
+    ) -> Result<Participant<'a, H, P>, AllocError> {
         let watched = if at.role == self.role {
             Some(self.reach.player(alloc, at, address)?)
         } else {
