@@ -4,26 +4,25 @@ use Rattle.std.specs.Prelude.{slice_set}
 use Rattle.std.proofs.lemmas.Bool.{cases_eq, cases_lt}
 use Rattle.std.proofs.lemmas.List.{get_or-set_same, get_or-set_other, get_or_past, get_or-replicate, length-replicate, set_past}
 use Rattle.match_season.specs.Seasons.{ArePlaced, settled_on}
-use Rattle.match_season.specs.declared.season_output.Over.{Over}
 
-pub placed-set : (waiting : List (Option Over)) (place : ℕ) (it : Option Over) → ((over : Over) → it ≡ Some over → over.place ≡ place) → ArePlaced waiting → ArePlaced (set waiting place it)
-placed-set waiting place it right before k over found =
+pub placed-set : {T : Type 0} (at : T → ℕ) (waiting : List (Option T)) (place : ℕ) (it : Option T) → ((over : T) → it ≡ Some over → at over ≡ place) → ArePlaced at waiting → ArePlaced at (set waiting place it)
+placed-set {T} at waiting place it right before k over found =
     elim (cases_eq k place) [
       | inl same ↦
           elim (cases_lt place (length waiting)) [
             | inl within ↦
                 let new : get_or (set waiting place it) place None ≡ it = get_or-set_same waiting place it None within in
                 right over (sym new ∙ subst (λ (n : ℕ). get_or (set waiting place it) n None ≡ Some over) same found) ∙ sym same
-            | inr past ↦ before k over (ap (λ (them : List (Option Over)). get_or them k None) (sym (set_past waiting place it past)) ∙ found)
+            | inr past ↦ before k over (ap (λ (them : List (Option T)). get_or them k None) (sym (set_past waiting place it past)) ∙ found)
           ]
       | inr other ↦ before k over (sym (get_or-set_other waiting place k it None other) ∙ found)
     ]
 
-pub placed-none : (waiting : List (Option Over)) (count : ℕ) → waiting ≡ replicate count None → ArePlaced waiting
-placed-none waiting count is k over found =
-    let none : Option Over = None in
+pub placed-none : {T : Type 0} (at : T → ℕ) (waiting : List (Option T)) (count : ℕ) → waiting ≡ replicate count None → ArePlaced at waiting
+placed-none {T} at waiting count is k over found =
+    let none : Option T = None in
     let long = length-replicate count none in
-    let here : get_or (replicate count none) k none ≡ Some over = ap (λ (them : List (Option Over)). get_or them k none) (sym is) ∙ found in
+    let here : get_or (replicate count none) k none ≡ Some over = ap (λ (them : List (Option T)). get_or them k none) (sym is) ∙ found in
     elim (cases_lt k count) [
       | inl lt ↦ cc (sym (get_or-replicate count k none none lt) ∙ here)
       | inr past ↦ cc (sym (get_or_past (replicate count none) k none (omega (arith, past, long))) ∙ here)

@@ -1,3 +1,4 @@
 pub mod Floors
 pub mod Lineups
+pub mod Outputs
 pub mod Seasons

@@ -1,25 +1,30 @@
 -- The output of a season.
-use Rattle.std.specs.Prelude.{◌≡◌, ◌≤◌, ◌<◌, ◌+◌, ◌^◌, ℕ, zero, suc, Bool, true, List, Option, None, Some, Result, Ok, Err, All, get_or, if◌then◌else◌, is_ok, length, slice_set}
-use Rattle.std.specs.List.{concat}
+use Rattle.std.specs.Prelude.{◌≡◌, ◌≤◌, ◌<◌, ◌+◌, ◌^◌, ◌&&◌, ◌∷◌, ℕ, zero, suc, Bool, true, false, List, [], Option, None, Some, Result, Ok, Err, get_or, if◌then◌else◌, is_ok, length, not, slice_set}
+use Rattle.std.specs.List.{AllZip, concat}
 use Rattle.std.specs.Io.KnownBytes.{Appends}
 use Rattle.game_core.specs.Counting.{one_more}
-use Rattle.match_play.specs.EndedMatches.{IsEndedMatch}
+use Rattle.match_season.specs.Lineups.{times}
 use Rattle.match_season.specs.declared.season_output.SeasonFault.{SeasonFault}
 use Rattle.match_season.specs.declared.season_output.SeasonFault.TheVariants.{WriteFault, Memory}
-use Rattle.match_season.specs.declared.season_output.Over.{Over}
 use Rattle.match_season.specs.declared.season_output.Written.{Written}
 
--- Between the two contents of a stream this number of matches was written, one after another: the record of each as a line, followed by
--- its account if that is asked for.
-pub record WritesMatches (count : ℕ) (old new : Option (List ℕ)) : Type 0 where
+-- Between the two contents of a stream the outputs of the matches at these places were written, one after another.
+pub record WritesMatches (IsOutput : ℕ → List ℕ → Type 0) (places : List ℕ) (old new : Option (List ℕ)) : Type 0 where
   pub texts : List (List ℕ)
-  pub so_many : length texts ≡ count
-  pub are_ended : All (λ text. ∥ IsEndedMatch text ∥₁) texts
+  pub are_outputs : AllZip (λ place text. ∥ IsOutput place text ∥₁) places texts
   pub appended : Appends old new (concat texts)
 
--- the number of records of a match with this result
-abbrev pub records_of : {T E : Type 0} → Result T E → ℕ
-records_of outcome = if is_ok outcome then 1 else 0
+-- there is a match at this place, and it is not settled
+abbrev pub is_open : List Bool → ℕ → Bool
+is_open settled place = not (get_or settled place true)
+
+-- 1 for a settled match, and 0 for any other
+abbrev pub mark : List Bool → ℕ → ℕ
+mark settled place = if get_or settled place false then 1 else 0
+
+-- the place of a match with this result, if it has a record and is not settled yet
+abbrev pub places_of : {T E : Type 0} → Written → ℕ → Result T E → List ℕ
+places_of written place outcome = if is_ok outcome && is_open written.is_settled.items place then place ∷ [] else []
 
 -- This number of further records is counted, up to the limit of the count.
 abbrev pub Counts : Written → Written → ℕ → Type 0
@@ -31,27 +36,30 @@ pub record Settles (old new : Written) (place more : ℕ) : Type 0 where
   pub counted : Counts old new more
 
 -- each result is kept at the place of its match
-abbrev pub ArePlaced : List (Option Over) → Type 0
-ArePlaced waiting = (place : ℕ) (over : Over) → get_or waiting place None ≡ Some over → over.place ≡ place
+abbrev pub ArePlaced : {T : Type 0} → (T → ℕ) → List (Option T) → Type 0
+ArePlaced {T} place_of waiting = (place : ℕ) (over : T) → get_or waiting place None ≡ Some over → place_of over ≡ place
 
 -- this number of matches from this place on is settled, too
 abbrev pub settled_on : List Bool → ℕ → ℕ → List Bool
 settled_on settled from zero = settled
 settled_on settled from (suc count) = slice_set (settled_on settled from count) (from + count) true
 
--- At most this number of matches was written, and as many further records are counted.
-pub record WritesUpTo (most : ℕ) (before after : Written) (old new : Option (List ℕ)) : Type 0 where
-  pub count : ℕ
-  pub at_most : count ≤ most
-  pub written : WritesMatches count old new
-  pub counted : Counts before after count
+-- The outputs of at most this number of matches were written, each once, of matches that were not settled before and are settled
+-- afterwards. As many further records are counted.
+pub record WritesUpTo (IsOutput : ℕ → List ℕ → Type 0) (most : ℕ) (before after : Written) (old new : Option (List ℕ)) : Type 0 where
+  pub places : List ℕ
+  pub at_most : length places ≤ most
+  pub written : WritesMatches IsOutput places old new
+  pub once : (place : ℕ) → times places place + mark before.is_settled.items place ≤ mark after.is_settled.items place
+  pub counted : Counts before after (length places)
   pub same_places : length after.is_settled.items ≡ length before.is_settled.items
 
--- Of all matches the missing ones have no record, and each other one was written.
-pub record WritesAllBut (missing all : ℕ) (old new : Option (List ℕ)) : Type 0 where
-  pub count : ℕ
-  pub others : count + missing ≡ all
-  pub written : WritesMatches count old new
+-- Of all matches the missing ones have no record, and the output of each other one was written once.
+pub record WritesAllBut (IsOutput : ℕ → List ℕ → Type 0) (missing all : ℕ) (old new : Option (List ℕ)) : Type 0 where
+  pub places : List ℕ
+  pub others : length places + missing ≡ all
+  pub once : (place : ℕ) → times places place ≤ 1
+  pub written : WritesMatches IsOutput places old new
 
 -- the failed writes of a stream, after this fault: a write fault comes from one more failed write, out of memory from none
 abbrev pub faults_by : SeasonFault → ℕ → ℕ

@@ -8,6 +8,7 @@
 
 mod floor;
 mod lineup;
+mod results;
 mod season;
 mod season_output;
 

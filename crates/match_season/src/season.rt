@@ -1,17 +1,16 @@
 //! Plays a season: the matches of a schedule, several at once, each on a desk of its own.
-ghost use Rattle.std.specs.Prelude.{◌≡◌, ◌↔◌, true, Err, IfOk, IsTrue, OnOk, Some, length, min, slice_get};
+ghost use Rattle.std.specs.Prelude.{◌≡◌, ◌↔◌, ℕ, List, true, Err, IfOk, IsTrue, OnOk, length, min};
 ghost use denote.Param.Send.{IsSend, IsSync};
 ghost use Rattle.match_messages.specs.contracts.start_rules.PrintedRules.{the_row as rules_row};
 ghost use Rattle.packed_rules.specs.contracts.packed_game.PackedGame.{the_row as game_row};
 ghost use Rattle.match_play.specs.declared.playing.MatchFault.TheVariants.{Memory};
-ghost use Rattle.match_play.specs.EndedMatches.{match_text};
-ghost use Rattle.match_play.specs.Limits.{max_tries};
-ghost use Rattle.match_play.specs.PlayedMatches.{IsPlayedMatch, IsSetupOf};
+ghost use Rattle.match_season.specs.Outputs.{IsOutputOf};
 ghost use Rattle.match_season.specs.Seasons.{WritesAllBut, faults_after};
 
 use crate::floor::{Floor, Next};
 use crate::lineup::Lineup;
-use crate::season_output::{Over, Reports, SeasonFault, Written, write_season};
+use crate::results::{Naming, Over, Results};
+use crate::season_output::{Reports, SeasonFault, Written, write_season};
 use crossbeam_channel::{Receiver, Sender, bounded};
 use game_core::Counted;
 use match_plans::{MatchPlan, Reach, RecordOrder, SeasonForm, TellsShortages};
@@ -19,7 +18,7 @@ use match_play::{EndedMatch, HostedGame, MatchFault, ended_match, entrants_of};
 use role_workers::Player;
 use std::alloc::Global;
 use std::io::Write;
-use std::marker::PhantomData;
+use std::marker::{Brand, PhantomData};
 use std::sync::{Mutex, Wait};
 use std::thread;
 use std::thread::Threads;
@@ -33,7 +32,7 @@ fn was_short(outcome: &Result<EndedMatch, MatchFault>) -> bool
 
 /// The matches of a season, as its threads see them.
 #[derive(Drop)]
-struct Season<'f, 'a, P, S> {
+struct Season<'f, 'a, P: Player, S, N: Naming> {
     alloc: Global,
     reach: &'f S,
     game: HostedGame<'f>,
@@ -42,9 +41,11 @@ struct Season<'f, 'a, P, S> {
     floor: Floor,
     /// The type of the players. A player is made when its match begins.
     players: PhantomData<Mutex<P>>,
+    of: PhantomData<N>,
+    ghost named: { (place : ℕ) (text : List ℕ) → IsOutputOf P.handed game plans.now has_history place text → ∥ N.is_output place text ∥₁ },
 }
 
-impl<P, S> Season<'_, '_, P, S> {
+impl<P: Player, S, N: Naming> Season<'_, '_, P, S, N> {
     /// Plays the match at this place.
     fn play<R>(&self, rt: &R, place: usize) -> Result<EndedMatch, MatchFault>
     where
@@ -52,10 +53,7 @@ impl<P, S> Season<'_, '_, P, S> {
         P: Player + Drop + Send,
         S: Reach<P> + TellsShortages,
         ensures clear { IfOk result (λ ended. S.is_clear self.now.reach.now place) }
-        ensures played { IfOk result (λ ended. (plan : _) × (slice_get self.now.plans.now place ≡ Some plan)
-            × (setup : _) × IsSetupOf plan setup × (players : _) × (line : _) × (history : _)
-            × IsPlayedMatch P.handed self.now.game.game.now self.now.game.rules.now.items max_tries setup players line history
-            × (ended.text ≡ match_text line history self.now.has_history)) }
+        ensures played { IfOk result (λ ended. IsOutputOf P.handed self.now.game self.now.plans.now self.now.has_history place ended.text) }
     {
         let Some(plan) = self.plans.get(place) else {
             return Err(MatchFault::NotEnded);
@@ -73,7 +71,7 @@ impl<P, S> Season<'_, '_, P, S> {
     }
 
     /// Plays matches, one after another, until none waits, and sends each result.
-    fn play_matches<R>(&self, rt: &R, sender: &Sender<Over>)
+    fn play_matches<R>(&self, rt: &R, sender: &Sender<Over<N>>)
     where
         R: Threads + Wait + Sync,
         P: Player + Drop + Send,
@@ -88,7 +86,12 @@ impl<P, S> Season<'_, '_, P, S> {
             let outcome = self.play(rt, place);
             match self.floor.end(rt, begun, was_short(&outcome)) {
                 Next::HandOn => {
-                    let _ = sender.send(rt, Over { place, outcome });
+                    let over = Over {
+                        place,
+                        outcome,
+                        of: PhantomData,
+                    };
+                    let _ = sender.send(rt, over);
                 }
                 Next::GoOn => {}
                 Next::End => return,
@@ -102,19 +105,19 @@ fn is_shared<T: Sync>(_value: &T)
     ensures { IsSync T.row }
 {}
 
-/// Writes the results of a season's matches. If a write fails, no further match begins and the missing records are reported. Returns
-/// the number of missing records.
-fn write_played<R: Wait, P, S, W: Write, E: Write>(
+/// Writes the results of a season's matches. If a write fails, no further match begins. The missing records are reported. Returns the
+/// number of missing records.
+fn write_played<R: Wait, P: Player, S, N: Naming, W: Write, E: Write>(
     rt: &R,
     alloc: Global,
-    season: &Season<'_, '_, P, S>,
+    season: &Season<'_, '_, P, S, N>,
     has_thread: bool,
     order: RecordOrder,
-    receiver: &Receiver<Over>,
+    receiver: &Receiver<Over<N>>,
     writer: &mut Counted<W>,
     errors: &Mutex<E>,
 ) -> Result<u64, SeasonFault>
-    ensures written { IfOk result (λ missing. WritesAllBut missing (length season.now.plans.now) (W.contents writer.old.stream) (W.contents writer.new.stream)) }
+    ensures written { IfOk result (λ missing. WritesAllBut N.is_output missing (length season.now.plans.now) (W.contents writer.old.stream) (W.contents writer.new.stream)) }
     ensures thread { OnOk result (has_thread ≡ true) }
     ensures faults { writer.new.faults ≡ faults_after result writer.old.faults }
 {
@@ -126,9 +129,16 @@ fn write_played<R: Wait, P, S, W: Write, E: Write>(
         plans: season.plans,
         errors,
     };
+    let mut results = Results {
+        receiver,
+        to_come: season.plans.len(),
+    };
     let mut written = Written::nothing(alloc, season.plans.len())?;
-    match write_season(alloc, order, &reports, receiver, &mut written, writer) {
-        Ok(()) => Ok(written.missing()),
+    match write_season(alloc, order, &reports, &mut results, &mut written, writer) {
+        Ok(()) => {
+            reports.report_rest(&written);
+            Ok(written.missing())
+        }
         Err(fault) => {
             season.floor.close(rt);
             reports.report_rest(&written);
@@ -145,21 +155,22 @@ fn threads_for(form: SeasonForm, matches: usize) -> usize
 }
 
 /// Plays the matches of a season in threads, and writes their results.
-fn play_in_threads<R, P, S, W: Write, E: Write + Send>(
+fn play_in_threads<N, R, P, S, W: Write, E: Write + Send>(
     rt: &R,
     alloc: Global,
-    season: &Season<'_, '_, P, S>,
-    sender: &Sender<Over>,
-    receiver: Receiver<Over>,
+    season: &Season<'_, '_, P, S, N>,
+    sender: &Sender<Over<N>>,
+    receiver: Receiver<Over<N>>,
     form: SeasonForm,
     writer: &mut Counted<W>,
     errors: &Mutex<E>,
 ) -> Result<u64, SeasonFault>
 where
+    N: Naming + Send + Sync,
     R: Threads + Wait + Sync,
     P: Player + Drop + Send,
     S: Reach<P> + TellsShortages + Sync,
-    ensures written { IfOk result (λ missing. WritesAllBut missing (length season.now.plans.now) (W.contents writer.old.stream) (W.contents writer.new.stream)) }
+    ensures written { IfOk result (λ missing. WritesAllBut N.is_output missing (length season.now.plans.now) (W.contents writer.old.stream) (W.contents writer.new.stream)) }
     ensures faults { writer.new.faults ≡ faults_after result writer.old.faults }
 {
     is_shared(season.game.game);
@@ -169,9 +180,9 @@ where
         thread::scope_env(),
         rt,
         move |scope| -> (Result<u64, SeasonFault>, &mut Counted<W>)
-            requires sent { IsSync R.row × IsSync S.row × IsSync game_row × IsSync rules_row }
+            requires sent { IsSend N.row × IsSync N.row × IsSync R.row × IsSync S.row × IsSync game_row × IsSync rules_row }
             ensures stream { result.1.ghost_name ≡ writer.entry.ghost_name }
-            ensures written { IfOk result.0 (λ missing. WritesAllBut missing (length season.entry.now.plans.now) (W.contents writer.entry.now.stream) (W.contents result.1.now.stream)) }
+            ensures written { IfOk result.0 (λ missing. WritesAllBut N.is_output missing (length season.entry.now.plans.now) (W.contents writer.entry.now.stream) (W.contents result.1.now.stream)) }
             ensures faults { result.1.now.faults ≡ faults_after result.0 writer.entry.now.faults }
         {
             let mut has_thread = false;
@@ -189,6 +200,42 @@ where
         },
     );
     played
+}
+
+/// Plays the matches of a season whose outputs are picked.
+fn play_named<'f, 'a, N, R, P, S, W: Write, E: Write + Send>(
+    rt: &R,
+    alloc: Global,
+    reach: &'f S,
+    game: HostedGame<'f>,
+    plans: &'f [MatchPlan<'a>],
+    form: SeasonForm,
+    writer: &mut Counted<W>,
+    errors: &Mutex<E>,
+) -> Result<u64, SeasonFault>
+where
+    N: Naming + Send + Sync,
+    R: Threads + Wait + Sync,
+    P: Player + Drop + Send,
+    S: Reach<P> + TellsShortages + Sync,
+    requires named { (place : ℕ) (text : List ℕ) → IsOutputOf P.handed game plans.now form.has_history place text → N.is_output place text }
+    ensures written { IfOk result (λ missing. WritesAllBut N.is_output missing (length plans.now) (W.contents writer.old.stream) (W.contents writer.new.stream)) }
+    ensures faults { writer.new.faults ≡ faults_after result writer.old.faults }
+{
+    let floor = Floor::of(Lineup::of(alloc, plans, form)?);
+    // All results find room, so no thread waits for a reader of the records.
+    let (sender, receiver) = bounded(alloc, plans.len())?;
+    let season: Season<'f, 'a, P, S, N> = Season {
+        alloc,
+        reach,
+        game,
+        plans,
+        has_history: form.has_history,
+        floor,
+        players: PhantomData,
+        of: PhantomData,
+    };
+    play_in_threads(rt, alloc, &season, &sender, receiver, form, writer, errors)
 }
 
 /// Plays the matches of a season, all of the same game, in threads. Writes the record of each, followed by its account if the form asks
@@ -214,23 +261,11 @@ where
     R: Threads + Wait + Sync,
     P: Player + Drop + Send,
     S: Reach<P> + TellsShortages + Sync,
-    ensures written { IfOk result (λ missing. WritesAllBut missing (length plans.now) (W.contents writer.old.stream) (W.contents writer.new.stream)) }
+    ensures written { IfOk result (λ missing. WritesAllBut (IsOutputOf P.handed game.entry plans.now form.has_history) missing (length plans.now) (W.contents writer.old.stream) (W.contents writer.new.stream)) }
     ensures faults { writer.new.faults ≡ faults_after result writer.old.faults }
 {
     if plans.is_empty() {
         return Ok(0);
     }
-    let floor = Floor::of(Lineup::of(alloc, plans, form)?);
-    // All results find room, so no thread waits for a reader of the records.
-    let (sender, receiver) = bounded(alloc, plans.len())?;
-    let season: Season<'f, 'a, P, S> = Season {
-        alloc,
-        reach,
-        game,
-        plans,
-        has_history: form.has_history,
-        floor,
-        players: PhantomData,
-    };
-    play_in_threads(rt, alloc, &season, &sender, receiver, form, writer, errors)
+    play_named::<Brand, R, P, S, W, E>(rt, alloc, reach, game, plans, form, writer, errors)
 }

@@ -1,13 +1,14 @@
 //! Writes a season: the record of each match, followed by its account.
-ghost use Rattle.std.specs.Prelude.{◌≡◌, ◌<◌, ◌≤◌, ◌-◌, ℕ, false, true, IfOk, OnErr, OnOk, None, Some, is_some, length, replicate, slice_set, vec_len};
+ghost use Rattle.std.specs.Prelude.{◌≡◌, ◌<◌, ◌≤◌, ◌-◌, [], ℕ, false, true, IfOk, OnErr, OnOk, None, Some, get_or, if◌then◌else◌, is_some, length, not, replicate, slice_set, vec_len};
+ghost use Rattle.std.specs.Io.KnownBytes.{Appends};
 ghost use Rattle.std.specs.List.{AllWithin, HoldsAt};
 ghost use Rattle.match_plans.specs.declared.season_form.RecordOrder.TheVariants.{OfSchedule};
-ghost use Rattle.match_season.specs.Seasons.{ArePlaced, Settles, WritesMatches, WritesUpTo, faults_after, records_of, settled_on};
+ghost use Rattle.match_season.specs.Seasons.{ArePlaced, Settles, WritesMatches, WritesUpTo, faults_after, is_open, places_of, settled_on};
 
-use crossbeam_channel::Receiver;
+use crate::results::{Naming, Over, Results};
 use game_core::Counted;
 use match_plans::{MatchPlan, RecordOrder};
-use match_play::{EndedMatch, MatchFault};
+use match_play::EndedMatch;
 use std::alloc::{AllocError, Global};
 use std::fmt;
 use std::fmt::Write as _;
@@ -44,13 +45,6 @@ impl From<AllocError> for SeasonFault {
     fn from(_: AllocError) -> SeasonFault {
         SeasonFault::Memory
     }
-}
-
-/// A match of a season that is over: its place in the schedule, and its text or the reason why it has no record.
-#[derive(Drop)]
-pub struct Over {
-    pub place: usize,
-    pub outcome: Result<EndedMatch, MatchFault>,
 }
 
 /// The reports of matches without a record.
@@ -111,6 +105,16 @@ impl Written {
         (self.is_settled.len() as u64).saturating_sub(self.records)
     }
 
+    /// Whether there is a match at this place that is not settled.
+    fn is_open(&self, place: usize) -> bool
+        ensures { result ≡ is_open self.now.is_settled.items place }
+    {
+        match self.is_settled.get(place) {
+            Some(is_settled) => !*is_settled,
+            None => false,
+        }
+    }
+
     /// Settles the match at this place, and no other one.
     fn settle(&mut self, place: usize)
         ensures settled { self.new.is_settled.items ≡ slice_set self.old.is_settled.items place true }
@@ -122,18 +126,21 @@ impl Written {
     }
 }
 
-/// Writes the record of the match at this place, followed by its account if that is asked for.
+/// Writes the record of the match at this place, followed by its account if that is asked for. A settled match is not written again.
 fn write_ended<W: Write>(
     place: usize,
     ended: &EndedMatch,
     written: &mut Written,
     writer: &mut Counted<W>,
 ) -> Result<(), SeasonFault>
-    ensures written { OnOk result (WritesMatches 1 (W.contents writer.old.stream) (W.contents writer.new.stream)) }
-    ensures settled { OnOk result (Settles written.old written.new place 1) }
+    ensures written { OnOk result (Appends (W.contents writer.old.stream) (W.contents writer.new.stream) (if is_open written.old.is_settled.items place then ended.now.text else [])) }
+    ensures settled { OnOk result (Settles written.old written.new place (if is_open written.old.is_settled.items place then 1 else 0)) }
     ensures err { OnErr result (written.new ≡ written.old) }
     ensures faults { writer.new.faults ≡ faults_after result writer.old.faults }
 {
+    if !written.is_open(place) {
+        return Ok(());
+    }
     write_all(writer, ended.text.as_slice())?;
     written.records = written.records.saturating_add(1);
     written.settle(place);
@@ -141,19 +148,23 @@ fn write_ended<W: Write>(
 }
 
 /// Writes the record of a match, or reports why it has none.
-fn write_outcome<R: Wait, W: Write, E: Write>(
+fn write_outcome<N: Naming, R: Wait, W: Write, E: Write>(
     reports: &Reports<'_, '_, '_, '_, R, E>,
-    over: Over,
+    over: Over<N>,
     written: &mut Written,
     writer: &mut Counted<W>,
 ) -> Result<(), SeasonFault>
-    ensures written { OnOk result (WritesMatches (records_of over.outcome) (W.contents writer.old.stream) (W.contents writer.new.stream)) }
-    ensures settled { OnOk result (Settles written.old written.new over.place (records_of over.outcome)) }
+    ensures written { OnOk result (WritesMatches N.is_output (places_of written.old over.place over.outcome) (W.contents writer.old.stream) (W.contents writer.new.stream)) }
+    ensures settled { OnOk result (Settles written.old written.new over.place (length (places_of written.old over.place over.outcome))) }
     ensures err { OnErr result (written.new ≡ written.old) }
     ensures faults { writer.new.faults ≡ faults_after result writer.old.faults }
 {
-    let place = over.place;
-    match over.outcome {
+    let Over {
+        place,
+        outcome,
+        of: _,
+    } = over;
+    match outcome {
         Ok(ended) => write_ended(place, &ended, written, writer),
         Err(fault) => {
             reports.report(place, &fault);
@@ -164,19 +175,19 @@ fn write_outcome<R: Wait, W: Write, E: Write>(
 }
 
 /// Writes the kept results from this place on, up to the first match that is not over. Returns the place of that match.
-fn write_waiting<R: Wait, W: Write, E: Write>(
+fn write_waiting<N: Naming, R: Wait, W: Write, E: Write>(
     reports: &Reports<'_, '_, '_, '_, R, E>,
-    waiting: &mut [Option<Over>],
+    waiting: &mut [Option<Over<N>>],
     next: usize,
     written: &mut Written,
     writer: &mut Counted<W>,
 ) -> Result<usize, SeasonFault>
-    ensures written { IfOk result (λ place. WritesUpTo (place - next) written.old written.new (W.contents writer.old.stream) (W.contents writer.new.stream)) }
+    ensures written { IfOk result (λ place. WritesUpTo N.is_output (place - next) written.old written.new (W.contents writer.old.stream) (W.contents writer.new.stream)) }
     ensures place { IfOk result (λ place. (place ≤ length waiting.old) × (next ≤ length waiting.old → next ≤ place)) }
     ensures over { IfOk result (λ place. AllWithin (λ it. is_some it ≡ true) waiting.old next place) }
     ensures stops { IfOk result (λ place. place < length waiting.old → HoldsAt (λ it. is_some it ≡ false) waiting.old place) }
-    ensures placed { ArePlaced waiting.old → ArePlaced waiting.new }
-    ensures settled { ArePlaced waiting.old → IfOk result (λ place. written.new.is_settled.items ≡ settled_on written.old.is_settled.items next (place - next)) }
+    ensures placed { ArePlaced (λ over. over.place) waiting.old → ArePlaced (λ over. over.place) waiting.new }
+    ensures settled { ArePlaced (λ over. over.place) waiting.old → IfOk result (λ place. written.new.is_settled.items ≡ settled_on written.old.is_settled.items next (place - next)) }
     ensures faults { writer.new.faults ≡ faults_after result writer.old.faults }
 {
     let count = waiting.len();
@@ -190,9 +201,9 @@ fn write_waiting<R: Wait, W: Write, E: Write>(
 }
 
 /// Keeps a match that is over at its place.
-fn keep(waiting: &mut [Option<Over>], over: Over)
+fn keep<N: Naming>(waiting: &mut [Option<Over<N>>], over: Over<N>)
     ensures kept { waiting.new ≡ slice_set waiting.old over.place (Some over) }
-    ensures placed { ArePlaced waiting.old → ArePlaced waiting.new }
+    ensures placed { ArePlaced (λ over. over.place) waiting.old → ArePlaced (λ over. over.place) waiting.new }
 {
     let place = over.place;
     if place < waiting.len() {
@@ -201,7 +212,7 @@ fn keep(waiting: &mut [Option<Over>], over: Over)
 }
 
 /// `count` empty places.
-fn none_waiting(alloc: Global, count: usize) -> Result<Vec<Option<Over>>, AllocError>
+fn none_waiting<N: Naming>(alloc: Global, count: usize) -> Result<Vec<Option<Over<N>>>, AllocError>
     ensures { IfOk result (λ waiting. waiting.items ≡ replicate count None) }
 {
     let mut waiting = Vec::with_capacity(alloc, count)?;
@@ -212,22 +223,23 @@ fn none_waiting(alloc: Global, count: usize) -> Result<Vec<Option<Over>>, AllocE
 }
 
 /// Writes the records of the matches in the order of the schedule.
-fn write_by_schedule<R: Wait, W: Write, E: Write>(
+fn write_by_schedule<N: Naming, R: Wait, W: Write, E: Write>(
     alloc: Global,
     reports: &Reports<'_, '_, '_, '_, R, E>,
-    receiver: &Receiver<Over>,
+    results: &mut Results<'_, N>,
     written: &mut Written,
     writer: &mut Counted<W>,
 ) -> Result<(), SeasonFault>
-    ensures written { OnOk result (WritesUpTo (length reports.now.plans.now) written.old written.new (W.contents writer.old.stream) (W.contents writer.new.stream)) }
+    ensures to_come { OnOk result (results.new.to_come ≡ 0) }
+    ensures written { OnOk result (WritesUpTo N.is_output results.old.to_come written.old written.new (W.contents writer.old.stream) (W.contents writer.new.stream)) }
     ensures settled { OnOk result ((count : ℕ) × (written.new.is_settled.items ≡ settled_on written.old.is_settled.items 0 count)) }
     ensures faults { writer.new.faults ≡ faults_after result writer.old.faults }
 {
-    let count = reports.plans.len();
+    let count = results.to_come;
     let mut waiting = none_waiting(alloc, count)?;
     let mut next = 0;
     for _number in 0..count {
-        let Ok(over) = receiver.recv(reports.rt) else {
+        let Some(over) = results.next(reports.rt) else {
             break;
         };
         keep(&mut waiting, over);
@@ -237,17 +249,18 @@ fn write_by_schedule<R: Wait, W: Write, E: Write>(
 }
 
 /// Writes the records of the matches in the order of their ends.
-fn write_by_ends<R: Wait, W: Write, E: Write>(
+fn write_by_ends<N: Naming, R: Wait, W: Write, E: Write>(
     reports: &Reports<'_, '_, '_, '_, R, E>,
-    receiver: &Receiver<Over>,
+    results: &mut Results<'_, N>,
     written: &mut Written,
     writer: &mut Counted<W>,
 ) -> Result<(), SeasonFault>
-    ensures written { OnOk result (WritesUpTo (length reports.now.plans.now) written.old written.new (W.contents writer.old.stream) (W.contents writer.new.stream)) }
+    ensures to_come { OnOk result (results.new.to_come ≡ 0) }
+    ensures written { OnOk result (WritesUpTo N.is_output results.old.to_come written.old written.new (W.contents writer.old.stream) (W.contents writer.new.stream)) }
     ensures faults { writer.new.faults ≡ faults_after result writer.old.faults }
 {
-    for _number in 0..reports.plans.len() {
-        let Ok(over) = receiver.recv(reports.rt) else {
+    for _number in 0..results.to_come {
+        let Some(over) = results.next(reports.rt) else {
             break;
         };
         write_outcome(reports, over, written, writer)?;
@@ -256,20 +269,21 @@ fn write_by_ends<R: Wait, W: Write, E: Write>(
 }
 
 /// Writes the records of the matches in this order, each followed by its account if that is asked for.
-pub fn write_season<R: Wait, W: Write, E: Write>(
+pub fn write_season<N: Naming, R: Wait, W: Write, E: Write>(
     alloc: Global,
     order: RecordOrder,
     reports: &Reports<'_, '_, '_, '_, R, E>,
-    receiver: &Receiver<Over>,
+    results: &mut Results<'_, N>,
     written: &mut Written,
     writer: &mut Counted<W>,
 ) -> Result<(), SeasonFault>
-    ensures written { OnOk result (WritesUpTo (length reports.now.plans.now) written.old written.new (W.contents writer.old.stream) (W.contents writer.new.stream)) }
+    ensures to_come { OnOk result (results.new.to_come ≡ 0) }
+    ensures written { OnOk result (WritesUpTo N.is_output results.old.to_come written.old written.new (W.contents writer.old.stream) (W.contents writer.new.stream)) }
     ensures settled { order ≡ OfSchedule → OnOk result ((count : ℕ) × (written.new.is_settled.items ≡ settled_on written.old.is_settled.items 0 count)) }
     ensures faults { writer.new.faults ≡ faults_after result writer.old.faults }
 {
     match order {
-        RecordOrder::OfSchedule => write_by_schedule(alloc, reports, receiver, written, writer),
-        RecordOrder::OfEnds => write_by_ends(reports, receiver, written, writer),
+        RecordOrder::OfSchedule => write_by_schedule(alloc, reports, results, written, writer),
+        RecordOrder::OfEnds => write_by_ends(reports, results, written, writer),
     }
 }

@@ -2,7 +2,6 @@ use Rattle.std.proofs.Common.{◌≡◌, ◌-◌, ◌+◌, ◌∙◌, ℕ, Optio
 use Rattle.std.proofs.lemmas.List.{get_or-set_other}
 use Rattle.std.proofs.lemmas.List.Elements.{AllWithin-more, at_read}
 use Rattle.match_season.specs.Seasons.{settled_on}
-use Rattle.match_season.specs.declared.season_output.Over.{Over}
 use Rattle.match_season.proofs.WrittenLines.{up-to-none, up-to-more, up-to-weaker}
 use Rattle.match_season.proofs.Placed.{placed-set, settled-next, settled-none}
 use Rattle.match_season.proofs.season_output.write_waiting.Goals as goal
@@ -14,7 +13,7 @@ loop-place-init g c = record {
   over = λ k d low high. absurd (omega (arith, low, high));
   placed = λ placed. placed;
   settled = λ _. settled-none c.args.written.now.is_settled.items c.args.next (c.args.next - c.args.next) (omega arith);
-  written = up-to-weaker 0 _ _ _ _ _ (omega arith) (up-to-none _ _);
+  written = up-to-weaker _ 0 _ _ _ _ _ (omega arith) (up-to-none _ _ _);
   faults = refl;
 }
 
@@ -22,9 +21,9 @@ pub loop-place-preserved : goal.loop-place-preserved
 loop-place-preserved g c =
     let before = c.loop-place.invariant in
     let place = c.loop-place.place in
-    let P : Option Over → Type 0 = λ it. is_some it ≡ true in
+    let P : Option _ → Type 0 = λ it. is_some it ≡ true in
     let it = c.index-waiting-place in
-    let some : P it.result = ap (λ (o : Option Over). is_some o) (it.is ∙ (sym c.take.ensures.value ∙ c.in-Some.is)) in
+    let some : P it.result = ap (λ (o : Option _). is_some o) (it.is ∙ (sym c.take.ensures.value ∙ c.in-Some.is)) in
     let here : HoldsAt P c.loop-place.waiting place = at_read c.loop-place.waiting P place it.result (omega arith) it.is some in
     let is : it.result ≡ Some c.in-Some.over = it.is ∙ (sym c.take.ensures.value ∙ c.in-Some.is) in
     let at : get_or c.loop-place.waiting place None ≡ Some c.in-Some.over = at_read c.loop-place.waiting (λ o. o ≡ Some c.in-Some.over) place it.result (omega arith) it.is is None in
@@ -32,10 +31,10 @@ loop-place-preserved g c =
       bound = omega arith;
       ahead = λ k d past. get_or-set_other c.loop-place.waiting place k _ d (λ e. absurd (omega (arith, past, e))) ∙ before.ahead k d (omega (arith, past));
       over = AllWithin-more P c.args.waiting.now c.args.next place before.over (λ d. subst P (before.ahead place d (omega arith)) (here d));
-      placed = λ placed. placed-set c.loop-place.waiting place _ (λ over found. cc (sym c.take.ensures.after ∙ found)) (before.placed placed);
+      placed = λ placed. placed-set _ c.loop-place.waiting place _ (λ over found. cc (sym c.take.ensures.after ∙ found)) (before.placed placed);
       settled = λ placed.
           settled-next _ _ _ c.args.next place _ (omega arith) (before.placed placed place c.in-Some.over at) (before.settled placed) c.in_ok-write_outcome.ensures.settled.settled;
-      written = up-to-weaker (place - c.args.next + 1) _ _ _ _ _ (omega arith) (up-to-more _ _ _ _ _ _ _ _ _ before.written c.in_ok-write_outcome.ensures.written c.in_ok-write_outcome.ensures.settled);
+      written = up-to-weaker _ (place - c.args.next + 1) _ _ _ _ _ (omega arith) (up-to-more _ _ _ _ _ _ _ _ _ _ before.written c.in_ok-write_outcome.ensures.written c.in_ok-write_outcome.ensures.settled);
       faults = c.in_ok-write_outcome.ensures.faults ∙ before.faults;
     }
 
@@ -43,15 +42,15 @@ pub returns-in_default : goal.returns-in_default
 returns-in_default g c =
     let before = c.loop-place.invariant in
     let place = c.loop-place.place in
-    let P : Option Over → Type 0 = λ it. is_some it ≡ false in
+    let P : Option _ → Type 0 = λ it. is_some it ≡ false in
     let it = c.index-waiting-place in
-    let none : P it.result = ap (λ (o : Option Over). is_some o) (it.is ∙ (sym c.take.ensures.value ∙ c.in_default.is)) in
+    let none : P it.result = ap (λ (o : Option _). is_some o) (it.is ∙ (sym c.take.ensures.value ∙ c.in_default.is)) in
     let here : HoldsAt P c.loop-place.waiting place = at_read c.loop-place.waiting P place it.result (omega arith) it.is none in
     record {
       written = before.written;
       place = (omega arith, λ within. omega (arith, within));
       over = before.over;
-      placed = λ placed. placed-set c.loop-place.waiting place _ (λ over found. cc (sym c.take.ensures.after ∙ found)) (before.placed placed);
+      placed = λ placed. placed-set _ c.loop-place.waiting place _ (λ over found. cc (sym c.take.ensures.after ∙ found)) (before.placed placed);
       settled = before.settled;
       stops = λ _ d. subst P (before.ahead place d (omega arith)) (here d);
       faults = before.faults;
@@ -62,7 +61,7 @@ returns g c =
     let before = c.loop-place.invariant in
     let all : c.loop-place.place - c.args.next ≡ length c.args.waiting.now - c.args.next = omega (arith, c.loop-place-test.false, before.bound) in
     record {
-      written = up-to-weaker (c.loop-place.place - c.args.next) _ _ _ _ _ (omega arith) before.written;
+      written = up-to-weaker _ (c.loop-place.place - c.args.next) _ _ _ _ _ (omega arith) before.written;
       place = (omega arith, λ within. omega (arith, within));
       over = λ k d low high. before.over k d low (omega (arith, high, c.loop-place-test.false));
       stops = λ lt. absurd (omega (arith, lt));
