@@ -1,3 +1,4 @@
+mod Counted
 mod Numbering
 mod Placed
 mod Sitting

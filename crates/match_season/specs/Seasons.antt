@@ -1,12 +1,14 @@
 -- The output of a season.
-use Rattle.std.specs.Prelude.{◌≡◌, ◌≤◌, ◌<◌, ◌+◌, ◌^◌, ◌&&◌, ◌∷◌, ℕ, zero, suc, Bool, true, false, List, [], Option, None, Some, Result, Ok, Err, get_or, if◌then◌else◌, is_ok, length, not, slice_set}
+use Rattle.std.specs.Prelude.{◌≡◌, ◌≤◌, ◌<◌, ◌+◌, ◌^◌, ◌&&◌, ◌∷◌, ◌⊎◌, ℕ, zero, suc, Bool, true, false, List, [], Option, None, Some, Result, Ok, Err, All, count_by, get_or, if◌then◌else◌, is_ok, length, not, slice_set}
 use Rattle.std.specs.List.{AllZip, concat}
 use Rattle.std.specs.Io.KnownBytes.{Appends}
 use Rattle.game_core.specs.Counting.{one_more}
+use Rattle.match_plans.specs.declared.season_form.RecordOrder.{RecordOrder}
+use Rattle.match_plans.specs.declared.season_form.RecordOrder.TheVariants.{OfSchedule}
 use Rattle.match_season.specs.Lineups.{times}
 use Rattle.match_season.specs.declared.season_output.SeasonFault.{SeasonFault}
 use Rattle.match_season.specs.declared.season_output.SeasonFault.TheVariants.{WriteFault, Memory}
-use Rattle.match_season.specs.declared.season_output.Written.{Written}
+use Rattle.match_season.specs.declared.written.Written.{Written}
 
 -- Between the two contents of a stream the outputs of the matches at these places were written, one after another.
 pub record WritesMatches (IsOutput : ℕ → List ℕ → Type 0) (places : List ℕ) (old new : Option (List ℕ)) : Type 0 where
@@ -44,21 +46,41 @@ abbrev pub settled_on : List Bool → ℕ → ℕ → List Bool
 settled_on settled from zero = settled
 settled_on settled from (suc count) = slice_set (settled_on settled from count) (from + count) true
 
--- The outputs of at most this number of matches were written, each once, of matches that were not settled before and are settled
+-- the number of settled matches
+abbrev pub settled_in : Written → ℕ
+settled_in written = count_by (λ it. it) written.is_settled.items
+
+-- each match is settled
+abbrev pub AreSettled : Written → Type 0
+AreSettled written = All (λ it. it ≡ true) written.is_settled.items
+
+-- each match is settled, or no further result can come
+abbrev pub HasAll : Bool → Written → Type 0
+HasAll is_closed written = AreSettled written ⊎ (is_closed ≡ true)
+
+-- the places rise, from the first bound on and below the second
+abbrev pub Rises : ℕ → List ℕ → ℕ → Type 0
+Rises low [] high = low ≤ high
+Rises low (place ∷ places) high = (low ≤ place) × Rises (place + 1) places high
+
+-- The outputs of matches were written at places in this order, each once, of matches that were not settled before and are settled
 -- afterwards. As many further records are counted.
-pub record WritesUpTo (IsOutput : ℕ → List ℕ → Type 0) (most : ℕ) (before after : Written) (old new : Option (List ℕ)) : Type 0 where
+pub record WritesMore (IsOutput : ℕ → List ℕ → Type 0) (InOrder : List ℕ → Type 0) (before after : Written) (old new : Option (List ℕ)) : Type 0 where
   pub places : List ℕ
-  pub at_most : length places ≤ most
+  pub in_order : InOrder places
   pub written : WritesMatches IsOutput places old new
   pub once : (place : ℕ) → times places place + mark before.is_settled.items place ≤ mark after.is_settled.items place
+  pub so_many : length places + settled_in before ≤ settled_in after
   pub counted : Counts before after (length places)
   pub same_places : length after.is_settled.items ≡ length before.is_settled.items
 
--- Of all matches the missing ones have no record, and the output of each other one was written once.
-pub record WritesAllBut (IsOutput : ℕ → List ℕ → Type 0) (missing all : ℕ) (old new : Option (List ℕ)) : Type 0 where
+-- Of all matches the missing ones have no record. The output of each other one was written once, in the schedule's order if that is
+-- asked for.
+pub record WritesAllBut (IsOutput : ℕ → List ℕ → Type 0) (order : RecordOrder) (missing all : ℕ) (old new : Option (List ℕ)) : Type 0 where
   pub places : List ℕ
   pub others : length places + missing ≡ all
   pub once : (place : ℕ) → times places place ≤ 1
+  pub in_order : order ≡ OfSchedule → Rises 0 places all
   pub written : WritesMatches IsOutput places old new
 
 -- the failed writes of a stream, after this fault: a write fault comes from one more failed write, out of memory from none

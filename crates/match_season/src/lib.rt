@@ -11,6 +11,7 @@ mod lineup;
 mod results;
 mod season;
 mod season_output;
+mod written;
 
 pub use season::play_season;
 pub use season_output::SeasonFault;

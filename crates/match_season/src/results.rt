@@ -1,7 +1,8 @@
 //! The results of a season's matches, which its threads send.
-ghost use Rattle.std.specs.Prelude.{◌≡◌, ◌-◌, ℕ, List, IfNone, IfSome};
+ghost use Rattle.std.specs.Prelude.{ℕ, List};
 ghost use Rattle.std.specs.Result.{ForOk};
 
+use crate::written::Written;
 use crossbeam_channel::Receiver;
 use match_play::{EndedMatch, MatchFault};
 use std::marker::{Brand, PhantomData};
@@ -28,26 +29,27 @@ pub struct Over<N: Naming> {
     ghost is_output: { ForOk outcome (λ ended. ∥ N.is_output place ended.text ∥₁) },
 }
 
-/// The results that are still to come.
+/// The results that the threads send.
 #[derive(Drop)]
 pub struct Results<'r, N: Naming> {
     pub receiver: &'r Receiver<Over<N>>,
-    /// The number of them. It is 0 once no thread can send one.
-    pub to_come: usize,
+    /// Whether no thread can send one any more.
+    pub is_closed: bool,
 }
 
 impl<N: Naming> Results<'_, N> {
-    /// Waits for the next result. `None` means that none is still to come.
-    pub fn next<R: Wait>(&mut self, rt: &R) -> Option<Over<N>>
-        ensures some { IfSome result (λ over. self.new.to_come ≡ self.old.to_come - 1) }
-        ensures none { IfNone result (self.new.to_come ≡ 0) }
+    ghost use Rattle.std.specs.Prelude.{IfNone};
+    ghost use Rattle.match_season.specs.Seasons.{HasAll};
+
+    /// Waits for the next result. `None` means that all matches are settled, or that no thread can send a result any more.
+    pub fn next<R: Wait>(&mut self, rt: &R, written: &Written) -> Option<Over<N>>
+        ensures { IfNone result (HasAll self.new.is_closed written.now) }
     {
+        if written.is_complete() {
+            return None;
+        }
         let next = self.receiver.recv(rt).ok();
-        self.to_come = if next.is_some() {
-            self.to_come.saturating_sub(1)
-        } else {
-            0
-        };
+        self.is_closed = next.is_none();
         next
     }
 }

@@ -10,7 +10,8 @@ ghost use Rattle.match_season.specs.Seasons.{WritesAllBut, faults_after};
 use crate::floor::{Floor, Next};
 use crate::lineup::Lineup;
 use crate::results::{Naming, Over, Results};
-use crate::season_output::{Reports, SeasonFault, Written, write_season};
+use crate::season_output::{Reports, SeasonFault, write_season};
+use crate::written::Written;
 use crossbeam_channel::{Receiver, Sender, bounded};
 use game_core::Counted;
 use match_plans::{MatchPlan, Reach, RecordOrder, SeasonForm, TellsShortages};
@@ -117,7 +118,7 @@ fn write_played<R: Wait, P: Player, S, N: Naming, W: Write, E: Write>(
     writer: &mut Counted<W>,
     errors: &Mutex<E>,
 ) -> Result<u64, SeasonFault>
-    ensures written { IfOk result (λ missing. WritesAllBut N.is_output missing (length season.now.plans.now) (W.contents writer.old.stream) (W.contents writer.new.stream)) }
+    ensures written { IfOk result (λ missing. WritesAllBut N.is_output order missing (length season.now.plans.now) (W.contents writer.old.stream) (W.contents writer.new.stream)) }
     ensures thread { OnOk result (has_thread ≡ true) }
     ensures faults { writer.new.faults ≡ faults_after result writer.old.faults }
 {
@@ -131,7 +132,7 @@ fn write_played<R: Wait, P: Player, S, N: Naming, W: Write, E: Write>(
     };
     let mut results = Results {
         receiver,
-        to_come: season.plans.len(),
+        is_closed: false,
     };
     let mut written = Written::nothing(alloc, season.plans.len())?;
     match write_season(alloc, order, &reports, &mut results, &mut written, writer) {
@@ -170,7 +171,7 @@ where
     R: Threads + Wait + Sync,
     P: Player + Drop + Send,
     S: Reach<P> + TellsShortages + Sync,
-    ensures written { IfOk result (λ missing. WritesAllBut N.is_output missing (length season.now.plans.now) (W.contents writer.old.stream) (W.contents writer.new.stream)) }
+    ensures written { IfOk result (λ missing. WritesAllBut N.is_output form.order missing (length season.now.plans.now) (W.contents writer.old.stream) (W.contents writer.new.stream)) }
     ensures faults { writer.new.faults ≡ faults_after result writer.old.faults }
 {
     is_shared(season.game.game);
@@ -182,7 +183,7 @@ where
         move |scope| -> (Result<u64, SeasonFault>, &mut Counted<W>)
             requires sent { IsSend N.row × IsSync N.row × IsSync R.row × IsSync S.row × IsSync game_row × IsSync rules_row }
             ensures stream { result.1.ghost_name ≡ writer.entry.ghost_name }
-            ensures written { IfOk result.0 (λ missing. WritesAllBut N.is_output missing (length season.entry.now.plans.now) (W.contents writer.entry.now.stream) (W.contents result.1.now.stream)) }
+            ensures written { IfOk result.0 (λ missing. WritesAllBut N.is_output form.order missing (length season.entry.now.plans.now) (W.contents writer.entry.now.stream) (W.contents result.1.now.stream)) }
             ensures faults { result.1.now.faults ≡ faults_after result.0 writer.entry.now.faults }
         {
             let mut has_thread = false;
@@ -219,7 +220,7 @@ where
     P: Player + Drop + Send,
     S: Reach<P> + TellsShortages + Sync,
     requires named { (place : ℕ) (text : List ℕ) → IsOutputOf P.handed game plans.now form.has_history place text → N.is_output place text }
-    ensures written { IfOk result (λ missing. WritesAllBut N.is_output missing (length plans.now) (W.contents writer.old.stream) (W.contents writer.new.stream)) }
+    ensures written { IfOk result (λ missing. WritesAllBut N.is_output form.order missing (length plans.now) (W.contents writer.old.stream) (W.contents writer.new.stream)) }
     ensures faults { writer.new.faults ≡ faults_after result writer.old.faults }
 {
     let floor = Floor::of(Lineup::of(alloc, plans, form)?);
@@ -261,7 +262,7 @@ where
     R: Threads + Wait + Sync,
     P: Player + Drop + Send,
     S: Reach<P> + TellsShortages + Sync,
-    ensures written { IfOk result (λ missing. WritesAllBut (IsOutputOf P.handed game.entry plans.now form.has_history) missing (length plans.now) (W.contents writer.old.stream) (W.contents writer.new.stream)) }
+    ensures written { IfOk result (λ missing. WritesAllBut (IsOutputOf P.handed game.entry plans.now form.has_history) form.order missing (length plans.now) (W.contents writer.old.stream) (W.contents writer.new.stream)) }
     ensures faults { writer.new.faults ≡ faults_after result writer.old.faults }
 {
     if plans.is_empty() {

@@ -1,11 +1,12 @@
 //! Writes a season: the record of each match, followed by its account.
-ghost use Rattle.std.specs.Prelude.{◌≡◌, ◌<◌, ◌≤◌, ◌-◌, [], ℕ, false, true, IfOk, OnErr, OnOk, None, Some, get_or, if◌then◌else◌, is_some, length, not, replicate, slice_set, vec_len};
+ghost use Rattle.std.specs.Prelude.{◌≡◌, ◌<◌, ◌≤◌, ◌+◌, ◌-◌, [], ℕ, false, true, IfOk, OnErr, OnOk, None, Some, get_or, if◌then◌else◌, is_some, length, not, replicate, slice_set, vec_len};
 ghost use Rattle.std.specs.Io.KnownBytes.{Appends};
 ghost use Rattle.std.specs.List.{AllWithin, HoldsAt};
 ghost use Rattle.match_plans.specs.declared.season_form.RecordOrder.TheVariants.{OfSchedule};
-ghost use Rattle.match_season.specs.Seasons.{ArePlaced, Settles, WritesMatches, WritesUpTo, faults_after, is_open, places_of, settled_on};
+ghost use Rattle.match_season.specs.Seasons.{ArePlaced, Settles, HasAll, Rises, WritesMatches, WritesMore, faults_after, is_open, places_of, settled_on};
 
 use crate::results::{Naming, Over, Results};
+use crate::written::Written;
 use game_core::Counted;
 use match_plans::{MatchPlan, RecordOrder};
 use match_play::EndedMatch;
@@ -79,53 +80,6 @@ impl<R: Wait, E: Write> Reports<'_, '_, '_, '_, R, E> {
     }
 }
 
-/// What a season has written.
-#[derive(Drop)]
-pub struct Written {
-    records: u64,
-    /// For each match, by its place: whether its record is written, or it is reported that it has none.
-    is_settled: Vec<bool>,
-}
-
-impl Written {
-    /// Nothing written yet, of `count` matches.
-    pub fn nothing(alloc: Global, count: usize) -> Result<Written, AllocError>
-        ensures { IfOk result (λ written. (written.records ≡ 0) × (written.is_settled.items ≡ replicate count false)) }
-    {
-        Ok(Written {
-            records: 0,
-            is_settled: vec![in alloc; false; count]?,
-        })
-    }
-
-    /// The number of matches without a record.
-    pub fn missing(&self) -> u64
-        ensures { result ≡ vec_len self.now.is_settled - self.now.records }
-    {
-        (self.is_settled.len() as u64).saturating_sub(self.records)
-    }
-
-    /// Whether there is a match at this place that is not settled.
-    fn is_open(&self, place: usize) -> bool
-        ensures { result ≡ is_open self.now.is_settled.items place }
-    {
-        match self.is_settled.get(place) {
-            Some(is_settled) => !*is_settled,
-            None => false,
-        }
-    }
-
-    /// Settles the match at this place, and no other one.
-    fn settle(&mut self, place: usize)
-        ensures settled { self.new.is_settled.items ≡ slice_set self.old.is_settled.items place true }
-        ensures records { self.new.records ≡ self.old.records }
-    {
-        if place < self.is_settled.len() {
-            self.is_settled[place] = true;
-        }
-    }
-}
-
 /// Writes the record of the match at this place, followed by its account if that is asked for. A settled match is not written again.
 fn write_ended<W: Write>(
     place: usize,
@@ -182,7 +136,7 @@ fn write_waiting<N: Naming, R: Wait, W: Write, E: Write>(
     written: &mut Written,
     writer: &mut Counted<W>,
 ) -> Result<usize, SeasonFault>
-    ensures written { IfOk result (λ place. WritesUpTo N.is_output (place - next) written.old written.new (W.contents writer.old.stream) (W.contents writer.new.stream)) }
+    ensures written { IfOk result (λ place. WritesMore N.is_output (λ places. ArePlaced (λ over. over.place) waiting.old → Rises next places (next + (place - next))) written.old written.new (W.contents writer.old.stream) (W.contents writer.new.stream)) }
     ensures place { IfOk result (λ place. (place ≤ length waiting.old) × (next ≤ length waiting.old → next ≤ place)) }
     ensures over { IfOk result (λ place. AllWithin (λ it. is_some it ≡ true) waiting.old next place) }
     ensures stops { IfOk result (λ place. place < length waiting.old → HoldsAt (λ it. is_some it ≡ false) waiting.old place) }
@@ -230,16 +184,16 @@ fn write_by_schedule<N: Naming, R: Wait, W: Write, E: Write>(
     written: &mut Written,
     writer: &mut Counted<W>,
 ) -> Result<(), SeasonFault>
-    ensures to_come { OnOk result (results.new.to_come ≡ 0) }
-    ensures written { OnOk result (WritesUpTo N.is_output results.old.to_come written.old written.new (W.contents writer.old.stream) (W.contents writer.new.stream)) }
+    ensures all { OnOk result (HasAll results.new.is_closed written.new) }
+    ensures written { OnOk result (WritesMore N.is_output (λ places. Rises 0 places (length written.old.is_settled.items)) written.old written.new (W.contents writer.old.stream) (W.contents writer.new.stream)) }
     ensures settled { OnOk result ((count : ℕ) × (written.new.is_settled.items ≡ settled_on written.old.is_settled.items 0 count)) }
     ensures faults { writer.new.faults ≡ faults_after result writer.old.faults }
 {
-    let count = results.to_come;
+    let count = written.is_settled.len();
     let mut waiting = none_waiting(alloc, count)?;
     let mut next = 0;
-    for _number in 0..count {
-        let Some(over) = results.next(reports.rt) else {
+    for _ in reports.rt.forever() {
+        let Some(over) = results.next(reports.rt, written) else {
             break;
         };
         keep(&mut waiting, over);
@@ -255,12 +209,12 @@ fn write_by_ends<N: Naming, R: Wait, W: Write, E: Write>(
     written: &mut Written,
     writer: &mut Counted<W>,
 ) -> Result<(), SeasonFault>
-    ensures to_come { OnOk result (results.new.to_come ≡ 0) }
-    ensures written { OnOk result (WritesUpTo N.is_output results.old.to_come written.old written.new (W.contents writer.old.stream) (W.contents writer.new.stream)) }
+    ensures all { OnOk result (HasAll results.new.is_closed written.new) }
+    ensures written { OnOk result (WritesMore N.is_output (λ places. Unit {0}) written.old written.new (W.contents writer.old.stream) (W.contents writer.new.stream)) }
     ensures faults { writer.new.faults ≡ faults_after result writer.old.faults }
 {
-    for _number in 0..results.to_come {
-        let Some(over) = results.next(reports.rt) else {
+    for _ in reports.rt.forever() {
+        let Some(over) = results.next(reports.rt, written) else {
             break;
         };
         write_outcome(reports, over, written, writer)?;
@@ -277,8 +231,8 @@ pub fn write_season<N: Naming, R: Wait, W: Write, E: Write>(
     written: &mut Written,
     writer: &mut Counted<W>,
 ) -> Result<(), SeasonFault>
-    ensures to_come { OnOk result (results.new.to_come ≡ 0) }
-    ensures written { OnOk result (WritesUpTo N.is_output results.old.to_come written.old written.new (W.contents writer.old.stream) (W.contents writer.new.stream)) }
+    ensures all { OnOk result (HasAll results.new.is_closed written.new) }
+    ensures written { OnOk result (WritesMore N.is_output (λ places. order ≡ OfSchedule → Rises 0 places (length written.old.is_settled.items)) written.old written.new (W.contents writer.old.stream) (W.contents writer.new.stream)) }
     ensures settled { order ≡ OfSchedule → OnOk result ((count : ℕ) × (written.new.is_settled.items ≡ settled_on written.old.is_settled.items 0 count)) }
     ensures faults { writer.new.faults ≡ faults_after result writer.old.faults }
 {

@@ -2,7 +2,7 @@ use Rattle.std.proofs.Common.{◌≡◌, ◌-◌, ◌+◌, ◌∙◌, ℕ, Optio
 use Rattle.std.proofs.lemmas.List.{get_or-set_other}
 use Rattle.std.proofs.lemmas.List.Elements.{AllWithin-more, at_read}
 use Rattle.match_season.specs.Seasons.{settled_on}
-use Rattle.match_season.proofs.WrittenLines.{up-to-none, up-to-more, up-to-weaker}
+use Rattle.match_season.proofs.WrittenLines.{more-none, more-settled, more-weaker, rises-higher, rises-lower, rises-trans}
 use Rattle.match_season.proofs.Placed.{placed-set, settled-next, settled-none}
 use Rattle.match_season.proofs.season_output.write_waiting.Goals as goal
 
@@ -13,7 +13,7 @@ loop-place-init g c = record {
   over = λ k d low high. absurd (omega (arith, low, high));
   placed = λ placed. placed;
   settled = λ _. settled-none c.args.written.now.is_settled.items c.args.next (c.args.next - c.args.next) (omega arith);
-  written = up-to-weaker _ 0 _ _ _ _ _ (omega arith) (up-to-none _ _ _);
+  written = more-none _ _ _ _ (λ placed. omega arith);
   faults = refl;
 }
 
@@ -34,7 +34,12 @@ loop-place-preserved g c =
       placed = λ placed. placed-set _ c.loop-place.waiting place _ (λ over found. cc (sym c.take.ensures.after ∙ found)) (before.placed placed);
       settled = λ placed.
           settled-next _ _ _ c.args.next place _ (omega arith) (before.placed placed place c.in-Some.over at) (before.settled placed) c.in_ok-write_outcome.ensures.settled.settled;
-      written = up-to-weaker _ (place - c.args.next + 1) _ _ _ _ _ (omega arith) (up-to-more _ _ _ _ _ _ _ _ _ _ before.written c.in_ok-write_outcome.ensures.written c.in_ok-write_outcome.ensures.settled);
+      written = more-settled _ _ _ _ _ _ _ _ _ _ _
+          (λ xs ys first second placed.
+          let here : c.in-Some.over.place ≡ place = before.placed placed place c.in-Some.over at in
+          rises-trans c.args.next xs (c.args.next + (place - c.args.next)) ys _ (first placed)
+          (rises-higher _ ys (c.in-Some.over.place + 1) _ (omega (arith, here)) (rises-lower _ c.in-Some.over.place ys _ (omega (arith, here)) second)))
+          before.written c.in_ok-write_outcome.ensures.written c.in_ok-write_outcome.ensures.settled;
       faults = c.in_ok-write_outcome.ensures.faults ∙ before.faults;
     }
 
@@ -61,7 +66,7 @@ returns g c =
     let before = c.loop-place.invariant in
     let all : c.loop-place.place - c.args.next ≡ length c.args.waiting.now - c.args.next = omega (arith, c.loop-place-test.false, before.bound) in
     record {
-      written = up-to-weaker _ (c.loop-place.place - c.args.next) _ _ _ _ _ (omega arith) before.written;
+      written = more-weaker _ _ _ _ _ _ _ (λ xs rises placed. rises-higher c.args.next xs (c.args.next + (c.loop-place.place - c.args.next)) _ (omega (arith, before.bound)) (rises placed)) before.written;
       place = (omega arith, λ within. omega (arith, within));
       over = λ k d low high. before.over k d low (omega (arith, high, c.loop-place-test.false));
       stops = λ lt. absurd (omega (arith, lt));
