@@ -60,15 +60,14 @@ impl<P: Player, S, N: Naming> Season<'_, '_, P, S, N> {
             return Err(MatchFault::NotEnded);
         };
         let entrants = entrants_of(self.alloc, self.reach, place, plan)?;
-        let ended = ended_match(
+        ended_match(
             rt,
             self.alloc,
             self.reach,
             entrants,
             self.game,
             self.has_history,
-        )?;
-        Ok(ended)
+        )
     }
 
     /// Plays matches, one after another, until none waits, and sends each result.

@@ -176,50 +176,14 @@ fn none_waiting<N: Naming>(alloc: Global, count: usize) -> Result<Vec<Option<Ove
     Ok(waiting)
 }
 
-/// Writes the records of the matches in the order of the schedule.
-fn write_by_schedule<N: Naming, R: Wait, W: Write, E: Write>(
-    alloc: Global,
-    reports: &Reports<'_, '_, '_, '_, R, E>,
-    results: &mut Results<'_, N>,
-    written: &mut Written,
-    writer: &mut Counted<W>,
-) -> Result<(), SeasonFault>
-    ensures all { OnOk result (HasAll results.new.is_closed written.new) }
-    ensures written { OnOk result (WritesMore N.is_output (λ places. Rises 0 places (length written.old.is_settled.items)) written.old written.new (W.contents writer.old.stream) (W.contents writer.new.stream)) }
-    ensures settled { OnOk result ((count : ℕ) × (written.new.is_settled.items ≡ settled_on written.old.is_settled.items 0 count)) }
-    ensures faults { writer.new.faults ≡ faults_after result writer.old.faults }
+/// The place from which kept results are written, if the match at this place is over.
+fn first_to_write(order: RecordOrder, next: usize, place: usize) -> usize
+    ensures { order ≡ OfSchedule → result ≡ next }
 {
-    let count = written.is_settled.len();
-    let mut waiting = none_waiting(alloc, count)?;
-    let mut next = 0;
-    for _ in reports.rt.forever() {
-        let Some(over) = results.next(reports.rt, written) else {
-            break;
-        };
-        keep(&mut waiting, over);
-        next = write_waiting(reports, &mut waiting, next, written, writer)?;
+    match order {
+        RecordOrder::OfSchedule => next,
+        RecordOrder::OfEnds => place,
     }
-    Ok(())
-}
-
-/// Writes the records of the matches in the order of their ends.
-fn write_by_ends<N: Naming, R: Wait, W: Write, E: Write>(
-    reports: &Reports<'_, '_, '_, '_, R, E>,
-    results: &mut Results<'_, N>,
-    written: &mut Written,
-    writer: &mut Counted<W>,
-) -> Result<(), SeasonFault>
-    ensures all { OnOk result (HasAll results.new.is_closed written.new) }
-    ensures written { OnOk result (WritesMore N.is_output (λ places. Unit {0}) written.old written.new (W.contents writer.old.stream) (W.contents writer.new.stream)) }
-    ensures faults { writer.new.faults ≡ faults_after result writer.old.faults }
-{
-    for _ in reports.rt.forever() {
-        let Some(over) = results.next(reports.rt, written) else {
-            break;
-        };
-        write_outcome(reports, over, written, writer)?;
-    }
-    Ok(())
 }
 
 /// Writes the records of the matches in this order, each followed by its account if that is asked for.
@@ -236,8 +200,16 @@ pub fn write_season<N: Naming, R: Wait, W: Write, E: Write>(
     ensures settled { order ≡ OfSchedule → OnOk result ((count : ℕ) × (written.new.is_settled.items ≡ settled_on written.old.is_settled.items 0 count)) }
     ensures faults { writer.new.faults ≡ faults_after result writer.old.faults }
 {
-    match order {
-        RecordOrder::OfSchedule => write_by_schedule(alloc, reports, results, written, writer),
-        RecordOrder::OfEnds => write_by_ends(reports, results, written, writer),
+    let count = written.is_settled.len();
+    let mut waiting = none_waiting(alloc, count)?;
+    let mut next = 0;
+    for _ in reports.rt.forever() {
+        let Some(over) = results.next(reports.rt, written) else {
+            break;
+        };
+        let first = first_to_write(order, next, over.place);
+        keep(&mut waiting, over);
+        next = write_waiting(reports, &mut waiting, first, written, writer)?;
     }
+    Ok(())
 }

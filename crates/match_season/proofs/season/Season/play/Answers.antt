@@ -1,12 +1,12 @@
 use Rattle.std.proofs.Common.{length, refl}
 use Rattle.std.proofs.lemmas.Option.{slice_get_read}
+use Rattle.std.proofs.lemmas.Result.{IfOk-weaker}
 use Rattle.match_season.proofs.season.Season.play.Goals as goal
 
 pub returns-clause-played : goal.returns-clause-played
 returns-clause-played g c =
-    let it = c.in_ok-ended.ensures.played in
     let entrants = c.in_ok-entrants.entrants in
     let plans = c.args.self.now.plans.now in
     let read = c.in-Some.ensures.lookup in
     let there = slice_get_read plans (length plans) c.args.place c.in-Some.plan.now refl read.3.0 read.1 in
-    (c.in-Some.plan.now, there, entrants.setup, c.in_ok-entrants.ensures.setup, entrants.players.items, it.0, it.1, it.2, it.3)
+    IfOk-weaker c.ended_match.result _ _ (λ ended it. (c.in-Some.plan.now, there, entrants.setup, c.in_ok-entrants.ensures.setup, entrants.players.items, it.0, it.1, it.2, it.3)) c.ended_match.ensures.played
