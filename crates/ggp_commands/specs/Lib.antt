@@ -4,3 +4,4 @@ pub mod Errands
 pub mod Hosting
 pub mod Schedules
 pub mod Runs
+pub mod Tasks

@@ -15,6 +15,7 @@ use role_workers::Player;
 use std::alloc::{AllocError, Global};
 use std::fmt::Write as _;
 use std::io::{Read, Write};
+use std::marker::Brand;
 use std::net::Net;
 use std::rt::Files;
 use std::sync::Wait;
@@ -134,7 +135,7 @@ where
         Task::Host(plan, task) => {
             let hosting = host(rt, alloc, *plan, remarks)?;
             let input = input_of(alloc, task, reader)?;
-            hold_matches::<H, P, S, W, E>(
+            let (performed, _writer) = hold_matches::<Brand, H, P, S, W, E>(
                 rt,
                 alloc,
                 reach,
@@ -145,7 +146,8 @@ where
                 writer,
                 errors,
                 terminals,
-            )
+            );
+            performed
         }
     }
 }

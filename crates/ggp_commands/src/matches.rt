@@ -3,7 +3,9 @@ ghost use Rattle.std.specs.Prelude.{◌≡◌, [], false, true, IfOk, OnOk};
 ghost use Rattle.std.specs.Io.KnownBytes.{Consumes, IsAtEnd};
 ghost use denote.Param.Send.{IsSend, IsSync};
 ghost use Rattle.ggp_commands.specs.Runs.{WritesRun};
+ghost use Rattle.match_log.specs.LoggedPlayers.{logged_handed};
 ghost use Rattle.ggp_commands.specs.Schedules.{WritesSeason, has_schedule};
+ghost use Rattle.ggp_commands.specs.Tasks.{WritesTask};
 
 use crate::descriptors::allowed_form;
 use crate::faults::{check_end, match_fault, season_end};
@@ -13,7 +15,8 @@ use command_line::{HostedTask, RunPlan, SeasonPlan};
 use game_commands::Fault;
 use game_core::{Counted, Game};
 use match_log::{
-    ClearedOutput, LoggedPlayer, Logging, Notices, Progress, ReportStream, StatusStream, Telling,
+    ClearedOutput, LoggedPlayer, Logging, Notices, Outlet, Progress, ReportStream, StatusStream,
+    Telling,
 };
 use match_plans::{CheckPlan, Reach, TellsShortages};
 use match_play::{Entrants, HostedGame, ended_match, entrants_of};
@@ -23,6 +26,7 @@ use player_check::check_player;
 use role_workers::Player;
 use std::alloc::Global;
 use std::io::{Read, Write};
+use std::marker::PhantomData;
 use std::rt::Files;
 use std::sync::{Mutex, Wait};
 use std::thread;
@@ -175,6 +179,7 @@ where
     H: Clock + Files + Threads + Wait + Sync,
     P: Player + Explains + Drop + Send,
     S: Reach<P> + TellsShortages + Sync,
+    ensures written { OnOk result (WritesTask (logged_handed H P.handed) game.entry task.now input.now (W.contents writer.old.stream) (W.contents writer.new.stream)) }
 {
     let logging = Logging {
         rt,
@@ -214,31 +219,36 @@ where
     H: Clock + Files + Threads + Wait + Sync,
     P: Player + Explains + Drop + Send,
     S: Reach<P> + TellsShortages + Sync,
+    ensures written { OnOk result (WritesTask (logged_handed H P.handed) game.entry task.now input.now (W.contents writer.old.stream) (W.contents writer.new.stream)) }
 {
-    thread::scope(
+    // The closure returns the output, so its content is known behind the scope.
+    let (performed, _writer) = thread::scope(
         thread::scope_env(),
         rt,
-        move |scope| -> Result<(), Fault>
+        move |scope| -> (Result<(), Fault>, &mut Counted<W>)
             requires sent { IsSync H.row × IsSend E.row }
+            ensures stream { result.1.ghost_name ≡ writer.entry.ghost_name }
+            ensures written { OnOk result.0 (WritesTask (logged_handed H P.handed) game.entry task.entry.now input.entry.now (W.contents writer.entry.now.stream) (W.contents result.1.now.stream)) }
         {
             let writing = move || console
                 .notices
                 .write_until_closed(rt, &console.progress, stream);
             if scope.spawn(writing).is_err() {
-                return Err(Fault::Memory);
+                return (Err(Fault::Memory), writer);
             }
             let performed = perform_hosted::<H, P, S, W>(
                 rt, alloc, reach, task, game, input, writer, console,
             );
             console.notices.close(rt);
-            performed
+            (performed, writer)
         },
-    )
+    );
+    performed
 }
 
 /// Plays matches of a game and reports on them: each message if that is wanted, otherwise the progress if `errors` is a terminal. No match
-/// waits for a reader of the reports.
-pub fn hold_matches<H, P, S, W: Write, E: Write + Send>(
+/// waits for a reader of the reports. Hands the output back, so its content is known.
+pub fn hold_matches<'w, N: Outlet, H, P, S, W: Write, E: Write + Send>(
     rt: &H,
     alloc: Global,
     reach: &S,
@@ -246,14 +256,17 @@ pub fn hold_matches<H, P, S, W: Write, E: Write + Send>(
     task: &HostedTask<'_>,
     game: HostedGame<'_>,
     input: &[u8],
-    writer: &mut Counted<W>,
+    writer: &'w mut Counted<W>,
     errors: &mut E,
     terminals: Terminals,
-) -> Result<(), Fault>
+) -> (Result<(), Fault>, &'w mut Counted<W>)
 where
     H: Clock + Files + Threads + Wait + Sync,
     P: Player + Explains + Drop + Send,
     S: Reach<P> + TellsShortages + Sync,
+    requires picked { N.name ≡ writer.ghost_name }
+    ensures output { result.1.ghost_name ≡ writer.entry.ghost_name }
+    ensures written { OnOk result.0 (WritesTask (logged_handed H P.handed) game.entry task.now input.now (W.contents writer.entry.now.stream) (W.contents result.1.now.stream)) }
 {
     let console = Console {
         notices: Notices::new(alloc),
@@ -262,13 +275,14 @@ where
         is_terminal: terminals.errors,
     };
     let stream = Mutex::new(StatusStream::new(errors));
-    let mut output = Counted::new(ClearedOutput {
+    let mut output = Counted::new(ClearedOutput::<'_, 'w, N, H, W, &mut E> {
         rt,
         output: writer,
         status: &stream,
         is_terminal: terminals.output,
+        outlet: PhantomData,
     });
-    let performed = perform_beside_notices::<H, P, S, ClearedOutput<'_, H, W, &mut E>, E>(
+    let performed = perform_beside_notices::<H, P, S, ClearedOutput<'_, 'w, N, H, W, &mut E>, E>(
         rt,
         alloc,
         reach,
@@ -279,6 +293,7 @@ where
         &console,
         &stream,
     );
+    let ClearedOutput { output, .. } = output.end();
     stream.lock(rt).clear();
-    performed
+    (performed, output)
 }

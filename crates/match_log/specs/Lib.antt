@@ -1,2 +1,3 @@
 pub mod ShownTexts
 pub mod WaitingLines
+pub mod LoggedPlayers

@@ -12,4 +12,4 @@ mod status;
 pub use logging::{LoggedPlayer, Logging, Telling};
 pub use notices::{Notices, ReportStream};
 pub use shown_text::Shown;
-pub use status::{ClearedOutput, Progress, StatusStream};
+pub use status::{ClearedOutput, Outlet, Progress, StatusStream};

@@ -1,5 +1,5 @@
 //! The status line: one line of a terminal with the progress of matches, which is rewritten as they go on.
-ghost use Rattle.std.specs.Prelude.{◌≡◌, IsTrue, IsFalse, IfSome, IfNone};
+ghost use Rattle.std.specs.Prelude.{◌≡◌, ℕ, IsTrue, IsFalse, IfSome, IfNone};
 
 use game_core::Counted;
 use match_messages::MessageKind;
@@ -7,6 +7,7 @@ use network_players::time_since;
 use std::fmt::Write as _;
 use std::io;
 use std::io::Write;
+use std::marker::{Brand, PhantomData};
 use std::sync::atomic::{AtomicU64, Ordering};
 use std::sync::{Mutex, Wait};
 use std::time::{Clock, Duration, Instant};
@@ -145,17 +146,32 @@ impl<E: Write> Write for StatusStream<E> {
     }
 }
 
-/// An output. Before each write to a terminal the status line is erased, since both may stand on the same one.
+/// The reference through which an output writes. It is picked where the output is made, so that contracts know the stream that code over
+/// any writer wrote to.
+pub trait Outlet {
+    ghost name: { ℕ };
+}
+
+impl Outlet for Brand {
+    ghost name = { 0 };
+}
+
+/// An output through the picked reference. Before each write to a terminal the status line is erased, since both may stand on the same
+/// one.
 #[derive(Drop)]
-pub struct ClearedOutput<'a, R, W, E> {
+pub struct ClearedOutput<'a, 'w, N: Outlet, R, W, E> {
     pub rt: &'a R,
-    pub output: &'a mut Counted<W>,
+    pub output: &'w mut Counted<W>,
     pub status: &'a Mutex<StatusStream<E>>,
     /// Whether the output goes to a terminal.
     pub is_terminal: bool,
+    pub outlet: PhantomData<N>,
+    pub ghost picked: { output.ghost_name ≡ N.name },
 }
 
-impl<R: Wait, W: Write, E: Write> Write for ClearedOutput<'_, R, W, E> {
+impl<N: Outlet, R: Wait, W: Write, E: Write> Write for ClearedOutput<'_, '_, N, R, W, E> {
+    ghost contents = { λ cleared. W.contents cleared.output.now.stream };
+
     fn write(&mut self, bytes: &[u8]) -> io::Result<usize> {
         if self.is_terminal {
             self.status.lock(self.rt).clear();
