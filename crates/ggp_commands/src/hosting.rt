@@ -1,5 +1,6 @@
 //! The game to play, and the rules for its players.
-ghost use Rattle.std.specs.Prelude.{ℕ, List, IfOk};
+ghost use Rattle.std.specs.Prelude.{◌≡◌, ℕ, List, IfOk};
+ghost use Rattle.described_games.specs.Games.{IsDescribed};
 ghost use Rattle.ggp_commands.specs.Hosting.{AreRulesFor, AreSpelled};
 
 use command_line::HostingPlan;
@@ -19,7 +20,10 @@ pub struct Hosting {
 
 impl Hosting {
     /// Lends the game and its rules.
-    pub fn hosted(&self) -> HostedGame<'_> {
+    pub fn hosted(&self) -> HostedGame<'_>
+        ensures game { result.game.now ≡ self.now.game }
+        ensures rules { result.rules.now ≡ self.now.rules }
+    {
         HostedGame {
             game: &self.game,
             rules: &self.rules,
@@ -66,6 +70,22 @@ fn rules_for<F: Files>(
     }
 }
 
+/// The game that a text describes, and the rules for its players.
+fn hosting_of<F: Files>(
+    files: &F,
+    alloc: Global,
+    text: &[u8],
+    told: Option<&str>,
+    remarks: &mut Remarks,
+) -> Result<Hosting, Fault>
+    ensures game { IfOk result (λ hosting. IsDescribed text.now hosting.game) }
+    ensures rules { IfOk result (λ hosting. AreRulesFor told.entry hosting.game hosting.rules.items) }
+{
+    let game = game_of(alloc, text, remarks)?;
+    let rules = rules_for(files, alloc, &game, told, remarks)?;
+    Ok(Hosting { game, rules })
+}
+
 /// The game of a plan, and the rules for its players.
 pub fn host<F: Files>(
     files: &F,
@@ -73,9 +93,9 @@ pub fn host<F: Files>(
     plan: HostingPlan<'_>,
     remarks: &mut Remarks,
 ) -> Result<Hosting, Fault>
-    ensures { IfOk result (λ hosting. AreRulesFor plan.entry.told hosting.game hosting.rules.items) }
+    ensures game { IfOk result (λ hosting. (text : List ℕ) × IsDescribed text hosting.game) }
+    ensures rules { IfOk result (λ hosting. AreRulesFor plan.entry.told hosting.game hosting.rules.items) }
 {
-    let game = game_of(alloc, &told_rules(files, alloc, plan.game)?, remarks)?;
-    let rules = rules_for(files, alloc, &game, plan.told, remarks)?;
-    Ok(Hosting { game, rules })
+    let text = told_rules(files, alloc, plan.game)?;
+    hosting_of(files, alloc, &text, plan.told, remarks)
 }
