@@ -5,8 +5,12 @@ use Rattle.game_commands.specs.Done.{is_noted, match_names}
 use Rattle.game_commands.specs.declared.done.DoneMatches.{DoneMatches}
 use Rattle.command_line.specs.declared.tasks.HostedTask.{HostedTask}
 use Rattle.command_line.specs.declared.tasks.HostedTask.TheVariants.{Season}
+use Rattle.command_line.specs.declared.tasks.SeasonPlan.{SeasonPlan}
 use Rattle.match_plans.specs.Schedules.{match_lines, IsPlanned}
 use Rattle.match_plans.specs.declared.plan.MatchPlan.{MatchPlan}
+use Rattle.role_workers.specs.Handing.{Handed}
+use Rattle.match_play.specs.declared.hosting.HostedGame.{HostedGame}
+use Rattle.match_season.specs.Outputs.{IsOutputOf}
 use Rattle.match_season.specs.Seasons.{WritesAllBut}
 
 -- the task has a schedule for its input
@@ -27,6 +31,8 @@ abbrev pub AreToPlay : {F : Type 0} → ℕ → Option F → List ℕ → List M
 AreToPlay strikes done schedule plans = (all : List MatchPlan) × AllZip (IsPlanned strikes) (match_lines schedule) all
     × MatchOption done (plans ≡ all) (λ file. (noted : DoneMatches) × (plans ≡ left_of noted all))
 
--- From one content of a stream to the other the record of each match to play was written.
-abbrev pub WritesSeason : {F : Type 0} → ℕ → Option F → List ℕ → Option (List ℕ) → Option (List ℕ) → Type 0
-WritesSeason strikes done schedule old new = (plans : List MatchPlan) × AreToPlay strikes done schedule plans × WritesAllBut 0 (length plans) old new
+-- From one content of a stream to the other the output of each match to play was written, as the season's form asks. Each match is of this
+-- game, and its players got the game's rules.
+abbrev pub WritesSeason : {P : Type 0} → (P → Option (List Handed)) → HostedGame → SeasonPlan → List ℕ → Option (List ℕ) → Option (List ℕ) → Type 0
+WritesSeason handed game season schedule old new = (plans : List MatchPlan) × AreToPlay season.strikes season.done schedule plans
+    × WritesAllBut (IsOutputOf handed game plans season.form.has_history) season.form.order 0 (length plans) old new

@@ -7,9 +7,9 @@ use Rattle.command_line.specs.declared.tasks.HostedTask.TheVariants.{Run, Season
 use Rattle.ggp_commands.specs.Runs.{WritesRun}
 use Rattle.ggp_commands.specs.Schedules.{WritesSeason}
 
--- From one content of a stream to the other the task wrote the record of its match, or of each match to play of its schedule. Of a check
+-- From one content of a stream to the other the task wrote the output of its match, or of each match to play of its schedule. Of a check
 -- nothing is said.
 abbrev pub WritesTask : {P : Type 0} → (P → Option (List Handed)) → HostedGame → HostedTask → List ℕ → Option (List ℕ) → Option (List ℕ) → Type 0
 WritesTask handed game (Run run) input old new = WritesRun handed game run old new
-WritesTask handed game (Season season) input old new = WritesSeason season.strikes season.done input old new
+WritesTask handed game (Season season) input old new = WritesSeason handed game season input old new
 WritesTask handed game (Check plan) input old new = Unit {0}

@@ -126,7 +126,7 @@ where
     H: Files + Threads + Wait + Sync,
     P: Player + Drop + Send,
     S: Reach<P> + TellsShortages + Sync,
-    ensures { OnOk result (WritesSeason season.entry.strikes season.entry.done schedule.now (W.contents writer.old.stream) (W.contents writer.new.stream)) }
+    ensures { OnOk result (WritesSeason P.handed game.entry season.entry schedule.now (W.contents writer.old.stream) (W.contents writer.new.stream)) }
 {
     let plans = plans_of(rt, alloc, game.game, season, schedule)?;
     console.plan(rt, plans.len());
