@@ -12,7 +12,7 @@ from competition.kept import look_at_records
 from competition.pages import Pages
 from competition.plan import Refused, make_plan, read_plan
 from competition.playing import Playing, play
-from competition.referee import NoReferee, Referee, find_program
+from competition.referee import NoReferee, Referee, Unchecked, find_program
 from competition.results import match_line
 from competition.seats import Seats
 from competition.table import tables_of
@@ -29,7 +29,8 @@ HELP = """A competition in one folder, of which competition.toml says what is pl
   publish  writes one archive of all of it, with sums
   check    checks such an archive
 
-Status 0: all is well; of `play`, each match has a lawful record. 1: it is not. 2: the command or competition.toml is wrong.
+Status 0: all is well; of `play`, each match has a lawful record. 1: it is not. 2: the command or competition.toml is wrong. 3: the
+referee could not check what is there, as where memory is short; no file of a match was touched.
 """
 
 
@@ -168,6 +169,9 @@ def main():
     except (Refused, NoReferee) as why:
         print(f"ggp_competition: {why}" if "\n" not in str(why) else why, file=sys.stderr)
         return 2
+    except Unchecked as why:
+        print(f"ggp_competition: {why}", file=sys.stderr)
+        return 3
     except KeyboardInterrupt:
         print("ggp_competition: interrupted", file=sys.stderr)
         return 1

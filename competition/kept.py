@@ -6,6 +6,8 @@ from competition.results import fault_of_record, read_record, result_of
 
 # This many matches are checked together, so that only their records are in memory at once.
 TOGETHER = 250
+# What the referee reads of a record, before its line's end, and of an account.
+MOST_OF_RECORD, MOST_OF_ACCOUNT = 16_777_216, 268_435_456
 
 
 def read_or_none(path):
@@ -16,28 +18,35 @@ def read_or_none(path):
 
 
 def fault_of_files(record, account):
+    """Returns why files are not even handed to the referee, or none. What it would skip, or end at, is here."""
     if account is None:
         return "its account is missing"
     if not account.endswith(b"\n"):
         return "its account is cut off"
+    if len(account) > MOST_OF_ACCOUNT:
+        return f"its account has more than {MOST_OF_ACCOUNT:,} bytes"
     if record.count(b"\n") != 1 or not record.endswith(b"\n"):
         return "its record is not one line"
+    if not record.startswith(b"{"):
+        return "its record does not begin with `{`"
+    if len(record) - 1 > MOST_OF_RECORD:
+        return f"its record has more than {MOST_OF_RECORD:,} bytes"
     return None
 
 
 def looked_at(plan, referee, game, matches):
     """Gives for each of these matches of a game, which have records, its result, or why it does not count: because its files are wrong,
-    or though they are right, since they are of another match."""
+    or though they are right, since they are of another match. Where the referee can't tell, this ends with `Unchecked`."""
     rules = plan.folder.rules_of(game)
     records = [plan.folder.record(it.id).read_bytes() for it in matches]
     accounts = [read_or_none(plan.folder.account(it.id)) for it in matches]
     faults = list(map(fault_of_files, records, accounts))
     whole = [at for at, fault in enumerate(faults) if not fault]
     verdicts = dict(zip(whole, referee.verdicts(rules, [records[at] for at in whole])))
-    lawful = [at for at in whole if verdicts.get(at) == "lawful"]
+    lawful = [at for at in whole if verdicts[at] == "lawful"]
     replays = dict(zip(lawful, referee.replays(rules, [accounts[at] for at in lawful], [records[at] for at in lawful])))
     for at, match in enumerate(matches):
-        fault = faults[at] or (None if at in replays else verdicts.get(at, "not looked at"))
+        fault = faults[at] or (None if at in replays else verdicts[at])
         if not fault and not replays[at]:
             fault = "its account does not give its record again"
         if fault:

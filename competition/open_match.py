@@ -7,6 +7,7 @@ import time
 from competition.children import Child
 from competition.files import write_whole
 from competition.hosts import host_of, parallel_words, remote_line
+from competition.referee import is_not_replayed
 from competition.results import fault_of_record, read_record, result_of
 
 THERE = ("available", "ready", "unknown")
@@ -122,6 +123,9 @@ class OpenMatch:
             yield
         if verified.output() != b"lawful\n":
             self.why = verified.last_words()
+            return
+        if replayed.status() and not is_not_replayed(replayed.status(), replayed.last_words()):
+            self.why = replayed.last_words()
             return
         if replayed.status() or replayed.output().partition(b"\n")[2] != record:
             self.why = "its account does not give its record again"

@@ -3,6 +3,7 @@
 import json
 import os
 import pathlib
+import re
 import shutil
 import subprocess
 import sys
@@ -13,10 +14,17 @@ PROGRAM = "ggp_manager"
 MOST_ROLES = 16
 # Accounts that are replayed in one run: their bytes, and a desk's matches.
 MOST_BYTES, MOST_MATCHES = 200_000_000, 1_000
+# The last line on standard error where status 1 is a verdict, and no fault of the program's own.
+NOT_LAWFUL = re.compile(r"ggp_manager: records not lawful ([0-9]+)")
+NOT_REPLAYED = re.compile(r"ggp_manager: not replayed: .*")
 
 
 class NoReferee(Exception):
     """The program is not found."""
+
+
+class Unchecked(Exception):
+    """What the program could not check, and why: it is short of something, or was ended. That says nothing of what was to be checked."""
 
 
 def find_program(given):
@@ -32,6 +40,23 @@ def find_program(given):
         if it and os.access(it, os.X_OK):
             return str(it)
     raise NoReferee(f"{PROGRAM} is not found beside this program; `--program FILE` names it")
+
+
+def last_line(said):
+    """Returns the last line that a run has said on standard error, or nothing."""
+    lines = said.stderr.decode("ascii", "replace").splitlines()
+    return lines[-1] if lines else ""
+
+
+def is_not_replayed(status, line):
+    """Returns whether `replay` ended since an account is wrong, by its status and the last line that it said."""
+    return status == 1 and bool(NOT_REPLAYED.fullmatch(line))
+
+
+def unchecked(said, rules_path):
+    """Returns the fault of a run that did not check what it was given."""
+    words = last_line(said).removeprefix("ggp_manager: ") or "it said nothing"
+    return Unchecked(f"the referee could not check by `{said.args[1]}` what is there of {rules_path}: {words}, status {said.returncode}")
 
 
 class Referee:
@@ -72,9 +97,14 @@ class Referee:
         return [self.path, "replay", "--rules-file", str(rules_path)]
 
     def verdicts(self, rules_path, records):
-        """Returns for each record what `verify` says of it."""
+        """Returns for each record what `verify` says of it. Each is one line, and begins with `{`."""
         said = self.call("verify", "--lines", "--rules-file", rules_path, data=b"".join(records))
-        return said.stdout.decode("ascii").splitlines()
+        found = said.stdout.decode("ascii", "replace").splitlines()
+        counted = NOT_LAWFUL.fullmatch(last_line(said))
+        wrong = len(found) - found.count("lawful")
+        if len(found) != len(records) or (said.returncode, wrong) not in ((0, 0), (1, int(counted[1]) if counted else 0)):
+            raise unchecked(said, rules_path)
+        return found
 
     def replays(self, rules_path, accounts, records):
         """Returns for each account whether its calls give its record again. As long as all do, one run looks at many."""
@@ -84,10 +114,8 @@ class Referee:
             while end < len(accounts) and end - at < MOST_MATCHES and (end == at or size + len(accounts[end]) <= MOST_BYTES):
                 size += len(accounts[end])
                 end += 1
-            if self.replay_gives(rules_path, accounts[at:end], records[at:end]):
+            if end - at > 1 and self.replay_gives_all(rules_path, accounts[at:end], records[at:end]):
                 found += [True] * (end - at)
-            elif end - at == 1:
-                found.append(False)
             else:
                 found += [self.replay_gives(rules_path, [one], [other]) for one, other in zip(accounts[at:end], records[at:end])]
             at = end
@@ -95,4 +123,13 @@ class Referee:
 
     def replay_gives(self, rules_path, accounts, records):
         said = self.call("replay", "--rules-file", rules_path, data=b"".join(accounts))
+        if said.returncode != 0 and not is_not_replayed(said.returncode, last_line(said)):
+            raise unchecked(said, rules_path)
         return said.returncode == 0 and said.stdout.partition(b"\n")[2] == b"".join(records)
+
+    def replay_gives_all(self, rules_path, accounts, records):
+        """Returns whether one run replays all of these. Where it is short of something for all of them, each may still go by itself."""
+        try:
+            return self.replay_gives(rules_path, accounts, records)
+        except Unchecked:
+            return False

@@ -66,6 +66,13 @@ def run(folder, *words, **more):
     return started.returncode, out, said
 
 
+def program_but(path, asked, done):
+    """Writes a program at the path that is the referee, but where it is asked for this it does that; both are words of a shell."""
+    path.write_text(f'#!/bin/bash\nif [[ {asked} ]]; then {done}; fi\nexec {program()} "$@"\n')
+    path.chmod(0o755)
+    return path
+
+
 def call(*words, data=b""):
     """Returns what the referee prints."""
     return subprocess.run([program(), *map(str, words)], input=data, capture_output=True).stdout

@@ -13,7 +13,7 @@ import unittest
 
 from competition.children import end_with
 from competition.tests.players import TestPlayer
-from competition.tests.support import GAMES, InFolder, program, run, start
+from competition.tests.support import GAMES, InFolder, program, program_but, run, start
 
 COUNTDOWN = [("countdown", GAMES / "countdown.kif")]
 HEAD = "start = 5\nplay = 5\nstrikes = 1\nwait = 1\ninfo = 5\ntries = 2\n"
@@ -192,6 +192,66 @@ class Play(InFolder):
             self.assertIn(words, line)
         self.assert_sound(self.schedule)
         self.assertTrue((self.folder / "records/cup-001.json.refused").exists())
+
+    def files(self):
+        """Returns the files of the matches, by their names."""
+        return {str(it.relative_to(self.folder)): it.read_bytes() for kind in ("records", "accounts", "logs") for it in (self.folder / kind).iterdir()}
+
+    def test_what_can_not_be_checked_is_not_touched(self):
+        self.planned(["good", "good", "good"])
+        run(self.folder, "play")
+        before = self.files()
+        short = "echo 'ggp_manager: want of memory' >&2; exit 3"
+        shortages = [
+            ('"$1 $2" = "verify --lines"', short, "by `verify` what is there of rules/countdown.kif: want of memory, status 3"),
+            ('"$1" = verify', "kill -9 $$", "by `verify` what is there of rules/countdown.kif: it said nothing, status -9"),
+            ('"$1" = verify', "echo lawful; exit 0", "by `verify` what is there of rules/countdown.kif: it said nothing, status 0"),
+            ('"$1" = verify', "cat > /dev/null; echo 'ggp_manager: input too long' >&2; exit 1", "input too long, status 1"),
+            ('"$1" = replay', "kill -9 $$", "by `replay` what is there of rules/countdown.kif: it said nothing, status -9"),
+            ('"$1" = replay', short, "want of memory, status 3"),
+        ]
+        for at, (asked, done, words) in enumerate(shortages):
+            short_one = program_but(self.folder / "short", asked, done)
+            for command in ("play", "table", "pages", "publish") if at == 0 else ("play",):
+                with self.subTest(f"{command}: {asked}: {done}"):
+                    status, out, said = run(self.folder, command, "--program", short_one)
+                    self.assertEqual((status, out), (3, ""), said)
+                    self.assertRegex(said, r"^ggp_competition: the referee could not check by [^\n]*\n$")
+                    self.assertIn(words, said)
+                    self.assertEqual(self.files(), before)
+        self.assertEqual(run(self.folder, "play")[:2], (0, "6 of 6 matches have a lawful record\n"))
+
+    def test_a_shortage_for_many_accounts_is_none_for_one(self):
+        self.planned(["good", "good"])
+        run(self.folder, "play")
+        alone = program_but(self.folder / "short", '"$1" = replay', 'all=$(cat); [ $(grep -c "open " <<< "$all") -gt 1 ] && exit 3; exec %s "$@" <<< "$all"' % program())
+        self.assertEqual(run(self.folder, "play", "--program", alone), (0, "2 of 2 matches have a lawful record\n", ""))
+
+    def test_a_damaged_record_costs_no_other(self):
+        self.planned(["good", "good", "good"])
+        run(self.folder, "play")
+        record, before = self.folder / "records/cup-001.json", self.files()
+        damages = [
+            (b"5\n", "its record does not begin with `{`"),
+            (b"\n", "its record does not begin with `{`"),
+            (before["records/cup-001.json"][:-1] + b" " * (16 << 20) + b"\n", "its record has more than 16,777,216 bytes"),
+        ]
+        for data, words in damages:
+            with self.subTest(words):
+                record.write_bytes(data)
+                self.assertIn(f"ggp_competition: cup-001 does not count: {words}\n", run(self.folder, "table")[2])
+                status, out, _ = run(self.folder, "play")
+                self.assertEqual((status, lines(out, "refused")), (0, [f"refused cup-001: {words}; its files are set aside, and it is played again"]))
+                after = self.files()
+                self.assertEqual([name for name in before if "cup-001" not in name and after[name] != before[name]], [])
+                self.assertEqual(after["records/cup-001.json.refused"], data)
+
+    def test_a_replay_that_is_ended_during_play_is_told_as_it_is(self):
+        self.planned(["good", "good"])
+        ended = program_but(self.folder / "short", '"$1" = replay', "kill -9 $$")
+        status, out, _ = run(self.folder, "play", "--program", ended)
+        self.assertEqual((status, len(lines(out, "no record"))), (1, 2))
+        self.assertTrue(all("it ended with status -9" in it for it in lines(out, "no record")), out)
 
     def test_a_record_that_does_not_verify_does_not_count(self):
         self.planned(["good", "good"])
