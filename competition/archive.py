@@ -14,7 +14,7 @@ import zlib
 from competition.files import UNFINISHED
 from competition.kept import look_at_records, strangers
 from competition.pages import made_anew
-from competition.plan import Refused, read_plan, sums_text
+from competition.plan import Refused, faults_of_descriptions, read_plan, sums_text
 from competition.results import match_line
 from competition.table import tables_of
 from competition.table_text import in_order, table_files
@@ -34,8 +34,9 @@ checks all that follows. By hand, in this folder:
     ggp_manager replay --rules-file rules/GAME.kif < accounts/ID.txt      each call got its reply, and the record comes of them
     ggp_competition table                                                 the schedule follows from competition.toml, the table from the records
 
-The rules are ground descriptions; games has the descriptions that they were made from. Where rules/GAME.told is there, the players of
-that game were told this in place of rules/GAME.kif. The version of the referee is in VERSION.
+The rules are ground descriptions; games has the descriptions that they were made from, whose sums when the plan was made are in
+rules/DESCRIPTIONS.sha256. Where rules/GAME.told is there, the players of that game were told this in place of rules/GAME.kif. The
+version of the referee is in VERSION.
 What this does not show: that the players of these names sent these answers, and when. Keep the sum of the archive as you got it.
 """
 
@@ -54,11 +55,12 @@ def contents(plan, referee, results):
     folder = plan.folder
     yield "competition.toml", folder.competition
     yield "schedule.tsv", folder.schedule
-    yield "rules/SHA256SUMS", folder.rule_sums()
+    for file in (folder.rule_sums(), folder.description_sums()):
+        yield f"rules/{file.name}", file
     for game in plan.competition.games:
         for file in folder.rule_files(game):
             yield f"rules/{file.name}", file
-        yield f"games/{game.name}.kif", folder.path / game.file
+        yield f"games/{game.name}.kif", folder.description(game)
     for it in results:
         for file in (folder.record(it.match.id), folder.account(it.match.id), folder.log(it.match.id)):
             yield str(file.relative_to(folder.path)), file
@@ -153,7 +155,8 @@ def faults_of_files(folder, plan, results, wanted):
     for name in sorted(pages.keys() | said.keys()):
         if name not in pages or name not in said or pages[name].read_bytes() != said[name].read_bytes():
             yield f"pages/{name} does not follow from the records"
-    known = {SUMS, VERSION, HOW, "competition.toml", "schedule.tsv", "rules/SHA256SUMS", *wanted}
+    known = {SUMS, VERSION, HOW, "competition.toml", "schedule.tsv", *wanted}
+    known |= {f"rules/{it.name}" for it in (plan.folder.rule_sums(), plan.folder.description_sums())}
     for it in plan.competition.games:
         known |= {f"games/{it.name}.kif", *(f"rules/{file.name}" for file in plan.folder.rule_files(it))}
     for it in results:
@@ -184,6 +187,7 @@ def check_archive(path, referee):
                 return faults, ""
             plan = read_plan(folder, referee)
             results, faults = faults_of_matches(plan, referee)
+            faults += [it.replace(f"{folder}/", "") for it in faults_of_descriptions(plan, lambda it: folder / f"games/{it.name}.kif")]
             if faults:
                 return faults, ""
             wanted = table_files(plan, tables_of(plan.competition, results))

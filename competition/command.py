@@ -10,7 +10,7 @@ from competition.archive import check_archive, publish
 from competition.files import write_whole
 from competition.kept import look_at_records
 from competition.pages import Pages
-from competition.plan import Refused, make_plan, read_plan
+from competition.plan import Refused, faults_of_descriptions, make_plan, read_plan
 from competition.playing import Playing, play
 from competition.referee import NoReferee, Referee, Unchecked, find_program
 from competition.results import match_line
@@ -141,8 +141,10 @@ def run_publish(asked, referee):
     plan = read_plan(asked.folder, referee)
     results, is_faulty = known_results(plan, referee)
     missing = len(plan.matches) - len(results)
-    if missing:
-        print(f"ggp_competition: nothing is published: {missing} matches have no lawful record", file=sys.stderr)
+    faults = [f"{missing} matches have no lawful record"] if missing else faults_of_descriptions(plan, plan.folder.description)
+    if faults := list(faults):
+        for it in faults:
+            print(f"ggp_competition: nothing is published: {it}", file=sys.stderr)
         return 1
     write_matches(plan, results)
     path = pathlib.Path(asked.to or plan.folder.path / f"{plan.competition.name}.tar.gz")

@@ -26,13 +26,14 @@ class NoDescription(Exception):
 
 @dataclass(frozen=True)
 class Rules:
-    """The ground description of a game: its bytes, their sum, and the names of its roles; and the bytes of the description with
-    variables that players get, or none if they get the rules themselves."""
+    """The ground description of a game: its bytes, their sum, and the names of its roles; the bytes of the description with variables
+    that players get, or none if they get the rules themselves; and the sum of the file that all of this was made from, where known."""
 
     text: bytes
     sum: str
     roles: tuple
     told: bytes | None = None
+    description_sum: str | None = None
 
 
 def sum_of(data):
@@ -119,10 +120,10 @@ def instantiated(path, tells_variables):
         return made.stdout, told.read_bytes() if tells_variables else None
 
 
-def rules_of(text, referee, told=None):
+def rules_of(text, referee, told=None, description_sum=None):
     """Returns the rules that a ground description says, as the referee reads it, or none; with the text that players get."""
     roles = referee.roles(text)
-    return Rules(text, sum_of(text), roles, told) if roles else None
+    return Rules(text, sum_of(text), roles, told, description_sum) if roles else None
 
 
 def load_description(path, referee, tells_variables):
@@ -135,11 +136,11 @@ def load_description(path, referee, tells_variables):
         raise NoDescription(f"it can't be read: {why.strerror}") from None
     if len(text) > MOST_BYTES:
         raise NoDescription(f"it has more than {MOST_BYTES:,} bytes")
-    places, told = sentence_places(text), None
+    places, told, description_sum = sentence_places(text), None, sum_of(text)
     if has_variables(text):
         look_at_sentences(text, places, False)
         text, told = instantiated(path, tells_variables)
-    rules = rules_of(text, referee, told)
+    rules = rules_of(text, referee, told, description_sum)
     if not rules:
         look_at_sentences(text, places, True)
         raise NoDescription("the referee says: bad description")

@@ -51,6 +51,14 @@ class Folder:
     def rule_sums(self):
         return self.rules / "SHA256SUMS"
 
+    def description(self, game):
+        """The file of a game's description, as competition.toml names it."""
+        return self.path / game.file
+
+    def description_sums(self):
+        """The file of the sums of the descriptions that `plan` made the rules from. All rules end in .kif or .told."""
+        return self.rules / "DESCRIPTIONS.sha256"
+
     def record(self, match):
         return self.records / f"{match}.json"
 

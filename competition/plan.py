@@ -5,7 +5,7 @@ import re
 from dataclasses import dataclass
 
 from competition.competition_file import Competition, Mistake, Mistaken, read_competition
-from competition.descriptions import NoDescription, load_description, rules_of, sum_of
+from competition.descriptions import NoDescription, has_variables, load_description, rules_of, sum_of
 from competition.files import Folder, write_whole
 from competition.schedule import planned, schedule_text
 
@@ -63,7 +63,7 @@ def loaded_games(folder, competition, referee):
     """Returns the rules of each game by its name. All descriptions that are none are told at once."""
     found, mistakes = {}, []
     for game in competition.games:
-        path = folder.path / game.file
+        path = folder.description(game)
         if path.resolve().parent == folder.rules.resolve():
             mistakes.append(Mistake(game.line, "games.file", f"{path}: a description can't stand in {folder.rules}, where `plan` writes the rules"))
             continue
@@ -94,10 +94,12 @@ def make_plan(path, referee):
     wanted = {folder.rules_of(name): it.text for name, it in rules.items()}
     wanted |= {folder.told_of(name): it.told for name, it in rules.items() if it.told is not None}
     wanted[folder.rule_sums()] = sums_text({file.name: sum_of(data) for file, data in wanted.items()})
+    wanted[folder.description_sums()] = sums_text({f"{name}.kif": it.description_sum for name, it in rules.items()})
     wanted[folder.schedule] = schedule_text(matches)
     played = folder.records.is_dir() and any(folder.records.glob("*.json"))
     for file, data in wanted.items():
-        if played and (not file.exists() or file.read_bytes() != data):
+        # Sums that are missing come of the descriptions as they are, which give the same rules.
+        if played and (file.read_bytes() != data if file.exists() else file != folder.description_sums()):
             raise Refused(f"{file} would change, and matches were played: keep the competition as it was, or take another folder")
     try:
         folder.make(folder.rules)
@@ -109,9 +111,33 @@ def make_plan(path, referee):
     return Plan(folder, competition, rules, matches)
 
 
+def sums_of(path):
+    """Returns the sums of a file of sums, by names."""
+    return {name.decode(errors="replace"): it.decode() for it, name in SUM_LINE.findall(read_file(path))}
+
+
+def faults_of_descriptions(plan, path_of):
+    """Gives each description that is not the one that the rules were made from; `path_of` tells the file of a game."""
+    path = plan.folder.description_sums()
+    if not path.is_file():
+        yield f"{path} is missing: it has the sums of the descriptions, and `ggp_competition plan` writes it"
+        return
+    sums = sums_of(path)
+    for game in plan.competition.games:
+        file = path_of(game)
+        if not file.is_file():
+            yield f"{file} is missing: it is the description of {game.name}, of which the archive has a copy"
+        elif sum_of(text := file.read_bytes()) != sums.get(f"{game.name}.kif"):
+            yield f"{file} is not the description that the rules of {game.name} were made from"
+        elif not has_variables(text) and text != plan.rules[game.name].text:
+            yield f"{file} has no variables, and is not the rules of {game.name}"
+    for name in sorted(sums.keys() - {f"{game.name}.kif" for game in plan.competition.games}):
+        yield f"{path} has a sum of {name}, which is no game of {plan.folder.competition}"
+
+
 def read_rules(folder, competition, referee):
     """Returns the rules of each game by its name, as `plan` wrote them."""
-    sums, found = {name.decode(errors="replace"): it.decode() for it, name in SUM_LINE.findall(read_file(folder.rule_sums()))}, {}
+    sums, found = sums_of(folder.rule_sums()), {}
     if sums.keys() != {file.name for game in competition.games for file in folder.rule_files(game)}:
         raise Refused(f"{folder.rule_sums()} is not what {folder.competition} says: `ggp_competition plan` writes it anew")
     for game in competition.games:

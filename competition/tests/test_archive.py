@@ -61,6 +61,15 @@ def beside(name, data=b"x", kind=tarfile.REGTYPE):
     return lambda files: packed({**files, name: data}, {name: kind})
 
 
+def nonsense(files):
+    """Puts another description in the place of one, with a sum that fits also in the rules."""
+    text, sums = b"(role nonsense)\n", "cup/rules/DESCRIPTIONS.sha256"
+    old = hashlib.sha256(files["cup/games/odd.kif"]).hexdigest()
+    files["cup/games/odd.kif"] = text
+    files[sums] = files[sums].replace(old.encode(), hashlib.sha256(text).hexdigest().encode())
+    return packed(files)
+
+
 def better(data):
     """Returns a record with other goals."""
     record = json.loads(data)
@@ -91,6 +100,11 @@ SPOILINGS = {
     "an account is missing": (without("cup/accounts/cup-004.txt"), "cup-004: its account is missing"),
     "a log is missing": (without("cup/logs/cup-004.txt"), "cup-004: its log is missing"),
     "the rules are others": (changed("cup/rules/countdown.kif", lambda it: it.replace(b"100", b"90")), "rules/countdown.kif is not what"),
+    "a description is another": (changed("cup/games/odd.kif", lambda _: b"(role nonsense)\n"), "games/odd.kif is not the description that the rules of odd were made from"),
+    "a description and its sum are others": (nonsense, "games/odd.kif has no variables, and is not the rules of odd"),
+    "a description is missing": (without("cup/games/odd.kif"), "games/odd.kif is missing: it is the description of odd"),
+    "the sums of the descriptions are missing": (without("cup/rules/DESCRIPTIONS.sha256"), "rules/DESCRIPTIONS.sha256 is missing: it has the sums of the descriptions"),
+    "there is a sum of another description": (changed("cup/rules/DESCRIPTIONS.sha256", lambda it: it + b"0" * 64 + b"  more.kif\n"), "has a sum of more.kif, which is no game"),
     "the schedule is another": (changed("cup/schedule.tsv", lambda it: it.replace(b"ann bob", b"bob ann", 1)), "schedule.tsv is not what"),
     "the competition has other strikes": (changed("cup/competition.toml", lambda it: it.replace(b"strikes = 1", b"strikes = 2")), "its strikes is 1"),
     "the competition counts otherwise": (changed("cup/competition.toml", lambda it: it.replace(b"forfeit = true", b"forfeit = false")), "table.json does not follow"),
@@ -173,6 +187,21 @@ class Archive(unittest.TestCase):
         data = self.archive.read_bytes()
         self.assertEqual(run(self.folder, "publish", "--to", "again.tar.gz")[0], 0)
         self.assertEqual((self.folder / "again.tar.gz").read_bytes(), data)
+
+    def test_a_description_that_is_another_one_is_not_published(self):
+        cup = self.other / "cup"
+        shutil.copytree(self.folder, cup)
+        published = (cup / "cup.tar.gz").read_bytes()
+        for change, words in ((b"(role nonsense)\n", "is not the description that the rules of odd were made from"), (None, "is missing: it is the description of odd, of which the archive has a copy")):
+            (cup / "odd.kif").write_bytes(change) if change else (cup / "odd.kif").unlink()
+            self.assertEqual(run(cup, "publish"), (1, "", f"ggp_competition: nothing is published: odd.kif {words}\n"))
+        (cup / "odd.kif").write_text(ODD)
+        sums = cup / "rules/DESCRIPTIONS.sha256"
+        before = sums.read_bytes()
+        sums.unlink()
+        self.assertIn("rules/DESCRIPTIONS.sha256 is missing: it has the sums of the descriptions, and `ggp_competition plan` writes it", run(cup, "publish")[2])
+        self.assertEqual((run(cup, "plan")[0], sums.read_bytes()), (0, before))
+        self.assertEqual((run(cup, "publish")[0], (cup / "cup.tar.gz").read_bytes()), (0, published))
 
     def test_it_says_how_to_check_it_by_hand(self):
         files = self.files()
