@@ -1,6 +1,5 @@
 """The descriptions of games: read, looked at, instantiated where they have variables, and tried on the referee."""
 
-import graphlib
 import hashlib
 import importlib.machinery
 import importlib.util
@@ -10,6 +9,8 @@ import subprocess
 import sys
 import tempfile
 from dataclasses import dataclass
+
+from competition.referee import BadRules
 
 TOP = pathlib.Path(__file__).resolve().parent.parent
 INSTANTIATE = TOP / "examples/instantiate"
@@ -76,30 +77,11 @@ def sentence_places(text):
     return places
 
 
-def refuse_ground_faults(tool, rules):
-    """Refuses ground rules that the referee refuses: a sentence that depends on itself in one state, or none for a role."""
-    asked = {}
-    for rule in rules:
-        atoms = (it.atom for it in rule.body if tool.relation(it.atom)[0] not in ("true", "does"))
-        asked.setdefault(rule.head, {}).update(dict.fromkeys(atoms))
-    try:
-        graphlib.TopologicalSorter(asked).prepare()
-    except graphlib.CycleError as error:
-        way = list(map(tool.spelled, error.args[1]))
-        raise tool.Refused(f"a cycle: {way[0]} depends on itself" + (f", through {way[1]}" if len(way) > 2 else "")) from None
-    if not any(tool.relation(rule.head)[0] == "role" for rule in rules):
-        raise tool.Refused("there is no role")
-
-
-def look_at_sentences(text, places, is_ground):
-    """Refuses a description with a sentence that is none, by the tests that `instantiate` has before it grounds, and one that is ground
-    also for what the referee refuses in all sentences together."""
+def look_at_sentences(text, places):
+    """Refuses a description with a sentence that is none, by the tests that `instantiate` has before it grounds."""
     tool = script_module(INSTANTIATE, "instantiate")
     try:
-        rules = tool.all_rules(tool.expressions(text.decode("latin-1")))
-        tool.Relations(rules).refuse_dependence()
-        if is_ground:
-            refuse_ground_faults(tool, rules)
+        tool.Relations(tool.all_rules(tool.expressions(text.decode("latin-1")))).refuse_dependence()
     except tool.Refused as why:
         found = SENTENCE.match(str(why))
         raise NoDescription(f"{place_of(text, places[int(found[1])])}: {why}" if found else str(why)) from None
@@ -120,10 +102,14 @@ def instantiated(path, tells_variables):
         return made.stdout, told.read_bytes() if tells_variables else None
 
 
-def rules_of(text, referee, told=None, description_sum=None):
-    """Returns the rules that a ground description says, as the referee reads it, or none; with the text that players get."""
-    roles = referee.roles(text)
-    return Rules(text, sum_of(text), roles, told, description_sum) if roles else None
+def rules_of(text, name, referee, told=None, description_sum=None):
+    """Returns the rules that a ground description says, as the referee reads it, with the text that players get. Refuses what the
+    referee refuses, in its words."""
+    try:
+        roles = referee.roles(text, name)
+    except BadRules as why:
+        raise NoDescription(str(why)) from None
+    return Rules(text, sum_of(text), roles, told, description_sum)
 
 
 def load_description(path, referee, tells_variables):
@@ -136,12 +122,12 @@ def load_description(path, referee, tells_variables):
         raise NoDescription(f"it can't be read: {why.strerror}") from None
     if len(text) > MOST_BYTES:
         raise NoDescription(f"it has more than {MOST_BYTES:,} bytes")
-    places, told, description_sum = sentence_places(text), None, sum_of(text)
-    if has_variables(text):
-        look_at_sentences(text, places, False)
-        text, told = instantiated(path, tells_variables)
-    rules = rules_of(text, referee, told, description_sum)
-    if not rules:
-        look_at_sentences(text, places, True)
-        raise NoDescription("the referee says: bad description")
-    return rules
+    places, description_sum = sentence_places(text), sum_of(text)
+    if not has_variables(text):
+        return rules_of(text, path, referee, None, description_sum)
+    look_at_sentences(text, places)
+    ground, told = instantiated(path, tells_variables)
+    try:
+        return rules_of(ground, path, referee, told, description_sum)
+    except NoDescription as why:
+        raise NoDescription(f"its ground rules, by examples/instantiate: {why}") from None

@@ -144,9 +144,12 @@ def read_rules(folder, competition, referee):
         files = folder.rule_files(game)
         written = list(map(read_file, files))
         others = [file for file, data in zip(files, written) if sum_of(data) != sums[file.name]]
-        found[game.name] = None if others else rules_of(written[0], referee, *written[1:])
-        if not found[game.name]:
-            raise Refused(f"{(others or files)[0]} is not what `ggp_competition plan` wrote")
+        if others:
+            raise Refused(f"{others[0]} is not what `ggp_competition plan` wrote")
+        try:
+            found[game.name] = rules_of(written[0], files[0], referee, *written[1:])
+        except NoDescription as why:
+            raise Refused(f"{files[0]} is refused by the referee: {why}") from None
     return found
 
 

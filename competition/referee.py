@@ -17,10 +17,15 @@ MOST_BYTES, MOST_MATCHES = 200_000_000, 1_000
 # The last line on standard error where status 1 is a verdict, and no fault of the program's own.
 NOT_LAWFUL = re.compile(r"ggp_manager: records not lawful ([0-9]+)")
 NOT_REPLAYED = re.compile(r"ggp_manager: not replayed: .*")
+BAD_RULES = "ggp_manager: bad description"
 
 
 class NoReferee(Exception):
     """The program is not found."""
+
+
+class BadRules(Exception):
+    """Why the program takes a text for no ground description, with the place as it tells it."""
 
 
 class Unchecked(Exception):
@@ -42,10 +47,13 @@ def find_program(given):
     raise NoReferee(f"{PROGRAM} is not found beside this program; `--program FILE` names it")
 
 
+def said_lines(said):
+    """Returns the lines that a run has said on standard error."""
+    return said.stderr.decode("ascii", "replace").splitlines()
+
+
 def last_line(said):
-    """Returns the last line that a run has said on standard error, or nothing."""
-    lines = said.stderr.decode("ascii", "replace").splitlines()
-    return lines[-1] if lines else ""
+    return (said_lines(said) or [""])[-1]
 
 
 def is_not_replayed(status, line):
@@ -53,10 +61,10 @@ def is_not_replayed(status, line):
     return status == 1 and bool(NOT_REPLAYED.fullmatch(line))
 
 
-def unchecked(said, rules_path):
+def unchecked(said, name):
     """Returns the fault of a run that did not check what it was given."""
     words = last_line(said).removeprefix("ggp_manager: ") or "it said nothing"
-    return Unchecked(f"the referee could not check by `{said.args[1]}` what is there of {rules_path}: {words}, status {said.returncode}")
+    return Unchecked(f"the referee could not check by `{said.args[1]}` what is there of {name}: {words}, status {said.returncode}")
 
 
 class Referee:
@@ -71,15 +79,20 @@ class Referee:
     def version(self):
         return self.call("--version").stdout.decode("ascii").strip()
 
-    def roles(self, rules):
-        """Returns the names of the roles of a ground description, or none where it is none."""
+    def roles(self, rules, name):
+        """Returns the names of the roles of a ground description; `name` says which one it is. Refuses what is none."""
         tries = "".join(f"open r{count} 0 1 1 {' '.join(f'p{it}' for it in range(count))}\n" for count in range(1, MOST_ROLES + 1))
         with tempfile.NamedTemporaryFile() as file:
             file.write(rules)
             file.flush()
             said = self.call("desk", "--rules-file", file.name, data=tries.encode())
         records = [it for it in said.stdout.splitlines() if it.startswith(b"{")]
-        return tuple(json.loads(records[0])["roles"]) if records else ()
+        if said.returncode == 1 and last_line(said) == BAD_RULES:
+            # The line before says where, and what is wrong there.
+            raise BadRules(said_lines(said)[-2:][0].removeprefix("ggp_manager: "))
+        if said.returncode or len(records) != 1:
+            raise unchecked(said, name)
+        return tuple(json.loads(records[0])["roles"])
 
     def run_words(self, rules_path, told_path, match, strikes, places):
         """Returns the command that plays a match; START carries the rules of the second path where there is one."""

@@ -6,7 +6,7 @@ import subprocess
 import sys
 import unittest
 
-from competition.tests.support import COMMAND, GAMES, InFolder, program, run, toml
+from competition.tests.support import COMMAND, GAMES, InFolder, program, program_but, run, toml
 
 PLAYERS = [("ann", "127.0.0.1:9147"), ("bob", "127.0.0.1:9148")]
 FACTS = "(role a)\n(role b)\n"
@@ -16,12 +16,14 @@ DESCRIPTIONS = [
     (FACTS + "(init (x 1)", "line 3, column 1: a list that is not closed"),
     (FACTS + "  (init (x 1)))", "line 3, column 15: a `)` with no open list"),
     (FACTS + "(init caf\N{LATIN SMALL LETTER E WITH ACUTE})", "line 3, column 10: a byte that is no character"),
-    (FACTS + "; a comment (\n(<= (next (x 1)) (init (x 1)))", "line 4, column 1: sentence 2, (<= (next (x 1)) (init (x 1))): (init (x 1)) is in a body"),
+    (FACTS + "; a comment (\n(<= (next (x 1)) (init (x 1)))", "line 4, column 18: init or next as a condition, but they are for heads: (<= (next (x 1)) (init (x 1)))"),
     (FACTS + "(<= (legal a ?m) (not (move ?m)))", "line 3, column 1: sentence 2, (<= (legal a ?m) (not (move ?m))): ?m is unsafe"),
-    (FACTS + "(<= p q)\n(<= q p)\n(<= terminal p)", "a cycle: p depends on itself, through q"),
-    ("(init x)", "there is no role"),
-    (FACTS + "(role a)", "the referee says: bad description"),
-    (FACTS + "(" * 70 + "a" + ")" * 70, "more than 64 lists"),
+    (FACTS + "(<= p q)\n(<= q p)\n(<= terminal p)", "line 3, column 1: an atom that depends on itself: (<= p q); line 4, column 1: (<= q p)"),
+    ("(init x)", "no (role NAME), but a game has one at least"),
+    (FACTS + "(role a)", "line 3, column 1: a role that is named twice: (role a); line 1, column 1: (role a)"),
+    (FACTS + "(legal a go) (init s)\n(goal a 101)", "line 4, column 1: not of the form (goal ROLE NUMBER), with a number from 0 to 100: (goal a 101)"),
+    (FACTS + "(" * 70 + "a" + ")" * 70, "line 3, column 65: a list inside 64 others, but 64 are the limit"),
+    ("".join(f"(role r{it})" for it in range(17)), "17 roles, but 16 are the limit"),
 ]
 
 
@@ -43,6 +45,14 @@ class BadInput(InFolder):
                 (self.folder / "game.kif").write_text(text)
                 self.write(PLAYERS, [("game", "game.kif")])
                 self.assert_refused(f"competition.toml:4: games.file: game.kif: {words}")
+
+    def test_a_referee_that_can_not_read_a_description(self):
+        self.write(PLAYERS, [("tictactoe", GAMES / "tictactoe.kif")])
+        short = program_but(self.folder / "short", '"$1" = desk', "echo 'ggp_manager: want of memory' >&2; exit 3")
+        status, out, said = run(self.folder, "plan", "--program", short)
+        self.assertEqual((status, out), (3, ""))
+        self.assertEqual(said, f"ggp_competition: the referee could not check by `desk` what is there of {GAMES}/tictactoe.kif: want of memory, status 3\n")
+        self.assertEqual(sorted(it.name for it in self.folder.iterdir()), ["competition.toml", "short"])
 
     def test_all_descriptions_are_told_at_once(self):
         (self.folder / "one.kif").write_text("(role a")
