@@ -11,7 +11,7 @@ import tarfile
 import tempfile
 import zlib
 
-from competition.files import UNFINISHED
+from competition.files import written_whole
 from competition.kept import look_at_records, strangers
 from competition.pages import made_anew
 from competition.plan import Refused, faults_of_descriptions, read_plan, sums_text
@@ -62,8 +62,9 @@ def contents(plan, referee, results):
             yield f"rules/{file.name}", file
         yield f"games/{game.name}.kif", folder.description(game)
     for it in results:
-        for file in (folder.record(it.match.id), folder.account(it.match.id), folder.log(it.match.id)):
+        for file in (folder.record(it.match.id), folder.account(it.match.id)):
             yield str(file.relative_to(folder.path)), file
+        yield str(folder.log(it.match.id).relative_to(folder.path)), folder.read_log(it.match.id)
     yield "matches.jsonl", folder.matches
     for name, data in table_files(plan, tables_of(plan.competition, results)).items():
         yield name, data
@@ -76,17 +77,14 @@ def contents(plan, referee, results):
 def publish(plan, referee, results, path):
     """Writes the archive, the same for the same files, and returns its sum."""
     made_anew(plan, results)
-    other, sums, made = path.with_name(f"{UNFINISHED}{path.name}"), {}, hashlib.sha256()
-    with open(other, "wb") as file:
+    sums, made = {}, hashlib.sha256()
+    with written_whole(path) as file:
         with gzip.GzipFile(filename="", mode="wb", fileobj=file, mtime=0) as packed, tarfile.open(fileobj=packed, mode="w|") as archive:
             for name, data in contents(plan, referee, results):
                 data = data if isinstance(data, bytes) else data.read_bytes()
                 sums[name] = hashlib.sha256(data).hexdigest()
                 add(archive, f"{plan.competition.name}/{name}", data)
             add(archive, f"{plan.competition.name}/{SUMS}", sums_text(sums))
-        file.flush()
-        os.fsync(file.fileno())
-    os.replace(other, path)
     with open(path, "rb") as file:
         while data := file.read(1 << 20):
             made.update(data)
@@ -172,7 +170,7 @@ def faults_of_matches(plan, referee):
     faults |= misfits
     found = [f"{match}: {why}" for match, why in faults.items()]
     found += [f"{it.id}: it has no record" for it in plan.matches if it.id not in results and it.id not in faults]
-    found += [f"{it.id}: its log is missing" for it in plan.matches if not plan.folder.log(it.id).is_file()]
+    found += [f"{it.id}: its log is missing" for it in plan.matches if not plan.folder.has_log(it.id)]
     found += [f"records/{it}: it is of no match of the schedule" for it in strangers(plan)]
     return in_order(plan, results), found
 
@@ -191,7 +189,7 @@ def check_archive(path, referee):
             if faults:
                 return faults, ""
             wanted = table_files(plan, tables_of(plan.competition, results))
-            lines = (match_line(it, plan.rules[it.match.game].sum, plan.folder.log(it.match.id).read_bytes()) for it in results)
+            lines = (match_line(it, plan.rules[it.match.game].sum, plan.folder.read_log(it.match.id)) for it in results)
             wanted["matches.jsonl"] = b"".join(lines)
             faults = list(faults_of_files(folder, plan, results, wanted))
             made_by = (folder / VERSION).read_text("ascii", "replace").strip() if (folder / VERSION).is_file() else "an unknown version"

@@ -2,7 +2,6 @@
 
 import argparse
 import collections
-import os
 import pathlib
 import sys
 
@@ -17,7 +16,7 @@ from competition.results import match_line
 from competition.seats import Seats
 from competition.table import tables_of
 from competition.table_text import in_order, table_files, table_text
-from competition.telling import Teller
+from competition.telling import Teller, say
 
 MOST_AT_ONCE = 1_024
 HELP = """A competition in one folder, of which competition.toml says what is played. FOLDER is the present one if it is not given.
@@ -61,8 +60,11 @@ def arguments(words):
 
 
 def write_matches(plan, results):
-    """Writes matches.jsonl."""
-    lines = (match_line(it, plan.rules[it.match.game].sum, plan.folder.log(it.match.id).read_bytes()) for it in results)
+    """Writes matches.jsonl. Says which matches have no log, and so no times."""
+    for it in results:
+        if not plan.folder.has_log(it.match.id):
+            print(f"ggp_competition: {it.match.id} counts without its times: its log is missing", file=sys.stderr)
+    lines = (match_line(it, plan.rules[it.match.game].sum, plan.folder.read_log(it.match.id)) for it in results)
     write_whole(plan.folder.matches, b"".join(lines))
 
 
@@ -96,8 +98,8 @@ def said_of_game(plan, matches):
 def run_plan(asked, referee):
     plan = make_plan(asked.folder, referee)
     for game in plan.competition.games:
-        print(f"{game.name}: {said_of_game(plan, [it for it in plan.matches if it.game == game.name])}")
-    print(f"{plan.folder.schedule}: {len(plan.matches)} matches of {len(plan.competition.players)} players")
+        say(f"{game.name}: {said_of_game(plan, [it for it in plan.matches if it.game == game.name])}")
+    say(f"{plan.folder.schedule}: {len(plan.matches)} matches of {len(plan.competition.players)} players")
     return 0
 
 
@@ -114,6 +116,8 @@ def run_play(asked, referee):
     for match, why in missing.items():
         tell.line(f"missing {match}: {why}")
     tell.line(f"{len(playing.results)} of {len(plan.matches)} matches have a lawful record")
+    if tell.fault:
+        raise tell.fault
     return bool(missing)
 
 
@@ -124,7 +128,7 @@ def run_table(asked, referee):
     write_matches(plan, results)
     for name, data in table_files(plan, tables).items():
         write_whole(plan.folder.path / name, data)
-    print(table_text(plan, tables), end="")
+    say(table_text(plan, tables), end="")
     return is_faulty
 
 
@@ -133,12 +137,23 @@ def run_pages(asked, referee):
     results, is_faulty = known_results(plan, referee)
     pages = Pages(plan)
     pages.write(results)
-    print(pages.folder / "index.html")
+    say(pages.folder / "index.html")
     return is_faulty
+
+
+def archive_path(plan, to):
+    """Returns where the archive is to stand. Refuses what it can't replace, and a folder that is not there."""
+    path = pathlib.Path(to or plan.folder.path / f"{plan.competition.name}.tar.gz")
+    if path.exists() and not path.is_file():
+        raise Refused(f"{path} is no plain file: `--to` names the file of the archive")
+    if not path.parent.is_dir():
+        raise Refused(f"{path} can't be written: {path.parent} is no folder")
+    return path
 
 
 def run_publish(asked, referee):
     plan = read_plan(asked.folder, referee)
+    path = archive_path(plan, asked.to)
     results, is_faulty = known_results(plan, referee)
     missing = len(plan.matches) - len(results)
     faults = [f"{missing} matches have no lawful record"] if missing else faults_of_descriptions(plan, plan.folder.description)
@@ -147,8 +162,7 @@ def run_publish(asked, referee):
             print(f"ggp_competition: nothing is published: {it}", file=sys.stderr)
         return 1
     write_matches(plan, results)
-    path = pathlib.Path(asked.to or plan.folder.path / f"{plan.competition.name}.tar.gz")
-    print(f"{publish(plan, referee, results, path)}  {path}")
+    say(f"{publish(plan, referee, results, path)}  {path}")
     return is_faulty
 
 
@@ -157,7 +171,7 @@ def run_check(asked, referee):
     for it in faults:
         print(f"ggp_competition: {asked.archive}: {it}", file=sys.stderr)
     if not faults:
-        print(said)
+        say(said)
     return bool(faults)
 
 
@@ -165,9 +179,7 @@ def main():
     asked = arguments(sys.argv[1:])
     try:
         referee = Referee(find_program(asked.program))
-        status = int(globals()[f"run_{asked.command}"](asked, referee))
-        sys.stdout.flush()
-        return status
+        return int(globals()[f"run_{asked.command}"](asked, referee))
     except (Refused, NoReferee) as why:
         print(f"ggp_competition: {why}" if "\n" not in str(why) else why, file=sys.stderr)
         return 2
@@ -179,8 +191,7 @@ def main():
         return 1
     except BrokenPipeError:
         # The reader of the output wants no more of it.
-        os.dup2(os.open(os.devnull, os.O_WRONLY), sys.stdout.fileno())
         return 1
     except OSError as why:
-        print(f"ggp_competition: {why.filename}: {why.strerror}", file=sys.stderr)
+        print(f"ggp_competition: {why.filename or 'a file'}: {why.strerror}", file=sys.stderr)
         return 1

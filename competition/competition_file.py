@@ -9,6 +9,7 @@ NAME = re.compile(r"[A-Za-z0-9][A-Za-z0-9_.-]{0,39}")
 FIRST = ", a letter or a digit first"
 PLAYER_NAME = re.compile(r"[A-Za-z0-9_.-]{1,64}")
 ADDRESS = re.compile(r"(\[[0-9A-Fa-f:.]+\]|[A-Za-z0-9_.-]+):([0-9]{1,5})")
+CONTROL = re.compile(r"[\x00-\x1f\x7f-\x9f]")
 HOST = re.compile(r"[A-Za-z0-9_.@:-]+")
 MOST_SECONDS, MOST_STRIKES, MOST_PLAYERS, MOST_ROUNDS = 86_400, 255, 1_000, 1_000
 KINDS = ("round_robin", "gauntlet", "schedule")
@@ -131,6 +132,13 @@ class Section:
     def text(self, key, default=None):
         return self.value(key, str, "a text in quotes", default)
 
+    def path(self, key):
+        """Returns a text that can name a file."""
+        found = self.text(key)
+        if found is not None and (not found or CONTROL.search(found)):
+            self.mistake(key, f"{found!r} is no path of a file")
+        return found
+
     def flag(self, key):
         return self.value(key, bool, "true or false", False)
 
@@ -196,7 +204,7 @@ def games_of(root, clocks):
         it.refuse_others(("name", "file", "start", "play", "told"))
         name = it.name("name", NAME, 40, FIRST)
         start, play = (it.number(key, 1, MOST_SECONDS, clock) for key, clock in zip(("start", "play"), clocks))
-        found.append(Game(name, it.text("file"), start, play, it.word("told", TOLD, TOLD[0]), it.line("told"), it.table.line))
+        found.append(Game(name, it.path("file"), start, play, it.word("told", TOLD, TOLD[0]), it.line("told"), it.table.line))
     refuse_twice(sections, "name")
     return found
 

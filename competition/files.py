@@ -1,22 +1,32 @@
 """The files of a competition's folder: where each stands, and how each is written whole."""
 
+import contextlib
 import os
 import pathlib
 
 UNFINISHED = ".unfinished-"
 
 
-def write_whole(path, data, is_lasting=True):
-    """Writes a file so that at each moment it is there whole or not at all: under another name first, then renamed. Where it is to be
-    lasting it is on the disk before this returns; else it may be lost, where the machine is."""
+@contextlib.contextmanager
+def written_whole(path, is_lasting=True):
+    """Gives a file to be written, so that at each moment it is there whole or not at all: under another name first, then renamed. Where
+    it is to be lasting it is on the disk before this ends; else it may be lost, where the machine is. A fault leaves nothing behind."""
     path = pathlib.Path(path)
     other = path.with_name(f"{UNFINISHED}{path.name}")
-    with open(other, "wb") as it:
-        it.write(data)
-        it.flush()
-        if is_lasting:
-            os.fsync(it.fileno())
-    os.replace(other, path)
+    try:
+        with open(other, "wb") as it:
+            yield it
+            it.flush()
+            if is_lasting:
+                os.fsync(it.fileno())
+        os.replace(other, path)
+    except BaseException as why:
+        with contextlib.suppress(OSError):
+            other.unlink()
+        if isinstance(why, OSError) and why.filename is None:
+            # Writes do not tell which file it was.
+            raise OSError(why.errno, why.strerror, str(path)) from None
+        raise
     if not is_lasting:
         return
     folder = os.open(path.parent, os.O_RDONLY)
@@ -24,6 +34,12 @@ def write_whole(path, data, is_lasting=True):
         os.fsync(folder)
     finally:
         os.close(folder)
+
+
+def write_whole(path, data, is_lasting=True):
+    """Writes a file whole or not at all."""
+    with written_whole(path, is_lasting) as it:
+        it.write(data)
 
 
 class Folder:
@@ -67,6 +83,13 @@ class Folder:
 
     def log(self, match):
         return self.logs / f"{match}.txt"
+
+    def has_log(self, match):
+        return self.log(match).is_file()
+
+    def read_log(self, match):
+        """Returns the log of a match. Where it is missing it is empty: the match counts all the same, and its times are unknown."""
+        return self.log(match).read_bytes() if self.has_log(match) else b""
 
     def make(self, *folders):
         for it in (self.path, *folders):

@@ -148,7 +148,7 @@ class Pages:
         made = self.show_record.page_of(self.show_record.read_record(folder.record(match.id).read_bytes()))
         way = f"<p>{link('../index.html', self.plan.competition.name)} / {link(f'../games/{match.game}.html', match.game)}</p>"
         self.put(f"matches/{match.id}.html", made.replace(b"<body>", b"<body>\n" + way.encode("ascii"), 1) + b"\n")
-        times = times_of(folder.log(match.id).read_bytes(), len(match.players))
+        times = times_of(folder.read_log(match.id), len(match.players))
         self.rows[match.id] = times["begin"], times["end"], match_row(result, times, ""), match_row(result, times, "../")
 
     def matches(self, results, is_below):

@@ -73,6 +73,9 @@ class Playing:
         """Goes on until no match is open, and none waits or may begin."""
         told = 0
         while self.open or self.waiting and not self.interrupts and not self.is_full:
+            if self.tell.fault and not self.interrupts:
+                # No more matches begin whose lines nobody gets; the open ones are played to their ends.
+                self.interrupts = 1
             if not self.interrupts and not self.is_full:
                 self.begin()
             for it in self.open:
@@ -118,10 +121,17 @@ def abort_matches(places, folder, tell):
             shutil.rmtree(folder.open / match, ignore_errors=True)
 
 
+def rooms(plan):
+    """Returns the folders of matches that were open, of this plan or of one before it, and not what else stands beside them."""
+    names = {it.id for it in plan.matches}
+    found = (it for it in sorted(plan.folder.open.iterdir()) if it.is_dir() and not it.is_symlink())
+    return [it for it in found if it.name in names or (it / "players").is_file()]
+
+
 def clear_open_rooms(plan, results, tell):
     """Frees the players of the matches that were open when a run before this one was killed."""
     places = {}
-    for room in sorted(plan.folder.open.iterdir()):
+    for room in rooms(plan):
         players = room / "players"
         if room.name in results or not players.exists():
             shutil.rmtree(room)

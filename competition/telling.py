@@ -1,9 +1,19 @@
 """Reports while matches are played: a line when each begins and ends, and on a terminal the progress of all of them."""
 
+import os
 import sys
 import time
 
 REDRAWN = 0.5
+
+
+def say(text, end="\n"):
+    """Writes to standard output, at once. A fault names it, and what comes after it goes nowhere."""
+    try:
+        print(text, end=end, flush=True)
+    except OSError as why:
+        os.dup2(os.open(os.devnull, os.O_WRONLY), sys.stdout.fileno())
+        raise OSError(why.errno, why.strerror, "standard output") from None
 
 
 def spell(seconds):
@@ -13,9 +23,11 @@ def spell(seconds):
 
 
 class Teller:
-    """Writes lines to standard output and, if standard error is a terminal, one line there that is rewritten."""
+    """Writes lines to standard output and, if standard error is a terminal, one line there that is rewritten. The first fault of
+    standard output is kept, since matches are open whose players must not be left."""
 
     def __init__(self):
+        self.fault = None
         self.is_shown = sys.stderr.isatty()
         self.drawn, self.began, self.over_at_first = 0.0, time.monotonic(), None
 
@@ -25,7 +37,10 @@ class Teller:
 
     def line(self, text):
         self.clear()
-        print(text, flush=True)
+        try:
+            say(text)
+        except OSError as why:
+            self.fault = why
 
     def begins(self, match):
         self.line(f"begin {match.id} {match.game} {' '.join(match.players)}")

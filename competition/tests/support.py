@@ -55,7 +55,7 @@ def start(folder, *words, **more):
     """Starts a run of `ggp_competition`."""
     return subprocess.Popen(
         [sys.executable, COMMAND, *words, *([] if "--program" in words else ["--program", program()])],
-        cwd=folder, stdout=subprocess.PIPE, stderr=subprocess.PIPE, text=True, **more,
+        cwd=folder, stderr=subprocess.PIPE, text=True, **{"stdout": subprocess.PIPE, **more},
     )
 
 
@@ -64,6 +64,13 @@ def run(folder, *words, **more):
     started = start(folder, *words, **more)
     out, said = started.communicate(timeout=300)
     return started.returncode, out, said
+
+
+def run_into_full(folder, *words):
+    """Returns the status of a run whose standard output is a full disk, and what it said."""
+    with open("/dev/full", "w") as full:
+        status, _, said = run(folder, *words, stdout=full)
+    return status, said
 
 
 def program_but(path, asked, done):

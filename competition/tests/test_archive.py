@@ -1,5 +1,6 @@
 """One archive: checked in another folder, and refused after each of many spoilings, most of them with sums that fit."""
 
+import errno
 import gzip
 import hashlib
 import io
@@ -11,6 +12,7 @@ import tarfile
 import tempfile
 import unittest
 
+from competition.files import written_whole
 from competition.tests.players import TestPlayer
 from competition.tests.support import GAMES, ODD, run, toml
 
@@ -202,6 +204,30 @@ class Archive(unittest.TestCase):
         self.assertIn("rules/DESCRIPTIONS.sha256 is missing: it has the sums of the descriptions, and `ggp_competition plan` writes it", run(cup, "publish")[2])
         self.assertEqual((run(cup, "plan")[0], sums.read_bytes()), (0, before))
         self.assertEqual((run(cup, "publish")[0], (cup / "cup.tar.gz").read_bytes()), (0, published))
+
+    def test_where_an_archive_can_not_stand(self):
+        (self.other / "there").mkdir()
+        wrong = [
+            (".", ". is no plain file: `--to` names the file of the archive"),
+            (f"{self.other}/there/", f"{self.other}/there is no plain file: `--to` names the file of the archive"),
+            ("/dev/null", "/dev/null is no plain file: `--to` names the file of the archive"),
+            ("none/a.tgz", "none/a.tgz can't be written: none is no folder"),
+            ("competition.toml/a.tgz", "competition.toml/a.tgz can't be written: competition.toml is no folder"),
+        ]
+        before = sorted(self.folder.rglob("*"))
+        for to, words in wrong:
+            self.assertEqual(run(self.folder, "publish", "--to", to), (2, "", f"ggp_competition: {words}\n"))
+        self.assertEqual((sorted(self.folder.rglob("*")), [it.name for it in self.other.iterdir()]), (before, ["there"]))
+
+    def test_a_file_that_is_not_finished_leaves_nothing(self):
+        file = self.other / "file"
+        file.write_bytes(b"before")
+        for fault, path in ((OSError(errno.ENOSPC, "full"), str(file)), (OSError(errno.EIO, "bad", "other"), "other"), (KeyboardInterrupt(), None)):
+            with self.assertRaises(type(fault)) as raised, written_whole(file) as it:
+                it.write(b"after")
+                raise fault
+            self.assertEqual(getattr(raised.exception, "filename", None), path)
+            self.assertEqual(([it.name for it in self.other.iterdir()], file.read_bytes()), (["file"], b"before"))
 
     def test_it_says_how_to_check_it_by_hand(self):
         files = self.files()

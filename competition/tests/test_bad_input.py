@@ -6,7 +6,7 @@ import subprocess
 import sys
 import unittest
 
-from competition.tests.support import COMMAND, GAMES, InFolder, program, program_but, run, toml
+from competition.tests.support import COMMAND, GAMES, InFolder, program, program_but, run, run_into_full, toml
 
 PLAYERS = [("ann", "127.0.0.1:9147"), ("bob", "127.0.0.1:9148")]
 FACTS = "(role a)\n(role b)\n"
@@ -104,6 +104,19 @@ class BadInput(InFolder):
             self.assertEqual(subprocess.run([sys.executable, COMMAND, *words], capture_output=True).returncode, 2, words)
         said = subprocess.run([sys.executable, COMMAND, "plan", "--program", "/none"], capture_output=True, text=True)
         self.assertEqual((said.returncode, said.stderr), (2, "ggp_competition: /none is no program that can be run\n"))
+
+    def test_a_full_output(self):
+        self.write(PLAYERS, [("tictactoe", GAMES / "tictactoe.kif")])
+        self.assertEqual(run_into_full(self.folder, "plan"), (1, "ggp_competition: standard output: No space left on device\n"))
+        self.assertEqual(run(self.folder, "table")[0], 0)
+
+    def test_a_path_with_a_control_character(self):
+        self.write(PLAYERS, [("one", "a\\u0000b"), ("two", "\\u001b[2J"), ("three", "")])
+        self.assert_refused([
+            "competition.toml:6: games.file: 'a\\x00b' is no path of a file",
+            "competition.toml:9: games.file: '\\x1b[2J' is no path of a file",
+            "competition.toml:12: games.file: '' is no path of a file",
+        ])
 
     def test_a_folder_that_is_a_file(self):
         self.write(PLAYERS, [("tictactoe", GAMES / "tictactoe.kif")])

@@ -13,7 +13,7 @@ import unittest
 
 from competition.children import end_with
 from competition.tests.players import TestPlayer
-from competition.tests.support import GAMES, InFolder, program, program_but, run, start
+from competition.tests.support import GAMES, InFolder, program, program_but, run, run_into_full, start
 
 COUNTDOWN = [("countdown", GAMES / "countdown.kif")]
 HEAD = "start = 5\nplay = 5\nstrikes = 1\nwait = 1\ninfo = 5\ntries = 2\n"
@@ -310,6 +310,62 @@ class Play(InFolder):
         status, out, _ = run(self.folder, "play")
         self.assertEqual((status, lines(out, "refused"), len(lines(out, "end"))), (0, [], 12 - len(kept)))
         self.assert_sound(self.schedule)
+
+    def test_a_full_output_ends_no_open_match(self):
+        self.planned(["slow"] * 4)
+        said = "ggp_competition: standard output: No space left on device\n"
+        self.assertEqual(run_into_full(self.folder, "play", "--at-once", "2"), (1, said))
+        kept = len(self.records())
+        self.assertIn(kept, (1, 2))
+        self.assertEqual([it.matches for it in self.players], [{}] * 4)
+        self.assertEqual(([it.aborted for it in self.players], list((self.folder / "open").iterdir())), ([[]] * 4, []))
+        self.assertEqual(run_into_full(self.folder, "table"), (1, said))
+        status, out, _ = run(self.folder, "play")
+        self.assertEqual((status, len(lines(out, "end"))), (0, 12 - kept))
+        self.assertEqual(run_into_full(self.folder, "publish"), (1, said))
+        self.assert_sound(self.schedule)
+
+    def test_a_reader_that_wants_no_more_ends_no_open_match(self):
+        self.planned(["slow"] * 2)
+        playing = start(self.folder, "play")
+        self.assertIn("begin", playing.stdout.readline())
+        playing.stdout.close()
+        said = playing.stderr.read()
+        playing.stderr.close()
+        self.assertEqual((playing.wait(60), said, len(self.records())), (1, "", 1))
+        self.assertEqual([it.aborted for it in self.players], [[], []])
+
+    def test_what_is_no_room_of_a_match_is_left_alone(self):
+        self.planned(["good", "good"])
+        rooms = self.folder / "open"
+        rooms.mkdir()
+        (rooms / ".DS_Store").touch()
+        (rooms / "mine").mkdir()
+        (rooms / "mine/notes").touch()
+        (rooms / "link").symlink_to(self.folder)
+        (rooms / "cup-001").mkdir()
+        (rooms / "old-001").mkdir()
+        (rooms / "old-001/players").write_text(f"p0@{self.players[0].place()}\n")
+        status, out, said = run(self.folder, "play")
+        self.assertEqual((status, said, lines(out, "abort")), (0, "", [f"abort old-001: p0@{self.players[0].place()}"]), out)
+        self.assertEqual(sorted(it.name for it in rooms.iterdir()), [".DS_Store", "link", "mine"])
+        self.assertTrue((rooms / "mine/notes").exists() and (self.folder / "schedule.tsv").exists())
+
+    def test_a_match_without_its_log_counts(self):
+        self.planned(["good", "good"])
+        run(self.folder, "play")
+        before = self.files()
+        (self.folder / "logs/cup-001.txt").unlink()
+        said = "ggp_competition: cup-001 counts without its times: its log is missing\n"
+        self.assertEqual(run(self.folder, "play"), (0, "2 of 2 matches have a lawful record\n", said))
+        found = json.loads((self.folder / "matches.jsonl").read_text().splitlines()[0])
+        self.assertEqual((found["begin"], found["messages"]), (None, [[], []]))
+        self.assertEqual(run(self.folder, "table")[::2], (0, said))
+        self.assertEqual(run(self.folder, "pages")[::2], (0, ""))
+        self.assertEqual(run(self.folder, "publish")[::2], (0, said))
+        status, out, said = run(self.folder, "check", "cup.tar.gz")
+        self.assertEqual((status, said), (0, ""))
+        self.assertEqual(self.files(), {name: data for name, data in before.items() if name != "logs/cup-001.txt"})
 
     def test_progress_on_a_terminal(self):
         self.planned(["slow", "slow"])
