@@ -15,6 +15,7 @@ from competition.files import written_whole
 from competition.kept import look_at_records, strangers
 from competition.pages import made_anew
 from competition.plan import Refused, faults_of_descriptions, read_plan, sums_text
+from competition.referee import VERSION_LINE
 from competition.results import match_line
 from competition.table import tables_of
 from competition.table_text import in_order, table_files
@@ -22,6 +23,7 @@ from competition.table_text import in_order, table_files
 SUMS, VERSION, HOW = "SHA256SUMS", "VERSION", "CHECK.txt"
 SUM_LINE = re.compile(r"([0-9a-f]{64})  (\S+)")
 NAME = re.compile(r"[A-Za-z0-9_.-]+(/[A-Za-z0-9_.-]+){1,3}")
+NOT_PLAIN = re.compile(r"[^\x20-\x7e]")
 MOST_BYTES = 8 << 30
 HOW_TO = """How to check this competition.
 
@@ -175,12 +177,34 @@ def faults_of_matches(plan, referee):
     return in_order(plan, results), found
 
 
+def plain(words):
+    """Returns words of an archive as they may reach a terminal: what is no printable ASCII becomes a question mark."""
+    return NOT_PLAIN.sub("?", words)
+
+
+def faults_of_words(folder):
+    """Gives what is wrong with the files that say how the archive is checked, and which program has played."""
+    if not (folder / HOW).is_file():
+        yield f"{HOW} is missing"
+    if not (folder / VERSION).is_file():
+        yield f"{VERSION} is missing"
+    elif not VERSION_LINE.fullmatch((folder / VERSION).read_bytes()):
+        yield f"{VERSION} is not one line `ggp_manager N.N.N`"
+
+
 def check_archive(path, referee):
-    """Returns what is wrong with an archive, and, where nothing is, what was found right."""
+    """Returns what is wrong with an archive, in printable ASCII, and, where nothing is, what was found right."""
+    faults, said = looked_at(path, referee)
+    return list(map(plain, faults)), said
+
+
+def looked_at(path, referee):
+    """Returns the same in whatever characters the archive has."""
     with tempfile.TemporaryDirectory() as room:
         try:
             folder = unpacked(path, pathlib.Path(room))
             faults = list(faults_of_sums(folder))
+            faults += faults_of_words(folder)
             if faults:
                 return faults, ""
             plan = read_plan(folder, referee)
@@ -192,7 +216,7 @@ def check_archive(path, referee):
             lines = (match_line(it, plan.rules[it.match.game].sum, plan.folder.read_log(it.match.id)) for it in results)
             wanted["matches.jsonl"] = b"".join(lines)
             faults = list(faults_of_files(folder, plan, results, wanted))
-            made_by = (folder / VERSION).read_text("ascii", "replace").strip() if (folder / VERSION).is_file() else "an unknown version"
+            made_by = (folder / VERSION).read_text("ascii").strip()
         except (Spoilt, Refused) as why:
             return str(why).splitlines(), ""
     said = f"the sums, the schedule, {len(results)} records and accounts, the table and the pages are right"

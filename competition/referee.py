@@ -17,11 +17,12 @@ MOST_BYTES, MOST_MATCHES = 200_000_000, 1_000
 # The last line on standard error where status 1 is a verdict, and no fault of the program's own.
 NOT_LAWFUL = re.compile(r"ggp_manager: records not lawful ([0-9]+)")
 NOT_REPLAYED = re.compile(r"ggp_manager: not replayed: .*")
+VERSION_LINE = re.compile(rb"ggp_manager [0-9]+\.[0-9]+\.[0-9]+\n")
 BAD_RULES = "ggp_manager: bad description"
 
 
 class NoReferee(Exception):
-    """The program is not found."""
+    """The program is not found, or another one."""
 
 
 class BadRules(Exception):
@@ -77,7 +78,10 @@ class Referee:
         return subprocess.run([self.path, *map(str, words)], input=data, capture_output=True)
 
     def version(self):
-        return self.call("--version").stdout.decode("ascii").strip()
+        said = self.call("--version")
+        if not VERSION_LINE.fullmatch(said.stdout):
+            raise NoReferee(f"{self.path} is no {PROGRAM}: `--version` does not say `{PROGRAM} N.N.N`")
+        return said.stdout.decode("ascii").strip()
 
     def roles(self, rules, name):
         """Returns the names of the roles of a ground description; `name` says which one it is. Refuses what is none."""

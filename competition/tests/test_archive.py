@@ -14,16 +14,16 @@ import unittest
 
 from competition.files import written_whole
 from competition.tests.players import TestPlayer
-from competition.tests.support import GAMES, ODD, run, toml
+from competition.tests.support import GAMES, ODD, program_but, run, toml
 
 HEAD = "start = 5\nplay = 5\nstrikes = 1\nforfeit = true\n"
 
 
-def packed(files, kinds=None):
-    """Returns an archive of these files, whose sums fit."""
+def packed(files, kinds=None, fits=True):
+    """Returns an archive of these files, whose sums are made to fit unless they are to stay."""
     files = dict(files)
     lines = sorted((name.partition("/")[2], hashlib.sha256(data).hexdigest()) for name, data in files.items() if name != "cup/SHA256SUMS")
-    if "cup/SHA256SUMS" in files:
+    if fits and "cup/SHA256SUMS" in files:
         files["cup/SHA256SUMS"] = "".join(f"{it}  {name}\n" for name, it in lines).encode()
     found = io.BytesIO()
     with tarfile.open(fileobj=found, mode="w:gz") as archive:
@@ -118,6 +118,11 @@ SPOILINGS = {
     "there is a page more": (beside("cup/pages/more.html"), "pages/more.html does not follow"),
     "there is a record more": (beside("cup/records/cup-099.json"), "it is of no match of the schedule"),
     "there is a file more": (beside("cup/more.txt"), "more.txt is nothing of this competition"),
+    "the version is none": (changed("cup/VERSION", lambda _: b"\x1b[2J\x1b[31mggp_manager 9\nall is well\n"), "VERSION is not one line `ggp_manager N.N.N`"),
+    "the version is missing": (without("cup/VERSION"), "VERSION is missing"),
+    "it does not say how to check it": (without("cup/CHECK.txt"), "CHECK.txt is missing"),
+    "a name in the sums is no plain text": (None, "records/x?[2J?[31mn? is missing"),
+    "a word of the competition is no plain text": (changed("cup/competition.toml", lambda it: it.replace(b"round_robin", b"\xc3\xa9")), "'?' is none of round_robin"),
     "there are no sums": (without("cup/SHA256SUMS"), "SHA256SUMS is missing"),
     "a name leads out of the folder": (beside("cup/../../out.txt"), "is no plain file below one folder"),
     "a name is absolute": (beside("/tmp/out.txt"), "is no plain file below one folder"),
@@ -156,6 +161,8 @@ class Archive(unittest.TestCase):
         yield "a bit of a record is turned, sums as they were", gzip.compress(raw.replace(record, record.replace(b"finished", b"finishes")))
         yield "the archive is cut off", data[: len(data) // 2]
         yield "it is no archive", b"no archive"
+        sums = files["cup/SHA256SUMS"] + b"0" * 64 + b"  records/x\x1b[2J\x1b[31mn\xc3\xa9\n"
+        yield "a name in the sums is no plain text", packed({**files, "cup/SHA256SUMS": sums}, fits=False)
         both = dict(files)
         for kind in ("records/cup-00{}.json", "accounts/cup-00{}.txt", "logs/cup-00{}.txt"):
             one, other = (f"cup/{kind.format(it)}" for it in (1, 2))
@@ -178,8 +185,15 @@ class Archive(unittest.TestCase):
                 status, out, said = run(self.other, "check", "spoilt.tar.gz")
                 self.assertEqual((status, out), (1, ""))
                 self.assertIn(words, said)
+                self.assertRegex(said, r"^[\x20-\x7e\n]*$")
         self.assertEqual(sorted(it.name for it in self.other.iterdir()), ["cup.tar.gz", "spoilt.tar.gz"])
         print(f"an archive is checked, and refused after each of {len(SPOILINGS)} spoilings", flush=True)
+
+    def test_another_program_publishes_nothing(self):
+        published, other = self.archive.read_bytes(), program_but(self.other / "other", '"$1" = --version', "echo ggp_manager 9; exit")
+        said = f"ggp_competition: {other} is no ggp_manager: `--version` does not say `ggp_manager N.N.N`\n"
+        self.assertEqual(run(self.folder, "publish", "--program", other), (2, "", said))
+        self.assertEqual(self.archive.read_bytes(), published)
 
     def test_sums_that_were_made_anew_are_taken_of_what_is_right(self):
         (self.other / "again.tar.gz").write_bytes(packed(self.files()))
