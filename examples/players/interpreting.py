@@ -9,13 +9,12 @@ in the order of their texts.
 """
 
 import pathlib
-import random
 import sys
 
 sys.dont_write_bytecode = True
 sys.path.insert(0, str(pathlib.Path(__file__).resolve().parent.parent / "games/general"))
 import interpreter
-from player import Player, serve, show
+from player import Player, port_and_choice, serve, show
 
 
 class Game(interpreter.Game):
@@ -40,9 +39,9 @@ def make_game(sentences):
 def main():
     if len(sys.argv) not in (2, 3):
         sys.exit(__doc__)
-    port, *seed = sys.argv[1:]
-    choose = (lambda moves: moves[0]) if seed == ["first"] else random.Random(*map(int, seed)).choice
-    serve(int(port), Player(choose, make_game))
+    is_first = sys.argv[2:] == ["first"]
+    port, choose = port_and_choice(*sys.argv[1 : 2 if is_first else 3])
+    serve(port, Player((lambda moves: moves[0]) if is_first else choose, make_game))
 
 
 if __name__ == "__main__":

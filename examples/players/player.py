@@ -3,7 +3,7 @@
 
     player.py PORT [SEED]
 
-It listens on 127.0.0.1, answers INFO, START, PLAY, STOP and ABORT, and plays one match at a time.
+The same SEED, a whole number, chooses the same moves. It listens on 127.0.0.1, answers INFO, START, PLAY, STOP and ABORT, and plays one match at a time.
 It needs Python's standard library alone.
 """
 
@@ -123,7 +123,10 @@ class Handler(BaseHTTPRequestHandler):
 
 
 def serve(port, player):
-    server = HTTPServer(("127.0.0.1", port), Handler)
+    try:
+        server = HTTPServer(("127.0.0.1", port), Handler)
+    except OSError as why:
+        sys.exit(f"port {port}: {why.strerror}")
     server.player = player
     try:
         server.serve_forever()
@@ -131,10 +134,20 @@ def serve(port, player):
         pass
 
 
+def port_and_choice(port, seed=None):
+    """The port, and how a move is chosen among the legal ones, as the words of the command line say."""
+    if not re.fullmatch("[0-9]{1,5}", port) or not 1 <= int(port) <= 65535:
+        sys.exit(f"{port!r} is no port, 1 to 65535")
+    if seed is not None and not re.fullmatch("-?[0-9]{1,18}", seed):
+        sys.exit(f"{seed!r} is no seed, a whole number of at most 18 digits")
+    return int(port), random.Random(None if seed is None else int(seed)).choice
+
+
 def main():
     if len(sys.argv) not in (2, 3):
         sys.exit(__doc__)
-    serve(int(sys.argv[1]), Player(random.Random(*map(int, sys.argv[2:])).choice))
+    port, choose = port_and_choice(*sys.argv[1:])
+    serve(port, Player(choose))
 
 
 if __name__ == "__main__":

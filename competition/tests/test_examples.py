@@ -1,0 +1,78 @@
+"""The scripts of examples that a competition needs, with words and outputs that are wrong: each says so in a line, without a traceback."""
+
+import os
+import pathlib
+import socket
+import subprocess
+import sys
+import tempfile
+import unittest
+
+from competition.descriptions import TOP
+
+INSTANTIATE, SHOW_RECORD = TOP / "examples/instantiate", TOP / "examples/show-record"
+PLAYERS = [TOP / f"examples/players/{it}.py" for it in ("player", "interpreting")]
+NIM, GROUND = TOP / "examples/games/general/nim.kif", TOP / "examples/games/countdown.kif"
+RECORD = TOP / "examples/records/countdown-3-second_version.record"
+FULL = "standard output can't be written: No space left on device"
+
+
+def run(*words, **more):
+    """Returns the status of a script, what it printed and what it said."""
+    done = subprocess.run([sys.executable, *map(str, words)], stdin=subprocess.DEVNULL, stderr=subprocess.PIPE, text=True, timeout=60, **{"stdout": subprocess.PIPE, **more})
+    return done.returncode, done.stdout, done.stderr
+
+
+class Examples(unittest.TestCase):
+    def test_seconds_that_are_none(self):
+        for word in ("-1", "0", "-0.0", "nan", "inf", "-inf", "1000000.1", "1e308"):
+            status, out, said = run(INSTANTIATE, f"--seconds={word}", GROUND)
+            self.assertEqual((status, out), (2, ""), word)
+            self.assertIn(f"instantiate: error: argument --seconds: {word} is not above 0 and up to 1,000,000\n", said)
+        self.assertIn("argument --seconds: invalid seconds value: 'x'", run(INSTANTIATE, "--seconds", "x", GROUND)[2])
+
+    def test_seconds_that_are_some(self):
+        for word in ("1000000", "2e2"):
+            self.assertEqual(run(INSTANTIATE, "--seconds", word, GROUND)[0], 0, word)
+        self.assertRegex(run(INSTANTIATE, "--seconds", "0.000001", NIM)[2], "^instantiate: stopped after 1e-06 s")
+
+    def test_a_full_output(self):
+        with open("/dev/full", "w") as full:
+            status, _, said = run(INSTANTIATE, GROUND, stdout=full)
+            self.assertEqual((status, said.splitlines()[-1], "Traceback" in said), (1, f"instantiate: {FULL}", False), said)
+            self.assertEqual(run(SHOW_RECORD, RECORD, stdout=full), (1, None, f"show-record: {FULL}\n"))
+
+    def test_a_reader_that_is_gone(self):
+        for words in ((INSTANTIATE, GROUND), (SHOW_RECORD, RECORD)):
+            reader, writer = os.pipe()
+            os.close(reader)
+            status, _, said = run(*words, stdout=writer)
+            os.close(writer)
+            self.assertEqual((status, said.splitlines()[-1]), (1, f"{words[0].name}: {FULL.partition(':')[0]}: Broken pipe"), said)
+
+    def test_pages_are_as_before(self):
+        status, page, said = run(SHOW_RECORD, RECORD)
+        self.assertEqual((status, said, page.startswith("<!DOCTYPE html>"), page.endswith("</html>\n")), (0, "", True, True))
+
+    def test_words_of_players(self):
+        for player in PLAYERS:
+            for word in ("x", "0", "65536", "-1", "9147.5", ""):
+                self.assertEqual(run(player, word), (1, "", f"{word!r} is no port, 1 to 65535\n"))
+            for seed in ("x", "1.5", "9" * 19, ""):
+                self.assertEqual(run(player, "9147", seed), (1, "", f"{seed!r} is no seed, a whole number of at most 18 digits\n"))
+
+    def test_a_port_that_is_taken(self):
+        with socket.create_server(("127.0.0.1", 0)) as taken:
+            port = taken.getsockname()[1]
+            for player in PLAYERS:
+                self.assertEqual(run(player, port, "1"), (1, "", f"port {port}: Address already in use\n"))
+
+    def test_a_folder_in_the_place_of_the_text_for_players(self):
+        with tempfile.TemporaryDirectory() as room:
+            status, out, said = run(INSTANTIATE, "--told", pathlib.Path(room), NIM)
+            self.assertEqual((status, out), (1, ""))
+            self.assertEqual(said.splitlines()[-1], f"instantiate: {room} can't be written: Is a directory")
+
+
+if __name__ == "__main__":
+    unittest.main()
