@@ -8,7 +8,8 @@ from competition.toml_subset import Item, Table, TomlFault, read_toml
 NAME = re.compile(r"[A-Za-z0-9][A-Za-z0-9_.-]{0,39}")
 FIRST = ", a letter or a digit first"
 PLAYER_NAME = re.compile(r"[A-Za-z0-9_.-]{1,64}")
-ADDRESS = re.compile(r"(\[[0-9A-Fa-f:.]+\]|[A-Za-z0-9_.-]+):([0-9]{1,5})")
+ADDRESS = re.compile(r"(\[[0-9A-Fa-f:.]+(?:%[A-Za-z0-9_.-]+)?\]|[A-Za-z0-9_.-]+):([0-9]{1,5})")
+MARK = b"\xef\xbb\xbf"
 CONTROL = re.compile(r"[\x00-\x1f\x7f-\x9f]")
 HOST = re.compile(r"[A-Za-z0-9_.@:-]+")
 MOST_SECONDS, MOST_STRIKES, MOST_PLAYERS, MOST_ROUNDS = 86_400, 255, 1_000, 1_000
@@ -277,6 +278,8 @@ def hosts_of(root):
 def read_competition(data):
     """Returns the competition that the bytes of a file say, or raises all of their mistakes."""
     mistakes = []
+    if data.startswith(MARK):
+        raise Mistaken([Mistake(1, "", "the file begins with a byte order mark, the bytes EF BB BF: leave them out")])
     try:
         root = Section(read_toml(data.decode("utf-8")), "", mistakes)
     except UnicodeDecodeError as why:

@@ -4,6 +4,7 @@ import random
 import unittest
 
 from competition.competition_file import Mistaken, read_competition
+from competition.messages import reached
 from competition.schedule import planned
 from competition.tests.support import toml
 
@@ -46,6 +47,9 @@ MISTAKES = [
     ('"[::1]:9148"', '"10.0.0.1"', [(19, "players.address", "is no HOST:PORT")]),
     ('"[::1]:9148"', '"::1:9148"', [(19, "players.address", "is no HOST:PORT")]),
     ('"[::1]:9148"', '"bob@host:9148"', [(19, "players.address", "is no HOST:PORT")]),
+    ('"[::1]:9148"', '"[fe80::1%]:9148"', [(19, "players.address", "is no HOST:PORT")]),
+    ('"[::1]:9148"', '"[fe80::1%a b]:9148"', [(19, "players.address", "is no HOST:PORT")]),
+    ('"[::1]:9148"', '"fe80%eth0:9148"', [(19, "players.address", "is no HOST:PORT")]),
     ('"[::1]:9148"', '"host:65536"', [(19, "players.address", "the port 65536")]),
     ('"[::1]:9148"', '"host:0"', [(19, "players.address", "the port 0")]),
     ("concurrent = 3", "concurrent = 0", [(23, "players.concurrent", "is not from")]),
@@ -91,6 +95,14 @@ class CompetitionFile(unittest.TestCase):
             with self.subTest(new or old):
                 self.assertEqual(GOOD.count(old), 1)
                 self.assert_told(GOOD.replace(old, new), wanted)
+
+    def test_an_address_with_its_zone(self):
+        found = read_competition(GOOD.replace("[::1]", "[fe80::1%eth0.7]").encode())
+        self.assertEqual(found.players[1].place(), "bob@[fe80::1%eth0.7]:9148")
+        self.assertEqual(reached(found.players[1].place()), ("bob", "fe80::1%eth0.7", 9148))
+
+    def test_a_byte_order_mark(self):
+        self.assertEqual(mistakes_of(b"\xef\xbb\xbf" + GOOD.encode()), [(1, "", "the file begins with a byte order mark, the bytes EF BB BF: leave them out")])
 
     def test_lines_of_a_schedule(self):
         for lines, wanted in SCHEDULES:
