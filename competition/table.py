@@ -31,6 +31,10 @@ class Line:
     def mean(self):
         return round(self.goals / self.scored, 2) if self.scored else None
 
+    def order(self):
+        """Returns what orders the line: the mean goals as they are printed, 0 where there are none, then wins, then losses."""
+        return -(self.mean() or 0), -self.won, self.lost
+
 
 @dataclass
 class Table:
@@ -44,7 +48,13 @@ class Table:
     matches: int = 0
 
     def standings(self):
-        return sorted((it for it in self.lines.values() if it.matches), key=lambda it: (-(it.mean() or 0), -it.won, it.lost))
+        """Returns the lines of who has played, in order; equal ones as they stand in competition.toml."""
+        return sorted((it for it in self.lines.values() if it.matches), key=Line.order)
+
+    def places(self):
+        """Returns the places of the standings: lines that nothing orders share one, and the places behind it stay free."""
+        orders = list(map(Line.order, self.standings()))
+        return [1 + orders.index(it) for it in orders]
 
     def is_of_pairs(self):
         return bool(self.met)

@@ -55,19 +55,20 @@ def columns(rows):
 def standings_rows(table, sign="+-"):
     """Gives the rows of the standings, the heads first."""
     yield ["", "player", "matches", "goals", "won", "drawn", "lost", "replaced", "absent", "retired", "rating"]
-    for place, it in enumerate(table.standings(), 1):
+    for place, it in zip(table.places(), table.standings()):
         counts = [it.won, it.drawn, it.lost, f"{it.replaced} of {it.moves}", it.absent, it.retired]
         name = f"{it.player} (no move of its own)" if it.absent == it.matches else it.player
         yield [str(place), name, str(it.matches), goals_text(it), *map(str, counts), rating_text(table, it, sign)]
 
 
 def crosstable_rows(table):
-    """Gives the rows of the crosstable, the heads first: points, and behind a stroke the meetings."""
+    """Gives the rows of the crosstable, the heads first: points, and behind a stroke the meetings. Players are numbered in the order of
+    the standings."""
     order = [it.player for it in table.standings()]
     yield ["", "player", *map(str, range(1, len(order) + 1))]
-    for place, one in enumerate(order, 1):
+    for number, one in enumerate(order, 1):
         cells = ((table.points.get((one, other), 0), table.met.get((one, other), 0)) for other in order)
-        yield [str(place), one, *(f"{points_text(points)}/{met}" if met else "." for points, met in cells)]
+        yield [str(number), one, *(f"{points_text(points)}/{met}" if met else "." for points, met in cells)]
 
 
 def notes(table):

@@ -3,9 +3,11 @@
 import random
 import unittest
 
-from competition.competition_file import Mistaken, read_competition
+from competition.command import MOST_AT_ONCE
+from competition.competition_file import MOST_PLAYERS, MOST_ROUNDS, MOST_SECONDS, MOST_STRIKES, Mistaken, read_competition
+from competition.descriptions import TOP
 from competition.messages import reached
-from competition.schedule import planned
+from competition.schedule import MOST_MATCHES, planned
 from competition.tests.support import toml
 
 PLAYERS = [("ann", "10.0.0.1:9147"), ("bob", "[::1]:9148"), ("cid", "host.example:9149", "concurrent = 3")]
@@ -22,6 +24,8 @@ MISTAKES = [
     ("start = 30", "start = 86401", [(2, "start", "is not from")]),
     ("start = 30", "start = true", [(2, "start", "a whole number")]),
     ("strikes = 3", "strikes = 256", [(3, "strikes", "is not from 0 to 255")]),
+    ("strikes = 3", "tries = 1001", [(3, "tries", "is not from 1 to 1,000")]),
+    ("strikes = 3", "wait = 86401", [(3, "wait", "is not from 0 to 86,400")]),
     ("strikes = 3", "striks = 3", [(3, "striks", "no such key")]),
     ("strikes = 3", "strikes 3", [(3, "strikes", "no `=`")]),
     ("strikes = 3", 'forfeit = "yes"', [(3, "forfeit", "true or false")]),
@@ -33,6 +37,7 @@ MISTAKES = [
     ('"round_robin"', '"swiss"', [(6, "form.kind", "none of round_robin, gauntlet, schedule")]),
     ('"round_robin"', '"gauntlet"', [(5, "form.one", "missing")]),
     ("rounds = 2", "rounds = 0", [(7, "form.rounds", "is not from")]),
+    ("rounds = 2", "rounds = 1001", [(7, "form.rounds", "is not from 1 to 1,000")]),
     ("rounds = 2", 'one = "ann"', [(7, "form.one", "has no such key")]),
     ('name = "go"', 'name = "chess"', [(12, "games.name", "line 9 already")]),
     ('name = "go"', 'name = "-go"', [(12, "games.name", "is no name")]),
@@ -52,6 +57,7 @@ MISTAKES = [
     ('"[::1]:9148"', '"fe80%eth0:9148"', [(19, "players.address", "is no HOST:PORT")]),
     ('"[::1]:9148"', '"host:65536"', [(19, "players.address", "the port 65536")]),
     ('"[::1]:9148"', '"host:0"', [(19, "players.address", "the port 0")]),
+    ("concurrent = 3", "concurrent = 1025", [(23, "players.concurrent", "is not from 1 to 1,024")]),
     ("concurrent = 3", "concurrent = 0", [(23, "players.concurrent", "is not from")]),
     ('"cup"', '"c p"\nplay = 0', [(1, "name", "is no name"), (2, "play", "is not from")]),
     ("strikes = 3", "# \N{GREEK SMALL LETTER ALPHA}\nstrikes = x", [(4, "strikes", "no value")]),
@@ -100,6 +106,15 @@ class CompetitionFile(unittest.TestCase):
         found = read_competition(GOOD.replace("[::1]", "[fe80::1%eth0.7]").encode())
         self.assertEqual(found.players[1].place(), "bob@[fe80::1%eth0.7]:9148")
         self.assertEqual(reached(found.players[1].place()), ("bob", "fe80::1%eth0.7", 9148))
+
+    def test_the_document_has_the_limits(self):
+        text = (TOP / "docs/COMPETITION.md").read_text()
+        limits = [
+            f"at most {MOST_PLAYERS:,} players", f"at most {MOST_MATCHES:,} matches", f"`rounds` times, 1 to {MOST_ROUNDS:,} (1)", f"0 to {MOST_STRIKES}",
+            "before it is reported, 1 to 1,000 (5)", f"0 to {MOST_SECONDS:,} (10)", f"`--at-once N`, 1 to {MOST_AT_ONCE:,} (4)", "`concurrent = N`, 1 to 1,024",
+            "`name` | 1 to 40 letters", "`name`, 1 to 64 letters",
+        ]
+        self.assertEqual([it for it in limits if it not in text], [])
 
     def test_a_byte_order_mark(self):
         self.assertEqual(mistakes_of(b"\xef\xbb\xbf" + GOOD.encode()), [(1, "", "the file begins with a byte order mark, the bytes EF BB BF: leave them out")])

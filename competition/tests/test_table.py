@@ -4,13 +4,14 @@ import json
 import random
 import unittest
 from collections import Counter
+from dataclasses import replace
 
 from competition.competition_file import read_competition
 from competition.plan import Plan
 from competition.results import Result, result_of, times_of
 from competition.schedule import Match
-from competition.table import tables_of
-from competition.table_text import table_files
+from competition.table import Line, tables_of
+from competition.table_text import crosstable_rows, standings_rows, table_files
 from competition.tests.support import toml
 
 NAMES = ["ann", "bob", "cid", "dan"]
@@ -55,6 +56,26 @@ class Tables(unittest.TestCase):
                 self.assertEqual(found.replaced, sum(it.replaced(at) for it, at in mine))
                 points = sum((own > it) + (own == it) / 2 for own, others in versus for it in others)
                 self.assertEqual(sum(got for (one, _), got in table.points.items() if one == name), points)
+
+    def test_the_order_and_places(self):
+        # Means of 33.333.. and 33.33 are printed alike, so wins decide; then losses; else the place is shared.
+        line = Line("x", matches=3, scored=3, goals=100, won=1, lost=2)
+        changes = [
+            ({}, {"goals": 101}, 1), ({"goals": 3333, "scored": 100}, {"won": 0}, -1), ({}, {"goals": 3333, "scored": 100}, 0),
+            ({}, {"won": 0, "lost": 0}, -1), ({}, {"lost": 1}, 1), ({"goals": 0, "scored": 0}, {"goals": 0}, 0), ({}, {"drawn": 2, "replaced": 7}, 0),
+        ]
+        for one, other, sign in changes:
+            orders = [replace(line, **it).order() for it in (one, other)]
+            self.assertEqual((orders[0] > orders[1]) - (orders[0] < orders[1]), sign, (one, other))
+        results = [result(["dan", "bob"], [100, 0]), result(["cid", "ann"], [0, 50]), result(["bob", "cid"], [50, 50]), result(["ann", "dan"], [0, 50])]
+        results += [result(["bob", "cid"], [0, 0])]
+        table = tables_of(competition(), results)[0]
+        found = [(place, it.player, it.mean(), it.won, it.lost) for place, it in zip(table.places(), table.standings())]
+        self.assertEqual(found, [(1, "dan", 75, 2, 0), (2, "ann", 25, 1, 1), (3, "bob", 16.67, 0, 1), (3, "cid", 16.67, 0, 1)])
+        self.assertEqual([row[:2] for row in standings_rows(table)][1:], [["1", "dan"], ["2", "ann"], ["3", "bob"], ["3", "cid"]])
+        self.assertEqual([row[0] for row in crosstable_rows(table)], ["", "1", "2", "3", "4"])
+        alone = tables_of(competition(), [result([it], [40], game="one") for it in ("bob", "cid", "dan")] + [result(["ann"], [30], game="one")])[0]
+        self.assertEqual((alone.places(), [it.player for it in alone.standings()]), ([1, 1, 1, 4], ["bob", "cid", "dan", "ann"]))
 
     def test_who_made_no_move_is_told(self):
         results = [result(["ann", "bob"], [100, 0], [0, 5]), result(["bob", "ann"], [0, 100], [5, 0]), result(["bob", "cid"], [100, 0], [5, 4])]
