@@ -111,6 +111,59 @@ fn has_fault(
     }
 }
 
+/// The first of the conditions behind this byte, up to the end of their list, that has this fault by itself.
+fn first_faulty(
+    alloc: Global,
+    folded: &[u8],
+    behind: usize,
+    fault: LoadFault,
+) -> Result<Option<usize>, DescriptionFault> {
+    let mut end = behind;
+    for _ in 0..folded.len() {
+        let Some(at) = next_start(folded, end) else {
+            break;
+        };
+        end = end_of(folded, at);
+        let text = folded.get(at..end).unwrap_or(b"");
+        if has_fault(alloc, Part::Condition, text, fault)? {
+            return Ok(Some(at));
+        }
+    }
+    Ok(None)
+}
+
+/// The byte behind the word of the condition at this byte, if literals follow it: that of a list that begins with `not` or `or`.
+fn behind_word(folded: &[u8], at: usize) -> Option<usize> {
+    let word = first_word(folded, at);
+    if folded.get(at) != Some(&b'(') || (word != b"not".as_slice() && word != b"or".as_slice()) {
+        return None;
+    }
+    let first = next_start(folded, at.saturating_add(1))?;
+    Some(end_of(folded, first))
+}
+
+/// The innermost faulty literal of the conditions behind this byte.
+fn faulty_literal(
+    alloc: Global,
+    folded: &[u8],
+    conditions: usize,
+    fault: LoadFault,
+) -> Result<Option<usize>, DescriptionFault> {
+    let mut found = None;
+    let mut behind = Some(conditions);
+    for _ in 0..folded.len() {
+        let Some(literals) = behind else {
+            break;
+        };
+        let Some(at) = first_faulty(alloc, folded, literals, fault)? else {
+            break;
+        };
+        found = Some(at);
+        behind = behind_word(folded, at);
+    }
+    Ok(found)
+}
+
 /// The part of the sentence at this byte that has this fault. The fault is one that names a first sentence.
 pub fn faulty_part(
     alloc: Global,
@@ -118,25 +171,33 @@ pub fn faulty_part(
     start: usize,
     fault: LoadFault,
 ) -> Result<FaultyPart, DescriptionFault> {
-    let mut part = Part::Fact;
     if folded.get(start) != Some(&b'(') || first_word(folded, start) != b"<=".as_slice() {
-        return Ok(FaultyPart { part, at: start });
+        return Ok(FaultyPart {
+            part: Part::Fact,
+            at: start,
+        });
     }
-    let arrow = next_start(folded, start.saturating_add(1)).unwrap_or(start);
-    let mut end = end_of(folded, arrow);
-    part = Part::Head;
-    for _ in 0..folded.len() {
-        let Some(at) = next_start(folded, end) else {
-            break;
-        };
-        end = end_of(folded, at);
-        if has_fault(alloc, part, folded.get(at..end).unwrap_or(b""), fault)? {
-            return Ok(FaultyPart { part, at });
-        }
-        part = Part::Condition;
-    }
-    Ok(FaultyPart {
+    let whole = FaultyPart {
         part: Part::Rule,
         at: start,
+    };
+    let arrow = next_start(folded, start.saturating_add(1)).unwrap_or(start);
+    let Some(head) = next_start(folded, end_of(folded, arrow)) else {
+        return Ok(whole);
+    };
+    let behind = end_of(folded, head);
+    let text = folded.get(head..behind).unwrap_or(b"");
+    if has_fault(alloc, Part::Head, text, fault)? {
+        return Ok(FaultyPart {
+            part: Part::Head,
+            at: head,
+        });
+    }
+    Ok(match faulty_literal(alloc, folded, behind, fault)? {
+        Some(at) => FaultyPart {
+            part: Part::Condition,
+            at,
+        },
+        None => whole,
     })
 }
