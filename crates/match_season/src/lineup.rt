@@ -1,5 +1,6 @@
 //! The waiting matches of a season, and in how many running matches each player sits.
-ghost use Rattle.std.specs.Prelude.{◌≡◌, ◌≤◌, ◌<◌, ◌+◌, ◌-◌, ◌^◌, ◌↔◌, [], true, All, IfNone, IfOk, IfSome, IsTrue, OnErr, OnOk, Some, get_or, length, min, slice_get, slice_set, take};
+ghost use Rattle.std.specs.Prelude.{◌≡◌, ◌≤◌, ◌<◌, ◌+◌, ◌-◌, ◌^◌, ◌↔◌, ℕ, [], true, All, IfNone, IfOk, IfSome, IsTrue, OnErr, OnOk, Some, get_or, length, min, slice_get, slice_set, take};
+ghost use Rattle.std.specs.List.{AllZip};
 ghost use Rattle.std.specs.VecDeque.{deque_capacity, deque_len};
 ghost use Rattle.match_season.specs.Lineups.{AllWait, AreNumbersOf, Begins, IsBusy, Lengthens, ListsOnce, SitDown, StandUp, are_free, number_of, turn_of, with_match};
 
@@ -128,6 +129,23 @@ fn unseat_all(sitting: &mut [usize], players: &[usize])
     }
 }
 
+/// The matches of a schedule, in its order, each with the numbers of its players' addresses.
+fn fixtures<'a>(
+    alloc: Global,
+    addresses: &mut IndexSet<(&'a str, u16)>,
+    plans: &[MatchPlan<'a>],
+) -> Result<VecDeque<Fixture>, AllocError>
+    ensures in_order { IfOk result (λ waiting. (place : ℕ) (d : Fixture) → place < length plans.now → (get_or waiting.items place d).place ≡ place) }
+    ensures numbered { IfOk result (λ waiting. AllZip (λ plan fixture. AreNumbersOf addresses.new.keys plan.players.items fixture.players.items) plans.now waiting.items) }
+{
+    let mut waiting = VecDeque::with_capacity(alloc, plans.len())?;
+    for (place, plan) in plans.iter().enumerate() {
+        let players = numbers(alloc, addresses, &plan.players)?;
+        waiting.push_back(Fixture { place, players })?;
+    }
+    Ok(waiting)
+}
+
 impl Lineup {
     /// The lineup at the beginning: all matches wait, and nobody sits.
     pub fn of(
@@ -139,11 +157,7 @@ impl Lineup {
         ensures concurrent { IfOk result (λ lineup. lineup.concurrent ≡ form.concurrent) }
     {
         let mut addresses = IndexSet::new(alloc);
-        let mut waiting = VecDeque::with_capacity(alloc, plans.len())?;
-        for (place, plan) in plans.iter().enumerate() {
-            let players = numbers(alloc, &mut addresses, &plan.players)?;
-            waiting.push_back(Fixture { place, players })?;
-        }
+        let waiting = fixtures(alloc, &mut addresses, plans)?;
         Ok(Lineup {
             waiting,
             sitting: vec![in alloc; 0; addresses.len()]?,

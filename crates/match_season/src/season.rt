@@ -160,7 +160,7 @@ fn play_in_threads<N, R, P, S, W: Write, E: Write + Send>(
     alloc: Global,
     season: &Season<'_, '_, P, S, N>,
     sender: &Sender<Over<N>>,
-    receiver: Receiver<Over<N>>,
+    receiver: &Receiver<Over<N>>,
     form: SeasonForm,
     writer: &mut Counted<W>,
     errors: &Mutex<E>,
@@ -194,7 +194,7 @@ where
                 has_thread = true;
             }
             let played = write_played(
-                rt, alloc, season, has_thread, form.order, &receiver, writer, errors,
+                rt, alloc, season, has_thread, form.order, receiver, writer, errors,
             );
             (played, writer)
         },
@@ -235,7 +235,7 @@ where
         players: PhantomData,
         of: PhantomData,
     };
-    play_in_threads(rt, alloc, &season, &sender, receiver, form, writer, errors)
+    play_in_threads(rt, alloc, &season, &sender, &receiver, form, writer, errors)
 }
 
 /// Plays the matches of a season, all of the same game, in threads. Writes the record of each, followed by its account if the form asks

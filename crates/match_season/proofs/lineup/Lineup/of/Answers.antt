@@ -1,35 +1,5 @@
-use Rattle.std.proofs.Common.{◌+◌, ◌≤◌, ◌∙◌, ℕ, List, length, refl, ap, subst, arith, rules}
-use Rattle.std.specs.List.{AllZip}
-use Rattle.std.proofs.lemmas.List.{length_push, take_all}
-use Rattle.match_plans.specs.declared.addresses.PlayerAddress.{PlayerAddress}
-use Rattle.match_plans.specs.declared.plan.MatchPlan.{MatchPlan}
-use Rattle.match_season.specs.Lineups.{AreNumbersOf}
-use Rattle.match_season.proofs.Numbering.{all-more}
-use Rattle.match_season.proofs.Waiting.{in-order-more}
+use Rattle.std.proofs.Common.{rules}
 use Rattle.match_season.proofs.lineup.Lineup.of.Goals as goal
 
-pub loop-place-preserved : goal.loop-place-preserved
-loop-place-preserved c =
-    let waiting = c.loop-place.waiting.items in
-    let before = c.loop-place.invariant in
-    let is = c.in_ok-push_back.ensures.items in
-    let its = c.in_ok-players.ensures in
-    let plan = c.index-plans-place in
-    let numbers = subst (λ (players : List PlayerAddress). AreNumbersOf c.numbers.new.addresses.keys players c.in_ok-players.players.items) (c.deref.ensures.value ∙ ap (λ (it : MatchPlan). it.players.items) plan.is) its.numbers in
-    record {
-      each = ap length is ∙ (length_push waiting _ ∙ ap (λ (n : ℕ). n + 1) before.each);
-      in_order = in-order-more waiting _ _ c.loop-place.place is before.each refl before.in_order;
-      numbered = all-more _ _ c.args.plans.now c.loop-place.place plan.result waiting _ _ c.loop-place-test.true is its.kept before.numbered numbers;
-    }
-
 pub returns-clause-wait : goal.returns-clause-wait
-returns-clause-wait c =
-    let before = c.loop-place.invariant in
-    let plans = c.args.plans.now in
-    let past : length plans ≤ c.loop-place.place = omega (arith, c.loop-place-test.false) in
-    record {
-      in_order = λ place d lt. before.in_order place d (omega (arith, lt, c.loop-place-test.false));
-      addresses = c.loop-place.addresses.keys;
-      numbered = subst (λ (them : List MatchPlan). AllZip (λ plan fixture. AreNumbersOf c.loop-place.addresses.keys plan.players.items fixture.players.items) them c.loop-place.waiting.items) (take_all c.loop-place.place plans past) before.numbered;
-      nobody_sits = search rules;
-    }
+returns-clause-wait c = record { in_order = c.in_ok-waiting.ensures.in_order; addresses = c.fixtures.new.addresses.keys; numbered = c.in_ok-waiting.ensures.numbered; nobody_sits = search rules }
