@@ -1,5 +1,5 @@
 //! Logs matches while they run: `Logging` wraps players and reports each message with its answer, or the progress of the matches.
-ghost use Rattle.std.specs.Prelude.{◌≡◌, ◌==◌, ◌||◌, IfOk, string_bytes};
+ghost use Rattle.std.specs.Prelude.{◌≡◌, ◌==◌, ◌||◌, IfOk, Ok, string_bytes};
 
 use crate::notices::Notices;
 use crate::shown_text::Shown;
@@ -88,6 +88,8 @@ pub struct LoggedPlayer<'a, H, P> {
 }
 
 impl<'a, H, P, S: Reach<P>> Reach<LoggedPlayer<'a, H, P>> for Logging<'a, H, S> {
+    ghost is_reached = { λ l at address p. S.is_reached l.reach.now at address p.player };
+
     fn player(
         &self,
         alloc: Global,
@@ -97,6 +99,7 @@ impl<'a, H, P, S: Reach<P>> Reach<LoggedPlayer<'a, H, P>> for Logging<'a, H, S> 
         ensures named { IfOk result (λ p. (string_bytes p.id ≡ at.entry.id.now) × (string_bytes p.name ≡ address.now.name.now)) }
         ensures role { IfOk result (λ p. (p.role ≡ at.entry.role) × (p.counts ≡ self.now.is_alone || (at.entry.role == 0))) }
         ensures first { IfOk result (λ p. p.messages ≡ 0) }
+        ensures reached { (logged : _) → result ≡ Ok logged → S.is_reached self.now.reach.now at.entry address.now logged.player }
     {
         let id = String::from_str(alloc, at.id)?;
         let name = String::from_str(alloc, address.name)?;
