@@ -1,3 +1,5 @@
 mod CheckedLines
 mod DoneLines
 mod DoneNames
+mod OpenMatches
+mod AccountLines

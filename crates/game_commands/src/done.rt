@@ -161,7 +161,9 @@ pub fn done_matches<F: Files, G: Game>(
     alloc: Global,
     game: &G,
     path: &str,
-) -> Result<DoneMatches, Fault> {
+) -> Result<DoneMatches, Fault>
+    ensures { IfOk result (λ done. (input : List ℕ) × AreDone (G.rules game.now) (lines input) done) }
+{
     let file = match fs::open(files, path) {
         Ok(file) => file,
         Err(error) => return Err(done_fault(opening_fault(error))),

@@ -25,4 +25,5 @@ pub use done::{DoneMatches, done_matches};
 pub use fault::Fault;
 pub use remarks::Remarks;
 pub use rules::{FileFault, file_text, game_of, rules_text, told_fault, told_rules};
+pub use script::{run_script, run_script_with_remarks};
 pub use script_fault::ScriptFault;

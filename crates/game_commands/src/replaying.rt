@@ -1,4 +1,9 @@
 //! Reading an account, and making its calls again.
+ghost use Rattle.std.specs.Prelude.{◌≡◌, ◌≢◌, [], ℕ, List, IfOk, IfErr, IsErr, OnOk, string_bytes};
+ghost use Rattle.std.specs.Io.KnownBytes.{Consumes};
+ghost use Rattle.std.specs.Str.Lines.{lines};
+ghost use Rattle.game_commands.specs.Replays.{account_lines, open_matches, refused_output, replay_fault, replayed_line, replayed_text, IsRefusedAccount, IsReplayed, ReplayFails};
+ghost use Rattle.game_commands.specs.Whole.{ReadsAndWrites};
 
 use crate::fault::Fault;
 use crate::remarks::Remarks;
@@ -8,13 +13,17 @@ use game_core::{Counted, Game};
 use match_desk::Manager;
 use std::alloc::{AllocError, Global};
 use std::io::{Read, Write};
+use whole_streams::laws::lines_are_taken;
 use whole_streams::{read_to_end, write_all};
 
 /// The limit of an account's bytes: 256 MiB.
 const MAX_ACCOUNT: usize = 268_435_456;
 
 /// Removes the records between the lines of an account. A record begins with a brace, and no line of an account does.
-fn remove_records(account: &mut Vec<u8>) {
+fn remove_records(account: &mut Vec<u8>)
+    ensures { lines account.new.items ≡ account_lines account.old.items }
+{
+    lines_are_taken();
     let mut kept = 0;
     let mut is_record = false;
     let mut line_begins = true;
@@ -33,29 +42,39 @@ fn remove_records(account: &mut Vec<u8>) {
 }
 
 /// The number of matches that are not over: in an account whose last calls are missing, at least one.
-fn open_matches<G: Game>(manager: &Manager<G>) -> usize {
-    let mut count: usize = 0;
+fn open_matches<G: Game>(manager: &Manager<G>) -> usize
+    ensures { result ≡ open_matches G.rules manager.now }
+{
+    let mut count = 0;
     for place in 0..manager.matches() {
-        match manager.match_at(place) {
-            Some(held) if !held.status().phase.is_last() => count = count.saturating_add(1),
-            _ => {}
+        let held = manager.match_at(place).unwrap();
+        if !held.status().phase.is_last() {
+            count += 1;
         }
     }
     count
+}
+
+/// The line with the number of calls that were made, and of the matches that are not over.
+fn replayed_line(alloc: Global, calls: u64, unended: usize) -> Result<String, AllocError>
+    ensures { IfOk result (λ line. string_bytes line ≡ replayed_line calls unended) }
+{
+    match unended {
+        0 => format!(in alloc; "replayed {calls} calls\n"),
+        1 => format!(in alloc; "replayed {calls} calls, match not ended\n"),
+        _ => format!(in alloc; "replayed {calls} calls, {unended} matches not ended\n"),
+    }
 }
 
 /// The number of calls that were made, whether a match is not over, and the records of the matches.
 fn replayed_text<G: Game + Drop>(
     alloc: Global,
     replayed: &Replayed<G>,
-) -> Result<Vec<u8>, AllocError> {
-    let calls = replayed.calls;
-    let first_line = match open_matches(&replayed.manager) {
-        0 => format!(in alloc; "replayed {calls} calls\n"),
-        1 => format!(in alloc; "replayed {calls} calls, match not ended\n"),
-        open => format!(in alloc; "replayed {calls} calls, {open} matches not ended\n"),
-    };
-    let mut text = first_line?.into_bytes();
+) -> Result<Vec<u8>, AllocError>
+    ensures { IfOk result (λ text. text.items ≡ replayed_text G.rules replayed.now.manager replayed.now.calls) }
+{
+    let unended = open_matches(&replayed.manager);
+    let mut text = replayed_line(alloc, replayed.calls, unended)?.into_bytes();
     push_records(alloc, &replayed.manager, &mut text)?;
     Ok(text)
 }
@@ -66,7 +85,11 @@ fn refuse(
     fault: ReplayFault,
     output: &mut Vec<u8>,
     remarks: &mut Remarks,
-) -> Result<(), Fault> {
+) -> Result<(), Fault>
+    ensures refused { IsErr result }
+    ensures fault { IfErr result (λ given. (why : ReplayFault) × (given ≡ replay_fault why) × (output.old.items ≡ [] → output.new.items ≡ refused_output why)
+        × (why ≢ ReplayFault.Memory → why ≡ fault)) }
+{
     match fault {
         ReplayFault::Memory => Err(Fault::Memory),
         ReplayFault::NoEntry(number) => {
@@ -90,7 +113,10 @@ fn answer<G: Game + Drop>(
     account: &[u8],
     output: &mut Vec<u8>,
     remarks: &mut Remarks,
-) -> Result<(), Fault> {
+) -> Result<(), Fault>
+    ensures replayed { OnOk result (IsReplayed G.rules games.items (lines account.now) output.new.items) }
+    ensures refused { IfErr result (λ fault. output.old.items ≡ [] → IsRefusedAccount G.rules games.items (lines account.now) fault output.new.items) }
+{
     match replay(alloc, games, account) {
         Ok(replayed) => match replayed_text(alloc, &replayed) {
             Ok(text) => {
@@ -111,7 +137,13 @@ pub fn replay_account<R: Read, W: Write, G: Game + Drop>(
     writer: &mut Counted<W>,
     games: Vec<G>,
     remarks: &mut Remarks,
-) -> Result<(), Fault> {
+) -> Result<(), Fault>
+    ensures replayed { OnOk result ((input output : List ℕ) × ReadsAndWrites R.remaining W.contents input output reader.old reader.new writer.old writer.new
+        × IsReplayed G.rules games.items (account_lines input) output) }
+    ensures fails { IfErr result (λ fault. (given : List ℕ)
+        × Consumes (R.remaining reader.old.stream) (R.remaining reader.new.stream) given
+        × ReplayFails R.remaining W.contents G.rules games.items given fault reader.old reader.new writer.old writer.new) }
+{
     let mut account = read_to_end(alloc, reader, MAX_ACCOUNT)?;
     remove_records(&mut account);
     let mut output = Vec::new(alloc);

@@ -1,6 +1,8 @@
 //! The game of a command, from its rules.
-ghost use Rattle.std.specs.Prelude.{◌≡◌, IfOk};
+ghost use Rattle.std.specs.Prelude.{◌≡◌, IfErr, IfOk};
+ghost use Rattle.std.specs.Cow.{cow_slice_items};
 ghost use Rattle.described_games.specs.Games.{IsDescribed};
+ghost use Rattle.game_commands.specs.Commands.{HasNoText, IsFileFault, IsRefused, IsTextOf};
 ghost use Rattle.game_commands.specs.Faults.{reading_fault};
 
 use crate::fault::Fault;
@@ -41,7 +43,9 @@ impl FileFault {
 }
 
 /// The fault for a file of rules that can't be opened.
-pub fn opening_fault(error: io::Error) -> Fault {
+pub fn opening_fault(error: io::Error) -> Fault
+    ensures { IsFileFault result }
+{
     match error.kind() {
         ErrorKind::OutOfMemory => Fault::Memory,
         ErrorKind::NotFound => Fault::RulesFile(FileFault::NoFile),
@@ -61,7 +65,9 @@ pub fn reading_fault(fault: InputFault) -> Fault
 }
 
 /// The text of a file of rules.
-pub fn file_text<F: Files>(files: &F, alloc: Global, path: &str) -> Result<Vec<u8>, Fault> {
+pub fn file_text<F: Files>(files: &F, alloc: Global, path: &str) -> Result<Vec<u8>, Fault>
+    ensures { IfErr result IsFileFault }
+{
     let file = match fs::open(files, path) {
         Ok(file) => file,
         Err(error) => return Err(opening_fault(error)),
@@ -77,7 +83,10 @@ pub fn rules_text<'a, F: Files>(
     files: &F,
     alloc: Global,
     rules: RulesSource<'a>,
-) -> Result<CowSlice<'a, u8>, Fault> {
+) -> Result<CowSlice<'a, u8>, Fault>
+    ensures text { IfOk result (λ text. IsTextOf rules.entry (cow_slice_items text)) }
+    ensures fault { IfErr result (HasNoText rules.entry) }
+{
     match rules {
         RulesSource::Text(text) => Ok(CowSlice::Borrowed(text.as_bytes())),
         RulesSource::File(path) => Ok(CowSlice::Owned(file_text(files, alloc, path)?)),
@@ -86,7 +95,8 @@ pub fn rules_text<'a, F: Files>(
 
 /// The game of a description. If the text describes none, the remarks explain why.
 pub fn game_of(alloc: Global, text: &[u8], remarks: &mut Remarks) -> Result<PackedGame, Fault>
-    ensures { IfOk result (IsDescribed text.now) }
+    ensures described { IfOk result (IsDescribed text.now) }
+    ensures refused { IfErr result (IsRefused text.now) }
 {
     match described_game(alloc, text) {
         Ok(game) => Ok(game),

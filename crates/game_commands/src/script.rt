@@ -17,8 +17,34 @@ use whole_streams::{read_to_end, write_all};
 const MAX_SCRIPT: usize = 1_048_576;
 
 /// Reads a whole script, answers each line on a manager of these games, and writes the answers and then the record of each match in
-/// order of opening. Returns the number of bad lines. The remarks explain the first of them.
+/// order of opening. Returns the number of bad lines.
 pub fn run_script<R: Read, W: Write, G: Game + Drop>(
+    alloc: Global,
+    reader: &mut Counted<R>,
+    writer: &mut Counted<W>,
+    games: Vec<G>,
+) -> Result<u64, ScriptFault>
+    ensures output { IfOk result (λ bad. (input : List ℕ)
+        × Consumes (R.remaining reader.old.stream) (R.remaining reader.new.stream) input
+        × IsAtEnd (R.remaining reader.new.stream)
+        × Appends (W.contents writer.old.stream) (W.contents writer.new.stream) (script_output G.rules games.items input)
+        × (bad ≡ bad_lines (lines input))) }
+    ensures no_fault { OnOk result ((reader.new.faults ≡ reader.old.faults) × (writer.new.faults ≡ writer.old.faults)) }
+    ensures fails { IfErr result (λ fault. (given : List ℕ)
+        × Consumes (R.remaining reader.old.stream) (R.remaining reader.new.stream) given
+        × ScriptFails R.remaining W.contents (script_output G.rules games.items given) fault (length given) reader.old reader.new writer.old writer.new) }
+{
+    run_script_with_remarks(
+        alloc,
+        reader,
+        writer,
+        games,
+        &mut Remarks::new(alloc, false),
+    )
+}
+
+/// Runs a script as `run_script` does. The remarks explain the first of its bad lines.
+pub fn run_script_with_remarks<R: Read, W: Write, G: Game + Drop>(
     alloc: Global,
     reader: &mut Counted<R>,
     writer: &mut Counted<W>,

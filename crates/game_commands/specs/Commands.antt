@@ -1,0 +1,101 @@
+-- A command on one game: its output for an input, and what its faults say.
+use Rattle.std.specs.Prelude.{◌≡◌, ◌≢◌, ℕ, ◌≤◌, List, [], ◌∷◌, length, Option, ◌⊎◌}
+use Rattle.std.specs.Io.KnownBytes.{Consumes}
+use Rattle.std.specs.Str.Lines.{lines}
+use Rattle.game_core.specs.Counting.{Counting}
+use Rattle.game_core.specs.Countdown.{countdown, max_heap}
+use Rattle.game_core.specs.declared.countdown.Countdown.{Countdown}
+use Rattle.game_core.specs.Play.{Rules}
+use Rattle.ground_rules.specs.LoadedGame.{loaded_game}
+use Rattle.packed_rules.specs.PackedGames.{tables_of}
+use Rattle.packed_rules.specs.declared.packed_game.PackedGame.{PackedGame}
+use Rattle.described_games.specs.Games.{IsDescribed, DescribesNone}
+use Rattle.record_reading.specs.LawfulRecord.{IsLawfulRecord}
+use Rattle.desk_scripts.specs.Script.{bad_lines, script_output}
+use Rattle.match_plans.specs.declared.game_source.GameCommand.{GameCommand}
+use Rattle.match_plans.specs.declared.game_source.GameCommand.TheVariants.{Desk, Verify, VerifyLines, Replay}
+use Rattle.match_plans.specs.declared.game_source.GameSource.{GameSource}
+use Rattle.match_plans.specs.declared.game_source.GameSource.TheVariants.{Countdown as OfCountdown, Described}
+use Rattle.match_plans.specs.declared.game_source.RulesSource.{RulesSource}
+use Rattle.match_plans.specs.declared.game_source.RulesSource.TheVariants.{Text, File}
+use Rattle.game_commands.specs.declared.fault.Fault.{Fault}
+use Rattle.game_commands.specs.declared.fault.Fault.TheVariants.{WrongUse, Memory, BadDescription, RulesFile, BadLines, UnlawfulRecords}
+use Rattle.game_commands.specs.declared.rules.FileFault.{FileFault}
+use Rattle.game_commands.specs.declared.script_fault.ScriptFault.{ScriptFault}
+use Rattle.game_commands.specs.declared.verdicts.Verdict.{Verdict}
+use Rattle.game_commands.specs.Faults.{script_fault}
+use Rattle.game_commands.specs.ScriptFaults.{ScriptFails}
+use Rattle.game_commands.specs.Verdicts.{AreVerdicts, verdict_lines, count_unlawful}
+use Rattle.game_commands.specs.Replays.{account_lines, IsReplayed, ReplayFails}
+use Rattle.game_commands.specs.Whole.{ReadsAndWrites}
+use Rattle.game_commands.specs.Checks.{lawful_line, CheckFails, BeginsWithLines, CheckStops}
+
+-- ---- a command's output
+
+-- The output for an input, and the number of what is wrong in the input: the bad lines of a script, or the lines that are no lawful
+-- records.
+abbrev pub IsOutput : {G S M : Type 0} → (G → Rules S M) → G → GameCommand → List ℕ → List ℕ → ℕ → Type 0
+IsOutput rules game Desk input output wrong = (output ≡ script_output rules (game ∷ []) input) × (wrong ≡ bad_lines (lines input))
+IsOutput rules game Verify input output wrong = IsLawfulRecord (rules game) input × (output ≡ lawful_line) × (wrong ≡ 0)
+IsOutput rules game VerifyLines input output wrong =
+    (verdicts : List Verdict) × AreVerdicts (rules game) (lines input) verdicts × (output ≡ verdict_lines verdicts) × (wrong ≡ count_unlawful verdicts)
+IsOutput rules game Replay input output wrong = (wrong ≡ 0) × IsReplayed rules (game ∷ []) (account_lines input) output
+
+-- all of an input was read, and the command's output for it was written; this many things are wrong in the input
+abbrev pub Answers : {G S M R W : Type 0} → (R → Option (List ℕ)) → (W → Option (List ℕ)) → (G → Rules S M) → G → GameCommand → ℕ → Counting R → Counting R → Counting W → Counting W → Type 0
+Answers remaining contents rules game command wrong reader reader' writer writer' =
+    (input output : List ℕ) × ReadsAndWrites remaining contents input output reader reader' writer writer' × IsOutput rules game command input output wrong
+
+-- ---- a command's faults
+
+-- the fault that tells how much is wrong in the input
+abbrev pub TellsNumber : GameCommand → ℕ → Fault → Type 0
+TellsNumber Desk wrong fault = fault ≡ BadLines wrong
+TellsNumber VerifyLines wrong fault = fault ≡ UnlawfulRecords wrong
+TellsNumber _ wrong fault = ⊥
+
+-- what a fault says that stopped the command
+abbrev pub Stops : {G S M R W : Type 0} → (R → Option (List ℕ)) → (W → Option (List ℕ)) → (G → Rules S M) → G → GameCommand → List ℕ → Fault → Counting R → Counting R → Counting W → Counting W → Type 0
+Stops remaining contents rules game Desk given fault reader reader' writer writer' =
+    (why : ScriptFault) × (fault ≡ script_fault why) × ScriptFails remaining contents (script_output rules (game ∷ []) given) why (length given) reader reader' writer writer'
+Stops remaining contents rules game Verify given fault reader reader' writer writer' = CheckFails remaining contents (rules game) fault given reader reader' writer writer'
+Stops remaining contents rules game VerifyLines given fault reader reader' writer writer' =
+    (first : List (List ℕ)) × (left : List ℕ) × (verdicts : List Verdict) × BeginsWithLines given first left × AreVerdicts (rules game) first verdicts
+    × CheckStops remaining contents (rules game) fault verdicts left reader reader' writer writer'
+Stops remaining contents rules game Replay given fault reader reader' writer writer' = ReplayFails remaining contents rules (game ∷ []) given fault reader reader' writer writer'
+
+-- A fault either tells how much is wrong in the input, after the whole output, or it stopped the command.
+abbrev pub Fails : {G S M R W : Type 0} → (R → Option (List ℕ)) → (W → Option (List ℕ)) → (G → Rules S M) → G → GameCommand → Fault → Counting R → Counting R → Counting W → Counting W → Type 0
+Fails remaining contents rules game command fault reader reader' writer writer' =
+    ((wrong : ℕ) × (wrong ≢ 0) × TellsNumber command wrong fault × Answers remaining contents rules game command wrong reader reader' writer writer')
+    ⊎ ((given : List ℕ) × Consumes (remaining reader.stream) (remaining reader'.stream) given × Stops remaining contents rules game command given fault reader reader' writer writer')
+
+-- ---- the game of a source
+
+-- out of memory, or why the file of the rules could not be read
+abbrev pub IsFileFault : Fault → Type 0
+IsFileFault fault = (fault ≡ Memory) ⊎ ((why : FileFault) × (fault ≡ RulesFile why))
+
+-- the text is that of the source; a file may have any text
+abbrev pub IsTextOf : RulesSource → List ℕ → Type 0
+IsTextOf (Text rules) text = text ≡ rules.now
+IsTextOf (File path) text = Unit {0}
+
+-- the fault for a text that can't be had: only a file's
+abbrev pub HasNoText : RulesSource → Fault → Type 0
+HasNoText (Text rules) fault = ⊥
+HasNoText (File path) fault = IsFileFault fault
+
+-- this holds of the game of the source
+abbrev pub HoldsOfGame : GameSource → ((G S M : Type 0) → (G → Rules S M) → G → Type 0) → Type 0
+HoldsOfGame (OfCountdown size) Holds = (game : Countdown) × (game.size ≡ size) × Holds _ _ _ (λ g. countdown g.size) game
+HoldsOfGame (Described source) Holds = (text : List ℕ) × (game : PackedGame) × IsTextOf source text × IsDescribed text game × Holds _ _ _ (λ g. loaded_game (tables_of g)) game
+
+-- the fault for a text that describes no game, if there is memory
+abbrev pub IsRefused : List ℕ → Fault → Type 0
+IsRefused text fault = (fault ≡ Memory) ⊎ ((fault ≡ BadDescription) × DescribesNone text)
+
+-- the fault for a source that has no game, if there is memory
+abbrev pub HasNoGame : GameSource → Fault → Type 0
+HasNoGame (OfCountdown size) fault = (fault ≡ WrongUse) × ¬ ((1 ≤ size) × (size ≤ max_heap))
+HasNoGame (Described source) fault = HasNoText source fault ⊎ ((text : List ℕ) × IsTextOf source text × IsRefused text fault)
