@@ -1,4 +1,6 @@
 //! The rules of Countdown as text, for players.
+ghost use Rattle.std.specs.Prelude.{◌≡◌, ◌+◌, ◌++◌, IfOk, OnOk, string_bytes};
+ghost use Rattle.described_games.specs.CountdownText.{countdown_text, step_rule, steps_below, steps_to};
 
 use std::alloc::Global;
 use std::fmt;
@@ -24,27 +26,43 @@ const TURNS: &str = "(role red) (role blue) (init (turn red))
 (<= (goal blue 0) (true (heap 0)) (true (turn blue)))
 ";
 
+/// Appends the rule by which a heap of `before` becomes one of `left`, when this word holds of the moves.
+fn push_step(rules: &mut String, left: u16, before: u16, word: &str) -> fmt::Result
+    ensures { OnOk result (string_bytes rules.new ≡ string_bytes rules.old ++ step_rule left before word.now) }
+{
+    write!(
+        rules,
+        "(<= (next (heap {left})) (true (heap {before})) {word})\n"
+    )?;
+    Ok(())
+}
+
+/// Appends the rules by which a heap of at most `size` becomes one of `left`.
+fn push_steps_to(rules: &mut String, size: u8, left: u8) -> fmt::Result
+    ensures { OnOk result (string_bytes rules.new ≡ string_bytes rules.old ++ steps_to size left) }
+{
+    let left = u16::from(left);
+    push_step(rules, left, left + 1, "one")?;
+    if left + 1 < u16::from(size) {
+        push_step(rules, left, left + 2, "two")?;
+    }
+    Ok(())
+}
+
 /// Appends the rules of what is left of the heap to `rules`.
-fn push_steps(rules: &mut String, size: u8) -> fmt::Result {
+fn push_steps(rules: &mut String, size: u8) -> fmt::Result
+    ensures { OnOk result (string_bytes rules.new ≡ string_bytes rules.old ++ steps_below size size) }
+{
     for left in 0..size {
-        let one_more = u16::from(left) + 1;
-        write!(
-            rules,
-            "(<= (next (heap {left})) (true (heap {one_more})) one)\n"
-        )?;
-        if one_more < u16::from(size) {
-            let two_more = one_more + 1;
-            write!(
-                rules,
-                "(<= (next (heap {left})) (true (heap {two_more})) two)\n"
-            )?;
-        }
+        push_steps_to(rules, size, left)?;
     }
     Ok(())
 }
 
 /// The rules of Countdown with a heap of `size`, as a ground description. The error is out of memory.
-pub fn countdown_rules(alloc: Global, size: u8) -> Result<String, fmt::Error> {
+pub fn countdown_rules(alloc: Global, size: u8) -> Result<String, fmt::Error>
+    ensures { IfOk result (λ rules. string_bytes rules ≡ countdown_text size) }
+{
     let mut rules = String::new(alloc);
     write!(rules, "{TURNS}(init (heap {size}))\n")?;
     push_steps(&mut rules, size)?;
