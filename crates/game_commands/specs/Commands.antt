@@ -9,6 +9,7 @@ use Rattle.game_core.specs.Play.{Rules}
 use Rattle.ground_rules.specs.LoadedGame.{loaded_game}
 use Rattle.packed_rules.specs.PackedGames.{tables_of}
 use Rattle.packed_rules.specs.declared.packed_game.PackedGame.{PackedGame}
+use Rattle.described_games.specs.CountdownText.{countdown_text}
 use Rattle.described_games.specs.Games.{IsDescribed, DescribesNone}
 use Rattle.record_reading.specs.LawfulRecord.{IsLawfulRecord}
 use Rattle.desk_scripts.specs.Script.{bad_lines, script_output}
@@ -99,3 +100,8 @@ IsRefused text fault = (fault ≡ Memory) ⊎ ((fault ≡ BadDescription) × Des
 abbrev pub HasNoGame : GameSource → Fault → Type 0
 HasNoGame (OfCountdown size) fault = (fault ≡ WrongUse) × ¬ ((1 ≤ size) × (size ≤ max_heap))
 HasNoGame (Described source) fault = HasNoText source fault ⊎ ((text : List ℕ) × IsTextOf source text × IsRefused text fault)
+
+-- the text of a game's rules for players: that of the source, or Countdown's rules
+abbrev pub IsToldText : GameSource → List ℕ → Type 0
+IsToldText (OfCountdown size) text = text ≡ countdown_text size
+IsToldText (Described source) text = IsTextOf source text

@@ -2,7 +2,7 @@
 ghost use Rattle.std.specs.Prelude.{◌≡◌, IfErr, IfOk};
 ghost use Rattle.std.specs.Cow.{cow_slice_items};
 ghost use Rattle.described_games.specs.Games.{IsDescribed};
-ghost use Rattle.game_commands.specs.Commands.{HasNoText, IsFileFault, IsRefused, IsTextOf};
+ghost use Rattle.game_commands.specs.Commands.{HasNoText, IsFileFault, IsRefused, IsTextOf, IsToldText};
 ghost use Rattle.game_commands.specs.Faults.{reading_fault};
 
 use crate::fault::Fault;
@@ -124,7 +124,9 @@ pub fn told_rules<'a, F: Files>(
     files: &F,
     alloc: Global,
     game: GameSource<'a>,
-) -> Result<CowSlice<'a, u8>, Fault> {
+) -> Result<CowSlice<'a, u8>, Fault>
+    ensures { IfOk result (λ text. IsToldText game.entry (cow_slice_items text)) }
+{
     match game {
         GameSource::Described(rules) => rules_text(files, alloc, rules),
         GameSource::Countdown(size) => {

@@ -34,13 +34,8 @@ pub fn run_script<R: Read, W: Write, G: Game + Drop>(
         × Consumes (R.remaining reader.old.stream) (R.remaining reader.new.stream) given
         × ScriptFails R.remaining W.contents (script_output G.rules games.items given) fault (length given) reader.old reader.new writer.old writer.new) }
 {
-    run_script_with_remarks(
-        alloc,
-        reader,
-        writer,
-        games,
-        &mut Remarks::new(alloc, false),
-    )
+    let mut unwanted = Remarks::new(alloc, false);
+    run_script_with_remarks(alloc, reader, writer, games, &mut unwanted)
 }
 
 /// Runs a script as `run_script` does. The remarks explain the first of its bad lines.
