@@ -1,5 +1,6 @@
 -- How a line shows a text of any bytes.
-use Rattle.std.specs.Prelude.{ℕ, ◌&&◌, Bool, nat_le, nat_lt, List, [], ◌++◌, length, take, map, codes, if◌then◌else◌, Option, Some, None}
+use Rattle.std.specs.Prelude.{ℕ, ◌==◌, ◌&&◌, Bool, nat_le, nat_lt, List, [], ◌++◌, length, take, map, codes, if◌then◌else◌, Option, Some, None}
+use Rattle.game_core.specs.Bytes.{line_feed}
 use Rattle.desk_calls.specs.declared.answer.Answer.{Answer}
 use Rattle.desk_calls.specs.declared.answer.Answer.TheVariants.{Text, Silent, Broken}
 use Rattle.network_players.specs.declared.contacting.ContactFault.{ContactFault}
@@ -11,6 +12,10 @@ is_visible byte = nat_le 32 byte && nat_le byte 126
 -- ? stands for every other byte
 abbrev pub shown_byte : ℕ → ℕ
 shown_byte byte = if is_visible byte then byte else 63
+
+-- a report may have several lines
+abbrev pub reported_byte : ℕ → ℕ
+reported_byte byte = if byte == line_feed then byte else shown_byte byte
 
 -- the limit of the bytes that are shown
 abbrev pub max_shown : ℕ

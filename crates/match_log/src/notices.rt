@@ -2,6 +2,7 @@
 ghost use Rattle.std.specs.Prelude.{◌↔◌, ◌⊎◌, false, IsTrue};
 ghost use Rattle.match_log.specs.WaitingLines.{IsLeftOut, IsNothing, Waits};
 
+use crate::shown_text::reported_byte;
 use crate::status::{Progress, StatusStream};
 use game_core::Counted;
 use std::alloc::Global;
@@ -147,7 +148,8 @@ impl Notices {
     }
 }
 
-/// A stream for reports. Its lines wait among the notices, however many they are.
+/// A stream for reports. Its lines wait among the notices, however many they are. `?` stands for a byte outside 0x20 to 0x7E, since an
+/// id may be of any bytes.
 #[derive(Drop)]
 pub struct ReportStream<'a, R> {
     rt: &'a R,
@@ -182,7 +184,11 @@ impl<'a, R: Wait> ReportStream<'a, R> {
 
 impl<R: Wait> Write for ReportStream<'_, R> {
     fn write(&mut self, bytes: &[u8]) -> io::Result<usize> {
+        let start = self.line.len();
         let is_taken = self.line.extend_from_slice(bytes).is_ok();
+        for byte in self.line.iter_mut().skip(start) {
+            *byte = reported_byte(*byte);
+        }
         let is_whole = self.line.last() == Some(&b'\n');
         if is_taken && (!is_whole || self.end_line()) {
             Ok(bytes.len())

@@ -1,7 +1,7 @@
 //! What a line shows of a text.
 ghost use Rattle.std.specs.Prelude.{◌≡◌, map, take};
 ghost use Rattle.std.specs.Fmt.{WritesOnOk};
-ghost use Rattle.match_log.specs.ShownTexts.{further, shown_byte};
+ghost use Rattle.match_log.specs.ShownTexts.{further, reported_byte, shown_byte};
 
 use shared_text::SharedText;
 use std::fmt;
@@ -27,13 +27,24 @@ impl<'a> Model for Shown<'a> {
 }
 
 /// A byte as a line shows it.
-fn shown_byte(byte: u8) -> char
+fn shown_byte(byte: u8) -> u8
     ensures { result ≡ shown_byte byte }
 {
     if byte == b' ' || byte.is_ascii_graphic() {
-        char::from(byte)
+        byte
     } else {
-        '?'
+        b'?'
+    }
+}
+
+/// A byte as a report shows it, which may have several lines.
+pub fn reported_byte(byte: u8) -> u8
+    ensures { result ≡ reported_byte byte }
+{
+    if byte == b'\n' {
+        byte
+    } else {
+        shown_byte(byte)
     }
 }
 
@@ -42,7 +53,7 @@ fn write_part<F: fmt::Write>(f: &mut fmt::Formatter<F>, part: &[u8], room: usize
     ensures { WritesOnOk F.write_str_gives f.old result (map shown_byte (take room part.now)) f.new }
 {
     for byte in &part[..part.len().min(room)] {
-        f.write_char(shown_byte(*byte))?;
+        f.write_char(char::from(shown_byte(*byte)))?;
     }
     Ok(())
 }
