@@ -15,7 +15,7 @@ from competition.files import written_whole
 from competition.kept import look_at_records, strangers
 from competition.pages import made_anew
 from competition.plan import Refused, faults_of_descriptions, read_plan, sums_text
-from competition.referee import VERSION_LINE
+from competition.referee import VERSION_LINE, Unchecked
 from competition.results import match_line
 from competition.table import tables_of
 from competition.table_text import in_order, table_files
@@ -218,6 +218,8 @@ def looked_at(path, referee):
             faults = list(faults_of_files(folder, plan, results, wanted))
             made_by = (folder / VERSION).read_text("ascii").strip()
         except (Spoilt, Refused) as why:
-            return str(why).splitlines(), ""
+            return str(why).replace(f"{room}/", "").splitlines(), ""
+        except Unchecked as why:
+            raise Unchecked(str(why).replace(f"{room}/", "")) from None
     said = f"the sums, the schedule, {len(results)} records and accounts, the table and the pages are right"
     return faults, f"{said}; played by {made_by}, checked by {referee.version()}"

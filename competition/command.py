@@ -184,7 +184,7 @@ def main():
         print(f"ggp_competition: {why}" if "\n" not in str(why) else why, file=sys.stderr)
         return 2
     except Unchecked as why:
-        print(f"ggp_competition: {why}", file=sys.stderr)
+        print(f"ggp_competition: {why}; nothing is changed", file=sys.stderr)
         return 3
     except KeyboardInterrupt:
         print("ggp_competition: interrupted", file=sys.stderr)

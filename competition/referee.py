@@ -15,7 +15,7 @@ MOST_ROLES = 16
 # Accounts that are replayed in one run: their bytes, and a desk's matches.
 MOST_BYTES, MOST_MATCHES = 200_000_000, 1_000
 # The last line on standard error where status 1 is a verdict, and no fault of the program's own.
-NOT_LAWFUL = re.compile(r"ggp_manager: records not lawful ([0-9]+)")
+NOT_LAWFUL = "ggp_manager: records not lawful {}"
 NOT_REPLAYED = re.compile(r"ggp_manager: not replayed: .*")
 VERSION_LINE = re.compile(rb"ggp_manager [0-9]+\.[0-9]+\.[0-9]+\n")
 BAD_RULES = "ggp_manager: bad description"
@@ -63,9 +63,9 @@ def is_not_replayed(status, line):
 
 
 def unchecked(said, name):
-    """Returns the fault of a run that did not check what it was given."""
+    """Returns the fault of a run that did not check what it was given; `name` says with which rules."""
     words = last_line(said).removeprefix("ggp_manager: ") or "it said nothing"
-    return Unchecked(f"the referee could not check by `{said.args[1]}` what is there of {name}: {words}, status {said.returncode}")
+    return Unchecked(f"`{PROGRAM} {said.args[1]}` came to no verdict with {name}: {words}, status {said.returncode}")
 
 
 class Referee:
@@ -117,9 +117,9 @@ class Referee:
         """Returns for each record what `verify` says of it. Each is one line, and begins with `{`."""
         said = self.call("verify", "--lines", "--rules-file", rules_path, data=b"".join(records))
         found = said.stdout.decode("ascii", "replace").splitlines()
-        counted = NOT_LAWFUL.fullmatch(last_line(said))
         wrong = len(found) - found.count("lawful")
-        if len(found) != len(records) or (said.returncode, wrong) not in ((0, 0), (1, int(counted[1]) if counted else 0)):
+        is_told = last_line(said) == NOT_LAWFUL.format(wrong) if wrong else True
+        if len(found) != len(records) or said.returncode != (1 if wrong else 0) or not is_told:
             raise unchecked(said, rules_path)
         return found
 

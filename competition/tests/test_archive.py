@@ -5,6 +5,7 @@ import gzip
 import hashlib
 import io
 import json
+import os
 import pathlib
 import re
 import shutil
@@ -186,6 +187,7 @@ class Archive(unittest.TestCase):
                 self.assertEqual((status, out), (1, ""))
                 self.assertIn(words, said)
                 self.assertRegex(said, r"^[\x20-\x7e\n]*$")
+                self.assertNotIn(f"{tempfile.gettempdir()}/tmp", said)
         self.assertEqual(sorted(it.name for it in self.other.iterdir()), ["cup.tar.gz", "spoilt.tar.gz"])
         print(f"an archive is checked, and refused after each of {len(SPOILINGS)} spoilings", flush=True)
 
@@ -194,6 +196,11 @@ class Archive(unittest.TestCase):
         said = f"ggp_competition: {other} is no ggp_manager: `--version` does not say `ggp_manager N.N.N`\n"
         self.assertEqual(run(self.folder, "publish", "--program", other), (2, "", said))
         self.assertEqual(self.archive.read_bytes(), published)
+
+    def test_an_archive_that_can_not_be_checked(self):
+        short = program_but(self.other / "short", '"$1" = replay', "kill -9 $$")
+        said = "ggp_competition: `ggp_manager replay` came to no verdict with cup/rules/countdown.kif: it said nothing, status -9; nothing is changed\n"
+        self.assertEqual(run(self.folder, "check", "cup.tar.gz", "--program", short), (3, "", said))
 
     def test_sums_that_were_made_anew_are_taken_of_what_is_right(self):
         (self.other / "again.tar.gz").write_bytes(packed(self.files()))
@@ -221,17 +228,18 @@ class Archive(unittest.TestCase):
 
     def test_where_an_archive_can_not_stand(self):
         (self.other / "there").mkdir()
+        os.mkfifo(self.other / "pipe")
         wrong = [
             (".", ". is no plain file: `--to` names the file of the archive"),
             (f"{self.other}/there/", f"{self.other}/there is no plain file: `--to` names the file of the archive"),
-            ("/dev/null", "/dev/null is no plain file: `--to` names the file of the archive"),
+            (f"{self.other}/pipe", f"{self.other}/pipe is no plain file: `--to` names the file of the archive"),
             ("none/a.tgz", "none/a.tgz can't be written: none is no folder"),
             ("competition.toml/a.tgz", "competition.toml/a.tgz can't be written: competition.toml is no folder"),
         ]
         before = sorted(self.folder.rglob("*"))
         for to, words in wrong:
             self.assertEqual(run(self.folder, "publish", "--to", to), (2, "", f"ggp_competition: {words}\n"))
-        self.assertEqual((sorted(self.folder.rglob("*")), [it.name for it in self.other.iterdir()]), (before, ["there"]))
+        self.assertEqual((sorted(self.folder.rglob("*")), sorted(it.name for it in self.other.iterdir())), (before, ["pipe", "there"]))
 
     def test_a_file_that_is_not_finished_leaves_nothing(self):
         file = self.other / "file"

@@ -51,7 +51,7 @@ class BadInput(InFolder):
         short = program_but(self.folder / "short", '"$1" = desk', "echo 'ggp_manager: want of memory' >&2; exit 3")
         status, out, said = run(self.folder, "plan", "--program", short)
         self.assertEqual((status, out), (3, ""))
-        self.assertEqual(said, f"ggp_competition: the referee could not check by `desk` what is there of {GAMES}/tictactoe.kif: want of memory, status 3\n")
+        self.assertEqual(said, f"ggp_competition: `ggp_manager desk` came to no verdict with {GAMES}/tictactoe.kif: want of memory, status 3; nothing is changed\n")
         self.assertEqual(sorted(it.name for it in self.folder.iterdir()), ["competition.toml", "short"])
 
     def test_all_descriptions_are_told_at_once(self):

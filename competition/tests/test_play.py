@@ -203,11 +203,12 @@ class Play(InFolder):
         before = self.files()
         short = "echo 'ggp_manager: want of memory' >&2; exit 3"
         shortages = [
-            ('"$1 $2" = "verify --lines"', short, "by `verify` what is there of rules/countdown.kif: want of memory, status 3"),
-            ('"$1" = verify', "kill -9 $$", "by `verify` what is there of rules/countdown.kif: it said nothing, status -9"),
-            ('"$1" = verify', "echo lawful; exit 0", "by `verify` what is there of rules/countdown.kif: it said nothing, status 0"),
+            ('"$1 $2" = "verify --lines"', short, "`ggp_manager verify` came to no verdict with rules/countdown.kif: want of memory, status 3"),
+            ('"$1" = verify', "kill -9 $$", "`ggp_manager verify` came to no verdict with rules/countdown.kif: it said nothing, status -9"),
+            ('"$1" = verify', "echo lawful; exit 0", "`ggp_manager verify` came to no verdict with rules/countdown.kif: it said nothing, status 0"),
             ('"$1" = verify', "cat > /dev/null; echo 'ggp_manager: input too long' >&2; exit 1", "input too long, status 1"),
-            ('"$1" = replay', "kill -9 $$", "by `replay` what is there of rules/countdown.kif: it said nothing, status -9"),
+            ('"$1" = verify', f"{program()} \"$@\"; echo 'ggp_manager: read fault' >&2; exit 1", "read fault, status 1"),
+            ('"$1" = replay', "kill -9 $$", "`ggp_manager replay` came to no verdict with rules/countdown.kif: it said nothing, status -9"),
             ('"$1" = replay', short, "want of memory, status 3"),
         ]
         for at, (asked, done, words) in enumerate(shortages):
@@ -216,7 +217,7 @@ class Play(InFolder):
                 with self.subTest(f"{command}: {asked}: {done}"):
                     status, out, said = run(self.folder, command, "--program", short_one)
                     self.assertEqual((status, out), (3, ""), said)
-                    self.assertRegex(said, r"^ggp_competition: the referee could not check by [^\n]*\n$")
+                    self.assertRegex(said, r"^ggp_competition: `ggp_manager (verify|replay)` came to no verdict [^\n]*; nothing is changed\n$")
                     self.assertIn(words, said)
                     self.assertEqual(self.files(), before)
         self.assertEqual(run(self.folder, "play")[:2], (0, "6 of 6 matches have a lawful record\n"))
@@ -326,14 +327,18 @@ class Play(InFolder):
         self.assert_sound(self.schedule)
 
     def test_a_reader_that_wants_no_more_ends_no_open_match(self):
-        self.planned(["slow"] * 2)
-        playing = start(self.folder, "play")
+        self.planned(["slow"] * 4)
+        playing = start(self.folder, "play", "--at-once", "2")
+        self.assertIn("begin", playing.stdout.readline())
         self.assertIn("begin", playing.stdout.readline())
         playing.stdout.close()
         said = playing.stderr.read()
         playing.stderr.close()
-        self.assertEqual((playing.wait(60), said, len(self.records())), (1, "", 1))
-        self.assertEqual([it.aborted for it in self.players], [[], []])
+        self.assertEqual((playing.wait(60), said), (1, ""))
+        # A match that begins while the first is checked is played to its end too.
+        self.assertIn(len(self.records()), (2, 3, 4))
+        self.assertEqual(list((self.folder / "open").iterdir()), [])
+        self.assertEqual([(it.matches, it.aborted) for it in self.players], [({}, [])] * 4)
 
     def test_what_is_no_room_of_a_match_is_left_alone(self):
         self.planned(["good", "good"])

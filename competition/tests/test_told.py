@@ -18,6 +18,7 @@ SPOILINGS = {
     "players are told other rules": (OTHER_RULES, "rules/nim.told is not what"),
     "what players are told is missing": (without("cup/rules/nim.told"), "rules/nim.told can't be read"),
     "players are told ground rules": (OTHERWISE, "rules/SHA256SUMS is not what"),
+    "a description is another": (changed("cup/games/nim.kif", lambda it: it + b"; more\n"), "games/nim.kif is not the description that the rules of nim were made from"),
     "a page has other rules for players": (OTHER_PAGE, "pages/games/nim.html does not follow"),
 }
 
@@ -48,8 +49,10 @@ class Told(InFolder):
 
     def test_the_plan(self):
         names = "countdown.kif", "nim.kif", "nim.told", "nim.told.kif"
-        self.assertEqual(sorted(it.name for it in (self.folder / "rules").iterdir()), ["SHA256SUMS", *names])
+        self.assertEqual(sorted(it.name for it in (self.folder / "rules").iterdir()), ["DESCRIPTIONS.sha256", "SHA256SUMS", *names])
         self.assertEqual(self.rules("SHA256SUMS").decode(), "".join(f"{sum_of(self.rules(it))}  {it}\n" for it in names))
+        described = [(it, sum_of((GAMES / file).read_bytes())) for it, file in zip(("countdown", "nim", "nim.told"), ("countdown.kif", "general/nim.kif", "general/nim.kif"))]
+        self.assertEqual(self.rules("DESCRIPTIONS.sha256").decode(), "".join(f"{it}  {name}.kif\n" for name, it in described))
         self.assertEqual([has_variables(self.read(it)) for it in names], [False, False, True, False])
         self.assertLess({"base", "input"}, {sentence[0] for sentence in self.read("nim.told")})
         self.assertEqual(self.rules("nim.kif"), self.rules("nim.told.kif"))

@@ -3,8 +3,8 @@
 
     player.py PORT [SEED]
 
-The same SEED, a whole number, chooses the same moves. It listens on 127.0.0.1, answers INFO, START, PLAY, STOP and ABORT, and plays one match at a time.
-It needs Python's standard library alone.
+It listens on 127.0.0.1, answers INFO, START, PLAY, STOP and ABORT, and plays one match at a time. The same SEED, a whole number, chooses
+the same moves. It needs Python's standard library alone.
 """
 
 import random
