@@ -1,6 +1,7 @@
 //! The game to play, and the rules for its players.
 ghost use Rattle.std.specs.Prelude.{◌≡◌, ℕ, List, IfOk};
 ghost use Rattle.described_games.specs.Games.{IsDescribed};
+ghost use Rattle.game_commands.specs.Commands.{IsToldText};
 ghost use Rattle.ggp_commands.specs.Hosting.{AreRulesFor, AreSpelled};
 
 use command_line::HostingPlan;
@@ -93,7 +94,7 @@ pub fn host<F: Files>(
     plan: HostingPlan<'_>,
     remarks: &mut Remarks,
 ) -> Result<Hosting, Fault>
-    ensures game { IfOk result (λ hosting. (text : List ℕ) × IsDescribed text hosting.game) }
+    ensures game { IfOk result (λ hosting. (text : List ℕ) × IsToldText plan.entry.game text × IsDescribed text hosting.game) }
     ensures rules { IfOk result (λ hosting. AreRulesFor plan.entry.told hosting.game hosting.rules.items) }
 {
     let text = told_rules(files, alloc, plan.game)?;
