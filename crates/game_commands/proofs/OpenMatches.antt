@@ -1,5 +1,5 @@
 -- The matches of a desk that are not over, one after another.
-use Rattle.std.proofs.Common.{◌≡◌, ℕ, ◌+◌, [], ◌∷◌, ◌++◌, take, Bool, true, not, cond, Option, Some, None, refl, ap, ◌∙◌}
+use Rattle.std.proofs.Common.{◌≡◌, ℕ, ◌+◌, [], ◌∷◌, ◌++◌, take, Bool, true, not, cond, Option, Some, None, refl, sym, ap, ◌∙◌}
 use Rattle.std.specs.Prelude.{slice_get, option_map, option_and_then, unwrap_or, count_by}
 use Rattle.std.proofs.lemmas.List.{take_more}
 use Rattle.std.proofs.lemmas.List.Sums.{sum_by_push}
@@ -16,9 +16,9 @@ abbrev pub open_before : {G S M : Type 0} → (G → Rules S M) → ManagerValue
 open_before rules d k = count_by (λ m. not (is_over rules d m)) (take k d.matches)
 
 -- one match more
-pub open_before-next : {G S M : Type 0} (rules : G → Rules S M) (d : ManagerValue G M) (k : ℕ) (held : GameMatch G M) → option_and_then (game_match d) (slice_get d.matches k) ≡ Some held
+pub open_before-next : {G S M : Type 0} (rules : G → Rules S M) (d : ManagerValue G M) (k : ℕ) (held : GameMatch G M) → Some held ≡ option_and_then (game_match d) (slice_get d.matches k)
     → open_before rules d (k + 1) ≡ open_before rules d k + cond (not (is_last (status (rules held.game) held.value).phase)) 1 0
-open_before-next {G} {S} {M} rules d k held found = at (slice_get d.matches k) refl found
+open_before-next {G} {S} {M} rules d k held found = at (slice_get d.matches k) refl (sym found)
   where
     over : Option (GameMatch G M) → Bool
     over o = unwrap_or (option_map (λ x. is_last (status (rules x.game) x.value).phase) o) true

@@ -1,4 +1,4 @@
-use Rattle.std.proofs.Common.{◌≡◌, ◌⊎◌, Result, Ok, Err, IfErr, OnOk, ap, subst, ◌∙◌, inl, inr}
+use Rattle.std.proofs.Common.{◌≡◌, ◌⊎◌, Result, Ok, Err, IfErr, OnOk, subst, inl, inr}
 use Rattle.std.proofs.lemmas.Result.{IfErr-weaker, on_ok_weaker, err_from_is_err_and}
 use Rattle.std.specs.Str.Lines.{lines}
 use Rattle.game_commands.specs.Replays.{account_lines, IsRefusedAccount, IsReplayed}
@@ -12,7 +12,7 @@ output_of B (Err e) a b = inr (e, b)
 pub returns-clause-replayed : goal.returns-clause-replayed
 returns-clause-replayed g c =
     let whole = c.in_ok-account.ensures.whole in
-    let are : lines c.deref.result.now ≡ account_lines c.in_ok-account.account.items = ap lines c.deref.ensures.value ∙ c.remove_records.ensures in
+    let are : lines c.deref.result.now ≡ account_lines c.in_ok-account.account.items = rw c.deref.ensures.value c.remove_records.ensures in
     let wrote = rw c.deref-2.ensures.value at c.in_ok-write_all.ensures.whole in
     on_ok_weaker c.answer-answered.result (λ replayed. (
       c.in_ok-account.account.items,
@@ -24,7 +24,7 @@ returns-clause-replayed g c =
 pub returns-clause-fails : goal.returns-clause-fails
 returns-clause-fails g c =
     let whole = c.in_ok-account.ensures.whole in
-    let are : lines c.deref.result.now ≡ account_lines c.in_ok-account.account.items = ap lines c.deref.ensures.value ∙ c.remove_records.ensures in
+    let are : lines c.deref.result.now ≡ account_lines c.in_ok-account.account.items = rw c.deref.ensures.value c.remove_records.ensures in
     let wrote = rw c.deref-2.ensures.value at c.in_ok-write_all.ensures.whole in
     IfErr-weaker c.answer-answered.result _ _ (λ fault refused. (
       c.in_ok-account.account.items,
@@ -39,7 +39,7 @@ returns-clause-fails g c =
 pub returns-in_err-write_all-clause-fails : goal.returns-in_err-write_all-clause-fails
 returns-in_err-write_all-clause-fails g c =
     let whole = c.in_ok-account.ensures.whole in
-    let are : lines c.deref.result.now ≡ account_lines c.in_ok-account.account.items = ap lines c.deref.ensures.value ∙ c.remove_records.ensures in
+    let are : lines c.deref.result.now ≡ account_lines c.in_ok-account.account.items = rw c.deref.ensures.value c.remove_records.ensures in
     let passed = err_from_is_err_and c.from_residual-in_err-write_all.result c.from_residual-in_err-write_all.ensures.1 in
     let written = rw c.deref-2.ensures.value at c.in_err-write_all.ensures.prefix in
     let output = output_of (λ fault. IsRefusedAccount g.G.Game.rules c.args.games.items (lines c.deref.result.now) fault c.answer-answered.new.output.items) c.answer-answered.result c.answer-answered.ensures.replayed
