@@ -107,40 +107,37 @@ fn is_shared<T: Sync>(_value: &T)
 
 /// Writes the results of a season's matches. If a write fails, no further match begins. The missing records are reported. Returns the
 /// number of missing records.
-fn write_played<R: Wait, P: Player, S, N: Naming, W: Write, E: Write>(
+fn write_played<N: Naming, R: Wait, W: Write, E: Write>(
     rt: &R,
     alloc: Global,
-    season: &Season<'_, '_, P, S, N>,
+    plans: &[MatchPlan<'_>],
+    floor: &Floor,
     has_thread: bool,
     order: RecordOrder,
     receiver: &Receiver<Over<N>>,
     writer: &mut Counted<W>,
     errors: &Mutex<E>,
 ) -> Result<u64, SeasonFault>
-    ensures written { IfOk result (λ missing. WritesAllBut N.is_output order missing (length season.now.plans.now) (W.contents writer.old.stream) (W.contents writer.new.stream)) }
+    ensures written { IfOk result (λ missing. WritesAllBut N.is_output order missing (length plans.now) (W.contents writer.old.stream) (W.contents writer.new.stream)) }
     ensures thread { OnOk result (has_thread ≡ true) }
     ensures faults { writer.new.faults ≡ faults_after result writer.old.faults }
 {
     if !has_thread {
         return Err(SeasonFault::Memory);
     }
-    let reports = Reports {
-        rt,
-        plans: season.plans,
-        errors,
-    };
+    let reports = Reports { rt, plans, errors };
     let mut results = Results {
         receiver,
         is_closed: false,
     };
-    let mut written = Written::nothing(alloc, season.plans.len())?;
+    let mut written = Written::nothing(alloc, plans.len())?;
     match write_season(alloc, order, &reports, &mut results, &mut written, writer) {
         Ok(()) => {
             reports.report_rest(&written);
             Ok(written.missing())
         }
         Err(fault) => {
-            season.floor.close(rt);
+            floor.close(rt);
             reports.report_rest(&written);
             Err(fault)
         }
@@ -193,8 +190,17 @@ where
                 }
                 has_thread = true;
             }
+            let floor = &season.floor;
             let played = write_played(
-                rt, alloc, season, has_thread, form.order, receiver, writer, errors,
+                rt,
+                alloc,
+                season.plans,
+                floor,
+                has_thread,
+                form.order,
+                receiver,
+                writer,
+                errors,
             );
             (played, writer)
         },

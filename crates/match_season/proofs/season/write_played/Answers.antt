@@ -7,4 +7,4 @@ pub returns-in-Ok-clause-written : goal.returns-in-Ok-clause-written
 returns-in-Ok-clause-written g c =
     let before = c.in_ok-written.written in
     let after = c.write_season.new.written in
-    all-but _ _ (length c.args.season.now.plans.now) c.missing.result before after _ _ c.in_ok-written.ensures.0 (ap length c.in_ok-written.ensures.1 ∙ length-replicate _ _) (omega arith) (omega (arith, c.missing.ensures, after.is_settled.ok.0)) c.in-Ok.ensures.written
+    all-but _ _ (length c.args.plans.now) c.missing.result before after _ _ c.in_ok-written.ensures.0 (ap length c.in_ok-written.ensures.1 ∙ length-replicate _ _) (omega arith) (omega (arith, c.missing.ensures, after.is_settled.ok.0)) c.in-Ok.ensures.written
