@@ -251,8 +251,8 @@ where
 /// that is short of memory or threads waits again until another one is over, and from then on one match less is played at once. If no
 /// other match is running, it has no record.
 ///
-/// If not a single thread can be made, the result is out of memory, and no match was begun. After a failed write no further match
-/// begins, and the matches without a record are reported.
+/// If not a single thread can be made, the result is out of memory, and no match was begun. Otherwise each match without a record is
+/// reported. After a failed write no further match begins.
 pub fn play_season<'f, 'a, R, P, S, W: Write, E: Write + Send>(
     rt: &R,
     alloc: Global,
