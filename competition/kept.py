@@ -1,5 +1,6 @@
 """The matches of a competition that count: those with a lawful record and an account that gives it again."""
 
+import itertools
 import os
 
 from competition.results import fault_of_record, read_record, result_of
@@ -84,7 +85,11 @@ def strangers(plan):
 
 
 def set_aside(plan, match):
-    """Keeps the files of a match that do not count under another name, out of the way of those that are to come."""
-    for file in (plan.folder.record(match), plan.folder.account(match), plan.folder.log(match)):
+    """Keeps the files of a match that do not count under another name, out of the way of those that are to come. Files that were set
+    aside before stay as they are."""
+    files = plan.folder.record(match), plan.folder.account(match), plan.folder.log(match)
+    endings = itertools.chain([".refused"], (f".refused.{count}" for count in itertools.count(2)))
+    ending = next(it for it in endings if not any(file.with_name(file.name + it).exists() for file in files))
+    for file in files:
         if file.exists():
-            os.replace(file, file.with_name(f"{file.name}.refused"))
+            os.replace(file, file.with_name(file.name + ending))

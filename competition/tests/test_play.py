@@ -237,7 +237,7 @@ class Play(InFolder):
             (b"\n", "its record does not begin with `{`"),
             (before["records/cup-001.json"][:-1] + b" " * (16 << 20) + b"\n", "its record has more than 16,777,216 bytes"),
         ]
-        for data, words in damages:
+        for (data, words), ending in zip(damages, ("refused", "refused.2", "refused.3")):
             with self.subTest(words):
                 record.write_bytes(data)
                 self.assertIn(f"ggp_competition: cup-001 does not count: {words}\n", run(self.folder, "table")[2])
@@ -245,7 +245,7 @@ class Play(InFolder):
                 self.assertEqual((status, lines(out, "refused")), (0, [f"refused cup-001: {words}; its files are set aside, and it is played again"]))
                 after = self.files()
                 self.assertEqual([name for name in before if "cup-001" not in name and after[name] != before[name]], [])
-                self.assertEqual(after["records/cup-001.json.refused"], data)
+                self.assertEqual(after[f"records/cup-001.json.{ending}"], data)
 
     def test_a_replay_that_is_ended_during_play_is_told_as_it_is(self):
         self.planned(["good", "good"])
