@@ -1,5 +1,6 @@
 mod CheckedLines
 mod DoneLines
 mod DoneNames
+mod NotedNames
 mod OpenMatches
 mod AccountLines

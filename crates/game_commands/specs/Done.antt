@@ -1,14 +1,14 @@
 -- The matches that are over, by their records.
-use Rattle.std.specs.Prelude.{◌≡◌, ℕ, Bool, true, List, [], ◌∷◌, ◌++◌, All, Contains}
+use Rattle.std.specs.Prelude.{◌≡◌, ◌↔◌, ℕ, Bool, true, List, [], ◌∷◌, ◌++◌, Contains, IsTrue, Option, Some}
 use Rattle.std.specs.Str.{bytes_eq}
 use Rattle.indexmap.specs.IndexSet.{contains_by}
 use Rattle.serde_json.specs.Data.{Data}
 use Rattle.game_core.specs.Bytes.{space}
 use Rattle.game_core.specs.Play.{Rules}
 use Rattle.desk_calls.specs.Phases.{is_last}
-use Rattle.record_reading.specs.LawfulRecord.{IsJson, IsLawfulRecord}
-use Rattle.record_reading.specs.RecordTree.{Holds}
-use Rattle.record_reading.specs.declared.record_parts.RecordParts.{RecordParts}
+use Rattle.match_book.specs.MatchValue.{MatchValue}
+use Rattle.match_book.specs.Phase.{phase}
+use Rattle.record_reading.specs.LawfulRecord.{IsRecordOf}
 use Rattle.game_commands.specs.declared.done.DoneMatches.{DoneMatches}
 
 -- these names in one text, each followed by a space
@@ -24,15 +24,18 @@ match_names id players = joined (id ∷ players)
 abbrev pub is_noted : DoneMatches → List ℕ → Bool
 is_noted done names = contains_by (λ noted. bytes_eq names noted.items) done.names
 
--- the line is the lawful record of a match that is over, and these are the names of the match
+-- the line is the record of a lawful match that is over, and the match has these names
 abbrev pub IsDone : {S M : Type 0} → Rules S M → List ℕ → List ℕ → Type 0
-IsDone g line names = IsLawfulRecord g line
-    × ((tree : Data) × (p : RecordParts) × IsJson line tree × Holds tree p × (is_last p.phase ≡ true) × (names ≡ match_names p.id p.players))
+IsDone {S} {M} g line names = (tree : Data) × (m : MatchValue M) × IsRecordOf g line tree m × (is_last (phase g m) ≡ true) × (names ≡ match_names m.setup.id m.setup.players)
 
--- one of these lines is the lawful record of a match that is over, and the match has these names
+-- these are the names of the line's match, if the line is the record of a lawful match that is over, and there are none otherwise
+abbrev pub AreNamesOf : {S M : Type 0} → Rules S M → List ℕ → Option (List ℕ) → Type 0
+AreNamesOf g line found = (names : List ℕ) → (found ≡ Some names) ↔ IsDone g line names
+
+-- one of these lines is the record of a lawful match that is over, and the match has these names
 abbrev pub IsDoneIn : {S M : Type 0} → Rules S M → List (List ℕ) → List ℕ → Type 0
 IsDoneIn g lines names = (line : List ℕ) × Contains lines line × IsDone g line names
 
--- each noted match is over, by its lawful record in one of these lines
+-- the noted matches are those that are over by their records in these lines
 abbrev pub AreDone : {S M : Type 0} → Rules S M → List (List ℕ) → DoneMatches → Type 0
-AreDone g lines done = All (λ noted. IsDoneIn g lines noted.items) done.names.keys
+AreDone g lines done = (names : List ℕ) → IsTrue (is_noted done names) ↔ IsDoneIn g lines names

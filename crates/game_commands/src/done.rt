@@ -1,10 +1,10 @@
 //! The matches that are over, by a file of records.
-ghost use Rattle.std.specs.Prelude.{◌≡◌, ◌⊎◌, ◌∷◌, ◌++◌, [], ℕ, List, true, map, IfErr, IfOk, IfSome, OnOk};
+ghost use Rattle.std.specs.Prelude.{◌≡◌, ◌⊎◌, ◌↔◌, ◌∷◌, ◌++◌, [], ℕ, List, Some, None, if◌then◌else◌, map, option_map, IfErr, IfOk, IsTrue, OnOk};
 ghost use Rattle.std.specs.Io.KnownBytes.{Consumes, IsAtEnd};
 ghost use Rattle.std.specs.Str.Lines.{lines};
 ghost use Rattle.game_core.specs.Bytes.{space};
 ghost use Rattle.desk_calls.specs.Phases.{is_last};
-ghost use Rattle.game_commands.specs.Done.{AreDone, IsDone, is_noted, match_names};
+ghost use Rattle.game_commands.specs.Done.{AreDone, AreNamesOf, is_noted, match_names};
 ghost use Rattle.game_commands.specs.declared.fault.Fault.TheVariants.{Memory};
 
 use crate::checking::MAX_RECORD;
@@ -16,6 +16,7 @@ use match_plans::MatchPlan;
 use match_record::VerifyFault;
 use record_check::lawful_parts;
 use record_reading::RecordParts;
+use record_reading::laws::{holds_one_parts_at_most, lawful_parts_have_shape};
 use std::alloc::{AllocError, Global};
 use std::fs;
 use std::io::Read;
@@ -64,8 +65,7 @@ fn planned_names(alloc: Global, plan: &MatchPlan<'_>) -> Result<Vec<u8>, AllocEr
 
 /// The names of a record's match, if the match is over.
 fn names_if_over(alloc: Global, parts: &RecordParts) -> Result<Option<Vec<u8>>, Fault>
-    ensures names { IfOk result (λ o. IfSome o (λ names. (is_last parts.now.phase ≡ true)
-        × (names.items ≡ match_names parts.now.id parts.now.players))) }
+    ensures names { IfOk result (λ o. option_map (λ names. names.items) o ≡ if is_last parts.now.phase then Some (match_names parts.now.id parts.now.players) else None) }
     ensures memory { IfErr result (λ fault. fault ≡ Memory) }
 {
     if parts.phase.is_last() {
@@ -77,9 +77,11 @@ fn names_if_over(alloc: Global, parts: &RecordParts) -> Result<Option<Vec<u8>>, 
 
 /// The names of a line's match. `None` if the line is no lawful record, or the match is not over.
 fn done_names<G: Game>(alloc: Global, game: &G, line: &[u8]) -> Result<Option<Vec<u8>>, Fault>
-    ensures done { IfOk result (λ o. IfSome o (λ names. IsDone (G.rules game.now) line.now names.items)) }
+    ensures names { IfOk result (λ o. AreNamesOf (G.rules game.now) line.now (option_map (λ names. names.items) o)) }
     ensures memory { IfErr result (λ fault. fault ≡ Memory) }
 {
+    lawful_parts_have_shape(game);
+    holds_one_parts_at_most(game);
     match lawful_parts(alloc, game, line) {
         Ok(parts) => names_if_over(alloc, &parts),
         Err(VerifyFault::Memory) => Err(Fault::Memory),
@@ -109,7 +111,7 @@ impl DoneMatches {
 
     /// Adds the names of a match.
     fn add(&mut self, names: Vec<u8>) -> Result<(), Fault>
-        ensures { OnOk result ((self.new.names.keys ≡ self.old.names.keys) ⊎ (self.new.names.keys ≡ self.old.names.keys ++ names ∷ [])) }
+        ensures { OnOk result ((others : List ℕ) → IsTrue (is_noted self.new others) ↔ (IsTrue (is_noted self.old others) ⊎ (names.items ≡ others))) }
     {
         self.names.insert(names)?;
         Ok(())

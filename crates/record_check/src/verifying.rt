@@ -2,7 +2,7 @@
 ghost use Rattle.std.specs.Prelude.{◌≢◌, IfErr, IfOk, OnOk};
 ghost use Rattle.serde_json.specs.Data.{Data};
 ghost use Rattle.record_reading.specs.LawfulRecord.{IsJson, IsLawfulRecord};
-ghost use Rattle.record_reading.specs.RecordTree.{Holds};
+ghost use Rattle.record_reading.specs.RecordTree.{HasShape, Holds};
 ghost use Rattle.record_check.specs.Verified.{FailsFirst};
 ghost use Rattle.record_reading.specs.declared.verify_fault.VerifyFault.TheVariants.{Memory};
 
@@ -18,7 +18,7 @@ pub fn lawful_parts<G: Game>(
     text: &[u8],
 ) -> Result<RecordParts, VerifyFault>
     ensures lawful { OnOk result (IsLawfulRecord (G.rules game.now) text.now) }
-    ensures parts { IfOk result (λ p. (tree : Data) × IsJson text.now tree × Holds tree p) }
+    ensures parts { IfOk result (λ p. (tree : Data) × IsJson text.now tree × Holds tree p × HasShape (G.rules game.now) p) }
     ensures refused { IfErr result (λ fault. fault ≢ Memory → ¬ IsLawfulRecord (G.rules game.now) text.now) }
     ensures first { IfErr result (FailsFirst (G.rules game.now) text.now) }
 {

@@ -1,16 +1,15 @@
-use Rattle.std.proofs.Common.{rules, ◌≡◌, ◌++◌, ◌∷◌, [], All, append-nil, ap, subst, sym, ◌∙◌}
+use Rattle.std.proofs.Common.{rules, ◌≡◌, ◌++◌, ◌∷◌, [], append-nil, ap, subst, sym, ◌∙◌}
 use Rattle.std.proofs.KnownBytes.{Consumes-nil, Consumes-trans}
-use Rattle.std.proofs.lemmas.List.Elements.{All-nil}
 use Rattle.std.specs.Str.Lines.{lines}
 use Rattle.whole_streams.specs.Lines.{BeginsWithLine, IsNextLine}
-use Rattle.game_commands.specs.Done.{AreDone, IsDoneIn}
+use Rattle.game_commands.specs.Done.{AreDone}
 use Rattle.game_commands.proofs.CheckedLines.{begins_last, begins_line, begins_more}
+use Rattle.game_commands.proofs.DoneLines.{nothing_noted}
 use Rattle.game_commands.proofs.done.done_in.Goals as goal
 
 pub loop-init : goal.loop-init
 loop-init g c =
-    let none = subst (All (λ noted. IsDoneIn (g.G.Game.rules c.args.game.now) [] noted.items)) (sym c.new.ensures.empty) (All-nil (λ noted. IsDoneIn (g.G.Game.rules c.args.game.now) [] noted.items)) in
-    ([], [], Consumes-nil _, (λ more. ap (λ l. lines (l ++ more)) (sym c.new-buffer.ensures)), none)
+    ([], [], Consumes-nil _, (λ more. ap (λ l. lines (l ++ more)) (sym c.new-buffer.ensures)), nothing_noted (g.G.Game.rules c.args.game.now) (λ noted. noted.items) _ c.new.ensures.empty)
 
 pub loop-preserved : goal.loop-preserved
 loop-preserved g c =
