@@ -1,5 +1,7 @@
 -- What a task with matches writes.
 use Rattle.std.specs.Prelude.{ℕ, List, Option}
+use Rattle.match_plans.specs.declared.addresses.PlayerAddress.{PlayerAddress}
+use Rattle.match_plans.specs.declared.reach.RolePlace.{RolePlace}
 use Rattle.role_workers.specs.Handing.{Handed}
 use Rattle.match_play.specs.declared.hosting.HostedGame.{HostedGame}
 use Rattle.command_line.specs.declared.tasks.HostedTask.{HostedTask}
@@ -9,7 +11,7 @@ use Rattle.ggp_commands.specs.Schedules.{WritesSeason}
 
 -- From one content of a stream to the other the task wrote the output of its match, or of each match to play of its schedule. Of a check
 -- nothing is said.
-abbrev pub WritesTask : {P : Type 0} → (P → Option (List Handed)) → HostedGame → HostedTask → List ℕ → Option (List ℕ) → Option (List ℕ) → Type 0
-WritesTask handed game (Run run) input old new = WritesRun handed game run old new
-WritesTask handed game (Season season) input old new = WritesSeason handed game season input old new
-WritesTask handed game (Check plan) input old new = Unit {0}
+abbrev pub WritesTask : {P : Type 0} → (RolePlace → PlayerAddress → P → Type 0) → (P → Option (List Handed)) → HostedGame → HostedTask → List ℕ → Option (List ℕ) → Option (List ℕ) → Type 0
+WritesTask is_reached handed game (Run run) input old new = WritesRun is_reached handed game run old new
+WritesTask is_reached handed game (Season season) input old new = WritesSeason is_reached handed game season input old new
+WritesTask is_reached handed game (Check plan) input old new = Unit {0}

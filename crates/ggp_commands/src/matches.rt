@@ -3,7 +3,7 @@ ghost use Rattle.std.specs.Prelude.{◌≡◌, [], false, true, IfOk, OnOk};
 ghost use Rattle.std.specs.Io.KnownBytes.{Consumes, IsAtEnd};
 ghost use denote.Param.Send.{IsSend, IsSync};
 ghost use Rattle.ggp_commands.specs.Runs.{WritesRun};
-ghost use Rattle.match_log.specs.LoggedPlayers.{logged_handed};
+ghost use Rattle.match_log.specs.LoggedPlayers.{is_logged_reached, logged_handed};
 ghost use Rattle.ggp_commands.specs.Schedules.{WritesSeason, has_schedule};
 ghost use Rattle.ggp_commands.specs.Tasks.{WritesTask};
 
@@ -80,7 +80,7 @@ where
     P: Player + Drop + Send,
     S: Reach<P> + TellsShortages,
     ensures clear { OnOk result (S.is_clear reach.now 0) }
-    ensures written { OnOk result (WritesRun P.handed game.entry run.now (W.contents writer.old.stream) (W.contents writer.new.stream)) }
+    ensures written { OnOk result (WritesRun (S.is_reached reach.now) P.handed game.entry run.now (W.contents writer.old.stream) (W.contents writer.new.stream)) }
 {
     let entrants: Entrants<P> = entrants_of(alloc, reach, 0, &run.plan)?;
     let ended = match ended_match(rt, alloc, reach, entrants, game, run.has_history) {
@@ -126,7 +126,7 @@ where
     H: Files + Threads + Wait + Sync,
     P: Player + Drop + Send,
     S: Reach<P> + TellsShortages + Sync,
-    ensures { OnOk result (WritesSeason P.handed game.entry season.entry schedule.now (W.contents writer.old.stream) (W.contents writer.new.stream)) }
+    ensures { OnOk result (WritesSeason (S.is_reached reach.now) P.handed game.entry season.entry schedule.now (W.contents writer.old.stream) (W.contents writer.new.stream)) }
 {
     let plans = plans_of(rt, alloc, game.game, season, schedule)?;
     console.plan(rt, plans.len());
@@ -179,7 +179,7 @@ where
     H: Clock + Files + Threads + Wait + Sync,
     P: Player + Explains + Drop + Send,
     S: Reach<P> + TellsShortages + Sync,
-    ensures written { OnOk result (WritesTask (logged_handed H P.handed) game.entry task.now input.now (W.contents writer.old.stream) (W.contents writer.new.stream)) }
+    ensures written { OnOk result (WritesTask (is_logged_reached H (S.is_reached reach.now)) (logged_handed H P.handed) game.entry task.now input.now (W.contents writer.old.stream) (W.contents writer.new.stream)) }
 {
     let logging = Logging {
         rt,
@@ -219,7 +219,7 @@ where
     H: Clock + Files + Threads + Wait + Sync,
     P: Player + Explains + Drop + Send,
     S: Reach<P> + TellsShortages + Sync,
-    ensures written { OnOk result (WritesTask (logged_handed H P.handed) game.entry task.now input.now (W.contents writer.old.stream) (W.contents writer.new.stream)) }
+    ensures written { OnOk result (WritesTask (is_logged_reached H (S.is_reached reach.now)) (logged_handed H P.handed) game.entry task.now input.now (W.contents writer.old.stream) (W.contents writer.new.stream)) }
 {
     // The closure returns the output, so its content is known behind the scope.
     let (performed, _writer) = thread::scope(
@@ -228,7 +228,7 @@ where
         move |scope| -> (Result<(), Fault>, &mut Counted<W>)
             requires sent { IsSync H.row × IsSend E.row }
             ensures stream { result.1.ghost_name ≡ writer.entry.ghost_name }
-            ensures written { OnOk result.0 (WritesTask (logged_handed H P.handed) game.entry task.entry.now input.entry.now (W.contents writer.entry.now.stream) (W.contents result.1.now.stream)) }
+            ensures written { OnOk result.0 (WritesTask (is_logged_reached H (S.is_reached reach.entry.now)) (logged_handed H P.handed) game.entry task.entry.now input.entry.now (W.contents writer.entry.now.stream) (W.contents result.1.now.stream)) }
         {
             let writing = move || console
                 .notices
@@ -266,7 +266,7 @@ where
     S: Reach<P> + TellsShortages + Sync,
     requires picked { N.name ≡ writer.ghost_name }
     ensures output { result.1.ghost_name ≡ writer.entry.ghost_name }
-    ensures written { OnOk result.0 (WritesTask (logged_handed H P.handed) game.entry task.now input.now (W.contents writer.entry.now.stream) (W.contents result.1.now.stream)) }
+    ensures written { OnOk result.0 (WritesTask (is_logged_reached H (S.is_reached reach.now)) (logged_handed H P.handed) game.entry task.now input.now (W.contents writer.entry.now.stream) (W.contents result.1.now.stream)) }
 {
     let console = Console {
         notices: Notices::new(alloc),

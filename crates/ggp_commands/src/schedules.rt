@@ -42,7 +42,7 @@ pub fn plans_of<'a, F: Files>(
     season: SeasonPlan<'_>,
     schedule: &'a [u8],
 ) -> Result<Vec<MatchPlan<'a>>, Fault>
-    ensures { IfOk result (λ plans. AreToPlay season.entry.strikes season.entry.done schedule.now plans.items) }
+    ensures { IfOk result (λ plans. AreToPlay game.now season.entry.strikes season.entry.done schedule.now plans.items) }
 {
     let plans = read_schedule(alloc, schedule, game.roles(), season.strikes)?;
     match season.done {

@@ -16,8 +16,10 @@ use Rattle.role_workers.specs.declared.attend_fault.AttendFault.{AttendFault}
 use Rattle.role_workers.specs.Handing.{Handed}
 use Rattle.role_workers.specs.Places.{EachAt}
 use Rattle.match_workers.specs.Refereeing.{IsRefereed}
+use Rattle.match_play.specs.Limits.{max_tries}
 use Rattle.match_play.specs.Matches.{IsEndedRecord}
 use Rattle.match_play.specs.RoleTurns.{AreEndedTurns}
+use Rattle.match_play.specs.declared.hosting.HostedGame.{HostedGame}
 use Rattle.match_play.specs.declared.role_turns.RoleTurn.{RoleTurn}
 
 -- the setup has the plan's id, clocks, strikes and names
@@ -33,9 +35,9 @@ abbrev pub role_place : ℕ → MatchPlan → ℕ → RolePlace
 role_place place plan role = record { place = place; id = plan.id; role = role }
 
 -- There is a player for each address of the plan, and each is reached at the address of its role.
-pub record AreReached {S P : Type 0} (is_reached : S → RolePlace → PlayerAddress → P → Type 0) (reach : S) (place : ℕ) (plan : MatchPlan) (players : List P) : Type 0 where
+pub record AreReached {P : Type 0} (is_reached : RolePlace → PlayerAddress → P → Type 0) (place : ℕ) (plan : MatchPlan) (players : List P) : Type 0 where
   pub count : length players ≡ length plan.players.items
-  pub each : EachAt (λ role player. IfSome (slice_get plan.players.items role) (λ address. is_reached reach (role_place place plan role) address player)) players
+  pub each : EachAt (λ role player. IfSome (slice_get plan.players.items role) (λ address. is_reached (role_place place plan role) address player)) players
 
 -- A match of this game was opened with this setup and played by these players, who got these rules. Its record is this text, and its
 -- desk has this history.
@@ -47,6 +49,12 @@ pub record IsPlayedMatch {P : Type 0} (handed : P → Option (List Handed)) (gam
   pub ends : List (Result ℕ AttendFault)
   pub left : List P
   pub refereed : IsRefereed (λ g. loaded_game (tables_of g)) handed game setup rules tries players left desk history made_by_line ends
+
+-- A match with this plan, at this place of its season, is of this game. It was played by players that were reached at the addresses of
+-- their roles, and they got the game's rules. Its record is this text, and its desk has this history.
+abbrev pub IsPlannedMatch : {P : Type 0} → (RolePlace → PlayerAddress → P → Type 0) → (P → Option (List Handed)) → HostedGame → ℕ → MatchPlan → List ℕ → List (Entry Call Reply) → Type 0
+IsPlannedMatch {P} is_reached handed game place plan text history = (setup : _) × IsSetupOf plan setup × (players : List P) × AreReached is_reached place plan players
+    × IsPlayedMatch handed game.game.now game.rules.now.items max_tries setup players text history
 
 -- A match of this game was opened with this setup and played by these players, who got these rules. These are the role's turns in it.
 pub record ArePlayedTurns {P : Type 0} (handed : P → Option (List Handed)) (game : PackedGame) (rules : List Expr) (tries : ℕ) (setup : Setup) (players : List P) (role : ℕ) (told : List RoleTurn) : Type 0 where

@@ -109,7 +109,7 @@ fn players_of<P: Drop, S: Reach<P>>(
     plan: &MatchPlan<'_>,
 ) -> Result<Vec<P>, AllocError>
     ensures count { IfOk result (λ v. vec_len v ≡ vec_len plan.now.players) }
-    ensures reached { IfOk result (λ v. AreReached S.is_reached reach.now place plan.now v.items) }
+    ensures reached { IfOk result (λ v. AreReached (S.is_reached reach.now) place plan.now v.items) }
 {
     let mut players = Vec::with_capacity(alloc, plan.players.len())?;
     for (role, address) in plan.players.iter().enumerate() {
@@ -141,7 +141,7 @@ pub fn entrants_of<P: Drop, S: Reach<P>>(
 ) -> Result<Entrants<P>, AllocError>
     ensures setup { IfOk result (λ e. IsSetupOf plan.now e.setup) }
     ensures place { IfOk result (λ e. e.place ≡ place) }
-    ensures reached { IfOk result (λ e. AreReached S.is_reached reach.now place plan.now e.players.items) }
+    ensures reached { IfOk result (λ e. AreReached (S.is_reached reach.now) place plan.now e.players.items) }
 {
     let setup = setup_of(alloc, plan)?;
     let players = players_of(alloc, reach, place, plan)?;

@@ -26,6 +26,10 @@ zip-append R (x ∷ xs) zs (y ∷ ys) ws first second = (first.0, zip-append R x
 pub no-matches : (I : ℕ → List ℕ → Type 0) (a : Option (List ℕ)) → WritesMatches I [] a a
 no-matches I a = record { texts = []; are_outputs = tt; appended = Appends-nil a }
 
+-- a season without matches writes nothing
+pub nothing-written : (I : ℕ → List ℕ → Type 0) (order : RecordOrder) (count : ℕ) (a : Option (List ℕ)) → count ≡ 0 → WritesAllBut I order 0 count a a
+nothing-written I order count a none = record { places = []; others = sym none; once = λ place. omega arith; in_order = λ ordered. omega arith; written = no-matches I a }
+
 one-match : (I : ℕ → List ℕ → Type 0) (place : ℕ) (a b : Option (List ℕ)) (told : List ℕ) → ∥ I place told ∥₁ → Appends a b told → WritesMatches I (place ∷ []) a b
 one-match I place a b told output written = record { texts = told ∷ []; are_outputs = (output, tt); appended = subst (Appends a b) (sym (append-nil told)) written }
 

@@ -33,7 +33,7 @@ fn was_short(outcome: &Result<EndedMatch, MatchFault>) -> bool
 
 /// The matches of a season, as its threads see them.
 #[derive(Drop)]
-struct Season<'f, 'a, P: Player, S, N: Naming> {
+struct Season<'f, 'a, P: Player, S: Reach<P>, N: Naming> {
     alloc: Global,
     reach: &'f S,
     game: HostedGame<'f>,
@@ -43,10 +43,10 @@ struct Season<'f, 'a, P: Player, S, N: Naming> {
     /// The type of the players. A player is made when its match begins.
     players: PhantomData<Mutex<P>>,
     of: PhantomData<N>,
-    ghost named: { (place : ℕ) (text : List ℕ) → IsOutputOf P.handed game plans.now has_history place text → ∥ N.is_output place text ∥₁ },
+    ghost named: { (place : ℕ) (text : List ℕ) → IsOutputOf (S.is_reached reach.now) P.handed game plans.now has_history place text → ∥ N.is_output place text ∥₁ },
 }
 
-impl<P: Player, S, N: Naming> Season<'_, '_, P, S, N> {
+impl<P: Player, S: Reach<P>, N: Naming> Season<'_, '_, P, S, N> {
     /// Plays the match at this place.
     fn play<R>(&self, rt: &R, place: usize) -> Result<EndedMatch, MatchFault>
     where
@@ -54,7 +54,7 @@ impl<P: Player, S, N: Naming> Season<'_, '_, P, S, N> {
         P: Player + Drop + Send,
         S: Reach<P> + TellsShortages,
         ensures clear { IfOk result (λ ended. S.is_clear self.now.reach.now place) }
-        ensures played { IfOk result (λ ended. IsOutputOf P.handed self.now.game self.now.plans.now self.now.has_history place ended.text) }
+        ensures played { IfOk result (λ ended. IsOutputOf (S.is_reached self.now.reach.now) P.handed self.now.game self.now.plans.now self.now.has_history place ended.text) }
     {
         let Some(plan) = self.plans.get(place) else {
             return Err(MatchFault::NotEnded);
@@ -224,7 +224,7 @@ where
     R: Threads + Wait + Sync,
     P: Player + Drop + Send,
     S: Reach<P> + TellsShortages + Sync,
-    requires named { (place : ℕ) (text : List ℕ) → IsOutputOf P.handed game plans.now form.has_history place text → N.is_output place text }
+    requires named { (place : ℕ) (text : List ℕ) → IsOutputOf (S.is_reached reach.now) P.handed game plans.now form.has_history place text → N.is_output place text }
     ensures written { IfOk result (λ missing. WritesAllBut N.is_output form.order missing (length plans.now) (W.contents writer.old.stream) (W.contents writer.new.stream)) }
     ensures faults { writer.new.faults ≡ faults_after result writer.old.faults }
 {
@@ -267,7 +267,7 @@ where
     R: Threads + Wait + Sync,
     P: Player + Drop + Send,
     S: Reach<P> + TellsShortages + Sync,
-    ensures written { IfOk result (λ missing. WritesAllBut (IsOutputOf P.handed game.entry plans.now form.has_history) form.order missing (length plans.now) (W.contents writer.old.stream) (W.contents writer.new.stream)) }
+    ensures written { IfOk result (λ missing. WritesAllBut (IsOutputOf (S.is_reached reach.now) P.handed game.entry plans.now form.has_history) form.order missing (length plans.now) (W.contents writer.old.stream) (W.contents writer.new.stream)) }
     ensures faults { writer.new.faults ≡ faults_after result writer.old.faults }
 {
     if plans.is_empty() {

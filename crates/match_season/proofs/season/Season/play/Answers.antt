@@ -9,4 +9,4 @@ returns-clause-played g c =
     let plans = c.args.self.now.plans.now in
     let read = c.in-Some.ensures.lookup in
     let there = slice_get_read plans (length plans) c.args.place c.in-Some.plan.now refl read.3.0 read.1 in
-    IfOk-weaker c.ended_match.result _ _ (λ ended it. (c.in-Some.plan.now, there, entrants.setup, c.in_ok-entrants.ensures.setup, entrants.players.items, it.0, it.1, it.2, it.3)) c.ended_match.ensures.played
+    IfOk-weaker c.ended_match.result _ _ (λ ended it. (c.in-Some.plan.now, there, it.0, it.1, (entrants.setup, c.in_ok-entrants.ensures.setup, entrants.players.items, c.in_ok-entrants.ensures.reached, it.2), it.3)) c.ended_match.ensures.played
