@@ -1,20 +1,22 @@
 -- The parts of a player's word, and the words of a match.
-use Rattle.std.proofs.Common.{◌≡◌, ◌≢◌, ◌&&◌, ◌+◌, ◌-◌, ◌∙◌, ◌∷◌, ◌++◌, [], ℕ, suc, ◌<◌, ◌≤◌, Bool, true, false, eqb, ltb, List, Bor, Option, Some, None, Result, Ok, Err, MatchBool, MatchOption, drop, get_or, is_ok, is_some, length, map, option_map, take, take-append-drop, eq-eqb, ne_eqb, refl, sym, ap, subst, inr, arith, length-drop, lt-ltb, le-ltb, take_all}
-use Rattle.std.specs.List.{AllZip, after_first, before_first, list_all, position_or_len}
+use Rattle.std.proofs.Common.{◌≡◌, ◌≢◌, ◌&&◌, ◌+◌, ◌-◌, ◌∙◌, ◌∷◌, ◌++◌, [], ℕ, suc, ◌<◌, ◌≤◌, Bool, true, false, eqb, List, Bor, Option, Some, None, Result, Ok, Err, MatchBool, MatchOption, drop, get_or, if◌then◌else◌, is_none, is_ok, is_some, length, map, not, add-one, drop-cons, option_map, take, take-append-drop, eq-eqb, ne_eqb, refl, sym, ap, subst, inr, arith, length-drop, take_all}
+use Rattle.std.specs.List.{AllZip, after_first, before_first, position_or_len}
 use Rattle.std.specs.Net.Grammar.{IsIpv6Text, Parses}
 use Rattle.std.specs.Str.{IsUtf8, is_utf8}
 use Rattle.std.specs.Str.Pattern.{RFindsChar}
 use Rattle.std.specs.declared.net.ipv6_addr.Ipv6Addr.{Ipv6Addr}
-use Rattle.std.proofs.lemmas.Bool.{and_from, and_left, and_right, cond-false, cond-true, eqb-false, false_from_ne_true}
-use Rattle.std.proofs.lemmas.List.{drop_all, length-map, map_more, same_from_push}
+use Rattle.std.proofs.lemmas.Bool.{and_from, and_left, and_right, cond-false, cond-true, false_from_ne_true}
+use Rattle.std.proofs.lemmas.List.{drop_all, map_more, same_from_push}
 use Rattle.std.proofs.lemmas.Str.{IsUtf8-from_is_utf8, is_utf8-from_IsUtf8}
 use Rattle.std.proofs.lemmas.Str.Pattern.{NoCharPasses-char, drop_at_char}
 use Rattle.desk_calls.specs.Names.{is_name}
 use Rattle.match_plans.specs.Addresses.{IsAddress, IsHostOf, IsIpv6, addressed_name, addressed_place, bracketed, cut_at_last, cut_here, has_port, is_address, is_player}
 use Rattle.match_plans.specs.Numbers.{port_of}
-use Rattle.match_plans.specs.Schedules.{IsPlanned, are_players, clock_of, is_heading, is_match}
+use Rattle.match_plans.specs.Schedules.{IsPlanned, clock_of, player_fault, word_fault}
 use Rattle.match_plans.specs.declared.addresses.PlayerAddress.{PlayerAddress}
 use Rattle.match_plans.specs.declared.plan.MatchPlan.{MatchPlan}
+use Rattle.match_plans.specs.declared.schedule.LineFault.{LineFault}
+use Rattle.match_plans.specs.declared.schedule.LineFault.TheVariants.{TooFewWords, NoId, NoClock, NoPlayer}
 
 -- a text without or with a first bracket
 pub first-none : (text : List ℕ) (r : Option (Bor (List ℕ))) → MatchOption r ((rest : List ℕ) → text ≢ 91 ∷ rest) (λ x. text ≡ 91 ∷ x.now) → r ≡ None → (inner : List ℕ) → text ≢ bracketed inner
@@ -90,8 +92,11 @@ pub with-all : (word name host port : List ℕ) (number : ℕ) → addressed_pla
 with-all word name host port number place some is lawful =
     sym (and_from (has_port (addressed_place word)) (is_name (addressed_name word)) (ap has_port place ∙ ap is_some (sym some)) (sym (ap is_name is) ∙ lawful))
 
+pub no-utf8 : (word : List ℕ) → ¬ (IsUtf8 word) → is_utf8 word ≡ false
+no-utf8 word non = false_from_ne_true (is_utf8 word) (λ e. non (IsUtf8-from_is_utf8 word e))
+
 pub no-text : (word : List ℕ) → ¬ (IsUtf8 word) → false ≡ is_player word
-no-text word non = sym (and_left (is_utf8 word) (is_address word) (false_from_ne_true (is_utf8 word) (λ e. non (IsUtf8-from_is_utf8 word e))))
+no-text word non = sym (and_left (is_utf8 word) (is_address word) (no-utf8 word non))
 
 pub text-player : (word text : List ℕ) (b : Bool) → text ≡ word → IsUtf8 word → b ≡ is_address text → b ≡ is_player word
 text-player word text b is utf8 taken = taken ∙ ap is_address is ∙ sym (ap (λ (u : Bool). u && is_address word) (is_utf8-from_IsUtf8 word utf8))
@@ -108,78 +113,40 @@ one-player-more words i d players player within before here =
     let more = map_more (λ (w : Bor (List ℕ)). w.now) words i d within in
     subst (λ ws. AllZip IsAddress ws (players ++ player ∷ [])) (sym more) (zip-push IsAddress (map (λ w. w.now) (take i words)) players _ player before here)
 
-players-all : (words : List (Bor (List ℕ))) → list_all is_player (map (λ w. w.now) words) ≡ list_all (λ w. is_player w.now) words
-players-all [] = refl
-players-all (word ∷ words) = ap (λ (b : Bool). is_player word.now && b) (players-all words)
+-- the fault of the players' words from the word at i on
+pub next-player : (words : List (Bor (List ℕ))) (i n m : ℕ) (d : Bor (List ℕ)) → i < length words → m ≡ n + 1 → is_player (get_or words i d).now ≡ true
+    → player_fault n (map (λ w. w.now) (drop i words)) ≡ player_fault m (map (λ w. w.now) (drop (i + 1) words))
+next-player words i n m d within next good =
+    ap (λ (ws : List (Bor (List ℕ))). player_fault n (map (λ w. w.now) ws)) (drop-cons words i d within)
+    ∙ cond-true (is_player (get_or words i d).now) (player_fault (n + 1) (map (λ w. w.now) (drop (suc i) words))) (Some (NoPlayer n)) good
+    ∙ ap (λ (j : ℕ). player_fault (n + 1) (map (λ w. w.now) (drop j words))) (sym (add-one i))
+    ∙ ap (λ (k : ℕ). player_fault k (map (λ w. w.now) (drop (i + 1) words))) (sym next)
 
--- the tests of a line's words, where there are three or more
-pub matched : (words : List (Bor (List ℕ))) (d : Bor (List ℕ)) → 3 ≤ length words → is_heading (get_or words 0 d).now (get_or words 1 d).now (get_or words 2 d).now ≡ true
-    → are_players (map (λ w. w.now) (drop 3 words)) ≡ true → is_match (map (λ w. w.now) words) ≡ true
-matched [] d long heading players = absurd (omega (arith, long))
-matched (a ∷ []) d long heading players = absurd (omega (arith, long))
-matched (a ∷ b ∷ []) d long heading players = absurd (omega (arith, long))
-matched (a ∷ b ∷ e ∷ words) d long heading players = and_from (is_heading a.now b.now e.now) (are_players (map (λ w. w.now) words)) heading players
+-- the fault of a line by what is read of its first three words, and the fault of the others
+abbrev pub told : Bool → Option ℕ → Option ℕ → Option LineFault → Option LineFault
+told text start play players = if not text then Some NoId else (if is_none start then Some (NoClock 2) else (if is_none play then Some (NoClock 3) else players))
 
-pub too-short : (words : List (Bor (List ℕ))) → length words < 3 → false ≡ is_match (map (λ w. w.now) words)
+pub too-short : (words : List (Bor (List ℕ))) → length words < 4 → Some TooFewWords ≡ word_fault (map (λ w. w.now) words)
 too-short [] short = refl
 too-short (a ∷ []) short = refl
 too-short (a ∷ b ∷ []) short = refl
-too-short (a ∷ b ∷ e ∷ words) short = absurd (omega (arith, short))
+too-short (a ∷ b ∷ e ∷ []) short = refl
+too-short (a ∷ b ∷ e ∷ f ∷ words) short = absurd (omega (arith, short))
 
-pub no-heading : (words : List (Bor (List ℕ))) (d : Bor (List ℕ)) → 3 ≤ length words → is_heading (get_or words 0 d).now (get_or words 1 d).now (get_or words 2 d).now ≡ false
-    → false ≡ is_match (map (λ w. w.now) words)
-no-heading [] d long none = refl
-no-heading (a ∷ []) d long none = refl
-no-heading (a ∷ b ∷ []) d long none = refl
-no-heading (a ∷ b ∷ e ∷ words) d long none = sym (and_left (is_heading a.now b.now e.now) (are_players (map (λ w. w.now) words)) none)
+pub long-enough : (words : List (Bor (List ℕ))) (d : Bor (List ℕ)) (text : Bool) (start play : Option ℕ) (players : Option LineFault) → 4 ≤ length words → is_utf8 (get_or words 0 d).now ≡ text
+    → start ≡ clock_of (get_or words 1 d).now → play ≡ clock_of (get_or words 2 d).now → players ≡ player_fault 4 (map (λ w. w.now) (drop 3 words))
+    → told text start play players ≡ word_fault (map (λ w. w.now) words)
+long-enough [] d text start play players long id first second others = absurd (omega (arith, long))
+long-enough (a ∷ []) d text start play players long id first second others = absurd (omega (arith, long))
+long-enough (a ∷ b ∷ []) d text start play players long id first second others = absurd (omega (arith, long))
+long-enough (a ∷ b ∷ e ∷ []) d text start play players long id first second others = absurd (omega (arith, long))
+long-enough (a ∷ b ∷ e ∷ f ∷ words) d text start play players long id first second others =
+    ap (λ (t : Bool). told t start play players) (sym id)
+    ∙ ap (λ (o : Option ℕ). told (is_utf8 a.now) o play players) first
+    ∙ ap (λ (o : Option ℕ). told (is_utf8 a.now) (clock_of b.now) o players) second
+    ∙ ap (told (is_utf8 a.now) (clock_of b.now) (clock_of e.now)) others
 
-pub no-players : (words : List (Bor (List ℕ))) → 3 ≤ length words → are_players (map (λ w. w.now) (drop 3 words)) ≡ false → false ≡ is_match (map (λ w. w.now) words)
-no-players [] long none = refl
-no-players (a ∷ []) long none = refl
-no-players (a ∷ b ∷ []) long none = refl
-no-players (a ∷ b ∷ e ∷ words) long none = sym (and_right (is_heading a.now b.now e.now) (are_players (map (λ w. w.now) words)) none)
-
-no-id : (id start play : List ℕ) → ¬ (IsUtf8 id) → is_heading id start play ≡ false
-no-id id start play non = and_left (is_utf8 id) (is_some (clock_of start) && is_some (clock_of play)) (false_from_ne_true (is_utf8 id) (λ e. non (IsUtf8-from_is_utf8 id e)))
-
-no-start : (id start play : List ℕ) → None ≡ clock_of start → is_heading id start play ≡ false
-no-start id start play none = and_right (is_utf8 id) (is_some (clock_of start) && is_some (clock_of play)) (and_left (is_some (clock_of start)) (is_some (clock_of play)) (ap is_some (sym none)))
-
-no-play : (id start play : List ℕ) → None ≡ clock_of play → is_heading id start play ≡ false
-no-play id start play none = and_right (is_utf8 id) (is_some (clock_of start) && is_some (clock_of play)) (and_right (is_some (clock_of start)) (is_some (clock_of play)) (ap is_some (sym none)))
-
-whole-heading : (id start play : List ℕ) (a b : ℕ) → IsUtf8 id → Some a ≡ clock_of start → Some b ≡ clock_of play → is_heading id start play ≡ true
-whole-heading id start play a b utf8 first second =
-    and_from (is_utf8 id) (is_some (clock_of start) && is_some (clock_of play)) (is_utf8-from_IsUtf8 id utf8)
-    (and_from (is_some (clock_of start)) (is_some (clock_of play)) (ap is_some (sym first)) (ap is_some (sym second)))
-
-pub line-without-id : (words : List (Bor (List ℕ))) (d : Bor (List ℕ)) → 3 ≤ length words → ¬ (IsUtf8 (get_or words 0 d).now) → false ≡ is_match (map (λ w. w.now) words)
-line-without-id words d long non = no-heading words d long (no-id (get_or words 0 d).now (get_or words 1 d).now (get_or words 2 d).now non)
-
-pub line-without-start : (words : List (Bor (List ℕ))) (d : Bor (List ℕ)) → 3 ≤ length words → None ≡ clock_of (get_or words 1 d).now → false ≡ is_match (map (λ w. w.now) words)
-line-without-start words d long none = no-heading words d long (no-start (get_or words 0 d).now (get_or words 1 d).now (get_or words 2 d).now none)
-
-pub line-without-play : (words : List (Bor (List ℕ))) (d : Bor (List ℕ)) → 3 ≤ length words → None ≡ clock_of (get_or words 2 d).now → false ≡ is_match (map (λ w. w.now) words)
-line-without-play words d long none = no-heading words d long (no-play (get_or words 0 d).now (get_or words 1 d).now (get_or words 2 d).now none)
-
-pub line-without-players : (words : List (Bor (List ℕ))) → 3 ≤ length words → length (drop 3 words) ≡ 0 → false ≡ is_match (map (λ w. w.now) words)
-line-without-players words long none =
-    let them = map (λ (w : Bor (List ℕ)). w.now) (drop 3 words) in
-    no-players words long (and_left (ltb 0 (length them)) (list_all is_player them) (le-ltb 0 (length them) (omega (arith, none, length-map (drop 3 words) (λ (w : Bor (List ℕ)). w.now)))))
-
-pub line-with-a-bad-player : (words : List (Bor (List ℕ))) → 3 ≤ length words → false ≡ list_all (λ w. is_player w.now) (drop 3 words) → false ≡ is_match (map (λ w. w.now) words)
-line-with-a-bad-player words long bad =
-    let them = map (λ (w : Bor (List ℕ)). w.now) (drop 3 words) in
-    no-players words long (and_right (ltb 0 (length them)) (list_all is_player them) (players-all (drop 3 words) ∙ sym bad))
-
-pub whole-line : (words : List (Bor (List ℕ))) (d : Bor (List ℕ)) (a b : ℕ) → 3 ≤ length words → IsUtf8 (get_or words 0 d).now → Some a ≡ clock_of (get_or words 1 d).now → Some b ≡ clock_of (get_or words 2 d).now
-    → 0 < length (drop 3 words) → true ≡ list_all (λ w. is_player w.now) (drop 3 words) → true ≡ is_match (map (λ w. w.now) words)
-whole-line words d a b long utf8 start play some good =
-    let them = map (λ (w : Bor (List ℕ)). w.now) (drop 3 words) in
-    sym (matched words d long (whole-heading (get_or words 0 d).now (get_or words 1 d).now (get_or words 2 d).now a b utf8 start play)
-    (and_from (ltb 0 (length them)) (list_all is_player them) (lt-ltb 0 (length them) (omega (arith, some, length-map (drop 3 words) (λ (w : Bor (List ℕ)). w.now)))) (players-all (drop 3 words) ∙ sym good)))
-
-pub planned : (strikes : ℕ) (words : List (Bor (List ℕ))) (plan : MatchPlan) (d : Bor (List ℕ)) → 3 ≤ length words → plan.id.now ≡ (get_or words 0 d).now
+pub planned : (strikes : ℕ) (words : List (Bor (List ℕ))) (plan : MatchPlan) (d : Bor (List ℕ)) → 4 ≤ length words → plan.id.now ≡ (get_or words 0 d).now
     → Some plan.start ≡ clock_of (get_or words 1 d).now → Some plan.play ≡ clock_of (get_or words 2 d).now → plan.strikes ≡ strikes
     → AllZip IsAddress (map (λ w. w.now) (drop 3 words)) plan.players.items → IsPlanned strikes (map (λ w. w.now) words) plan
 planned strikes [] plan d long id start play same players = absurd (omega (arith, long))
@@ -190,9 +157,3 @@ planned strikes (a ∷ b ∷ e ∷ words) plan d long id start play same players
 -- the rest of a list as a slice of it
 pub rest-is : (words : List (Bor (List ℕ))) → take (length words - 3) (drop 3 words) ≡ drop 3 words
 rest-is words = take_all (length words - 3) (drop 3 words) (omega (arith, length-drop 3 words))
-
-pub some-players : (words : List (Bor (List ℕ))) (r : Bool) → r ≡ eqb (length (take (length words - 3) (drop 3 words))) 0 → r ≡ false → 0 < length (drop 3 words)
-some-players words r is none =
-    let other = eqb-false (length (take (length words - 3) (drop 3 words))) 0 (sym is ∙ none) in
-    let same : length (take (length words - 3) (drop 3 words)) ≡ length (drop 3 words) = ap length (rest-is words) in
-    omega (arith, same, other)

@@ -1,6 +1,6 @@
 -- The matches of a schedule.
-use Rattle.std.specs.Prelude.{◌≡◌, ◌≢◌, ◌==◌, ◌&&◌, ◌||◌, ◌⊎◌, ◌+◌, ◌<◌, ◌≤◌, ℕ, Bool, true, false, not, List, [], ◌∷◌, Option, Some, None, if◌then◌else◌, All, get_or, is_some, length, map, nat_lt, filter, take, vec_len}
-use Rattle.std.specs.List.{AllPairs, AllZip, list_all, list_any, slice_split}
+use Rattle.std.specs.Prelude.{◌≡◌, ◌≢◌, ◌==◌, ◌||◌, ◌⊎◌, ◌+◌, ◌<◌, ◌≤◌, ℕ, Bool, true, false, not, List, [], ◌∷◌, Option, Some, None, if◌then◌else◌, All, get_or, is_none, length, map, filter, take, vec_len}
+use Rattle.std.specs.List.{AllPairs, AllZip, list_any, slice_split}
 use Rattle.std.specs.Str.{bytes_eq, is_utf8}
 use Rattle.std.specs.Str.Lines.{strip_carriage_return}
 use Rattle.game_core.specs.Bytes.{space, line_feed}
@@ -8,7 +8,7 @@ use Rattle.game_core.specs.Numerals.{plain_number}
 use Rattle.match_plans.specs.Addresses.{IsAddress, is_player}
 use Rattle.match_plans.specs.declared.plan.MatchPlan.{MatchPlan}
 use Rattle.match_plans.specs.declared.schedule.LineFault.{LineFault}
-use Rattle.match_plans.specs.declared.schedule.LineFault.TheVariants.{NoMatch, WrongPlayers, IdTwice, TooMany}
+use Rattle.match_plans.specs.declared.schedule.LineFault.TheVariants.{TooFewWords, NoId, NoClock, NoPlayer, WrongPlayers, IdTwice, TooMany}
 use Rattle.match_plans.specs.declared.schedule.ScheduleFault.{ScheduleFault}
 use Rattle.match_plans.specs.declared.schedule.ScheduleFault.TheVariants.{BadLine, Memory}
 
@@ -45,18 +45,19 @@ match_lines text = match_words (cut_lines text)
 abbrev pub clock_of : List ℕ → Option ℕ
 clock_of word = plain_number word 4294967295
 
--- the first words of a match: its id and its clocks
-abbrev pub is_heading : List ℕ → List ℕ → List ℕ → Bool
-is_heading id start play = is_utf8 id && (is_some (clock_of start) && is_some (clock_of play))
+-- the fault of the first of these words that is no player's address; the first of them has this number in its line
+abbrev pub player_fault : ℕ → List (List ℕ) → Option LineFault
+player_fault number [] = None
+player_fault number (word ∷ words) = if is_player word then player_fault (number + 1) words else Some (NoPlayer number)
 
--- the further words of a match: one player or more
-abbrev pub are_players : List (List ℕ) → Bool
-are_players words = nat_lt 0 (length words) && list_all is_player words
-
--- the words are ID START PLAY NAME@HOST:PORT ..
-abbrev pub is_match : List (List ℕ) → Bool
-is_match (id ∷ start ∷ play ∷ players) = is_heading id start play && are_players players
-is_match words = false
+-- the first fault of the words of a line, from left to right; None if they are ID START PLAY NAME@HOST:PORT ..
+abbrev pub word_fault : List (List ℕ) → Option LineFault
+word_fault (id ∷ start ∷ play ∷ player ∷ players) =
+    if not (is_utf8 id) then Some NoId
+    else (if is_none (clock_of start) then Some (NoClock 2)
+    else (if is_none (clock_of play) then Some (NoClock 3)
+    else player_fault 4 (player ∷ players)))
+word_fault words = Some TooFewWords
 
 -- the plan has what the words of a line say: the id, the seconds for START, those for every other message, and the player of each word
 abbrev pub IsPlanned : ℕ → List (List ℕ) → MatchPlan → Type 0
@@ -86,11 +87,12 @@ HasFault roles before plan fault =
     (misplaced roles (map (λ it. it.id.now) before) plan.id.now (vec_len plan.players) ≡ Some fault)
     ⊎ ((misplaced roles (map (λ it. it.id.now) before) plan.id.now (vec_len plan.players) ≡ None) × (fault ≡ TooMany) × (length before ≡ 65536))
 
--- the fault of a line with these words, behind these matches
+-- the fault of a line with these words, behind these matches: that of its words, and if they have none, that of its match
 abbrev pub IsFaultOf : ℕ → ℕ → List MatchPlan → List (List ℕ) → LineFault → Type 0
 IsFaultOf roles strikes before words fault =
-    ((fault ≡ NoMatch) × (tells_nothing words ≡ false) × (is_match words ≡ false))
-    ⊎ ((plan : MatchPlan) × IsPlanned strikes words plan × HasFault roles before plan fault)
+    (tells_nothing words ≡ false)
+    × ((word_fault words ≡ Some fault)
+    ⊎ ((plan : MatchPlan) × (word_fault words ≡ None) × IsPlanned strikes words plan × HasFault roles before plan fault))
 
 -- The line at this index is the first bad one, and this is its fault. The lines before it hold only matches, and lines that are skipped.
 pub record IsFirstBad (roles strikes : ℕ) (lines : List (List ℕ)) (at : ℕ) (fault : LineFault) : Type 0 where

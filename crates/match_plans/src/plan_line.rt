@@ -1,11 +1,13 @@
 //! A line of a schedule: its words, and the match that they hold.
 ghost use Rattle.std.specs.Prelude.{◌≡◌, ◌==◌, IfOk, IfSome, is_some, length, map, not};
-ghost use Rattle.std.specs.List.{AllZip, list_all};
+ghost use Rattle.std.specs.List.{AllZip};
+ghost use Rattle.std.specs.Result.{result_err};
 ghost use Rattle.match_plans.specs.Addresses.{IsAddress, is_player};
-ghost use Rattle.match_plans.specs.Schedules.{IsPlanned, clock_of, cut_lines, is_match, line_words, tells_nothing};
+ghost use Rattle.match_plans.specs.Schedules.{IsPlanned, clock_of, cut_lines, line_words, player_fault, tells_nothing, word_fault};
 
 use crate::addresses::{PlayerAddress, player_address};
 use crate::plan::MatchPlan;
+use crate::schedule::LineFault;
 use game_core::numeral::plain_number;
 use std::alloc::{AllocError, Global};
 use std::str;
@@ -61,52 +63,54 @@ fn player(word: &[u8]) -> Option<PlayerAddress<'_>>
     player_address(word)
 }
 
-/// The players' addresses in the words. The value is `None` if one of the words is no address.
+/// The number of the first player's word in a line, from 1 on.
+const FIRST_PLAYER: u64 = 4;
+
+/// The addresses in the players' words of a line. The inner error is the fault of the first one that is no address.
 fn players<'a>(
     alloc: Global,
     words: &[&'a [u8]],
-) -> Result<Option<Vec<PlayerAddress<'a>>>, AllocError>
-    ensures addresses { IfOk result (λ o. IfSome o (λ v. AllZip IsAddress (map (λ w. w.now) words.now) v.items)) }
-    ensures taken { IfOk result (λ o. is_some o ≡ list_all (λ w. is_player w.now) words.now) }
+) -> Result<Result<Vec<PlayerAddress<'a>>, LineFault>, AllocError>
+    ensures addresses { IfOk result (λ found. IfOk found (λ players. AllZip IsAddress (map (λ w. w.now) words.now) players.items)) }
+    ensures fault { IfOk result (λ found. result_err found ≡ player_fault 4 (map (λ w. w.now) words.now)) }
 {
     let mut players = Vec::with_capacity(alloc, words.len())?;
     for word in words {
         let Some(player) = player(word) else {
-            return Ok(None);
+            let number = players.len() as u64 + FIRST_PLAYER;
+            return Ok(Err(LineFault::NoPlayer(number)));
         };
         players.push(player)?;
     }
-    Ok(Some(players))
+    Ok(Ok(players))
 }
 
-/// The match of a line's words. The value is `None` if they are not `ID START PLAY NAME@HOST:PORT ..`.
+/// The match of a line's words. The inner error is the first fault of the words if they are not `ID START PLAY NAME@HOST:PORT ..`.
 pub(crate) fn planned_match<'a>(
     alloc: Global,
     words: &[&'a [u8]],
     strikes: u8,
-) -> Result<Option<MatchPlan<'a>>, AllocError>
-    ensures planned { IfOk result (λ o. IfSome o (λ plan. IsPlanned strikes (map (λ w. w.now) words.now) plan)) }
-    ensures taken { IfOk result (λ o. is_some o ≡ is_match (map (λ w. w.now) words.now)) }
+) -> Result<Result<MatchPlan<'a>, LineFault>, AllocError>
+    ensures planned { IfOk result (λ found. IfOk found (λ plan. IsPlanned strikes (map (λ w. w.now) words.now) plan)) }
+    ensures fault { IfOk result (λ found. result_err found ≡ word_fault (map (λ w. w.now) words.now)) }
 {
-    let [id, start, play, addresses @ ..] = words else {
-        return Ok(None);
+    let [id, start, play, _, ..] = words else {
+        return Ok(Err(LineFault::TooFewWords));
     };
     let Ok(id) = str::from_utf8(id) else {
-        return Ok(None);
+        return Ok(Err(LineFault::NoId));
     };
     let Some(start) = clock(start) else {
-        return Ok(None);
+        return Ok(Err(LineFault::NoClock(2)));
     };
     let Some(play) = clock(play) else {
-        return Ok(None);
+        return Ok(Err(LineFault::NoClock(3)));
     };
-    if addresses.is_empty() {
-        return Ok(None);
-    }
-    let Some(players) = players(alloc, addresses)? else {
-        return Ok(None);
+    let players = match players(alloc, &words[3..])? {
+        Ok(players) => players,
+        Err(fault) => return Ok(Err(fault)),
     };
-    Ok(Some(MatchPlan {
+    Ok(Ok(MatchPlan {
         id,
         start,
         play,

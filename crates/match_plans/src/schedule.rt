@@ -17,12 +17,21 @@ pub const MAX_SCHEDULED: usize = 65_536;
 /// The limit of the matches of a schedule that are played at once.
 pub const MAX_AT_ONCE: usize = 1_024;
 
-/// The fault of a bad line in a schedule.
+/// The fault of a bad line in a schedule. Its words have to be `ID START PLAY NAME@HOST:PORT ..`; a fault names the first bad one by its
+/// number, from 1 on.
 #[derive(Clone, Copy, Debug, PartialEq, Eq, Error)]
 pub enum LineFault {
-    /// The line is not `ID START PLAY NAME@HOST:PORT ..`.
-    #[error("no match")]
-    NoMatch,
+    #[error("fewer than four words")]
+    TooFewWords,
+    /// The id is no text.
+    #[error("word 1 is no UTF-8")]
+    NoId,
+    /// START or PLAY is not digits without leading zeros, for a number up to 4,294,967,295.
+    #[error("word {0} is no number of seconds")]
+    NoClock(u64),
+    /// A player's word is no lawful name at a host and a port.
+    #[error("word {0} is no NAME@HOST:PORT")]
+    NoPlayer(u64),
     /// The line has fewer or more players than the game has roles.
     #[error("not one player for each role")]
     WrongPlayers,
@@ -109,8 +118,9 @@ pub fn read_schedule<'a>(
             continue;
         }
         let number = place as u64 + 1;
-        let Some(plan) = planned_match(alloc, &words, strikes)? else {
-            return Err(ScheduleFault::BadLine(number, LineFault::NoMatch));
+        let plan = match planned_match(alloc, &words, strikes)? {
+            Ok(plan) => plan,
+            Err(fault) => return Err(ScheduleFault::BadLine(number, fault)),
         };
         if let Some(fault) = misplaced(&mut ids, &plan, roles)? {
             return Err(ScheduleFault::BadLine(number, fault));

@@ -1,10 +1,13 @@
-use Rattle.std.proofs.Common.{◌≡◌, true, take, map}
-use Rattle.std.specs.List.{AllZip, list_all}
-use Rattle.match_plans.specs.Addresses.{IsAddress, is_player}
+use Rattle.std.proofs.Common.{◌≡◌, ◌+◌, drop, length, map, take}
+use Rattle.std.specs.List.{AllZip}
+use Rattle.match_plans.specs.Addresses.{IsAddress}
+use Rattle.match_plans.specs.Schedules.{player_fault}
 use Rattle.match_plans.proofs.plan_line.players.Given as goal
 
+-- the fault of all words is that of those that are left
 abbrev pub invariant-loop-word : goal.invariant-loop-word
 invariant-loop-word l = record {
   addresses : AllZip IsAddress (map (λ w. w.now) (take l.word-index l.words)) l.players.items;
-  taken : list_all (λ w. is_player w.now) (take l.word-index l.words) ≡ true;
+  fault : player_fault 4 (map (λ w. w.now) l.words) ≡ player_fault (l.word-index + 4) (map (λ w. w.now) (drop l.word-index l.words));
+  places : length l.players.items ≡ l.word-index;
 }

@@ -1,11 +1,11 @@
-use Rattle.std.proofs.Common.{◌≡◌, ◌+◌, ◌∷◌, ◌++◌, ◌∙◌, [], ℕ, List, Bor, None, Some, false, map, vec_len, ap, refl, sym, inl, inr, rules, arith, length}
+use Rattle.std.proofs.Common.{◌≡◌, ◌∷◌, ◌++◌, ◌∙◌, [], ℕ, List, Bor, None, Some, false, map, vec_len, ap, refl, sym, inl, inr, rules, arith, length}
 use Rattle.std.specs.List.{list_any}
 use Rattle.std.specs.Str.{bytes_eq}
 use Rattle.std.proofs.lemmas.List.{map_push}
 use Rattle.std.proofs.lemmas.List.Elements.{All-push}
-use Rattle.match_plans.specs.Schedules.{IsPlanned, cut_lines, is_match, misplaced, tells_nothing}
+use Rattle.match_plans.specs.Schedules.{IsPlanned, cut_lines, misplaced, tells_nothing, word_fault}
 use Rattle.match_plans.specs.declared.plan.MatchPlan.{MatchPlan}
-use Rattle.match_plans.specs.declared.schedule.LineFault.TheVariants.{NoMatch, TooMany}
+use Rattle.match_plans.specs.declared.schedule.LineFault.TheVariants.{TooMany}
 use Rattle.match_plans.proofs.Placing.{bad-line, next, once-more, placed}
 use Rattle.match_plans.proofs.schedule.read_schedule.Goals as goal
 
@@ -13,7 +13,7 @@ pub loop-place-preserved : goal.loop-place-preserved
 loop-place-preserved c =
     let lines = c.deref-line-items.result.now in
     let words = map (λ w. w.now) c.in_ok-words.words.items in
-    let plan = c.in-Some.plan in
+    let plan = c.in-Ok.plan in
     let plans = c.loop-place.plans.items in
     let was = c.loop-place.invariant in
     let pushed = c.in_ok-push.ensures.items in
@@ -29,39 +29,43 @@ loop-place-preserved c =
       ids = rw pushed (added ∙ (ap (λ (them : List (List ℕ)). them ++ plan.id.now ∷ []) was.ids ∙ sym (map_push (λ (p : MatchPlan). p.id.now) plans plan)));
     }
 
-pub returns-in_default-clause-bad : goal.returns-in_default-clause-bad
-returns-in_default-clause-bad c =
+pub returns-in-Err-clause-bad : goal.returns-in-Err-clause-bad
+returns-in-Err-clause-bad c =
     let lines = c.deref-line-items.result.now in
     let words = map (λ (w : Bor (List ℕ)). w.now) c.in_ok-words.words.items in
     let was = c.loop-place.invariant in
-    let none : is_match words ≡ false = search rules in
+    let fault : word_fault words ≡ Some c.in-Err.fault = search rules in
     let tells : tells_nothing words ≡ false = search rules in
-    inr (bad-line c.args.roles c.args.strikes lines (cut_lines c.args.input.now) c.loop-place.place (record { ref_ptr = (0, 0); now = [] }) words c.loop-place.plans.items NoMatch (search rules) c.loop-place-test.true (search rules)
-    (record { planned = was.planned; within = was.within; roles_each = was.roles; once = was.once }) (inl (refl, tells, none)))
+    inr (bad-line c.args.roles c.args.strikes lines (cut_lines c.args.input.now) c.loop-place.place (record { ref_ptr = (0, 0); now = [] }) words c.loop-place.plans.items c.in-Err.fault (search rules) c.loop-place-test.true (search rules)
+    (record { planned = was.planned; within = was.within; roles_each = was.roles; once = was.once }) (tells, inl fault))
 
-pub returns-in-Some-2-clause-bad : goal.returns-in-Some-2-clause-bad
-returns-in-Some-2-clause-bad c =
+pub returns-in-Some-clause-bad : goal.returns-in-Some-clause-bad
+returns-in-Some-clause-bad c =
     let lines = c.deref-line-items.result.now in
     let words = map (λ (w : Bor (List ℕ)). w.now) c.in_ok-words.words.items in
-    let plan = c.in-Some.plan in
+    let plan = c.in-Ok.plan in
     let was = c.loop-place.invariant in
     let before = map (λ (it : Bor (List ℕ)). it.now) c.loop-place.ids.keys in
-    let some : Some c.in-Some-2.fault ≡ misplaced c.args.roles before plan.id.now (vec_len plan.players) = search rules in
+    let some : Some c.in-Some.fault ≡ misplaced c.args.roles before plan.id.now (vec_len plan.players) = search rules in
     let here : IsPlanned c.args.strikes words plan = search rules in
-    inr (bad-line c.args.roles c.args.strikes lines (cut_lines c.args.input.now) c.loop-place.place (record { ref_ptr = (0, 0); now = [] }) words c.loop-place.plans.items c.in-Some-2.fault (search rules) c.loop-place-test.true (search rules)
+    let good : word_fault words ≡ None = search rules in
+    let tells : tells_nothing words ≡ false = search rules in
+    inr (bad-line c.args.roles c.args.strikes lines (cut_lines c.args.input.now) c.loop-place.place (record { ref_ptr = (0, 0); now = [] }) words c.loop-place.plans.items c.in-Some.fault (search rules) c.loop-place-test.true (search rules)
     (record { planned = was.planned; within = was.within; roles_each = was.roles; once = was.once })
-    (inr (plan, here, inl (ap (λ (them : List (List ℕ)). misplaced c.args.roles them plan.id.now (vec_len plan.players)) (sym was.ids) ∙ sym some))))
+    (tells, inr (plan, good, here, inl (ap (λ (them : List (List ℕ)). misplaced c.args.roles them plan.id.now (vec_len plan.players)) (sym was.ids) ∙ sym some))))
 
 pub returns-then-len-ge-MAX_SCHEDULED-clause-bad : goal.returns-then-len-ge-MAX_SCHEDULED-clause-bad
 returns-then-len-ge-MAX_SCHEDULED-clause-bad c =
     let lines = c.deref-line-items.result.now in
     let words = map (λ (w : Bor (List ℕ)). w.now) c.in_ok-words.words.items in
-    let plan = c.in-Some.plan in
+    let plan = c.in-Ok.plan in
     let was = c.loop-place.invariant in
     let before = map (λ (it : Bor (List ℕ)). it.now) c.loop-place.ids.keys in
     let none : None ≡ misplaced c.args.roles before plan.id.now (vec_len plan.players) = search rules in
     let here : IsPlanned c.args.strikes words plan = search rules in
+    let good : word_fault words ≡ None = search rules in
+    let tells : tells_nothing words ≡ false = search rules in
     let full : length c.loop-place.plans.items ≡ 65536 = omega (arith, was.within) in
     inr (bad-line c.args.roles c.args.strikes lines (cut_lines c.args.input.now) c.loop-place.place (record { ref_ptr = (0, 0); now = [] }) words c.loop-place.plans.items TooMany (search rules) c.loop-place-test.true (search rules)
     (record { planned = was.planned; within = was.within; roles_each = was.roles; once = was.once })
-    (inr (plan, here, inr (ap (λ (them : List (List ℕ)). misplaced c.args.roles them plan.id.now (vec_len plan.players)) (sym was.ids) ∙ sym none, refl, full))))
+    (tells, inr (plan, good, here, inr (ap (λ (them : List (List ℕ)). misplaced c.args.roles them plan.id.now (vec_len plan.players)) (sym was.ids) ∙ sym none, refl, full))))
