@@ -9,9 +9,9 @@ use Rattle.std.proofs.lemmas.List.Elements.{All-cons, All-nil, All-weaker, filte
 use Rattle.std.proofs.lemmas.Slice.Eq.{bytes_eq-Decides}
 use Rattle.match_plans.specs.Schedules.{AreMatchesOf, HaveIdsOnce, IsBadLine, IsFaultOf, IsPlanned, line_words, match_words, misplaced, tells_nothing}
 use Rattle.match_plans.specs.declared.plan.MatchPlan.{MatchPlan}
-use Rattle.match_plans.specs.declared.schedule.LineFault.{LineFault}
-use Rattle.match_plans.specs.declared.schedule.LineFault.TheVariants.{IdTwice, WrongPlayers}
-use Rattle.match_plans.specs.declared.schedule.ScheduleFault.TheVariants.{BadLine}
+use Rattle.match_plans.specs.declared.schedule_fault.LineFault.{LineFault}
+use Rattle.match_plans.specs.declared.schedule_fault.LineFault.TheVariants.{IdTwice, WrongPlayers}
+use Rattle.match_plans.specs.declared.schedule_fault.ScheduleFault.TheVariants.{BadLine}
 use Rattle.match_plans.proofs.Words.{zip-push}
 
 pub any-map : {A : Type 0} (f : A → List ℕ) (p : List ℕ → Bool) (xs : List A) → list_any (λ x. p (f x)) xs ≡ list_any p (map f xs)

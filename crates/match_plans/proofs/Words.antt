@@ -15,8 +15,8 @@ use Rattle.match_plans.specs.Numbers.{port_of}
 use Rattle.match_plans.specs.Schedules.{IsPlanned, clock_of, player_fault, word_fault}
 use Rattle.match_plans.specs.declared.addresses.PlayerAddress.{PlayerAddress}
 use Rattle.match_plans.specs.declared.plan.MatchPlan.{MatchPlan}
-use Rattle.match_plans.specs.declared.schedule.LineFault.{LineFault}
-use Rattle.match_plans.specs.declared.schedule.LineFault.TheVariants.{TooFewWords, NoId, NoClock, NoPlayer}
+use Rattle.match_plans.specs.declared.schedule_fault.LineFault.{LineFault}
+use Rattle.match_plans.specs.declared.schedule_fault.LineFault.TheVariants.{TooFewWords, NoId, NoClock, NoPlayer}
 
 -- a text without or with a first bracket
 pub first-none : (text : List ℕ) (r : Option (Bor (List ℕ))) → MatchOption r ((rest : List ℕ) → text ≢ 91 ∷ rest) (λ x. text ≡ 91 ∷ x.now) → r ≡ None → (inner : List ℕ) → text ≢ bracketed inner

@@ -7,10 +7,10 @@ use Rattle.game_core.specs.Bytes.{space, line_feed}
 use Rattle.game_core.specs.Numerals.{plain_number}
 use Rattle.match_plans.specs.Addresses.{IsAddress, is_player}
 use Rattle.match_plans.specs.declared.plan.MatchPlan.{MatchPlan}
-use Rattle.match_plans.specs.declared.schedule.LineFault.{LineFault}
-use Rattle.match_plans.specs.declared.schedule.LineFault.TheVariants.{TooFewWords, NoId, NoClock, NoPlayer, WrongPlayers, IdTwice, TooMany}
-use Rattle.match_plans.specs.declared.schedule.ScheduleFault.{ScheduleFault}
-use Rattle.match_plans.specs.declared.schedule.ScheduleFault.TheVariants.{BadLine, Memory}
+use Rattle.match_plans.specs.declared.schedule_fault.LineFault.{LineFault}
+use Rattle.match_plans.specs.declared.schedule_fault.LineFault.TheVariants.{TooFewWords, NoId, NoClock, NoPlayer, WrongPlayers, IdTwice, TooMany}
+use Rattle.match_plans.specs.declared.schedule_fault.ScheduleFault.{ScheduleFault}
+use Rattle.match_plans.specs.declared.schedule_fault.ScheduleFault.TheVariants.{BadLine, Memory}
 
 -- the pieces of a text between its line feeds
 abbrev pub cut_lines : List ℕ → List (List ℕ)

@@ -11,6 +11,7 @@ mod plan;
 mod plan_line;
 mod reach;
 mod schedule;
+mod schedule_fault;
 mod season_form;
 mod shortages;
 
@@ -19,6 +20,7 @@ pub use game_source::{GameCommand, GameSource, RulesSource};
 pub use numbers::{decimal, decimal_from};
 pub use plan::{CheckPlan, MatchPlan};
 pub use reach::{Reach, RolePlace};
-pub use schedule::{LineFault, MAX_AT_ONCE, MAX_SCHEDULED, ScheduleFault, read_schedule};
+pub use schedule::{MAX_AT_ONCE, MAX_SCHEDULED, read_schedule};
+pub use schedule_fault::{LineFault, ScheduleFault};
 pub use season_form::{RecordOrder, SeasonForm};
 pub use shortages::{Shortage, TellsShortages};

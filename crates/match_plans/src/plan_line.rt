@@ -7,7 +7,7 @@ ghost use Rattle.match_plans.specs.Schedules.{IsPlanned, clock_of, cut_lines, li
 
 use crate::addresses::{PlayerAddress, player_address};
 use crate::plan::MatchPlan;
-use crate::schedule::LineFault;
+use crate::schedule_fault::LineFault;
 use game_core::numeral::plain_number;
 use std::alloc::{AllocError, Global};
 use std::str;

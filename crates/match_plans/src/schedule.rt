@@ -1,79 +1,21 @@
 //! The schedule of a season, with one match in a line.
 ghost use Rattle.std.specs.Prelude.{◌≡◌, ◌≤◌, ◌⊎◌, ◌++◌, ◌∷◌, [], All, IfErr, IfNone, IfOk, length, map, vec_len};
 ghost use Rattle.std.specs.List.{AllZip};
-ghost use Rattle.match_plans.specs.declared.schedule.ScheduleFault.TheVariants.{Memory};
+ghost use Rattle.match_plans.specs.declared.schedule_fault.ScheduleFault.TheVariants.{Memory};
 ghost use Rattle.match_plans.specs.Schedules.{HaveIdsOnce, IsBadLine, IsPlanned, cut_lines, match_lines, misplaced};
 
 use crate::plan::MatchPlan;
 use crate::plan_line::{lines, planned_match, tells_nothing, words};
+use crate::schedule_fault::{LineFault, ScheduleFault};
 use game_core::lines::without_return;
 use indexmap::IndexSet;
-use std::alloc::{AllocError, AllocFailed, Global};
-use thiserror::Error;
+use std::alloc::{AllocError, Global};
 
 /// The limit of the matches in a schedule.
 pub const MAX_SCHEDULED: usize = 65_536;
 
 /// The limit of the matches of a schedule that are played at once.
 pub const MAX_AT_ONCE: usize = 1_024;
-
-/// The fault of a bad line in a schedule. Its words have to be `ID START PLAY NAME@HOST:PORT ..`; a fault names the first bad one by its
-/// number, from 1 on.
-#[derive(Clone, Copy, Debug, PartialEq, Eq, Error)]
-pub enum LineFault {
-    #[error("fewer than four words")]
-    TooFewWords,
-    /// The id is no text.
-    #[error("word 1 is no UTF-8")]
-    NoId,
-    /// START or PLAY is not digits without leading zeros, for a number up to 4,294,967,295.
-    #[error("word {0} is no number of seconds")]
-    NoClock(u64),
-    /// A player's word is no lawful name at a host and a port.
-    #[error("word {0} is no NAME@HOST:PORT")]
-    NoPlayer(u64),
-    /// The line has fewer or more players than the game has roles.
-    #[error("not one player for each role")]
-    WrongPlayers,
-    /// An earlier match has the id.
-    #[error("an id twice")]
-    IdTwice,
-    /// `MAX_SCHEDULED` matches stand before it.
-    #[error("too many matches")]
-    TooMany,
-}
-
-/// The fault of a schedule.
-#[derive(Clone, Copy, Debug, PartialEq, Eq, Error)]
-pub enum ScheduleFault {
-    /// The number of the first bad line, from 1 on, and its fault.
-    #[error("line {0}: {1}")]
-    BadLine(u64, LineFault),
-    #[error("out of memory")]
-    Memory,
-}
-
-impl From<AllocError> for ScheduleFault {
-    ghost use Rattle.std.specs.Prelude.{◌≡◌};
-    ghost use Rattle.match_plans.specs.declared.schedule.ScheduleFault.TheVariants.{Memory};
-
-    ghost from_gives = { λ _ given. given ≡ Memory };
-
-    fn from(_: AllocError) -> ScheduleFault {
-        ScheduleFault::Memory
-    }
-}
-
-impl<T: Drop> From<AllocFailed<T>> for ScheduleFault {
-    ghost use Rattle.std.specs.Prelude.{◌≡◌};
-    ghost use Rattle.match_plans.specs.declared.schedule.ScheduleFault.TheVariants.{Memory};
-
-    ghost from_gives = { λ _ given. given ≡ Memory };
-
-    fn from(_: AllocFailed<T>) -> ScheduleFault {
-        ScheduleFault::Memory
-    }
-}
 
 /// Why a match can't follow those with these ids, in a game of `roles` roles. Adds its id if it can.
 fn misplaced<'a>(

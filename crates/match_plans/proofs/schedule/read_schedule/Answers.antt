@@ -5,7 +5,7 @@ use Rattle.std.proofs.lemmas.List.{map_push}
 use Rattle.std.proofs.lemmas.List.Elements.{All-push}
 use Rattle.match_plans.specs.Schedules.{IsPlanned, cut_lines, misplaced, tells_nothing, word_fault}
 use Rattle.match_plans.specs.declared.plan.MatchPlan.{MatchPlan}
-use Rattle.match_plans.specs.declared.schedule.LineFault.TheVariants.{TooMany}
+use Rattle.match_plans.specs.declared.schedule_fault.LineFault.TheVariants.{TooMany}
 use Rattle.match_plans.proofs.Placing.{bad-line, next, once-more, placed}
 use Rattle.match_plans.proofs.schedule.read_schedule.Goals as goal
 
