@@ -1,0 +1,3 @@
+mod TableRows
+mod PlayedRoles
+mod RoleTables

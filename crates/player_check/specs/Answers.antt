@@ -1,7 +1,11 @@
--- What an answer brought.
-use Rattle.std.specs.Prelude.{ℕ, List, []}
+-- What an answer brought, and what is shown of it and of its message.
+use Rattle.std.specs.Prelude.{◌≡◌, ◌↔◌, ℕ, Bool, List, [], IsTrue}
+use mathlib.Core.List.{IsPrefix}
 use Rattle.desk_calls.specs.declared.answer.Answer.{Answer}
 use Rattle.desk_calls.specs.declared.answer.Answer.TheVariants as answers
+use Rattle.match_log.specs.ShownTexts.{shown_text}
+use Rattle.match_messages.specs.MessageKinds.{kind_word}
+use Rattle.match_messages.specs.declared.kind.MessageKind.TheVariants.{Play}
 use Rattle.player_check.specs.declared.watched.Brought.{Brought}
 use Rattle.player_check.specs.declared.watched.Brought.TheVariants.{Text, Silence, Break}
 
@@ -14,3 +18,12 @@ brought_by answers.Broken = Break
 abbrev pub answer_text : Answer → List ℕ
 answer_text (answers.Text text) = text
 answer_text answer = []
+
+-- These are the beginnings of a message and of the text that answers it, whether the message asks for a move, and what it brought.
+pub record AreOfMessage (message : List ℕ) (is_play : Bool) (answer : List ℕ) (brought : Brought) : Type 0 where
+  pub body : List ℕ
+  pub given : Answer
+  pub message_shown : message ≡ shown_text body
+  pub asks : IsTrue is_play ↔ IsPrefix (kind_word Play) body
+  pub answer_shown : answer ≡ shown_text (answer_text given)
+  pub brings : brought ≡ brought_by given

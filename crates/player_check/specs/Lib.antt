@@ -2,3 +2,5 @@ pub mod Verdicts
 pub mod Answers
 pub mod Rows
 pub mod Seats
+pub mod Tables
+pub mod Checks

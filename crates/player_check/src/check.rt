@@ -1,11 +1,13 @@
 //! The check of a player: a match for each role of a game, in which the player is watched.
-ghost use Rattle.std.specs.Prelude.{◌≡◌, ◌≢◌, ◌<◌, Err, IfErr, IfOk, OnOk, option_copied};
+ghost use Rattle.std.specs.Prelude.{◌≡◌, ◌≢◌, ◌<◌, ◌++◌, ℕ, List, Err, IfErr, IfOk, OnOk, option_copied};
 ghost use Rattle.game_core.specs.Counting.{one_more};
+ghost use Rattle.player_check.specs.Checks.{AreTurnsIn, IsToldOf, WritesCheck, WritesEarlier};
 ghost use Rattle.player_check.specs.Rows.{bad_answers, later_turns, next_turn};
 ghost use Rattle.player_check.specs.Seats.{IsPlanFor, nobody};
+ghost use Rattle.player_check.specs.Tables.{AreRows};
 ghost use Rattle.player_check.specs.declared.check.CheckFault.TheVariants as faults;
 
-use crate::table::{HEADER, Row};
+use crate::table::{HEADER, Row, fault_words};
 use crate::watched::{Exchanges, Participant, Watching};
 use game_core::{Counted, Game};
 use match_plans::{CheckPlan, MatchPlan, PlayerAddress, Reach, TellsShortages};
@@ -121,14 +123,15 @@ fn next_turn(is_play: bool, turns: &[RoleTurn]) -> (Option<&RoleTurn>, &[RoleTur
 
 /// Appends a row for each exchange to the table. The turns belong to the exchanges that asked for a move, in their order. Returns the
 /// number of bad answers.
-fn push_rows(
+fn push_rows<'a>(
     alloc: Global,
     table: &mut Vec<u8>,
-    role: &[u8],
-    exchanges: &Exchanges,
-    turns: &[RoleTurn],
+    role: &'a [u8],
+    exchanges: &'a Exchanges,
+    turns: &'a [RoleTurn],
 ) -> Result<u64, AllocError>
-    ensures { IfOk result (λ bad. bad ≡ bad_answers exchanges.now.items.items turns.now) }
+    ensures bad { IfOk result (λ bad. bad ≡ bad_answers exchanges.now.items.items turns.now) }
+    ensures rows { OnOk result ((text : List ℕ) × AreRows role.now exchanges.now.items.items turns.now text × (table.new.items ≡ table.old.items ++ text)) }
 {
     if exchanges.is_cut {
         return Err(AllocError);
@@ -138,10 +141,12 @@ fn push_rows(
     for exchange in &exchanges.items {
         let (turn, later) = next_turn(exchange.is_play, left);
         left = later;
+        let words = fault_words(alloc, exchange)?;
         let row = Row {
             role,
             exchange,
             turn,
+            words: words.as_str(),
         };
         bad = bad.saturating_add(u64::from(!row.verdict().is_good()));
         table.extend_from_slice(format!(in alloc; "{row}")?.as_bytes())?;
@@ -164,7 +169,10 @@ where
     P: Player + Explains + Drop + Send,
     S: Reach<P> + TellsShortages,
     requires { role < (⟦<PackedGame as Game>⟧.rules game.game.now).roles }
-    ensures { IfErr result (λ fault. fault ≢ faults.WriteFault) }
+    ensures told { IfOk result (λ bad. (rows : List ℕ) × IsToldOf (AreTurnsIn H (S.is_reached reach.now) game.entry plan.now role) ((⟦<PackedGame as Game>⟧.rules game.entry.game.now).role_name role) rows bad
+        × (table.new.items ≡ table.old.items ++ rows)) }
+    ensures clear { OnOk result (S.is_clear reach.now 0) }
+    ensures others { IfErr result (λ fault. fault ≢ faults.WriteFault) }
 {
     let id = format!(in alloc; "check-{role}")?;
     let signal = Signal::new();
@@ -197,6 +205,9 @@ where
     H: Clock + Threads + Wait + Sync,
     P: Player + Explains + Drop + Send,
     S: Reach<P> + TellsShortages,
+    ensures table { IfOk result (λ bad. WritesCheck H (S.is_reached reach.now) game.entry plan.now bad (W.contents writer.old.stream) (W.contents writer.new.stream)) }
+    ensures clear { OnOk result (S.is_clear reach.now 0) }
+    ensures early { IfErr result (λ fault. fault ≢ faults.WriteFault → WritesEarlier H (S.is_reached reach.now) game.entry plan.now (W.contents writer.old.stream) (W.contents writer.new.stream)) }
     ensures written { OnOk result (writer.new.faults ≡ writer.old.faults) }
     ensures failed { result ≡ Err faults.WriteFault → writer.new.faults ≡ one_more writer.old.faults }
     ensures others { IfErr result (λ fault. fault ≢ faults.WriteFault → writer.new.faults ≡ writer.old.faults) }

@@ -1,12 +1,14 @@
 //! The table of the messages to a player, with its answers and what these counted as.
-ghost use Rattle.std.specs.Prelude.{◌≡◌, option_copied};
+ghost use Rattle.std.specs.Prelude.{◌≡◌, [], IfOk, None, option_copied, string_bytes};
 ghost use Rattle.player_check.specs.Rows.{row_verdict};
+ghost use Rattle.player_check.specs.Tables.{played_text};
 ghost use Rattle.player_check.specs.Verdicts.{verdict_of};
 
 use crate::watched::{Brought, Exchange};
 use match_book::UNREADABLE;
 use match_log::Shown;
 use match_play::RoleTurn;
+use std::alloc::{AllocError, Global};
 use std::fmt;
 
 /// The names of the columns, as the table's first line.
@@ -76,6 +78,16 @@ pub fn verdict_of(is_play: bool, brought: Brought, error: Option<&[u8]>) -> Verd
     }
 }
 
+/// The words of an exchange's fault. They are empty without a fault.
+pub fn fault_words(alloc: Global, exchange: &Exchange) -> Result<String, AllocError>
+    ensures { exchange.now.fault ≡ None → IfOk result (λ words. string_bytes words ≡ []) }
+{
+    match exchange.fault {
+        Some(fault) => format!(in alloc; "{fault}"),
+        None => Ok(String::new(alloc)),
+    }
+}
+
 /// A row of the table.
 #[derive(Drop)]
 pub struct Row<'a> {
@@ -83,6 +95,8 @@ pub struct Row<'a> {
     pub exchange: &'a Exchange,
     /// The turn for which the answer was given, if that was recorded.
     pub turn: Option<&'a RoleTurn>,
+    /// The words of the exchange's fault.
+    pub words: &'a str,
 }
 
 impl Row<'_> {
@@ -98,29 +112,36 @@ impl Row<'_> {
     }
 }
 
+/// The text of the move in a turn. It is empty without a turn.
+fn played_text(turn: Option<&RoleTurn>) -> &[u8]
+    ensures { result.now ≡ played_text (option_copied turn.entry) }
+{
+    match turn {
+        Some(turn) => turn.played.as_slice(),
+        None => &[],
+    }
+}
+
 impl fmt::Display for Row<'_> {
+    ghost use Rattle.std.specs.Prelude.{Some};
+    ghost use Rattle.player_check.specs.Tables.{row_text};
+
+    ghost output = { λ row. Some (row_text row.role.now row.exchange.now (option_copied row.turn) row.words.now) };
+
     fn fmt<F: fmt::Write>(&self, f: &mut fmt::Formatter<F>) -> fmt::Result {
         let Exchange {
             message,
             is_play: _,
             answer,
             brought: _,
-            fault,
+            fault: _,
             millis,
         } = self.exchange;
-        let played: &[u8] = match self.turn {
-            Some(turn) => turn.played.as_slice(),
-            None => &[],
-        };
-        let (role, played) = (Shown::text(self.role), Shown::text(played));
-        let verdict = self.verdict();
-        write!(
+        let (role, played) = (Shown::text(self.role), Shown::text(played_text(self.turn)));
+        let (verdict, words) = (self.verdict(), self.words);
+        writeln!(
             f,
-            "{role}\t{message}\t{answer}\t{verdict}\t{played}\t{millis}\t"
-        )?;
-        match fault {
-            Some(fault) => writeln!(f, "{fault}"),
-            None => writeln!(f),
-        }
+            "{role}\t{message}\t{answer}\t{verdict}\t{played}\t{millis}\t{words}"
+        )
     }
 }

@@ -1,9 +1,10 @@
 //! A watched player, among players that answer nothing.
-ghost use Rattle.std.specs.Prelude.{◌≡◌, ◌==◌, ◌↔◌, ◌⊎◌, ◌++◌, ◌∷◌, [], IfOk, IfSome, IsTrue, OnErr, is_some};
+ghost use Rattle.std.specs.Prelude.{◌≡◌, ◌==◌, ◌↔◌, ◌⊎◌, ◌++◌, ◌∷◌, [], IfOk, IfSome, IsTrue, OnErr, is_some, string_bytes};
 ghost use mathlib.Core.List.{IsPrefix};
+ghost use Rattle.match_log.specs.ShownTexts.{shown_text};
 ghost use Rattle.match_messages.specs.MessageKinds.{kind_word};
 ghost use Rattle.match_messages.specs.declared.kind.MessageKind.TheVariants.{Play};
-ghost use Rattle.player_check.specs.Answers.{answer_text, brought_by};
+ghost use Rattle.player_check.specs.Answers.{AreOfMessage, answer_text, brought_by};
 
 use desk_calls::Answer;
 use match_log::Shown;
@@ -40,6 +41,7 @@ pub struct Exchange {
     pub fault: Option<ContactFault>,
     /// The time that the message took, in milliseconds.
     pub millis: u128,
+    ghost of_message: { ∥ AreOfMessage (string_bytes message) is_play (string_bytes answer) brought ∥₁ },
 }
 
 /// The exchanges with the watched player, in their order.
@@ -107,6 +109,7 @@ fn exchange_of(
 ) -> Result<Exchange, AllocError>
     ensures asks { IfOk result (λ exchange. IsTrue exchange.is_play ↔ IsPrefix (kind_word Play) message.now) }
     ensures brought { IfOk result (λ exchange. exchange.brought ≡ brought_by answer.now) }
+    ensures shown { IfOk result (λ exchange. (string_bytes exchange.message ≡ shown_text message.now) × (string_bytes exchange.answer ≡ shown_text (answer_text answer.now))) }
     ensures given { IfOk result (λ exchange. (exchange.fault ≡ fault) × (exchange.millis ≡ millis)) }
 {
     let (brought, text) = brought_of(answer);

@@ -1,0 +1,90 @@
+-- The check of a player in each role of a game.
+use Rattle.std.specs.Prelude.{◌≡◌, ◌==◌, ◌<◌, ◌++◌, ◌∷◌, [], ℕ, List, Option, None, IfSome, codes, is_some, length, map, min}
+use Rattle.std.specs.Fmt.{decimal}
+use Rattle.std.specs.Io.KnownBytes.{Appends}
+use Rattle.std.specs.List.{concat, sum_by}
+use Rattle.game_core.specs.Counting.{last_count}
+use Rattle.game_core.specs.Play.{Rules}
+use Rattle.ground_rules.specs.LoadedGame.{loaded_game}
+use Rattle.packed_rules.specs.PackedGames.{tables_of}
+use Rattle.desk_calls.specs.declared.setup.Setup.{Setup}
+use Rattle.match_plans.specs.declared.addresses.PlayerAddress.{PlayerAddress}
+use Rattle.match_plans.specs.declared.plan.CheckPlan.{CheckPlan}
+use Rattle.match_plans.specs.declared.plan.MatchPlan.{MatchPlan}
+use Rattle.match_plans.specs.declared.reach.RolePlace.{RolePlace}
+use Rattle.role_workers.specs.Places.{EachAt}
+use Rattle.match_play.specs.Limits.{max_tries}
+use Rattle.match_play.specs.PlayedMatches.{ArePlayedTurns, AreReached, IsSetupOf}
+use Rattle.match_play.specs.declared.hosting.HostedGame.{HostedGame}
+use Rattle.match_play.specs.declared.role_turns.RoleTurn.{RoleTurn}
+use Rattle.player_check.specs.Rows.{bad_answers}
+use Rattle.player_check.specs.Seats.{IsPlanFor}
+use Rattle.player_check.specs.Tables.{AreRows, header}
+use Rattle.player_check.specs.declared.watched.Exchange.{Exchange}
+use Rattle.player_check.specs.declared.watched.Participant.{Participant}
+
+-- the id of the match in which the player has this role
+abbrev pub match_id : ℕ → List ℕ
+match_id role = codes "check-" ++ decimal role
+
+-- A participant of this match is watched exactly if it has this role. Then it is around a player that was reached at the address.
+abbrev pub is_watched : (H : Type 0) → {P : Type 0} → (RolePlace → PlayerAddress → P → Type 0) → ℕ → RolePlace → PlayerAddress → Participant H P → Type 0
+is_watched H is_reached role at address participant = (is_some participant.watched ≡ (at.role == role)) × IfSome participant.watched (is_reached at address)
+
+-- A match of this game was played, in which the player has this role. These are the role's turns in it.
+pub record AreTurnsIn (H : Type 0) {P : Type 0} (is_reached : RolePlace → PlayerAddress → P → Type 0) (game : HostedGame) (plan : CheckPlan) (role : ℕ) (turns : List RoleTurn) : Type 0 where
+  pub made : MatchPlan
+  pub planned : IsPlanFor plan (match_id role) role (loaded_game (tables_of game.game.now)).roles made
+  pub setup : Setup
+  pub is_setup : IsSetupOf made setup
+  pub participants : List (Participant H P)
+  pub reached : AreReached (is_watched H is_reached role) 0 made participants
+  pub played : ArePlayedTurns (λ participant. None) game.game.now game.rules.now.items max_tries setup participants role turns
+
+-- These are the rows, and this is the number of bad answers, of some exchanges and turns of a role. Which exchanges there were is not
+-- said.
+pub record IsToldOf (AreTurns : List RoleTurn → Type 0) (role : List ℕ) (rows : List ℕ) (bad : ℕ) : Type 0 where
+  pub exchanges : List Exchange
+  pub turns : List RoleTurn
+  pub are_turns : AreTurns turns
+  pub are_rows : AreRows role exchanges turns rows
+  pub is_bad : bad ≡ bad_answers exchanges turns
+
+-- what was told of a role: its rows, and the number of bad answers
+pub record Told : Type 0 where
+  pub rows : List ℕ
+  pub bad : ℕ
+
+-- the rows of these roles, one after another
+abbrev pub all_rows : List Told → List ℕ
+all_rows roles = concat (map (λ told. told.rows) roles)
+
+-- the number of bad answers of these roles, up to the limit of a count
+abbrev pub all_bad : List Told → ℕ
+all_bad roles = min (sum_by (λ told. told.bad) roles) last_count
+
+-- the text of a table of these roles: its header, and then their rows; nothing without a role
+abbrev pub table_text : List Told → List ℕ
+table_text [] = []
+table_text (role ∷ roles) = header ++ all_rows (role ∷ roles)
+
+-- Between the two contents of a stream the table of the first roles was written, so many of them, in their order. The number of bad
+-- answers is that of all of these.
+pub record WritesTable {S M : Type 0} (AreTurns : ℕ → List RoleTurn → Type 0) (g : Rules S M) (count bad : ℕ) (old new : Option (List ℕ)) : Type 0 where
+  pub roles : List Told
+  pub so_many : length roles ≡ count
+  pub each : EachAt (λ role told. IsToldOf (AreTurns role) (g.role_name role) told.rows told.bad) roles
+  pub is_bad : bad ≡ all_bad roles
+  pub written : Appends old new (table_text roles)
+
+-- the table of the check of a player in the first roles of this game
+abbrev pub WritesRoles : (H : Type 0) → {P : Type 0} → (RolePlace → PlayerAddress → P → Type 0) → HostedGame → CheckPlan → ℕ → ℕ → Option (List ℕ) → Option (List ℕ) → Type 0
+WritesRoles H is_reached game plan count bad old new = WritesTable (AreTurnsIn H is_reached game plan) (loaded_game (tables_of game.game.now)) count bad old new
+
+-- the table of the check of a player in each role of this game
+abbrev pub WritesCheck : (H : Type 0) → {P : Type 0} → (RolePlace → PlayerAddress → P → Type 0) → HostedGame → CheckPlan → ℕ → Option (List ℕ) → Option (List ℕ) → Type 0
+WritesCheck H is_reached game plan bad old new = WritesRoles H is_reached game plan (loaded_game (tables_of game.game.now)).roles bad old new
+
+-- the table of a check that ended early: some role is missing, and each role after it
+abbrev pub WritesEarlier : (H : Type 0) → {P : Type 0} → (RolePlace → PlayerAddress → P → Type 0) → HostedGame → CheckPlan → Option (List ℕ) → Option (List ℕ) → Type 0
+WritesEarlier H is_reached game plan old new = (count : ℕ) × (count < (loaded_game (tables_of game.game.now)).roles) × (bad : ℕ) × WritesRoles H is_reached game plan count bad old new
