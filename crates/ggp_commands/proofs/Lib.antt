@@ -1,2 +1,3 @@
 mod LargestNumbers
+mod CheckEnds
 mod SeasonEnds

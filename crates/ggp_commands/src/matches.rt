@@ -4,6 +4,7 @@ ghost use Rattle.std.specs.Io.KnownBytes.{Consumes, IsAtEnd};
 ghost use denote.Param.Send.{IsSend, IsSync};
 ghost use Rattle.ggp_commands.specs.Runs.{WritesRun};
 ghost use Rattle.match_log.specs.LoggedPlayers.{is_logged_reached, logged_handed};
+ghost use Rattle.player_check.specs.Checks.{WritesCheck};
 ghost use Rattle.ggp_commands.specs.Schedules.{WritesSeason, has_schedule};
 ghost use Rattle.ggp_commands.specs.Tasks.{WritesTask};
 
@@ -147,6 +148,7 @@ where
 }
 
 /// Checks a player, and writes its table.
+#[tactic(auto, using(crate::proofs::CheckEnds::check_written))]
 fn check<H, P, S, W: Write>(
     rt: &H,
     alloc: Global,
@@ -159,6 +161,8 @@ where
     H: Clock + Threads + Wait + Sync,
     P: Player + Explains + Drop + Send,
     S: Reach<P> + TellsShortages,
+    ensures clear { OnOk result (S.is_clear reach.now 0) }
+    ensures written { OnOk result (WritesCheck H (S.is_reached reach.now) game.entry plan.now 0 (W.contents writer.old.stream) (W.contents writer.new.stream)) }
 {
     let checked = check_player::<H, P, S, W>(rt, alloc, reach, plan, game, writer);
     check_end(checked)
@@ -179,7 +183,7 @@ where
     H: Clock + Files + Threads + Wait + Sync,
     P: Player + Explains + Drop + Send,
     S: Reach<P> + TellsShortages + Sync,
-    ensures written { OnOk result (WritesTask (is_logged_reached H (S.is_reached reach.now)) (logged_handed H P.handed) game.entry task.now input.now (W.contents writer.old.stream) (W.contents writer.new.stream)) }
+    ensures written { OnOk result (WritesTask H (is_logged_reached H (S.is_reached reach.now)) (logged_handed H P.handed) game.entry task.now input.now (W.contents writer.old.stream) (W.contents writer.new.stream)) }
 {
     let logging = Logging {
         rt,
@@ -219,7 +223,7 @@ where
     H: Clock + Files + Threads + Wait + Sync,
     P: Player + Explains + Drop + Send,
     S: Reach<P> + TellsShortages + Sync,
-    ensures written { OnOk result (WritesTask (is_logged_reached H (S.is_reached reach.now)) (logged_handed H P.handed) game.entry task.now input.now (W.contents writer.old.stream) (W.contents writer.new.stream)) }
+    ensures written { OnOk result (WritesTask H (is_logged_reached H (S.is_reached reach.now)) (logged_handed H P.handed) game.entry task.now input.now (W.contents writer.old.stream) (W.contents writer.new.stream)) }
 {
     // The closure returns the output, so its content is known behind the scope.
     let (performed, _writer) = thread::scope(
@@ -228,7 +232,7 @@ where
         move |scope| -> (Result<(), Fault>, &mut Counted<W>)
             requires sent { IsSync H.row × IsSend E.row }
             ensures stream { result.1.ghost_name ≡ writer.entry.ghost_name }
-            ensures written { OnOk result.0 (WritesTask (is_logged_reached H (S.is_reached reach.entry.now)) (logged_handed H P.handed) game.entry task.entry.now input.entry.now (W.contents writer.entry.now.stream) (W.contents result.1.now.stream)) }
+            ensures written { OnOk result.0 (WritesTask H (is_logged_reached H (S.is_reached reach.entry.now)) (logged_handed H P.handed) game.entry task.entry.now input.entry.now (W.contents writer.entry.now.stream) (W.contents result.1.now.stream)) }
         {
             let writing = move || console
                 .notices
@@ -266,7 +270,7 @@ where
     S: Reach<P> + TellsShortages + Sync,
     requires picked { N.name ≡ writer.ghost_name }
     ensures output { result.1.ghost_name ≡ writer.entry.ghost_name }
-    ensures written { OnOk result.0 (WritesTask (is_logged_reached H (S.is_reached reach.now)) (logged_handed H P.handed) game.entry task.now input.now (W.contents writer.entry.now.stream) (W.contents result.1.now.stream)) }
+    ensures written { OnOk result.0 (WritesTask H (is_logged_reached H (S.is_reached reach.now)) (logged_handed H P.handed) game.entry task.now input.now (W.contents writer.entry.now.stream) (W.contents result.1.now.stream)) }
 {
     let console = Console {
         notices: Notices::new(alloc),
