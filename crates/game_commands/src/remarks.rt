@@ -3,6 +3,7 @@
 use crate::bad_entries::push_bad_entry;
 use crate::bad_lines::push_first_bad_line;
 use described_games::{DescriptionFault, push_explanation};
+use ground_rules::LoadFault;
 use std::alloc::{AllocError, Global};
 
 /// The lines that explain a fault, each with a line feed. There are none if they are not wanted, or if they were out of memory.
@@ -13,6 +14,16 @@ pub struct Remarks {
     lines: String,
 }
 
+/// What helps against the fault of a text, in words, if something does. A text without a list may be the name of a file.
+fn remedy(text: &[u8], fault: DescriptionFault) -> Option<&'static str> {
+    match fault {
+        DescriptionFault::Unfit(LoadFault::NoRole) if !text.contains(&b'(') => {
+            Some("--rules takes the rules themselves, and --rules-file the name of their file")
+        }
+        _ => fault.remedy(),
+    }
+}
+
 /// Appends to `out` what is wrong with a text, after what helps against it.
 fn push_description(
     alloc: Global,
@@ -20,7 +31,7 @@ fn push_description(
     fault: DescriptionFault,
     out: &mut String,
 ) -> Result<(), DescriptionFault> {
-    if let Some(remedy) = fault.remedy() {
+    if let Some(remedy) = remedy(text, fault) {
         write!(out, "ggp_manager: {remedy}\n")?;
     }
     out.push_str("ggp_manager: ")?;
