@@ -32,8 +32,8 @@ is_left noted plan = not (is_noted noted (match_names plan.id.now (map (λ p. p.
 abbrev pub left_of : DoneMatches → List MatchPlan → List MatchPlan
 left_of noted plans = filter (is_left noted) plans
 
--- The matches of a schedule with this number of strikes. If a file of finished matches is given, they are without those that are noted,
--- and each noted one is over, by its lawful record in a line of a text.
+-- The matches of a schedule with this number of strikes. If a file of finished matches is given, they are without those that are noted:
+-- those that are over by their records in the lines of a text.
 abbrev pub AreToPlay : {F : Type 0} → PackedGame → ℕ → Option F → List ℕ → List MatchPlan → Type 0
 AreToPlay game strikes done schedule plans = (all : List MatchPlan) × AllZip (IsPlanned strikes) (match_lines schedule) all
     × MatchOption done (plans ≡ all) (λ file. (noted : DoneMatches) × ((records : List ℕ) × AreDone (loaded_game (tables_of game)) (lines records) noted) × (plans ≡ left_of noted all))
