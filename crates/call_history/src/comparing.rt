@@ -1,5 +1,5 @@
 //! Lines that come back to a desk over rings: whether all their calls were served.
-ghost use Rattle.std.specs.Prelude.{◌≡◌, ◌<◌, ◌≤◌, ℕ, slice_index_or, length, MatchBool, MatchOption, min};
+ghost use Rattle.std.specs.Prelude.{◌≡◌, ◌<◌, ℕ, slice_index_or, length, MatchBool, MatchOption, min};
 ghost use Rattle.std.specs.List.{All};
 ghost use Rattle.call_history.specs.Parts.{part};
 ghost use Rattle.call_history.specs.RingLines.{IsPortOf, SamePort, SamePorts, AreEndsOf};

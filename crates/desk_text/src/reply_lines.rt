@@ -1,5 +1,5 @@
 //! The lines of replies.
-ghost use Rattle.std.specs.Prelude.{◌≡◌, ◌++◌, OnOk, IfOk};
+ghost use Rattle.std.specs.Prelude.{◌≡◌, ◌++◌, OnOk};
 ghost use Rattle.std.specs.Fmt.{decimal};
 ghost use Rattle.desk_text.specs.Words.{spaced};
 ghost use Rattle.desk_text.specs.ScriptLines.{joint_text, owed_text, due_text, status_text, refusal_word, refusal_text, reply_text};

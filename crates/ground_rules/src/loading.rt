@@ -1,7 +1,5 @@
 //! From a description to the parts of its game.
-ghost use Rattle.std.specs.Prelude.{◌≡◌, ◌⊎◌, ℕ, true, false, IfOk, IfErr, map, length, []};
-ghost use Rattle.game_core.specs.Expression.{folded};
-ghost use Rattle.kif_text.specs.View.{view as expression};
+ghost use Rattle.std.specs.Prelude.{◌≡◌, ◌⊎◌, true, false, IfOk, IfErr, map, length, []};
 ghost use Rattle.rule_sentences.specs.SentenceViews.{rules_of};
 ghost use Rattle.ground_rules.specs.Acyclic.{IsAcyclic};
 ghost use Rattle.numbered_rules.specs.Numbered.{rules_of as numbered_rules, numbered, row_after, unset};

@@ -1,7 +1,6 @@
 //! What holds of the definitions, for every game.
 //!
 //! The laws have no arguments, as they speak of every game of a type: call them with that type.
-ghost use Rattle.game_core.specs.Play.{Rules};
 ghost use Rattle.match_book.specs.Laws.{NewMatchIsLawful, AnswersKeepLawful, AbortKeepsLawful, RecordedMovesAreLegal, NoErrorMeansNamed, AnswersInPlay, AnswersOutOfPlay, TakenForTheRound, TurnsLeadToStates, TurnsHaveMoves, OneMoreTurn, StrikesBegin, StrikesOfOneMore, FewStrikes, StartingMeans, PlayingMeans, StoppingMeans, BegunRoundsAreOpen, ReadingsAreFolded};
 
 use game_core::Game;

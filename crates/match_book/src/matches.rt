@@ -1,6 +1,5 @@
 //! A match.
 ghost use Rattle.std.specs.Prelude.{◌≡◌, ◌<◌, ◌≤◌, ◌+◌, length, true, false, IfOk, OnOk, OnErr, Err, None, IsSome, option_copied, option_map, Some, slice_set, take, ◌++◌, ◌∷◌, []};
-ghost use Rattle.game_core.specs.Play.{Rules};
 ghost use Rattle.match_book.specs.Roles.{at_role, is_there, every_role};
 ghost use Rattle.match_book.specs.Marks.{mark_text};
 ghost use Rattle.desk_calls.specs.Answers.{answer_lent};

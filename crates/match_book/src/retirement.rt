@@ -1,5 +1,5 @@
 //! Which roles are retired, because their moves were substituted too often in a row.
-ghost use Rattle.std.specs.Prelude.{◌≡◌, ◌==◌, ◌<◌, ◌≤◌, ℕ, All, IfOk, List, length, replicate, slice_index_or, []};
+ghost use Rattle.std.specs.Prelude.{◌≡◌, ◌==◌, ◌<◌, ◌≤◌, ℕ, All, IfOk, length, replicate, slice_index_or, []};
 ghost use Rattle.match_book.specs.MatchValue.{is_error};
 ghost use Rattle.match_book.specs.Phase.{max_turns};
 ghost use Rattle.match_book.specs.Roles.{every_role};

@@ -1,7 +1,6 @@
 //! Laws of the definitions.
 ghost use Rattle.call_history.specs.History.{run, IsLegalHistory};
 ghost use Rattle.std.specs.Prelude.{◌≡◌, []};
-ghost use Rattle.game_core.specs.Play.{Rules};
 ghost use Rattle.match_desk.specs.ManagerValue.{IsLawfulManager};
 ghost use Rattle.match_desk.specs.Internal.MatchLaws.{MatchLaws};
 ghost use Rattle.match_desk.specs.Steps.{reply, after};

@@ -1,7 +1,6 @@
 //! The record of a match.
 ghost use Rattle.std.specs.Prelude.{◌≡◌, ◌<◌, ◌++◌, IfOk, IfSome, OnOk, Some, length, option_map, option_to_list, map, slice_get};
 ghost use mathlib.Core.List.{IsPrefix};
-ghost use Rattle.serde_json.specs.Data.{Data};
 ghost use Rattle.serde_json.specs.Read.{read};
 ghost use Rattle.match_book.specs.Lawful.{IsLawfulMatch};
 ghost use Rattle.desk_calls.specs.Names.{IsLawfulSetup};

@@ -1,5 +1,5 @@
 //! Writes a season: the record of each match, followed by its account.
-ghost use Rattle.std.specs.Prelude.{◌≡◌, ◌<◌, ◌≤◌, ◌+◌, ◌-◌, [], ℕ, false, true, IfOk, OnErr, OnOk, None, Some, get_or, if◌then◌else◌, is_some, length, not, replicate, slice_set, vec_len};
+ghost use Rattle.std.specs.Prelude.{◌≡◌, ◌<◌, ◌≤◌, ◌+◌, ◌-◌, [], ℕ, false, true, IfOk, OnErr, OnOk, None, Some, if◌then◌else◌, is_some, length, not, replicate, slice_set};
 ghost use Rattle.std.specs.Io.KnownBytes.{Appends};
 ghost use Rattle.std.specs.List.{AllWithin, HoldsAt};
 ghost use Rattle.match_plans.specs.declared.season_form.RecordOrder.TheVariants.{OfSchedule};

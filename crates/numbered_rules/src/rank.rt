@@ -1,5 +1,5 @@
 //! An order of the derived atoms in which each comes after those that it needs.
-ghost use Rattle.std.specs.Prelude.{◌≡◌, ◌<◌, ◌+◌, ◌≤◌, ℕ, length, IfOk, OnOk, IsTrue, [], Some, None, Contains, slice_index, false, true, IfSome, IfNone, MatchOption, vec_len, ◌-◌, ◌≢◌};
+ghost use Rattle.std.specs.Prelude.{◌≡◌, ◌<◌, ◌+◌, ◌≤◌, ℕ, length, IfOk, OnOk, Some, None, slice_index, false, true, IfSome, IfNone, ◌-◌, ◌≢◌};
 ghost use Rattle.numbered_rules.specs.Order.{IsGraph, IsGraphAcyclic, IsRanking, needs_at};
 ghost use Rattle.numbered_rules.specs.Internal.Search.{IsSearching, IsLinked, mark, work, IsPlaced, AreOnlyOld};
 ghost use Rattle.numbered_rules.specs.declared.rank.Mark.TheVariants.{New, Open, Done};

@@ -1,7 +1,6 @@
 //! The end of a record: goals, phase, cause and marks, by the last state.
 ghost use Rattle.std.specs.Prelude.{◌≡◌, ◌<◌, ◌↔◌, IfOk, IsTrue, length};
-ghost use Rattle.game_core.specs.Play.{Rules};
-ghost use Rattle.match_book.specs.Roles.{every_role, is_there, blank};
+ghost use Rattle.match_book.specs.Roles.{blank};
 ghost use Rattle.record_check.specs.Replaying.{AreGoalsIn, AreGoalsOf};
 ghost use Rattle.match_book.specs.Phase.{is_live};
 ghost use Rattle.record_check.specs.Internal.ReplaySteps.{AgreesWith, IsEndAnswer, stage_by};

@@ -1,6 +1,5 @@
 //! One turn of a record, in the state before it.
 ghost use Rattle.std.specs.Prelude.{◌≡◌, ◌≢◌, ◌<◌, ◌↔◌, All, AllPairs, IfOk, IsTrue, List, MatchOption, ℕ, length};
-ghost use Rattle.game_core.specs.Play.{IsJoint};
 ghost use Rattle.match_book.specs.LegalMoves.{AreLegalMoves};
 ghost use Rattle.match_book.specs.RoleStrikes.{is_retired_in};
 ghost use Rattle.match_book.specs.Judgement.{error_text};

@@ -1,5 +1,5 @@
 //! Texts, lists and numbers, taken from JSON. A missing value has no shape.
-ghost use Rattle.std.specs.Prelude.{◌≡◌, IfOk, IsTrue, List, is_some, map, option_and_then, option_copied, option_map, ℕ};
+ghost use Rattle.std.specs.Prelude.{◌≡◌, IfOk, List, is_some, map, option_and_then, option_copied, option_map, ℕ};
 ghost use Rattle.serde_json.specs.Data.{Data, string};
 ghost use Rattle.serde_json.specs.Find.{as_array, as_null, as_str, get, get_member};
 ghost use Rattle.serde_json.specs.View.{items_view, members_view, view};

@@ -1,5 +1,4 @@
 //! What holds of all records.
-ghost use Rattle.game_core.specs.Play.{Rules};
 ghost use Rattle.record_reading.specs.LawfulRecord.{HoldsOnePartsAtMost, LawfulPartsHaveShape, RecordTreeHoldsParts, RecordsAreLawful, RefusedIsUnlawful};
 
 use game_core::Game;

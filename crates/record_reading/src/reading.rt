@@ -1,5 +1,5 @@
 //! A record, read from its text.
-ghost use Rattle.std.specs.Prelude.{◌≡◌, ◌≢◌, ◌≤◌, ◌<◌, ◌^◌, ◌==◌, ◌||◌, ◌↔◌, ◌⊎◌, All, IfErr, IfOk, IsTrue, Ok, OnOk, Some, None, if◌then◌else◌, length, true};
+ghost use Rattle.std.specs.Prelude.{◌≡◌, ◌≢◌, ◌≤◌, ◌<◌, ◌==◌, ◌||◌, ◌↔◌, ◌⊎◌, All, IfErr, IfOk, IsTrue, Ok, OnOk, Some, None, if◌then◌else◌, length, true};
 ghost use Rattle.serde_json.specs.Data.{Data, string};
 ghost use Rattle.serde_json.specs.View.{view};
 ghost use Rattle.game_core.specs.Play.{max_goal};
@@ -9,7 +9,7 @@ ghost use Rattle.record_reading.specs.Internal.KeyReading.{IsReadInto, SayTheSam
 ghost use Rattle.record_reading.specs.Internal.Shown.{AnyShape, Shows};
 ghost use Rattle.record_reading.specs.LawfulRecord.{AreLawfulParts, HasNoShape, IsFirstWithout, IsJson, IsLawfulRecord, IsShaped};
 ghost use Rattle.record_reading.specs.RecordParts.{AreErrors, AreGoals, AreMoves, ArePlayers, each_role};
-ghost use Rattle.record_reading.specs.RecordTree.{HasShape, Holds, IsShapedAt, goal_values_tree, keys, marks_tree, since_second, text_lists_tree, texts_tree, unless_there, version_of, version_said, version_tree, whole_tree};
+ghost use Rattle.record_reading.specs.RecordTree.{HasShape, Holds, IsShapedAt, goal_values_tree, keys, marks_tree, since_second, text_lists_tree, texts_tree, unless_there, version_said, version_tree, whole_tree};
 ghost use Rattle.record_reading.specs.declared.record_parts.Key.{Key};
 ghost use Rattle.record_reading.specs.declared.record_parts.Version.TheVariants.{First};
 ghost use Rattle.record_reading.specs.declared.verify_fault.VerifyFault.TheVariants.{BadShape, Memory, NotJson};

@@ -2,13 +2,10 @@
 use Rattle.std.proofs.Common.{◌≡◌, ℕ, true, List, [], ◌∷◌, ◌++◌, length, All, Option, None, Some, is_none, refl, ap, sym, ◌∙◌, length-append, arith}
 use Rattle.std.specs.List.{filter_map}
 use Rattle.std.proofs.lemmas.List.Elements.{All-head, All-tail, filter_map-append}
-use Rattle.desk_calls.specs.declared.due.Due.TheVariants.{Over}
-use Rattle.desk_calls.specs.declared.call.Call.{Call}
 use Rattle.desk_calls.specs.declared.call.Reply.{Reply}
 use Rattle.desk_calls.specs.declared.call.Reply.TheVariants.{Opened, Due, Taken, Status, Aborting, Refused}
 use Rattle.match_messages.specs.declared.brief.Brief.{Brief}
-use Rattle.role_workers.specs.Handing.{Handed}
-use Rattle.role_workers.specs.Events.{Event, reply_in, message_in, telling}
+use Rattle.role_workers.specs.Events.{Event, reply_in, message_in}
 use Rattle.role_workers.specs.AttendFaults.{answer_fault}
 use Rattle.role_workers.specs.Steps.{Step, rests, hands_over, finds_the_end, finds_no_due, events_of, goes_on}
 use Rattle.role_workers.specs.Attending.{events_of_all}

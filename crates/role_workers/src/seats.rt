@@ -4,7 +4,7 @@ ghost use Rattle.role_workers.specs.Seats.{AreSeatsOf, IsLeftBy, AreLeftBy};
 ghost use Rattle.role_workers.specs.Internal.Promises.{IsKept, ArePromisedFor};
 ghost use Rattle.role_workers.specs.RoleCalls.{due_round};
 ghost use Rattle.role_workers.specs.Internal.GivenUp.{AreGivenUp};
-ghost use denote.Param.Send.{IsSend, IsSync};
+ghost use denote.Param.Send.{IsSend};
 
 use crate::attend_fault::AttendFault;
 use crate::attending::{answer_call, attend_shared};

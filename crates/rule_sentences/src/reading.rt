@@ -1,5 +1,5 @@
 //! The reading of expressions as sentences.
-ghost use Rattle.std.specs.Prelude.{◌≡◌, IfOk, ◌&&◌, option_map};
+ghost use Rattle.std.specs.Prelude.{◌≡◌, IfOk, option_map};
 ghost use Rattle.game_core.specs.Expression.{atom, list};
 ghost use Rattle.kif_text.specs.View.{view as expression, views as expressions};
 ghost use Rattle.rule_sentences.specs.SentenceViews.{view, views, sentence_of};

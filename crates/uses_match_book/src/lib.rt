@@ -2,7 +2,7 @@
 #![tactic(auto)]
 
 ghost use Rattle.std.specs.Prelude.{◌≡◌, ◌<◌, true, false, IfOk, IfSome, OnErr};
-ghost use Rattle.game_core.specs.Play.{Rules, IsAt};
+ghost use Rattle.game_core.specs.Play.{IsAt};
 ghost use Rattle.match_book.specs.MatchValue.{joint_moves};
 ghost use Rattle.match_book.specs.Phase.{stage, is_live, round};
 ghost use Rattle.uses_match_book.specs.Endings.{EndsWith};

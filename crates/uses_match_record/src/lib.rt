@@ -2,7 +2,6 @@
 #![tactic(auto)]
 
 ghost use Rattle.std.specs.Prelude.{◌≡◌, IfOk};
-ghost use Rattle.game_core.specs.Play.{Rules};
 ghost use Rattle.desk_calls.specs.Names.{IsLawfulSetup};
 ghost use Rattle.record_reading.specs.LawfulRecord.{IsLawfulRecord};
 ghost use Rattle.record_reading.specs.RecordParts.{parts_of};

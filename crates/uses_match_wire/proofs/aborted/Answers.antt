@@ -6,7 +6,6 @@ use Rattle.desk_calls.specs.Names.{is_name}
 use Rattle.desk_calls.specs.declared.due.Owed.TheVariants.{Abort as OwesAbort}
 use Rattle.match_messages.specs.declared.brief.Brief.{Brief}
 use Rattle.match_messages.specs.declared.messages.Message.{Message}
-use Rattle.match_messages.specs.declared.messages.Message.TheVariants.{Abort}
 use Rattle.match_wire.specs.MessageLaws.{IsSayable, Says}
 use Rattle.match_wire.specs.MessageValue.{MessageValue, info, start, play, stop, abort, message_form, message_value, folded_message}
 use Rattle.uses_match_wire.proofs.aborted.Goals as goal
