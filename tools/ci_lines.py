@@ -15,6 +15,22 @@ def library_of(line):
     return found[1] if found and "NOT PROVED" not in line else None
 
 
+class Waits:
+    """Compares how many functions of each crate may wait, as its proof counts them, with what the crate's row in crates.txt says."""
+
+    def __init__(self, found):
+        self.stated = {name: said_words(line.partition(":")[0]).get("may_wait", "0") for name, (line, _) in found.items()}
+        self.current, self.wrong = "", []
+
+    def read(self, line):
+        if line.startswith("== "):
+            self.current = line[3:].strip()
+        elif line.startswith("logic=proved ") and self.current in self.stated:
+            counted, stated = said_words(line).get("may-wait", "0"), self.stated[self.current]
+            if counted != stated:
+                self.wrong.append(f"{self.current}: {counted} functions may wait, and crates.txt says {stated}")
+
+
 def follow(lines, progress, tell):
     """Goes through what `rt ci` prints, and reports each crate that ends. Returns the last lines of what failed first."""
     block, said, wrong = collections.deque(maxlen=LAST_LINES), "", []

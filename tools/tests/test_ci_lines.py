@@ -6,7 +6,8 @@ import sys
 import unittest
 
 sys.path.insert(0, os.path.dirname(os.path.dirname(os.path.realpath(__file__))))
-from ci_lines import follow, library_of
+from ci_lines import Waits, follow, library_of
+from crates import rows
 
 LINES = """\
 rt: low is kept: an earlier run on this machine proved the same files over the same libraries
@@ -60,6 +61,21 @@ class Lines(unittest.TestCase):
     def test_a_library_stands_there_once_it_is_proved_or_kept(self):
         self.assertEqual([it for it in map(library_of, LINES) if it], ["low", "wide"])
         self.assertIsNone(library_of("rt: wide: its tests are proved\n"))
+
+    def test_what_may_wait_is_compared_with_its_row(self):
+        def wrong(text, last_line, block="== wide\n"):
+            waits = Waits(rows(text))
+            for line in (block, "fn wide::one: proved\n", f"logic=proved functions=12 {last_line}sum=0123\n"):
+                waits.read(line)
+            return waits.wrong
+
+        self.assertEqual(wrong("wide may_wait=6: rtrb", "may-wait=6 "), [])
+        self.assertEqual(wrong("wide: rtrb", ""), [])
+        self.assertEqual(wrong("wide may_wait=6: rtrb", "may-wait=5 "), ["wide: 5 functions may wait, and crates.txt says 6"])
+        self.assertEqual(wrong("wide may_wait=6: rtrb", ""), ["wide: 0 functions may wait, and crates.txt says 6"])
+        self.assertEqual(wrong("wide: rtrb", "may-wait=1 "), ["wide: 1 functions may wait, and crates.txt says 0"])
+        # (its tests have a line of their own, of which the row says nothing)
+        self.assertEqual(wrong("wide: rtrb", "may-wait=1 ", "== wide: its tests\n"), [])
 
 
 if __name__ == "__main__":
