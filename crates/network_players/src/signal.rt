@@ -15,6 +15,9 @@ const FIRST_REST_MILLIS: u64 = 100;
 /// The limit of any rest, in milliseconds.
 const LONGEST_REST_MILLIS: u64 = 2_000;
 
+/// The code of no shortage.
+const NO_SHORTAGE: u64 = 0;
+
 /// The signal that the players of a match share: it says when a round begins, and what the referee was short of.
 ///
 /// A round begins when a player gets its next message, since each role gets one message in a round. No promise depends on when a player
@@ -25,7 +28,9 @@ pub struct Signal {
     latest: AtomicU64,
     /// The number of times that the resting players were woken.
     calls: AtomicU64,
-    /// The number of players, and of those that rest.
+    /// The number of players that were made and are not dropped yet.
+    seated: AtomicU64,
+    /// The number of players that may get a further message, and of those that rest.
     players: AtomicU64,
     resting: AtomicU64,
     /// The code of the shortage that was noted last.
@@ -38,9 +43,10 @@ impl Signal {
         Signal {
             latest: AtomicU64::new(0),
             calls: AtomicU64::new(0),
+            seated: AtomicU64::new(0),
             players: AtomicU64::new(0),
             resting: AtomicU64::new(0),
-            shortage: AtomicU64::new(0),
+            shortage: AtomicU64::new(NO_SHORTAGE),
         }
     }
 
@@ -60,7 +66,7 @@ impl Signal {
         self.shortage.store(code_of(shortage), Ordering::SeqCst);
     }
 
-    /// The shortage in the match that was noted last, if there was one.
+    /// The shortage in the match that was noted last, if there was one. It is forgotten once a player is made and no other one is left.
     pub fn shortage(&self) -> Option<Shortage> {
         coded(self.shortage.load(Ordering::SeqCst))
     }
@@ -81,6 +87,20 @@ impl Signal {
         if self.latest.fetch_max(number, Ordering::SeqCst) < number {
             self.call();
         }
+    }
+
+    /// Notes that a player is made. The first one begins a match, so what an earlier attempt at it noted is forgotten.
+    fn enter(&self) {
+        if self.seated.fetch_add(1, Ordering::SeqCst) == 0 {
+            self.latest.store(0, Ordering::SeqCst);
+            self.shortage.store(NO_SHORTAGE, Ordering::SeqCst);
+        }
+        self.players.fetch_add(1, Ordering::SeqCst);
+    }
+
+    /// Notes that a player is dropped.
+    fn end(&self) {
+        self.seated.fetch_sub(1, Ordering::SeqCst);
     }
 
     /// Begins a rest. Returns whether all players rest now.
@@ -161,6 +181,7 @@ impl Drop for Pace<'_> {
         if !has_left {
             signal.leave();
         }
+        signal.end();
     }
 }
 
@@ -170,7 +191,7 @@ impl<'a> Pace<'a> {
         ensures rest { as_nanos result.rest ≡ 100_000_000 }
         ensures here { IsFalse result.has_left }
     {
-        signal.players.fetch_add(1, Ordering::SeqCst);
+        signal.enter();
         Pace {
             signal,
             messages: 0,
