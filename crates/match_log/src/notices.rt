@@ -185,16 +185,19 @@ impl<'a, R: Wait> ReportStream<'a, R> {
 impl<R: Wait> Write for ReportStream<'_, R> {
     fn write(&mut self, bytes: &[u8]) -> io::Result<usize> {
         let start = self.line.len();
-        let is_taken = self.line.extend_from_slice(bytes).is_ok();
+        if self.line.extend_from_slice(bytes).is_err() {
+            // Otherwise the next report would continue this one.
+            self.line.clear();
+            return Err(io::Error::from(ErrorKind::OutOfMemory));
+        }
         for byte in self.line.iter_mut().skip(start) {
             *byte = reported_byte(*byte);
         }
         let is_whole = self.line.last() == Some(&b'\n');
-        if is_taken && (!is_whole || self.end_line()) {
-            Ok(bytes.len())
-        } else {
-            Err(io::Error::from(ErrorKind::OutOfMemory))
+        if is_whole && !self.end_line() {
+            return Err(io::Error::from(ErrorKind::OutOfMemory));
         }
+        Ok(bytes.len())
     }
 
     fn flush(&mut self) -> io::Result<()> {

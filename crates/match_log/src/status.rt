@@ -156,15 +156,15 @@ impl Outlet for Brand {
     ghost name = { 0 };
 }
 
-/// An output through the picked reference. Before each write to a terminal the status line is erased, since both may stand on the same
-/// one.
+/// An output through the picked reference. Before each write the status line is erased, if both may stand on the same terminal. An output
+/// that shares no terminal waits for no report.
 #[derive(Drop)]
 pub struct ClearedOutput<'a, 'w, N: Outlet, R, W, E> {
     pub rt: &'a R,
     pub output: &'w mut Counted<W>,
     pub status: &'a Mutex<StatusStream<E>>,
-    /// Whether the output goes to a terminal.
-    pub is_terminal: bool,
+    /// Whether the status line may stand on the terminal that the output goes to.
+    pub shares_terminal: bool,
     pub outlet: PhantomData<N>,
     pub ghost picked: { output.ghost_name ≡ N.name },
 }
@@ -173,7 +173,7 @@ impl<N: Outlet, R: Wait, W: Write, E: Write> Write for ClearedOutput<'_, '_, N, 
     ghost contents = { λ cleared. W.contents cleared.output.now.stream };
 
     fn write(&mut self, bytes: &[u8]) -> io::Result<usize> {
-        if self.is_terminal {
+        if self.shares_terminal {
             self.status.lock(self.rt).clear();
         }
         self.output.write(bytes)
