@@ -1,10 +1,12 @@
 //! The explanation of an account's line whose call can't be made again.
 
 use crate::bad_lines::{BadLine, Source, push_bad_line};
-use desk_text::{first_piece, number_up_to};
+use desk_text::{first_line, first_piece, number_up_to};
 use std::alloc::AllocError;
 
-/// The form of an entry's text.
+/// What is wrong with an entry's text that has less than these three fields.
+const FEWER: &str = "fewer fields than in ";
+
 const FORM: &str = "LINE CALL REPLY, with a tab between each two";
 
 /// The largest number of a line of a desk.
@@ -13,7 +15,7 @@ const MAX_DESK_LINE: u64 = 4_294_967_295;
 /// What is wrong with an entry's text that holds no call.
 fn fault_of(entry: &[u8]) -> BadLine {
     let (number, Some(rest)) = first_piece(entry, b'\t') else {
-        return BadLine::new(entry.len(), "fewer fields than in ", FORM);
+        return BadLine::new(entry.len(), FEWER, FORM);
     };
     if number_up_to(number, MAX_DESK_LINE).is_none() {
         return BadLine::new(0, "no number of a line", "");
@@ -34,12 +36,24 @@ fn difference(entry: &[u8], right: &[u8]) -> BadLine {
         }
         at += 1;
     }
+    if tabs < 2 && at == entry.len() {
+        return BadLine::new(at, FEWER, FORM);
+    }
     let words = if tabs == 2 {
         "the call gets another reply"
     } else {
         "the call is written in another way"
     };
     BadLine::new(at, words, "")
+}
+
+/// The first line of a text, and the text after it. The line is empty if the text is.
+fn next_line(text: &[u8]) -> (&[u8], &[u8]) {
+    if text.is_empty() {
+        (text, text)
+    } else {
+        first_line(text)
+    }
 }
 
 /// Appends to `out` what is wrong with the line of this number of an account, as a line of standard error. Lines are numbered from 1.
@@ -52,10 +66,9 @@ pub fn push_bad_entry(
 ) -> Result<(), AllocError> {
     let mut rest = account;
     for _ in 1..number {
-        let (_, more) = first_piece(rest, b'\n');
-        rest = more.unwrap_or(b"");
+        rest = next_line(rest).1;
     }
-    let (entry, _) = first_piece(rest, b'\n');
+    let entry = next_line(rest).0;
     let fault = match right {
         Some(right) => difference(entry, right),
         None => fault_of(entry),
