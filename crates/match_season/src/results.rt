@@ -33,7 +33,7 @@ pub struct Over<N: Naming> {
 #[derive(Drop)]
 pub struct Results<'r, N: Naming> {
     pub receiver: &'r Receiver<Over<N>>,
-    /// Whether no thread can send one any more.
+    /// Whether no further result can come. A season keeps a sender of its own, so this never happens to it.
     pub is_closed: bool,
 }
 
@@ -41,7 +41,7 @@ impl<N: Naming> Results<'_, N> {
     ghost use Rattle.std.specs.Prelude.{IfNone};
     ghost use Rattle.match_season.specs.Seasons.{HasAll};
 
-    /// Waits for the next result. `None` means that all matches are settled, or that no thread can send a result any more.
+    /// Waits for the next result. `None` means that all matches are settled, or that no further result can come.
     pub fn next<R: Wait>(&mut self, rt: &R, written: &Written) -> Option<Over<N>>
         ensures { IfNone result (HasAll self.new.is_closed written.now) }
     {

@@ -1,5 +1,5 @@
 //! Plays a season: the matches of a schedule, several at once, each on a desk of its own.
-ghost use Rattle.std.specs.Prelude.{◌≡◌, ◌↔◌, ℕ, List, true, Err, IfOk, IsTrue, OnOk, length, min};
+ghost use Rattle.std.specs.Prelude.{◌≡◌, ◌↔◌, ℕ, List, false, true, Err, IfOk, IsTrue, OnOk, length, min, replicate};
 ghost use denote.Param.Send.{IsSend, IsSync};
 ghost use Rattle.match_messages.specs.contracts.start_rules.PrintedRules.{the_row as rules_row};
 ghost use Rattle.packed_rules.specs.contracts.packed_game.PackedGame.{the_row as game_row};
@@ -114,10 +114,12 @@ fn write_played<N: Naming, R: Wait, W: Write, E: Write>(
     floor: &Floor,
     has_thread: bool,
     order: RecordOrder,
+    nothing: Written,
     receiver: &Receiver<Over<N>>,
     writer: &mut Counted<W>,
     errors: &Mutex<E>,
 ) -> Result<u64, SeasonFault>
+    requires fresh { (nothing.records ≡ 0) × (nothing.is_settled.items ≡ replicate (length plans.now) false) }
     ensures written { IfOk result (λ missing. WritesAllBut N.is_output order missing (length plans.now) (W.contents writer.old.stream) (W.contents writer.new.stream)) }
     ensures thread { OnOk result (has_thread ≡ true) }
     ensures faults { writer.new.faults ≡ faults_after result writer.old.faults }
@@ -130,7 +132,7 @@ fn write_played<N: Naming, R: Wait, W: Write, E: Write>(
         receiver,
         is_closed: false,
     };
-    let mut written = Written::nothing(alloc, plans.len())?;
+    let mut written = nothing;
     match write_season(alloc, order, &reports, &mut results, &mut written, writer) {
         Ok(()) => {
             reports.report_rest(&written);
@@ -182,6 +184,10 @@ where
             ensures written { IfOk result.0 (λ missing. WritesAllBut N.is_output form.order missing (length season.entry.now.plans.now) (W.contents writer.entry.now.stream) (W.contents result.1.now.stream)) }
             ensures faults { result.1.now.faults ≡ faults_after result.0 writer.entry.now.faults }
         {
+            // Before any match begins, since without it no result could be written.
+            let Ok(nothing) = Written::nothing(alloc, season.plans.len()) else {
+                return (Err(SeasonFault::Memory), writer);
+            };
             let mut has_thread = false;
             for _ in 0..threads_for(form, season.plans.len()) {
                 let work = move || season.play_matches(rt, sender);
@@ -198,6 +204,7 @@ where
                 floor,
                 has_thread,
                 form.order,
+                nothing,
                 receiver,
                 writer,
                 errors,
@@ -251,8 +258,8 @@ where
 /// that is short of memory or threads waits again until another one is over, and from then on one match less is played at once. If no
 /// other match is running, it has no record.
 ///
-/// If not a single thread can be made, the result is out of memory, and no match was begun. Otherwise each match without a record is
-/// reported. After a failed write no further match begins.
+/// If there is no room to count the records, or not a single thread can be made, the result is out of memory, and no match was begun.
+/// Otherwise each match without a record is reported. After a failed write no further match begins.
 pub fn play_season<'f, 'a, R, P, S, W: Write, E: Write + Send>(
     rt: &R,
     alloc: Global,

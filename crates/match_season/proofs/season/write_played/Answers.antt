@@ -5,6 +5,6 @@ use Rattle.match_season.proofs.season.write_played.Goals as goal
 
 pub returns-in-Ok-clause-written : goal.returns-in-Ok-clause-written
 returns-in-Ok-clause-written g c =
-    let before = c.in_ok-written.written in
+    let before = c.args.nothing in
     let after = c.write_season.new.written in
-    all-but _ _ (length c.args.plans.now) c.missing.result before after _ _ c.in_ok-written.ensures.0 (ap length c.in_ok-written.ensures.1 ∙ length-replicate _ _) (omega arith) (omega (arith, c.missing.ensures, after.is_settled.ok.0)) c.in-Ok.ensures.written
+    all-but _ _ (length c.args.plans.now) c.missing.result before after _ _ c.requires.fresh.0 (ap length c.requires.fresh.1 ∙ length-replicate _ _) (omega arith) (omega (arith, c.missing.ensures, after.is_settled.ok.0)) c.in-Ok.ensures.written
