@@ -1,5 +1,5 @@
 -- The check of a player in each role of a game.
-use Rattle.std.specs.Prelude.{◌≡◌, ◌==◌, ◌<◌, ◌++◌, ◌∷◌, [], ℕ, List, Option, None, IfSome, codes, is_some, length, map, min}
+use Rattle.std.specs.Prelude.{◌≡◌, ◌==◌, ◌<◌, ◌++◌, ◌∷◌, [], ℕ, List, Option, IfSome, codes, is_some, length, map, min, option_and_then}
 use Rattle.std.specs.Fmt.{decimal}
 use Rattle.std.specs.Io.KnownBytes.{Appends}
 use Rattle.std.specs.List.{concat, sum_by}
@@ -12,6 +12,7 @@ use Rattle.match_plans.specs.declared.addresses.PlayerAddress.{PlayerAddress}
 use Rattle.match_plans.specs.declared.plan.CheckPlan.{CheckPlan}
 use Rattle.match_plans.specs.declared.plan.MatchPlan.{MatchPlan}
 use Rattle.match_plans.specs.declared.reach.RolePlace.{RolePlace}
+use Rattle.role_workers.specs.Handing.{Handed}
 use Rattle.role_workers.specs.Places.{EachAt}
 use Rattle.match_play.specs.Limits.{max_tries}
 use Rattle.match_play.specs.PlayedMatches.{ArePlayedTurns, AreReached, IsSetupOf}
@@ -31,15 +32,19 @@ match_id role = codes "check-" ++ decimal role
 abbrev pub is_watched : (H : Type 0) → {P : Type 0} → (RolePlace → PlayerAddress → P → Type 0) → ℕ → RolePlace → PlayerAddress → Participant H P → Type 0
 is_watched H is_reached role at address participant = (is_some participant.watched ≡ (at.role == role)) × IfSome participant.watched (is_reached at address)
 
--- A match of this game was played, in which the player has this role. These are the role's turns in it.
-pub record AreTurnsIn (H : Type 0) {P : Type 0} (is_reached : RolePlace → PlayerAddress → P → Type 0) (game : HostedGame) (plan : CheckPlan) (role : ℕ) (turns : List RoleTurn) : Type 0 where
+-- what a participant was handed: what its player was, if it is watched
+abbrev pub watched_handed : (H : Type 0) → {P : Type 0} → (P → Option (List Handed)) → Participant H P → Option (List Handed)
+watched_handed H handed participant = option_and_then handed participant.watched
+
+-- A match of this game was played, in which the player has this role and was handed the role's messages. These are the role's turns in it.
+pub record AreTurnsIn (H : Type 0) {P : Type 0} (is_reached : RolePlace → PlayerAddress → P → Type 0) (handed : P → Option (List Handed)) (game : HostedGame) (plan : CheckPlan) (role : ℕ) (turns : List RoleTurn) : Type 0 where
   pub made : MatchPlan
   pub planned : IsPlanFor plan (match_id role) role (loaded_game (tables_of game.game.now)).roles made
   pub setup : Setup
   pub is_setup : IsSetupOf made setup
   pub participants : List (Participant H P)
   pub reached : AreReached (is_watched H is_reached role) 0 made participants
-  pub played : ArePlayedTurns (λ participant. None) game.game.now game.rules.now.items max_tries setup participants role turns
+  pub played : ArePlayedTurns (watched_handed H handed) game.game.now game.rules.now.items max_tries setup participants role turns
 
 -- These are the rows, and this is the number of bad answers, of some exchanges and turns of a role. Which exchanges there were is not
 -- said.
@@ -78,13 +83,13 @@ pub record WritesTable {S M : Type 0} (AreTurns : ℕ → List RoleTurn → Type
   pub written : Appends old new (table_text roles)
 
 -- the table of the check of a player in the first roles of this game
-abbrev pub WritesRoles : (H : Type 0) → {P : Type 0} → (RolePlace → PlayerAddress → P → Type 0) → HostedGame → CheckPlan → ℕ → ℕ → Option (List ℕ) → Option (List ℕ) → Type 0
-WritesRoles H is_reached game plan count bad old new = WritesTable (AreTurnsIn H is_reached game plan) (loaded_game (tables_of game.game.now)) count bad old new
+abbrev pub WritesRoles : (H : Type 0) → {P : Type 0} → (RolePlace → PlayerAddress → P → Type 0) → (P → Option (List Handed)) → HostedGame → CheckPlan → ℕ → ℕ → Option (List ℕ) → Option (List ℕ) → Type 0
+WritesRoles H is_reached handed game plan count bad old new = WritesTable (AreTurnsIn H is_reached handed game plan) (loaded_game (tables_of game.game.now)) count bad old new
 
 -- the table of the check of a player in each role of this game
-abbrev pub WritesCheck : (H : Type 0) → {P : Type 0} → (RolePlace → PlayerAddress → P → Type 0) → HostedGame → CheckPlan → ℕ → Option (List ℕ) → Option (List ℕ) → Type 0
-WritesCheck H is_reached game plan bad old new = WritesRoles H is_reached game plan (loaded_game (tables_of game.game.now)).roles bad old new
+abbrev pub WritesCheck : (H : Type 0) → {P : Type 0} → (RolePlace → PlayerAddress → P → Type 0) → (P → Option (List Handed)) → HostedGame → CheckPlan → ℕ → Option (List ℕ) → Option (List ℕ) → Type 0
+WritesCheck H is_reached handed game plan bad old new = WritesRoles H is_reached handed game plan (loaded_game (tables_of game.game.now)).roles bad old new
 
 -- the table of a check that ended early: some role is missing, and each role after it
-abbrev pub WritesEarlier : (H : Type 0) → {P : Type 0} → (RolePlace → PlayerAddress → P → Type 0) → HostedGame → CheckPlan → Option (List ℕ) → Option (List ℕ) → Type 0
-WritesEarlier H is_reached game plan old new = (count : ℕ) × (count < (loaded_game (tables_of game.game.now)).roles) × (bad : ℕ) × WritesRoles H is_reached game plan count bad old new
+abbrev pub WritesEarlier : (H : Type 0) → {P : Type 0} → (RolePlace → PlayerAddress → P → Type 0) → (P → Option (List Handed)) → HostedGame → CheckPlan → Option (List ℕ) → Option (List ℕ) → Type 0
+WritesEarlier H is_reached handed game plan old new = (count : ℕ) × (count < (loaded_game (tables_of game.game.now)).roles) × (bad : ℕ) × WritesRoles H is_reached handed game plan count bad old new

@@ -169,7 +169,7 @@ where
     P: Player + Explains + Drop + Send,
     S: Reach<P> + TellsShortages,
     requires { role < (⟦<PackedGame as Game>⟧.rules game.game.now).roles }
-    ensures told { IfOk result (λ bad. (rows : List ℕ) × IsToldOf (AreTurnsIn H (S.is_reached reach.now) game.entry plan.now role) ((⟦<PackedGame as Game>⟧.rules game.entry.game.now).role_name role) rows bad
+    ensures told { IfOk result (λ bad. (rows : List ℕ) × IsToldOf (AreTurnsIn H (S.is_reached reach.now) P.handed game.entry plan.now role) ((⟦<PackedGame as Game>⟧.rules game.entry.game.now).role_name role) rows bad
         × (table.new.items ≡ table.old.items ++ rows)) }
     ensures clear { OnOk result (S.is_clear reach.now 0) }
     ensures others { IfErr result (λ fault. fault ≢ faults.WriteFault) }
@@ -205,9 +205,9 @@ where
     H: Clock + Threads + Wait + Sync,
     P: Player + Explains + Drop + Send,
     S: Reach<P> + TellsShortages,
-    ensures table { IfOk result (λ bad. WritesCheck H (S.is_reached reach.now) game.entry plan.now bad (W.contents writer.old.stream) (W.contents writer.new.stream)) }
+    ensures table { IfOk result (λ bad. WritesCheck H (S.is_reached reach.now) P.handed game.entry plan.now bad (W.contents writer.old.stream) (W.contents writer.new.stream)) }
     ensures clear { OnOk result (S.is_clear reach.now 0) }
-    ensures early { IfErr result (λ fault. fault ≢ faults.WriteFault → WritesEarlier H (S.is_reached reach.now) game.entry plan.now (W.contents writer.old.stream) (W.contents writer.new.stream)) }
+    ensures early { IfErr result (λ fault. fault ≢ faults.WriteFault → WritesEarlier H (S.is_reached reach.now) P.handed game.entry plan.now (W.contents writer.old.stream) (W.contents writer.new.stream)) }
     ensures written { OnOk result (writer.new.faults ≡ writer.old.faults) }
     ensures failed { result ≡ Err faults.WriteFault → writer.new.faults ≡ one_more writer.old.faults }
     ensures others { IfErr result (λ fault. fault ≢ faults.WriteFault → writer.new.faults ≡ writer.old.faults) }

@@ -189,9 +189,9 @@ impl<H: Clock + Wait, P: Explains> Participant<'_, H, P> {
 }
 
 impl<H: Clock + Wait, P: Player + Explains> Player for Participant<'_, H, P> {
-    ghost use Rattle.std.specs.Prelude.{None};
+    ghost use Rattle.player_check.specs.Checks.{watched_handed};
 
-    ghost handed = { λ p. None };
+    ghost handed = { λ p. watched_handed H P.handed p };
 
     fn ask(&mut self, seconds: u32, body: &[u8]) -> Answer {
         self.pace.begin();
