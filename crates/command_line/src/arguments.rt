@@ -63,7 +63,7 @@ fn number<'a>(
     least: u64,
     limit: u64,
 ) -> Result<u64, WrongValue<'a>>
-    ensures { IfOk result (λ number. number ≤ limit) }
+    ensures { IfOk result (λ number. (least ≤ number) × (number ≤ limit)) }
 {
     let value = found.get_str(option).unwrap_or("");
     match decimal(value, limit) {
