@@ -1,3 +1,2 @@
 mod LargestNumbers
-mod CheckEnds
 mod SeasonEnds

@@ -38,8 +38,8 @@ abbrev pub AreToPlay : {F : Type 0} → PackedGame → ℕ → Option F → List
 AreToPlay game strikes done schedule plans = (all : List MatchPlan) × AllZip (IsPlanned strikes) (match_lines schedule) all
     × MatchOption done (plans ≡ all) (λ file. (noted : DoneMatches) × ((records : List ℕ) × AreDone (loaded_game (tables_of game)) (lines records) noted) × (plans ≡ left_of noted all))
 
--- From one content of a stream to the other the output of each match to play was written, as the season's form asks. Each match is of this
--- game. Its players were reached at the addresses of their roles, and got the game's rules.
-abbrev pub WritesSeason : {P : Type 0} → (RolePlace → PlayerAddress → P → Type 0) → (P → Option (List Handed)) → HostedGame → SeasonPlan → List ℕ → Option (List ℕ) → Option (List ℕ) → Type 0
-WritesSeason is_reached handed game season schedule old new = (plans : List MatchPlan) × AreToPlay game.game.now season.strikes season.done schedule plans
-    × WritesAllBut (IsOutputOf is_reached handed game plans season.form.has_history) season.form.order 0 (length plans) old new
+-- From one content of a stream to the other the output of each match to play was written, as the season's form asks, but for the missing
+-- ones. Each match is of this game. Its players were reached at the addresses of their roles, and got the game's rules.
+abbrev pub WritesSeason : {P : Type 0} → (RolePlace → PlayerAddress → P → Type 0) → (P → Option (List Handed)) → HostedGame → SeasonPlan → List ℕ → ℕ → Option (List ℕ) → Option (List ℕ) → Type 0
+WritesSeason is_reached handed game season schedule missing old new = (plans : List MatchPlan) × AreToPlay game.game.now season.strikes season.done schedule plans
+    × WritesAllBut (IsOutputOf is_reached handed game plans season.form.has_history) season.form.order missing (length plans) old new

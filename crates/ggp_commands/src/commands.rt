@@ -2,7 +2,7 @@
 ghost use Rattle.std.specs.Prelude.{◌≡◌, OnOk};
 
 use crate::errands::{abort, info};
-use crate::faults::argument_fault;
+use crate::faults::{argument_fault, task_end};
 use crate::hosting::host;
 use crate::matches::{hold_matches, input_of};
 use crate::terminals::Terminals;
@@ -135,7 +135,7 @@ where
         Task::Host(plan, task) => {
             let hosting = host(rt, alloc, *plan, remarks)?;
             let input = input_of(alloc, task, reader)?;
-            let (performed, _writer) = hold_matches::<Brand, H, P, S, W, E>(
+            let (held, _writer) = hold_matches::<Brand, H, P, S, W, E>(
                 rt,
                 alloc,
                 reach,
@@ -147,7 +147,7 @@ where
                 errors,
                 terminals,
             );
-            performed
+            task_end(task, held)
         }
     }
 }

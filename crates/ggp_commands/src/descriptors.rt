@@ -1,5 +1,5 @@
 //! The number of matches at once that the program's descriptors allow.
-ghost use Rattle.std.specs.Prelude.{◌≡◌, ◌<◌, ◌≤◌, IfNone, IfSome, min};
+ghost use Rattle.std.specs.Prelude.{◌≡◌, ◌⊎◌, ◌<◌, ℕ, IfNone, IfSome, min};
 ghost use Rattle.ggp_commands.specs.Descriptors.{Allows, IsLargest};
 
 use game_core::Counted;
@@ -81,7 +81,7 @@ pub fn allowed_form<F: Files, E: Write>(
     matches: usize,
     errors: &mut E,
 ) -> SeasonForm
-    ensures fewer { result.at_once ≤ form.at_once }
+    ensures allowed { (result ≡ form) ⊎ ((descriptors : ℕ) × IsLargest descriptors players result.at_once × (result.at_once < min form.at_once matches)) }
     ensures same { result ≡ record form { at_once = result.at_once } }
 {
     let Some(descriptors) = allowed_descriptors(files, alloc) else {

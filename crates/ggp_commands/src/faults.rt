@@ -1,8 +1,8 @@
 //! The program's fault where a part of its work fails.
-ghost use Rattle.std.specs.Prelude.{◌≡◌, ◌≢◌, IfErr, OnErr, OnOk};
-ghost use Rattle.ggp_commands.specs.Faults.{argument_fault, check_end, check_fault, contact_fault, match_fault, season_end, season_fault};
+ghost use Rattle.std.specs.Prelude.{◌≡◌, ◌≢◌, IfErr, Ok, OnErr, OnOk};
+ghost use Rattle.ggp_commands.specs.Faults.{argument_fault, check_fault, contact_fault, match_fault, season_fault, task_fault};
 
-use command_line::ArgumentFault;
+use command_line::{ArgumentFault, HostedTask};
 use game_commands::Fault;
 use match_plans::Shortage;
 use match_play::MatchFault;
@@ -33,7 +33,7 @@ pub fn match_fault(fault: MatchFault) -> Fault
 }
 
 /// The program's fault where a season fails.
-fn season_fault(fault: SeasonFault) -> Fault
+pub fn season_fault(fault: SeasonFault) -> Fault
     ensures { result ≡ season_fault fault }
 {
     match fault {
@@ -43,7 +43,7 @@ fn season_fault(fault: SeasonFault) -> Fault
 }
 
 /// The program's fault where the check of a player fails.
-fn check_fault(fault: CheckFault) -> Fault
+pub fn check_fault(fault: CheckFault) -> Fault
     ensures { result ≡ check_fault fault }
 {
     match fault {
@@ -63,28 +63,25 @@ pub fn contact_fault(fault: ContactFault) -> Fault
     }
 }
 
-/// The end of a season, by the number of its matches without a record.
-pub fn season_end(played: Result<u64, SeasonFault>) -> Result<(), Fault>
-    ensures all { OnOk result (played ≡ Ok 0) }
-    ensures some { OnErr result (played ≢ Ok 0) }
-    ensures fault { IfErr result (λ fault. fault ≡ season_end played) }
+/// The program's fault where so many matches of a task have no record, or so many answers in its check are bad.
+fn lacking_fault(task: &HostedTask<'_>, count: u64) -> Fault
+    ensures { result ≡ task_fault task.now (Ok count) }
 {
-    match played {
-        Ok(0) => Ok(()),
-        Ok(count) => Err(Fault::NoRecords(count)),
-        Err(fault) => Err(season_fault(fault)),
+    match task {
+        HostedTask::Run(_) | HostedTask::Season(_) => Fault::NoRecords(count),
+        HostedTask::Check(_) => Fault::BadAnswers(count),
     }
 }
 
-/// The end of a check, by the number of bad answers.
-pub fn check_end(checked: Result<u64, CheckFault>) -> Result<(), Fault>
-    ensures all { OnOk result (checked ≡ Ok 0) }
-    ensures some { OnErr result (checked ≢ Ok 0) }
-    ensures fault { IfErr result (λ fault. fault ≡ check_end checked) }
+/// The end of a task, by the number of its matches without a record, or of bad answers in its check.
+pub fn task_end(task: &HostedTask<'_>, held: Result<u64, Fault>) -> Result<(), Fault>
+    ensures all { OnOk result (held ≡ Ok 0) }
+    ensures some { OnErr result (held ≢ Ok 0) }
+    ensures fault { IfErr result (λ fault. fault ≡ task_fault task.now held) }
 {
-    match checked {
+    match held {
         Ok(0) => Ok(()),
-        Ok(count) => Err(Fault::BadAnswers(count)),
-        Err(fault) => Err(check_fault(fault)),
+        Ok(count) => Err(lacking_fault(task, count)),
+        Err(fault) => Err(fault),
     }
 }

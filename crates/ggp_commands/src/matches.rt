@@ -9,7 +9,7 @@ ghost use Rattle.ggp_commands.specs.Schedules.{WritesSeason, has_schedule};
 ghost use Rattle.ggp_commands.specs.Tasks.{WritesTask};
 
 use crate::descriptors::allowed_form;
-use crate::faults::{check_end, match_fault, season_end};
+use crate::faults::{check_fault, match_fault, season_fault};
 use crate::schedules::plans_of;
 use crate::terminals::Terminals;
 use command_line::{HostedTask, RunPlan, SeasonPlan};
@@ -111,7 +111,7 @@ pub fn input_of<R: Read>(
     }
 }
 
-/// Plays the matches of a schedule, and writes their records.
+/// Plays the matches of a schedule, and writes their records. Returns the number of those without a record.
 #[tactic(auto, using(crate::proofs::SeasonEnds::season_written))]
 fn season<H, P, S, W: Write>(
     rt: &H,
@@ -122,12 +122,12 @@ fn season<H, P, S, W: Write>(
     schedule: &[u8],
     writer: &mut Counted<W>,
     console: &Console,
-) -> Result<(), Fault>
+) -> Result<u64, Fault>
 where
     H: Files + Threads + Wait + Sync,
     P: Player + Drop + Send,
     S: Reach<P> + TellsShortages + Sync,
-    ensures { OnOk result (WritesSeason (S.is_reached reach.now) P.handed game.entry season.entry schedule.now (W.contents writer.old.stream) (W.contents writer.new.stream)) }
+    ensures { IfOk result (λ missing. WritesSeason (S.is_reached reach.now) P.handed game.entry season.entry schedule.now missing (W.contents writer.old.stream) (W.contents writer.new.stream)) }
 {
     let plans = plans_of(rt, alloc, game.game, season, schedule)?;
     console.plan(rt, plans.len());
@@ -144,11 +144,13 @@ where
     let played = play_season::<H, P, S, W, ReportStream<'_, H>>(
         rt, alloc, reach, game, &plans, form, writer, &errors,
     );
-    season_end(played)
+    match played {
+        Ok(missing) => Ok(missing),
+        Err(fault) => Err(season_fault(fault)),
+    }
 }
 
-/// Checks a player, and writes its table.
-#[tactic(auto, using(crate::proofs::CheckEnds::check_written))]
+/// Checks a player, and writes its table. Returns the number of bad answers.
 fn check<H, P, S, W: Write>(
     rt: &H,
     alloc: Global,
@@ -156,19 +158,21 @@ fn check<H, P, S, W: Write>(
     plan: &CheckPlan<'_>,
     game: HostedGame<'_>,
     writer: &mut Counted<W>,
-) -> Result<(), Fault>
+) -> Result<u64, Fault>
 where
     H: Clock + Threads + Wait + Sync,
     P: Player + Explains + Drop + Send,
     S: Reach<P> + TellsShortages,
     ensures clear { OnOk result (S.is_clear reach.now 0) }
-    ensures written { OnOk result (WritesCheck H (S.is_reached reach.now) game.entry plan.now 0 (W.contents writer.old.stream) (W.contents writer.new.stream)) }
+    ensures written { IfOk result (λ bad. WritesCheck H (S.is_reached reach.now) P.handed game.entry plan.now bad (W.contents writer.old.stream) (W.contents writer.new.stream)) }
 {
-    let checked = check_player::<H, P, S, W>(rt, alloc, reach, plan, game, writer);
-    check_end(checked)
+    match check_player::<H, P, S, W>(rt, alloc, reach, plan, game, writer) {
+        Ok(bad) => Ok(bad),
+        Err(fault) => Err(check_fault(fault)),
+    }
 }
 
-/// Performs a task on a game, and reports on its matches.
+/// Performs a task on a game, and reports on its matches. Returns the number of matches without a record, or of bad answers.
 fn perform_hosted<H, P, S, W: Write>(
     rt: &H,
     alloc: Global,
@@ -178,12 +182,12 @@ fn perform_hosted<H, P, S, W: Write>(
     input: &[u8],
     writer: &mut Counted<W>,
     console: &Console,
-) -> Result<(), Fault>
+) -> Result<u64, Fault>
 where
     H: Clock + Files + Threads + Wait + Sync,
     P: Player + Explains + Drop + Send,
     S: Reach<P> + TellsShortages + Sync,
-    ensures written { OnOk result (WritesTask H (is_logged_reached H (S.is_reached reach.now)) (logged_handed H P.handed) game.entry task.now input.now (W.contents writer.old.stream) (W.contents writer.new.stream)) }
+    ensures written { IfOk result (λ count. WritesTask H (is_logged_reached H (S.is_reached reach.now)) (logged_handed H P.handed) game.entry task.now input.now count (W.contents writer.old.stream) (W.contents writer.new.stream)) }
 {
     let logging = Logging {
         rt,
@@ -195,7 +199,8 @@ where
     match task {
         HostedTask::Run(plan) => {
             console.plan(rt, 1);
-            run::<H, LoggedPlayer<'_, H, P>, _, W>(rt, alloc, &logging, plan, game, writer)
+            run::<H, LoggedPlayer<'_, H, P>, _, W>(rt, alloc, &logging, plan, game, writer)?;
+            Ok(0)
         }
         HostedTask::Season(plan) => season::<H, LoggedPlayer<'_, H, P>, _, W>(
             rt, alloc, &logging, *plan, game, input, writer, console,
@@ -207,7 +212,7 @@ where
     }
 }
 
-/// Performs the task while a thread writes the reports.
+/// Performs the task while a thread writes the reports. Returns what the task returns.
 fn perform_beside_notices<H, P, S, W: Write, E: Write + Send>(
     rt: &H,
     alloc: Global,
@@ -218,21 +223,21 @@ fn perform_beside_notices<H, P, S, W: Write, E: Write + Send>(
     writer: &mut Counted<W>,
     console: &Console,
     stream: &Mutex<StatusStream<&mut E>>,
-) -> Result<(), Fault>
+) -> Result<u64, Fault>
 where
     H: Clock + Files + Threads + Wait + Sync,
     P: Player + Explains + Drop + Send,
     S: Reach<P> + TellsShortages + Sync,
-    ensures written { OnOk result (WritesTask H (is_logged_reached H (S.is_reached reach.now)) (logged_handed H P.handed) game.entry task.now input.now (W.contents writer.old.stream) (W.contents writer.new.stream)) }
+    ensures written { IfOk result (λ count. WritesTask H (is_logged_reached H (S.is_reached reach.now)) (logged_handed H P.handed) game.entry task.now input.now count (W.contents writer.old.stream) (W.contents writer.new.stream)) }
 {
     // The closure returns the output, so its content is known behind the scope.
     let (performed, _writer) = thread::scope(
         thread::scope_env(),
         rt,
-        move |scope| -> (Result<(), Fault>, &mut Counted<W>)
+        move |scope| -> (Result<u64, Fault>, &mut Counted<W>)
             requires sent { IsSync H.row × IsSend E.row }
             ensures stream { result.1.ghost_name ≡ writer.entry.ghost_name }
-            ensures written { OnOk result.0 (WritesTask H (is_logged_reached H (S.is_reached reach.entry.now)) (logged_handed H P.handed) game.entry task.entry.now input.entry.now (W.contents writer.entry.now.stream) (W.contents result.1.now.stream)) }
+            ensures written { IfOk result.0 (λ count. WritesTask H (is_logged_reached H (S.is_reached reach.entry.now)) (logged_handed H P.handed) game.entry task.entry.now input.entry.now count (W.contents writer.entry.now.stream) (W.contents result.1.now.stream)) }
         {
             let writing = move || console
                 .notices
@@ -251,7 +256,8 @@ where
 }
 
 /// Plays matches of a game and reports on them: each message if that is wanted, otherwise the progress if `errors` is a terminal. No match
-/// waits for a reader of the reports. Hands the output back, so its content is known.
+/// waits for a reader of the reports. Returns the number of matches without a record, or of bad answers. Hands the output back, so its
+/// content is known.
 pub fn hold_matches<'w, N: Outlet, H, P, S, W: Write, E: Write + Send>(
     rt: &H,
     alloc: Global,
@@ -263,14 +269,14 @@ pub fn hold_matches<'w, N: Outlet, H, P, S, W: Write, E: Write + Send>(
     writer: &'w mut Counted<W>,
     errors: &mut E,
     terminals: Terminals,
-) -> (Result<(), Fault>, &'w mut Counted<W>)
+) -> (Result<u64, Fault>, &'w mut Counted<W>)
 where
     H: Clock + Files + Threads + Wait + Sync,
     P: Player + Explains + Drop + Send,
     S: Reach<P> + TellsShortages + Sync,
     requires picked { N.name ≡ writer.ghost_name }
     ensures output { result.1.ghost_name ≡ writer.entry.ghost_name }
-    ensures written { OnOk result.0 (WritesTask H (is_logged_reached H (S.is_reached reach.now)) (logged_handed H P.handed) game.entry task.now input.now (W.contents writer.entry.now.stream) (W.contents result.1.now.stream)) }
+    ensures written { IfOk result.0 (λ count. WritesTask H (is_logged_reached H (S.is_reached reach.now)) (logged_handed H P.handed) game.entry task.now input.now count (W.contents writer.entry.now.stream) (W.contents result.1.now.stream)) }
 {
     let console = Console {
         notices: Notices::new(alloc),
@@ -283,7 +289,7 @@ where
         rt,
         output: writer,
         status: &stream,
-        is_terminal: terminals.output,
+        shares_terminal: terminals.output && terminals.errors && !is_logged,
         outlet: PhantomData,
     });
     let performed = perform_beside_notices::<H, P, S, ClearedOutput<'_, 'w, N, H, W, &mut E>, E>(
