@@ -1,5 +1,6 @@
 """Which players are free: each sits in a limited number of matches at a time, and rests for a while after it was busy or silent."""
 
+import math
 import time
 
 
@@ -10,7 +11,11 @@ class Seats:
         self.free = {it.name: it.concurrent for it in competition.players}
         self.rested = dict.fromkeys(self.free, 0.0)
         self.failed = dict.fromkeys(self.free, 0)
+        # When the last try in vain was over.
+        self.missed = dict.fromkeys(self.free, 0.0)
         self.tries, self.wait = competition.tries, competition.wait
+        # Until then no match can begin, unless a seat is left before.
+        self.idle_until = 0.0
 
     def can_sit(self, match, now):
         return all(self.free[it] > 0 and self.rested[it] <= now for it in match.players)
@@ -20,26 +25,35 @@ class Seats:
             self.free[it] -= 1
 
     def leave(self, match):
+        self.idle_until = 0.0
         for it in match.players:
             self.free[it] += 1
 
     def was_there(self, player):
         self.failed[player] = 0
 
-    def was_not_there(self, player):
-        """Returns whether the player is to be asked again: not if it was asked in vain so often in a row as it may be."""
+    def was_not_there(self, player, asked):
+        """Returns whether the player, which was asked at this time, is to be asked again: not if it was asked in vain so often in a row
+        as it may be. A player with several seats may be asked for several matches at once, which is one try."""
+        if asked < self.missed[player]:
+            return self.failed[player] < self.tries
+        self.idle_until = 0.0
+        self.missed[player] = time.monotonic()
         self.failed[player] += 1
         is_last = self.failed[player] >= self.tries
-        self.rested[player] = time.monotonic() + (0 if is_last else self.wait)
+        self.rested[player] = self.missed[player] + (0 if is_last else self.wait)
         return not is_last
 
     def next_match(self, waiting, now):
-        """Takes the first match that can begin out of the waiting ones. None where there is none."""
-        if not any(self.free[it] > 0 and self.rested[it] <= now for it in self.free):
+        """Takes the first match that can begin out of the waiting ones. None where there is none; then they are not looked through
+        again before a player has left a seat or is rested."""
+        if now < self.idle_until:
             return None
-        for at, match in enumerate(waiting):
-            if self.can_sit(match, now):
-                del waiting[at]
-                self.sit(match)
-                return match
+        if any(self.free[it] > 0 and self.rested[it] <= now for it in self.free):
+            for at, match in enumerate(waiting):
+                if self.can_sit(match, now):
+                    del waiting[at]
+                    self.sit(match)
+                    return match
+        self.idle_until = min((it for it in self.rested.values() if it > now), default=math.inf)
         return None

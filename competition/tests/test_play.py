@@ -6,6 +6,7 @@ import pathlib
 import pty
 import shutil
 import signal
+import socket
 import subprocess
 import tempfile
 import time
@@ -99,6 +100,19 @@ class Play(InFolder):
         found = self.most_at_once(("concurrent = 3",), 3)
         self.assertGreater(found, 1)
         self.assertLessEqual(found, 3)
+
+    def test_a_short_outage_is_one_try_of_a_player_with_several_seats(self):
+        self.planned(["good"] * 3, head=HEAD.replace("wait = 1", "wait = 4"), more=("concurrent = 4",), most=4)
+        for it in self.players:
+            it.socket.shutdown(socket.SHUT_RDWR)
+            it.socket.close()
+        playing = start(self.folder, "play", "--at-once", "6")
+        said = [playing.stdout.readline() for _ in range(6)]
+        for it in self.players:
+            it.socket = socket.create_server((it.at, it.port), backlog=64)
+        out, _ = playing.communicate(timeout=60)
+        self.assertEqual(([it.split()[0] for it in said], playing.returncode), (["back"] * 6, 0), out)
+        self.assertEqual((lines(out, "no record"), len(lines(out, "end"))), ([], 6))
 
     def interrupted(self, *signals):
         """Plays among slow players, and sends it these signals."""
