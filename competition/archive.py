@@ -11,10 +11,10 @@ import tarfile
 import tempfile
 import zlib
 
-from competition.files import written_whole
+from competition.files import Refused, written_whole
 from competition.kept import look_at_records, strangers
 from competition.pages import made_anew
-from competition.plan import Refused, faults_of_descriptions, read_plan, sums_text
+from competition.plan import faults_of_descriptions, read_plan, sums_text
 from competition.referee import VERSION_LINE, Unchecked
 from competition.results import match_line
 from competition.table import tables_of

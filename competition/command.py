@@ -6,10 +6,10 @@ import pathlib
 import sys
 
 from competition.archive import check_archive, publish
-from competition.files import write_whole
+from competition.files import Refused, held, write_whole
 from competition.kept import look_at_records
 from competition.pages import Pages
-from competition.plan import Refused, faults_of_descriptions, make_plan, read_plan
+from competition.plan import faults_of_descriptions, make_plan, read_plan
 from competition.playing import Playing, play
 from competition.referee import NoReferee, Referee, Unchecked, find_program
 from competition.results import match_line
@@ -104,6 +104,12 @@ def run_plan(asked, referee):
 
 
 def run_play(asked, referee):
+    # From before the plan is read until what follows from it is written no other run may change it.
+    with held(asked.folder):
+        return run_held_play(asked, referee)
+
+
+def run_held_play(asked, referee):
     plan, tell = read_plan(asked.folder, referee), Teller()
     playing = Playing(plan, referee, Seats(plan.competition), tell, asked.at_once)
     if asked.watch:

@@ -1,10 +1,33 @@
 """The files of a competition's folder: where each stands, and how each is written whole."""
 
 import contextlib
+import fcntl
 import os
 import pathlib
 
 UNFINISHED = ".unfinished-"
+
+
+class Refused(Exception):
+    """Why there is nothing to go on with, in lines."""
+
+
+@contextlib.contextmanager
+def held(path):
+    """Holds a competition's folder for this run alone. Where the run is killed the system lets it go."""
+    path = pathlib.Path(path)
+    try:
+        found = os.open(path, os.O_RDONLY)
+    except OSError as why:
+        raise Refused(f"{path} can't be read: {why.strerror}") from None
+    try:
+        try:
+            fcntl.flock(found, fcntl.LOCK_EX | fcntl.LOCK_NB)
+        except OSError:
+            raise Refused(f"{path}: another run plans or plays this competition") from None
+        yield
+    finally:
+        os.close(found)
 
 
 @contextlib.contextmanager

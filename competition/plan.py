@@ -6,14 +6,10 @@ from dataclasses import dataclass
 
 from competition.competition_file import Competition, Mistake, Mistaken, read_competition
 from competition.descriptions import NoDescription, has_variables, load_description, rules_of, sum_of
-from competition.files import Folder, write_whole
+from competition.files import Folder, Refused, held, write_whole
 from competition.schedule import planned, schedule_text
 
 SUM_LINE = re.compile(rb"([0-9a-f]{64})  ([^\n]+)\n")
-
-
-class Refused(Exception):
-    """Why there is nothing to go on with, in lines."""
 
 
 @dataclass
@@ -86,7 +82,7 @@ def sums_text(sums):
 
 def make_plan(path, referee):
     """Writes the rules and the schedule of the competition in a folder, and returns it. Nothing is written where anything is wrong,
-    or where matches of another schedule were played."""
+    where matches of another schedule were played, or while any are."""
     folder = Folder(path)
     competition = competition_of(folder)
     rules = loaded_games(folder, competition, referee)
@@ -96,6 +92,13 @@ def make_plan(path, referee):
     wanted[folder.rule_sums()] = sums_text({file.name: sum_of(data) for file, data in wanted.items()})
     wanted[folder.description_sums()] = sums_text({f"{name}.kif": it.description_sum for name, it in rules.items()})
     wanted[folder.schedule] = schedule_text(matches)
+    with held(folder.path):
+        write_plan(folder, wanted)
+    return Plan(folder, competition, rules, matches)
+
+
+def write_plan(folder, wanted):
+    """Writes the files of a plan, where no match was played by another one."""
     played = folder.records.is_dir() and any(folder.records.glob("*.json"))
     for file, data in wanted.items():
         # Sums that are missing come of the descriptions as they are, which give the same rules.
@@ -108,7 +111,6 @@ def make_plan(path, referee):
             write_whole(file, wanted[file])
     except OSError as why:
         raise Refused(f"{folder.path} can't be written: {why.filename}: {os.strerror(why.errno)}") from None
-    return Plan(folder, competition, rules, matches)
 
 
 def sums_of(path):

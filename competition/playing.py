@@ -2,17 +2,16 @@
 
 import collections
 import errno
-import fcntl
 import os
 import shutil
 import signal
 import time
 
 from competition.children import UNSAID
+from competition.files import Refused
 from competition.kept import look_at_records, set_aside, strangers
 from competition.messages import send_aborts
 from competition.open_match import OpenMatch
-from competition.plan import Refused
 
 REST = 0.02
 ABORT_SECONDS = 10
@@ -140,17 +139,6 @@ def clear_open_rooms(plan, results, tell):
     abort_matches(places, plan.folder, tell)
 
 
-def lock(folder):
-    """Takes the folder for this run, as long as it lives."""
-    found = os.open(folder.path, os.O_RDONLY)
-    try:
-        fcntl.flock(found, fcntl.LOCK_EX | fcntl.LOCK_NB)
-    except OSError:
-        os.close(found)
-        raise Refused(f"{folder.path}: another run plays this competition") from None
-    return found
-
-
 def prepared(playing):
     """Looks at what is there already, frees players of matches that were lost, and lets the others wait."""
     plan, folder, tell = playing.plan, playing.plan.folder, playing.tell
@@ -172,18 +160,14 @@ def prepared(playing):
 
 
 def play(playing):
-    """Plays. Returns for each match that has no lawful record why."""
-    held = lock(playing.plan.folder)
-    try:
-        prepared(playing)
+    """Plays, in a folder that is held. Returns for each match that has no lawful record why."""
+    prepared(playing)
 
-        def interrupted(number, _):
-            playing.interrupts += 2 if number == signal.SIGTERM else 1
+    def interrupted(number, _):
+        playing.interrupts += 2 if number == signal.SIGTERM else 1
 
-        for it in (signal.SIGINT, signal.SIGTERM):
-            signal.signal(it, interrupted)
-        playing.go()
-    finally:
-        os.close(held)
+    for it in (signal.SIGINT, signal.SIGTERM):
+        signal.signal(it, interrupted)
+    playing.go()
     missing = dict.fromkeys((it.id for it in playing.plan.matches if it.id not in playing.results), "it was not begun")
     return {match: playing.left.get(match, why) for match, why in missing.items()}

@@ -183,9 +183,26 @@ class Play(InFolder):
         playing = start(self.folder, "play")
         while not list((self.folder / "open").glob("*/players")):
             time.sleep(0.02)
-        self.assertEqual(run(self.folder, "play"), (2, "", "ggp_competition: .: another run plays this competition\n"))
+        self.assertEqual(run(self.folder, "play"), (2, "", "ggp_competition: .: another run plans or plays this competition\n"))
         playing.communicate(timeout=60)
         self.assertEqual(playing.returncode, 0)
+
+    def test_no_plan_is_made_while_matches_are_played(self):
+        self.planned(["slow", "slow"])
+        file, before = self.folder / "competition.toml", (self.folder / "schedule.tsv").read_bytes()
+        text = file.read_text()
+        playing = start(self.folder, "play")
+        while not list((self.folder / "open").glob("*/players")):
+            time.sleep(0.02)
+        file.write_text(text.replace("play = 5", "play = 6"))
+        self.assertEqual(run(self.folder, "plan"), (2, "", "ggp_competition: .: another run plans or plays this competition\n"))
+        file.write_text(text)
+        playing.communicate(timeout=60)
+        self.assertEqual((playing.returncode, (self.folder / "schedule.tsv").read_bytes()), (0, before))
+        self.assertEqual(run(self.folder, "play"), (0, "2 of 2 matches have a lawful record\n", ""))
+
+    def test_a_folder_that_is_not_there(self):
+        self.assertEqual(run(self.folder, "play", "none"), (2, "", "ggp_competition: none can't be read: No such file or directory\n"))
 
     def test_what_is_not_lawful_is_played_again(self):
         self.planned(["good", "good", "good"])
