@@ -109,22 +109,31 @@ def run_play(asked, referee):
         return run_held_play(asked, referee)
 
 
+def are_written(write, results, tell):
+    """Returns whether the pages of the results are written. Where they can't be that is told, and matches go on."""
+    try:
+        write(results)
+        return True
+    except OSError as why:
+        tell.line(f"pages are not written: {why.filename or 'a file'}: {why.strerror}")
+        return False
+
+
 def run_held_play(asked, referee):
     plan, tell = read_plan(asked.folder, referee), Teller()
     playing = Playing(plan, referee, Seats(plan.competition), tell, asked.at_once)
     if asked.watch:
         pages = Pages(plan)
-        playing.ended = lambda _: pages.write_now_and_then(in_order(plan, playing.results))
+        playing.ended = lambda _: are_written(pages.write_now_and_then, lambda: in_order(plan, playing.results), tell)
     missing = play(playing)
     write_matches(plan, in_order(plan, playing.results))
-    if asked.watch:
-        pages.write(in_order(plan, playing.results))
+    lacks_pages = asked.watch and not are_written(pages.write, in_order(plan, playing.results), tell)
     for match, why in missing.items():
         tell.line(f"missing {match}: {why}")
     tell.line(f"{len(playing.results)} of {len(plan.matches)} matches have a lawful record")
     if tell.fault:
         raise tell.fault
-    return bool(missing)
+    return bool(missing) or lacks_pages
 
 
 def run_table(asked, referee):

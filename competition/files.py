@@ -35,7 +35,8 @@ def written_whole(path, is_lasting=True):
     """Gives a file to be written, so that at each moment it is there whole or not at all: under another name first, then renamed. Where
     it is to be lasting it is on the disk before this ends; else it may be lost, where the machine is. A fault leaves nothing behind."""
     path = pathlib.Path(path)
-    other = path.with_name(f"{UNFINISHED}{path.name}")
+    # Two runs may write the same file, each under a name of its own.
+    other = path.with_name(f"{UNFINISHED}{os.getpid()}-{path.name}")
     try:
         with open(other, "wb") as it:
             yield it
@@ -63,6 +64,19 @@ def write_whole(path, data, is_lasting=True):
     """Writes a file whole or not at all."""
     with written_whole(path, is_lasting) as it:
         it.write(data)
+
+
+def is_being_written(path):
+    """Returns whether another process that is alive may be at work on an unfinished file, by the number in its name."""
+    number = path.name.removeprefix(UNFINISHED).partition("-")[0]
+    return number.isdecimal() and number != str(os.getpid()) and os.path.exists(f"/proc/{number}")
+
+
+def drop_unfinished(folder):
+    """Takes away what writes that were broken off have left in a folder. Nothing is being written there by this process."""
+    for it in folder.glob(f"{UNFINISHED}*"):
+        if not is_being_written(it):
+            it.unlink(missing_ok=True)
 
 
 class Folder:
@@ -119,8 +133,8 @@ class Folder:
             it.mkdir(parents=True, exist_ok=True)
 
     def drop_unfinished(self):
-        """Takes away what a write that was broken off has left."""
-        for folder in (self.path, self.rules, self.records, self.accounts, self.logs):
-            if folder.is_dir():
-                for it in folder.glob(f"{UNFINISHED}*"):
-                    it.unlink()
+        """Takes away what a write that was broken off has left. Below the folder nobody writes but who holds it."""
+        drop_unfinished(self.path)
+        for folder in (self.rules, self.records, self.accounts, self.logs):
+            for it in folder.glob(f"{UNFINISHED}*"):
+                it.unlink()

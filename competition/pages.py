@@ -6,7 +6,7 @@ import shutil
 import time
 
 from competition.descriptions import TOP, script_module, sum_of
-from competition.files import write_whole
+from competition.files import UNFINISHED, drop_unfinished, write_whole
 from competition.results import times_of
 from competition.table import tables_of
 from competition.table_text import METHOD, crosstable_rows, notes, standings_rows
@@ -113,10 +113,13 @@ class Pages:
         self.rows, self.next = {}, 0.0
 
     def write_now_and_then(self, results):
-        """Writes the pages if that was not done just before."""
+        """Writes the pages of the results that a function gives, if that was not tried just before."""
         began = time.monotonic()
-        if began >= self.next:
-            self.write(results)
+        if began < self.next:
+            return
+        try:
+            self.write(results())
+        finally:
             ended = time.monotonic()
             self.next = ended + max(SECONDS, SHARE * (ended - began))
 
@@ -124,12 +127,14 @@ class Pages:
         for it in ("matches", "games"):
             (self.folder / it).mkdir(parents=True, exist_ok=True)
         for it in results:
-            if it.match.id not in self.rows:
+            # Another run that knows fewer matches may have taken the page away.
+            if it.match.id not in self.rows or not (self.folder / f"matches/{it.match.id}.html").exists():
                 self.add(it)
         tables = tables_of(self.plan.competition, results)
         for it in tables[1:]:
             self.put(f"games/{it.game}.html", self.game_page(it, [result for result in results if result.match.game == it.game]))
         self.put("index.html", self.first_page(tables, results))
+        drop_unfinished(self.folder)
         self.drop_others("matches", {it.match.id for it in results})
         self.drop_others("games", {it.game for it in tables[1:]})
 
@@ -137,10 +142,11 @@ class Pages:
         write_whole(self.folder / name, data, is_lasting=False)
 
     def drop_others(self, folder, names):
-        """Takes away the pages of what is no longer there."""
-        for it in (self.folder / folder).iterdir():
-            if it.stem not in names:
-                it.unlink()
+        """Takes away the pages of what is no longer there, and those that were never finished. All else is left alone."""
+        for it in (self.folder / folder).glob("*.html"):
+            if it.stem not in names and not it.name.startswith(UNFINISHED):
+                it.unlink(missing_ok=True)
+        drop_unfinished(self.folder / folder)
 
     def add(self, result):
         """Writes the page of a match, as `show-record` makes it, with the way back."""

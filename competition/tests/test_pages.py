@@ -2,7 +2,9 @@
 
 import html.parser
 import json
+import os
 import pathlib
+import subprocess
 import tempfile
 import time
 import unittest
@@ -78,13 +80,43 @@ class PagesOfMany(unittest.TestCase):
         self.assertNotIn("<script", first + (pages.folder / "games/one.html").read_text())
 
     def test_now_and_then(self):
-        pages, began = Pages(self.plan), time.monotonic()
+        pages, began, asked = Pages(self.plan), time.monotonic(), []
         for count in range(1, 301):
-            pages.write_now_and_then(self.results[:count])
+            pages.write_now_and_then(lambda: asked.append(count) or self.results[:count])
         self.assertIn("1 of 300 matches", (pages.folder / "index.html").read_text())
         self.assertLess(time.monotonic() - began, 10)
+        self.assertEqual(asked[0], 1)
+        self.assertLess(len(asked), 20)
         pages.write(self.results[:20])
         self.assertEqual(len(list((pages.folder / "matches").iterdir())), 20)
+
+    def test_what_can_not_be_written_is_not_tried_at_once_again(self):
+        pages, tried = Pages(self.plan), []
+        pages.folder.write_text("")
+        with self.assertRaises(OSError):
+            pages.write_now_and_then(lambda: self.results[:1])
+        pages.write_now_and_then(lambda: tried.append(1))
+        self.assertEqual(tried, [])
+
+    def test_two_runs_at_once(self):
+        one, other = Pages(self.plan), Pages(self.plan)
+        one.write(self.results[:3])
+        with subprocess.Popen(["sleep", "60"]) as alive:
+            gone = subprocess.Popen(["true"])
+            gone.wait()
+            places = [one.folder, one.folder / "matches", one.folder / "games"]
+            for number in (alive.pid, gone.pid, os.getpid(), "cup"):
+                for it in places:
+                    (it / f".unfinished-{number}-x.html").touch()
+            (one.folder / "matches/mine").mkdir()
+            other.write(self.results[:2])
+            left = [it.name for place in places for it in place.iterdir() if it.name.startswith(".")]
+            alive.kill()
+        self.assertEqual(left, [f".unfinished-{alive.pid}-x.html"] * 3)
+        one.write(self.results[:3])
+        matches = {f"{it.match.id}.html" for it in self.results[:3]}
+        self.assertEqual({it.name for it in (one.folder / "matches").iterdir()}, {*matches, "mine"})
+        self.assertEqual([it.name for it in one.folder.iterdir() if it.is_file()], ["index.html"])
 
 
 if __name__ == "__main__":

@@ -415,10 +415,25 @@ class Play(InFolder):
         self.assertRegex(said, r"over 1, open [01], to come [01], left 0:00:\d\d")
 
     def test_watch_writes_the_pages(self):
-        self.planned(["slow", "slow"])
-        run(self.folder, "play", "--watch")
-        self.assertIn("2 of 2 matches are over", (self.folder / "pages/index.html").read_text())
-        self.assertEqual(len(list((self.folder / "pages/matches").iterdir())), 2)
+        self.planned(["slow"] * 4)
+        playing = start(self.folder, "play", "--watch", "--at-once", "1")
+        first = self.folder / "pages/index.html"
+        while playing.poll() is None and not (first.exists() and list((self.folder / "open").glob("*/players"))):
+            time.sleep(0.02)
+        self.assertRegex(first.read_text(), r"\b([1-9]|1[01]) of 12 matches are over")
+        out, said = playing.communicate(timeout=60)
+        self.assertEqual((playing.returncode, said, lines(out, "pages")), (0, "", []))
+        self.assertIn("12 of 12 matches are over", first.read_text())
+        self.assertEqual(len(list((self.folder / "pages/matches").iterdir())), 12)
+
+    def test_pages_that_can_not_be_written_end_no_open_match(self):
+        self.planned(["slow"] * 4)
+        (self.folder / "pages").touch()
+        status, out, said = run(self.folder, "play", "--watch", "--at-once", "2")
+        self.assertEqual((status, said, len(lines(out, "end"))), (1, "", 12), out)
+        self.assertEqual({*lines(out, "pages")}, {"pages are not written: pages/matches: Not a directory"})
+        self.assertEqual(out.splitlines()[-1], "12 of 12 matches have a lawful record")
+        self.assertEqual([it.aborted for it in self.players], [[]] * 4)
 
 
 if __name__ == "__main__":
