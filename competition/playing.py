@@ -1,6 +1,7 @@
 """Plays the matches of a competition that have no lawful record yet, many at once, each when its players are free."""
 
 import collections
+import contextlib
 import errno
 import os
 import shutil
@@ -15,6 +16,8 @@ from competition.open_match import OpenMatch
 
 REST = 0.02
 ABORT_SECONDS = 10
+# What counts as how many interrupts: the first has no more matches begin, the second ends those that are open.
+INTERRUPTS = {signal.SIGINT: 1, signal.SIGTERM: 2, signal.SIGHUP: 2}
 
 
 class Playing:
@@ -159,15 +162,26 @@ def prepared(playing):
     playing.waiting.extend(it for it in plan.matches if it.id not in playing.results)
 
 
+@contextlib.contextmanager
+def interrupts_counted(playing):
+    """Has signals end no open match without an ABORT. A hang-up that is ignored, as under nohup, stays so."""
+
+    def interrupted(number, _):
+        playing.interrupts += INTERRUPTS[number]
+
+    caught = [it for it in INTERRUPTS if it != signal.SIGHUP or signal.getsignal(it) != signal.SIG_IGN]
+    before = {it: signal.signal(it, interrupted) for it in caught}
+    try:
+        yield
+    finally:
+        for it, handler in before.items():
+            signal.signal(it, handler)
+
+
 def play(playing):
     """Plays, in a folder that is held. Returns for each match that has no lawful record why."""
     prepared(playing)
-
-    def interrupted(number, _):
-        playing.interrupts += 2 if number == signal.SIGTERM else 1
-
-    for it in (signal.SIGINT, signal.SIGTERM):
-        signal.signal(it, interrupted)
-    playing.go()
+    with interrupts_counted(playing):
+        playing.go()
     missing = dict.fromkeys((it.id for it in playing.plan.matches if it.id not in playing.results), "it was not begun")
     return {match: playing.left.get(match, why) for match, why in missing.items()}

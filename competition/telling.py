@@ -7,12 +7,17 @@ import time
 REDRAWN = 0.5
 
 
+def lead_nowhere(output):
+    """Has all that is written to an output from now on, and what it still holds, be lost."""
+    os.dup2(os.open(os.devnull, os.O_WRONLY), output.fileno())
+
+
 def say(text, end="\n"):
     """Writes to standard output, at once. A fault names it, and what comes after it goes nowhere."""
     try:
         print(text, end=end, flush=True)
     except OSError as why:
-        os.dup2(os.open(os.devnull, os.O_WRONLY), sys.stdout.fileno())
+        lead_nowhere(sys.stdout)
         raise OSError(why.errno, why.strerror, "standard output") from None
 
 
@@ -24,16 +29,26 @@ def spell(seconds):
 
 class Teller:
     """Writes lines to standard output and, if standard error is a terminal, one line there that is rewritten. The first fault of
-    standard output is kept, since matches are open whose players must not be left."""
+    standard output is kept, since matches are open whose players must not be left. A terminal that is gone is no fault: that line shows
+    nothing that is not said elsewhere."""
 
     def __init__(self):
         self.fault = None
         self.is_shown = sys.stderr.isatty()
         self.drawn, self.began, self.over_at_first = 0.0, time.monotonic(), None
 
+    def draw(self, text):
+        """Rewrites the line of the terminal."""
+        if not self.is_shown:
+            return
+        try:
+            print(f"\r\x1b[K{text}", end="", file=sys.stderr, flush=True)
+        except OSError:
+            self.is_shown = False
+            lead_nowhere(sys.stderr)
+
     def clear(self):
-        if self.is_shown:
-            print("\r\x1b[K", end="", file=sys.stderr, flush=True)
+        self.draw("")
 
     def line(self, text):
         self.clear()
@@ -65,4 +80,4 @@ class Teller:
             return
         self.drawn, done = now, over - self.over_at_first
         left = spell((now - self.began) / done * (open_ones / 2 + to_come)) if done else "unknown"
-        print(f"\r\x1b[Kover {over}, open {open_ones}, to come {to_come}, left {left}", end="", file=sys.stderr, flush=True)
+        self.draw(f"over {over}, open {open_ones}, to come {to_come}, left {left}")

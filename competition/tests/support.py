@@ -55,7 +55,7 @@ def start(folder, *words, **more):
     """Starts a run of `ggp_competition`."""
     return subprocess.Popen(
         [sys.executable, COMMAND, *words, *([] if "--program" in words else ["--program", program()])],
-        cwd=folder, stderr=subprocess.PIPE, text=True, **{"stdout": subprocess.PIPE, **more},
+        cwd=folder, text=True, **{"stdout": subprocess.PIPE, "stderr": subprocess.PIPE, **more},
     )
 
 

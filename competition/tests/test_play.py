@@ -10,9 +10,11 @@ import socket
 import subprocess
 import tempfile
 import time
+import types
 import unittest
 
 from competition.children import end_with
+from competition.playing import interrupts_counted
 from competition.tests.players import TestPlayer
 from competition.tests.support import GAMES, InFolder, program, program_but, run, run_into_full, start
 
@@ -117,7 +119,8 @@ class Play(InFolder):
     def interrupted(self, *signals):
         """Plays among slow players, and sends it these signals."""
         self.planned(["slow"] * 4, head="start = 5\nplay = 5\n")
-        playing = start(self.folder, "play")
+        # The tests themselves may run under nohup.
+        playing = start(self.folder, "play", preexec_fn=lambda: signal.signal(signal.SIGHUP, signal.SIG_DFL))
         while len(list((self.folder / "open").glob("*/players"))) < 2:
             time.sleep(0.02)
         for it in signals:
@@ -138,6 +141,45 @@ class Play(InFolder):
 
     def test_a_termination_ends_them_at_once(self):
         self.look_at_ended_ones(self.interrupted(signal.SIGTERM))
+
+    def test_a_hang_up_ends_them_at_once(self):
+        self.look_at_ended_ones(self.interrupted(signal.SIGHUP))
+
+    def hung_up(self, *outputs):
+        """Plays with these outputs at a terminal that goes away while the first match is open, and ignores the hang-up. Returns the
+        status and what was printed elsewhere."""
+        self.planned(["slow"] * 3)
+        ours, theirs = pty.openpty()
+        ignored = {"preexec_fn": lambda: signal.signal(signal.SIGHUP, signal.SIG_IGN)}
+        playing = start(self.folder, "play", **dict.fromkeys(outputs, theirs), **ignored)
+        os.close(theirs)
+        while not list((self.folder / "open").glob("*/players")):
+            time.sleep(0.02)
+        os.close(ours)
+        playing.send_signal(signal.SIGHUP)
+        out, _ = playing.communicate(timeout=60)
+        self.assertEqual([(it.matches, it.aborted) for it in self.players], [({}, [])] * 3)
+        self.assertEqual(list((self.folder / "open").iterdir()), [])
+        return playing.returncode, out
+
+    def test_a_terminal_that_is_gone_ends_no_open_match(self):
+        status, out = self.hung_up("stderr")
+        self.assertEqual((status, out.splitlines()[-1]), (0, "6 of 6 matches have a lawful record"))
+
+    def test_nor_does_one_that_has_all_the_output(self):
+        status, out = self.hung_up("stdout", "stderr")
+        self.assertEqual((status, out), (1, None))
+        self.assertIn(len(self.records()), range(1, 6))
+
+    def test_signals_are_as_before_when_it_is_over(self):
+        playing = types.SimpleNamespace(interrupts=0)
+        numbers = signal.SIGINT, signal.SIGTERM, signal.SIGHUP
+        self.addCleanup(signal.signal, signal.SIGHUP, signal.signal(signal.SIGHUP, signal.SIG_DFL))
+        before = [signal.getsignal(it) for it in numbers]
+        with interrupts_counted(playing):
+            for it in numbers:
+                os.kill(os.getpid(), it)
+        self.assertEqual(([signal.getsignal(it) for it in numbers], playing.interrupts), (before, 5))
 
     def look_at_ended_ones(self, out):
         ended = [it.split()[1].rstrip(":") for it in lines(out, "abort")]
