@@ -3,6 +3,7 @@
 import itertools
 import os
 
+from competition.files import write_whole
 from competition.results import fault_of_record, read_record, result_of
 
 # This many matches are checked together, so that only their records are in memory at once.
@@ -84,12 +85,27 @@ def strangers(plan):
     return sorted(it for it in found if it.endswith(".json") and it not in known)
 
 
+def free_ending(files, word):
+    """Returns the first of the endings `.word`, `.word.2` and so on under which none of the files is there already."""
+    endings = itertools.chain([f".{word}"], (f".{word}.{count}" for count in itertools.count(2)))
+    return next(it for it in endings if not any(file.with_name(file.name + it).exists() for file in files))
+
+
 def set_aside(plan, match):
     """Keeps the files of a match that do not count under another name, out of the way of those that are to come. Files that were set
     aside before stay as they are."""
     files = plan.folder.record(match), plan.folder.account(match), plan.folder.log(match)
-    endings = itertools.chain([".refused"], (f".refused.{count}" for count in itertools.count(2)))
-    ending = next(it for it in endings if not any(file.with_name(file.name + it).exists() for file in files))
+    ending = free_ending(files, "refused")
     for file in files:
         if file.exists():
             os.replace(file, file.with_name(file.name + ending))
+
+
+def keep(folder, match, record, account, log, word=None):
+    """Writes the files of a match, the record last, so that what has a record has the others. With a word they get it as an ending, and
+    do not count; what has this ending already stays. Returns the file of the record."""
+    files = {folder.log(match): log, folder.account(match): account, folder.record(match): record}
+    ending = free_ending(files, word) if word else ""
+    for file, data in files.items():
+        write_whole(file.with_name(file.name + ending), data)
+    return file.with_name(file.name + ending)

@@ -7,7 +7,8 @@ import time
 from competition.children import Child
 from competition.files import write_whole
 from competition.hosts import host_of, parallel_words, remote_line
-from competition.referee import is_not_replayed
+from competition.kept import keep
+from competition.referee import is_not_lawful, is_not_replayed
 from competition.results import fault_of_record, read_record, result_of
 
 THERE = ("available", "ready", "unknown")
@@ -113,7 +114,8 @@ class OpenMatch:
         return child.output(), f"began {began}\n".encode() + host + child.said.read_bytes() + f"ended {moment()}\n".encode()
 
     def check(self, played, log):
-        """Has the record verified and the account replayed, and only then puts the files of the match where they count."""
+        """Has the record verified and the account replayed, and only then puts the files of the match where they count. Where the
+        referee came to no verdict they are kept aside, since the match was played."""
         record, _, account = played.partition(b"\n")
         record += b"\n"
         for name, data in (("record", record), ("account", account)):
@@ -123,23 +125,20 @@ class OpenMatch:
         replayed = self.child(self.referee.replay_words(rules), "replayed", self.room / "account")
         while not (verified.is_over() and replayed.is_over()):
             yield
-        if verified.output() != b"lawful\n":
+        is_lawful = verified.status() == 0 and verified.output() == b"lawful\n"
+        if not is_lawful and is_not_lawful(verified.status(), verified.last_words()):
             self.why = verified.last_words()
-            return
-        if replayed.status() and not is_not_replayed(replayed.status(), replayed.last_words()):
-            self.why = replayed.last_words()
-            return
-        if replayed.status() or replayed.output().partition(b"\n")[2] != record:
+        elif not is_lawful or replayed.status() and not is_not_replayed(replayed.status(), replayed.last_words()):
+            kept = keep(self.plan.folder, self.match.id, record, account, log, "unchecked")
+            self.why = f"it was played, but not checked, and is kept as {kept}: {(replayed if is_lawful else verified).last_words()}"
+        elif replayed.status() or replayed.output().partition(b"\n")[2] != record:
             self.why = "its account does not give its record again"
-            return
-        read = read_record(record)
+        else:
+            self.count(read_record(record), record, account, log)
+
+    def count(self, read, record, account, log):
+        """Puts the files of a match that was found right where they count, if they are of this match."""
         self.why = fault_of_record(read, self.match, self.plan.competition.strikes)
         if not self.why:
-            self.keep(record, account, log)
+            keep(self.plan.folder, self.match.id, record, account, log)
             self.result = result_of(read, self.match)
-
-    def keep(self, record, account, log):
-        """Writes the files of the match; the record is last, so that what has a record has the others."""
-        folder, name = self.plan.folder, self.match.id
-        for file, data in ((folder.log(name), log), (folder.account(name), account), (folder.record(name), record)):
-            write_whole(file, data)

@@ -57,7 +57,7 @@ class Playing:
             self.ended(it.result)
         elif it.why:
             # Where the disk is full the referee may be the first to see it. It says so with status 1, or can't write that either.
-            self.is_full |= it.why.endswith("write fault") or it.why == UNSAID.format(1)
+            self.is_full |= it.why.endswith(("write fault", UNSAID.format(1)))
             self.left[it.match.id] = it.why
             self.tell.line(f"no record {it.match.id}: {it.why}")
         else:

@@ -16,6 +16,7 @@ MOST_ROLES = 16
 MOST_BYTES, MOST_MATCHES = 200_000_000, 1_000
 # The last line on standard error where status 1 is a verdict, and no fault of the program's own.
 NOT_LAWFUL = "ggp_manager: records not lawful {}"
+NOT_LAWFUL_ITSELF = re.compile(r"ggp_manager: not lawful: .*")
 NOT_REPLAYED = re.compile(r"ggp_manager: not replayed: .*")
 VERSION_LINE = re.compile(rb"ggp_manager [0-9]+\.[0-9]+\.[0-9]+\n")
 BAD_RULES = "ggp_manager: bad description"
@@ -55,6 +56,11 @@ def said_lines(said):
 
 def last_line(said):
     return (said_lines(said) or [""])[-1]
+
+
+def is_not_lawful(status, line):
+    """Returns whether `verify` ended since a record is not lawful, by its status and the last line that it said."""
+    return status == 1 and bool(NOT_LAWFUL_ITSELF.fullmatch(line))
 
 
 def is_not_replayed(status, line):

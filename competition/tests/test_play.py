@@ -327,6 +327,29 @@ class Play(InFolder):
         self.assertEqual((status, len(lines(out, "no record"))), (1, 2))
         self.assertTrue(all("it ended with status -9" in it for it in lines(out, "no record")), out)
 
+    def test_a_match_that_was_played_and_not_checked_is_kept_aside(self):
+        self.planned(["good", "good"])
+        short = "echo 'ggp_manager: want of memory' >&2; exit 3"
+        played = ("records/cup-001.json", "accounts/cup-001.txt", "logs/cup-001.txt")
+        shortages = [('"$1" = verify', short, "want of memory"), ('"$1" = verify', "kill -9 $$", "status -9"), ('"$1" = replay', short, "want of memory")]
+        for (asked, done, words), ending in zip(shortages, ("unchecked", "unchecked.2", "unchecked.3")):
+            before = self.files() if (self.folder / "records").exists() else {}
+            status, out, _ = run(self.folder, "play", "--program", program_but(self.folder / "short", asked, done))
+            told = lines(out, "no record cup-001")
+            self.assertEqual((status, len(told), self.records()), (1, 1, {}), out)
+            self.assertIn(f"it was played, but not checked, and is kept as records/cup-001.json.{ending}: ", told[0])
+            self.assertIn(words, told[0])
+            after = self.files()
+            self.assertEqual({it: after[it] for it in before}, before)
+            self.assertLess({f"{it}.{ending}" for it in played}, set(after) - set(before))
+        for it in played:
+            os.rename(self.folder / f"{it}.unchecked", self.folder / it)
+        kept = (self.folder / played[0]).read_bytes()
+        status, out, _ = run(self.folder, "play")
+        self.assertEqual((status, len(lines(out, "end")), (self.folder / played[0]).read_bytes()), (0, 1, kept), out)
+        self.assertTrue((self.folder / "records/cup-001.json.unchecked.2").exists())
+        self.assert_sound(self.schedule)
+
     def test_a_record_that_does_not_verify_does_not_count(self):
         self.planned(["good", "good"])
         goals = 's/"goalValues":.100,0./"goalValues":[50,50]/; s/"goalValues":.0,100./"goalValues":[50,50]/'
