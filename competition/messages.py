@@ -28,14 +28,16 @@ def answers(place, body, seconds):
     until, reply = time.monotonic() + seconds, b""
     try:
         with socket.create_connection((host, port), seconds) as it:
+            it.settimeout(max(0.01, until - time.monotonic()))
             it.sendall(request(name, body))
-            while not STATUS.match(reply) and len(reply) < LONGEST_REPLY:
+            while not STATUS.match(reply) and len(reply) < LONGEST_REPLY and time.monotonic() < until:
                 it.settimeout(max(0.01, until - time.monotonic()))
                 more = it.recv(LONGEST_REPLY)
                 if not more:
                     break
                 reply += more
-    except OSError:
+    except (OSError, UnicodeError):
+        # A host's name that is none, as `a..b`, is not even looked up.
         return False
     return bool(STATUS.match(reply))
 
