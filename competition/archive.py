@@ -117,7 +117,8 @@ def unpacked(path, room):
                 (room / it.name).parent.mkdir(parents=True, exist_ok=True)
                 with open(room / it.name, "wb") as file:
                     shutil.copyfileobj(archive.extractfile(it), file)
-    except (tarfile.TarError, EOFError, zlib.error, gzip.BadGzipFile) as why:
+    except (tarfile.TarError, EOFError, zlib.error, gzip.BadGzipFile, ValueError, RecursionError) as why:
+        # The last two come of headers with numbers that are none, and of headers for headers.
         raise Spoilt(f"it can't be unpacked: {why}") from None
     if not top:
         raise Spoilt("it is empty")

@@ -20,8 +20,9 @@ from competition.tests.support import GAMES, ODD, program_but, run, toml
 HEAD = "start = 5\nplay = 5\nstrikes = 1\nforfeit = true\n"
 
 
-def packed(files, kinds=None, fits=True):
-    """Returns an archive of these files, whose sums are made to fit unless they are to stay."""
+def packed(files, kinds=None, fits=True, headers=None):
+    """Returns an archive of these files, whose sums are made to fit unless they are to stay. By names, some are of other kinds or have
+    extended headers."""
     files = dict(files)
     lines = sorted((name.partition("/")[2], hashlib.sha256(data).hexdigest()) for name, data in files.items() if name != "cup/SHA256SUMS")
     if fits and "cup/SHA256SUMS" in files:
@@ -32,6 +33,7 @@ def packed(files, kinds=None, fits=True):
             it = tarfile.TarInfo(name)
             it.size = len(data)
             it.type = (kinds or {}).get(name, tarfile.REGTYPE)
+            it.pax_headers = (headers or {}).get(name, {})
             archive.addfile(it, io.BytesIO(data))
     return found.getvalue()
 
@@ -64,6 +66,17 @@ def beside(name, data=b"x", kind=tarfile.REGTYPE):
     return lambda files: packed({**files, name: data}, {name: kind})
 
 
+def with_header(key, value):
+    return lambda files: packed(files, headers={"cup/schedule.tsv": {key: value}})
+
+
+def headers_for_headers(_):
+    """Returns an archive of nothing but extended headers, each for the next one."""
+    it = tarfile.TarInfo("x")
+    it.type = tarfile.XHDTYPE
+    return gzip.compress(it.tobuf(tarfile.USTAR_FORMAT) * 3000)
+
+
 def nonsense(files):
     """Puts another description in the place of one, with a sum that fits also in the rules."""
     text, sums = b"(role nonsense)\n", "cup/rules/DESCRIPTIONS.sha256"
@@ -94,6 +107,10 @@ SPOILINGS = {
     "a bit of a record is turned, sums as they were": (None, "is not the one of its sum"),
     "the archive is cut off": (None, "can't be unpacked"),
     "it is no archive": (None, "can't be unpacked"),
+    "a header has no number": (with_header("GNU.sparse.map", "x"), "can't be unpacked"),
+    "another header has no number": (with_header("GNU.sparse.size", "x"), "can't be unpacked"),
+    "a header in the place of another has no number": (with_header("GNU.sparse.realsize", "x"), "can't be unpacked"),
+    "there are headers for headers alone": (headers_for_headers, "can't be unpacked"),
     "goals are exchanged": (changed("cup/records/cup-002.json", better), "cup-002: not lawful: goals"),
     "a record has another player's name": (changed("cup/records/cup-001.json", renamed), "cup-001: its account does not give its record again"),
     "a move of the account is another one": (changed("cup/accounts/cup-001.txt", lambda it: it.replace(b"READY", b"BUSY").replace(b"(take 1)", b"(take 2)")), "cup-001: "),
