@@ -22,7 +22,7 @@ SENTENCE = re.compile(r"sentence (\d+), ")
 
 
 class NoDescription(Exception):
-    """Why a text is no description, with the place where that is known."""
+    """Why a text is no description, with the place where that is known, in lines."""
 
 
 @dataclass(frozen=True)
@@ -91,6 +91,12 @@ def has_variables(text):
     return any(token.startswith(b"?") for token in TOKEN.findall(COMMENT.sub(b" ", text)))
 
 
+def why_not(made):
+    """Returns why a run of `instantiate` made nothing: its last line, and before it which sentences cost most where it is past a limit."""
+    lines = made.stderr.decode(errors="replace").strip().splitlines() or [f"instantiate ended with status {made.returncode}"]
+    return "\n".join([*(it.strip() for it in lines[:-1] if it.startswith("  dear: ")), lines[-1]])
+
+
 def instantiated(path, tells_variables):
     """Returns the ground description that `instantiate` makes of a file, and the description for players where it is asked for."""
     with tempfile.TemporaryDirectory() as room:
@@ -98,7 +104,7 @@ def instantiated(path, tells_variables):
         words = ["--told", str(told)] if tells_variables else []
         made = subprocess.run([sys.executable, str(INSTANTIATE), *words, str(path)], capture_output=True)
         if made.returncode:
-            raise NoDescription(made.stderr.decode(errors="replace").strip().splitlines()[-1])
+            raise NoDescription(why_not(made))
         return made.stdout, told.read_bytes() if tells_variables else None
 
 

@@ -60,13 +60,14 @@ def loaded_games(folder, competition, referee):
     found, mistakes = {}, []
     for game in competition.games:
         path = folder.description(game)
-        if path.resolve().parent == folder.rules.resolve():
+        # Unlike a path's own `resolve` this bears links in a circle.
+        if os.path.dirname(os.path.realpath(path)) == os.path.realpath(folder.rules):
             mistakes.append(Mistake(game.line, "games.file", f"{path}: a description can't stand in {folder.rules}, where `plan` writes the rules"))
             continue
         try:
             rules = found[game.name] = load_description(path, referee, game.tells_variables())
         except NoDescription as why:
-            mistakes.append(Mistake(game.line, "games.file", f"{path}: {why}"))
+            mistakes += [Mistake(game.line, "games.file", f"{path}: {it}") for it in str(why).splitlines()]
             continue
         if game.tells_variables() and rules.told is None:
             mistakes.append(Mistake(game.told_line, "games.told", f'{path} has no variables: "ground" is wanted'))

@@ -5,7 +5,9 @@ import shutil
 import subprocess
 import sys
 import unittest
+from unittest import mock
 
+from competition.descriptions import NoDescription, instantiated
 from competition.tests.support import COMMAND, GAMES, InFolder, program, program_but, run, run_into_full, toml
 
 PLAYERS = [("ann", "127.0.0.1:9147"), ("bob", "127.0.0.1:9148")]
@@ -45,6 +47,31 @@ class BadInput(InFolder):
                 (self.folder / "game.kif").write_text(text)
                 self.write(PLAYERS, [("game", "game.kif")])
                 self.assert_refused(f"competition.toml:4: games.file: game.kif: {words}")
+
+    @unittest.skipUnless(shutil.which("gringo"), "gringo is not installed")
+    def test_a_description_past_the_limits(self):
+        numbers = " ".join(f"(n {it})" for it in range(65))
+        rule = "(<= (legal a (m ?x ?y)) (n ?x) (n ?y))"
+        (self.folder / "game.kif").write_text(f"(role a) (<= terminal (true t)) (<= (goal a 0) (true t))\n{numbers}\n{rule}\n")
+        self.write(PLAYERS, [("game", "game.kif")])
+        place = "competition.toml:4: games.file: game.kif:"
+        self.assert_refused([
+            f"{place} dear: sentence 68, {rule}: 4,225 ground sentences\n{place} dear: sentence 0, ",
+            f"\n{place} instantiate: nothing is written, since this is past the limit: moves of a (4,225 of 4,096)\n",
+        ])
+
+    def test_an_instantiation_that_is_ended(self):
+        (self.folder / "game.kif").write_text("(role a) (<= (legal a ?x) (n ?x)) (n 1)")
+        killed = self.folder / "killed"
+        killed.write_text("import os\nos.kill(os.getpid(), 9)\n")
+        with mock.patch("competition.descriptions.INSTANTIATE", killed), self.assertRaises(NoDescription) as why:
+            instantiated(self.folder / "game.kif", False)
+        self.assertEqual(str(why.exception), "instantiate ended with status -9")
+
+    def test_a_description_behind_links_in_a_circle(self):
+        (self.folder / "loop").symlink_to("loop")
+        self.write(PLAYERS, [("one", "loop"), ("two", "loop/x")])
+        self.assert_refused([f"games.file: {it}: it can't be read: Too many levels of symbolic links" for it in ("loop", "loop/x")])
 
     def test_a_referee_that_can_not_read_a_description(self):
         self.write(PLAYERS, [("tictactoe", GAMES / "tictactoe.kif")])
