@@ -73,16 +73,20 @@ def seconds_between(times):
     return f"{(ended - began).total_seconds():.1f}"
 
 
+def spelt(time):
+    """Returns a time of a log as HTML, to the second."""
+    return html.escape((time or "").replace("T", " ")[:19])
+
+
 def match_row(result, times, up):
     """Returns what the list of matches says of one: its links go from a page that stands so far below the first."""
     match = result.match
     goals = result.goals or ["none"] * len(match.players)
     who = ", ".join(f"{html.escape(player)} {goal}" for player, goal in zip(match.players, goals))
     replaced = ", ".join(f"{html.escape(it)} {result.replaced(role)}" for role, it in enumerate(match.players) if result.replaced(role))
-    begin = (times["begin"] or "").replace("T", " ")[:19]
     cause = f" ({html.escape(result.cause)})" if result.cause else ""
     links = link(f"{up}matches/{match.id}.html", match.id), link(f"{up}games/{match.game}.html", match.game)
-    return [*links, who + cause, str(result.turns), f'<span class="odd">{replaced}</span>', begin, seconds_between(times)]
+    return [*links, who + cause, str(result.turns), f'<span class="odd">{replaced}</span>', spelt(times["begin"]), seconds_between(times)]
 
 
 MATCH_HEADS = ["match", "game", "players and goals", "turns", "replaced moves", "begin (UTC)", "seconds"]
@@ -168,7 +172,7 @@ class Pages:
         begins, ends = ([it[at] for it in times if it[at]] for at in (0, 1))
         if not begins or not ends:
             return ""
-        return f" From {min(begins).replace('T', ' ')[:19]} to {max(ends).replace('T', ' ')[:19]} UTC."
+        return f" From {spelt(min(begins))} to {spelt(max(ends))} UTC."
 
     def first_page(self, tables, results):
         plan = self.plan

@@ -6,7 +6,8 @@ from collections import Counter
 from dataclasses import dataclass
 
 LOG_LINE = re.compile(r"(\S+) role (\d+) (\S+) message (\d+) \((\w+) .*, (\d+) ms")
-TIME_LINE = re.compile(r"(began|ended|host) (\S+)")
+TIME_LINE = re.compile(r"(began|ended) (\d{4}-\d\d-\d\dT\d\d:\d\d:\d\d\.\d{3}Z)")
+HOST_LINE = re.compile(r"(host) (\S+)")
 
 
 @dataclass(frozen=True)
@@ -76,7 +77,7 @@ def times_of(log, roles):
     """Returns when a match began and ended, on which host, and of each role's messages the kind and the milliseconds."""
     found, messages = {}, [[] for _ in range(roles)]
     for line in log.decode("ascii", "replace").splitlines():
-        if it := TIME_LINE.fullmatch(line):
+        if it := TIME_LINE.fullmatch(line) or HOST_LINE.fullmatch(line):
             found[it[1]] = it[2]
         elif (it := LOG_LINE.fullmatch(line)) and int(it[2]) < roles:
             messages[int(it[2])].append([it[5].lower(), int(it[6])])

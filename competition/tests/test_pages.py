@@ -12,7 +12,7 @@ import unittest
 from competition.competition_file import read_competition
 from competition.descriptions import Rules
 from competition.files import Folder
-from competition.pages import Pages
+from competition.pages import Pages, spelt
 from competition.plan import Plan
 from competition.results import result_of
 from competition.schedule import planned
@@ -78,6 +78,15 @@ class PagesOfMany(unittest.TestCase):
         for it in ("&lt;/pre&gt;&lt;script&gt;", "(role ?&lt;script&gt;)"):
             self.assertIn(it, (pages.folder / "games/one.html").read_text())
         self.assertNotIn("<script", first + (pages.folder / "games/one.html").read_text())
+
+    def test_what_a_log_says_is_text(self):
+        for match, log in zip(self.plan.matches, (b"began <plaintext>\n" + LOG, LOG + b"began <plaintext>\nended <plaintext>\n")):
+            self.plan.folder.log(match.id).write_bytes(log)
+        pages = Pages(self.plan)
+        pages.write(self.results[:3])
+        for it in ("index.html", "games/one.html"):
+            self.assertNotIn("plaintext", (pages.folder / it).read_text())
+        self.assertEqual((spelt("<b>2026-01-02T03:04:05.678Z"), spelt(None)), ("&lt;b&gt;2026-01-02 03:04", ""))
 
     def test_now_and_then(self):
         pages, began, asked = Pages(self.plan), time.monotonic(), []

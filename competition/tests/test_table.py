@@ -136,6 +136,11 @@ class Tables(unittest.TestCase):
         self.assertEqual(found["messages"], [[["play", 1000]], [["start", 7]]])
         self.assertEqual((found["begin"], found["end"], found["host"]), ("2026-01-02T03:04:05.678Z", "2026-01-02T03:04:06.000Z", "one"))
 
+    def test_times_that_are_none(self):
+        for line in ("began <plaintext>", "began 2026-01-02T03:04:05.678Z<b>", "began 2026-01-02", "ended now", "began 2026-01-02T03:04:05Z"):
+            found = times_of(line.encode(), 1)
+            self.assertEqual((found["begin"], found["end"]), (None, None), line)
+
 
 if __name__ == "__main__":
     unittest.main()
