@@ -17,11 +17,13 @@ MOST_STEPS, CLOSE = 100_000, 1e-11
 
 @dataclass(frozen=True)
 class Rating:
-    """A player's rating, half the length of its interval of 95%, and the group within which ratings compare; none without a group."""
+    """A player's rating, half the length of its interval of 95%, and the group within which ratings compare; none without a group. And
+    whether the iteration has come so close that more steps would change nothing."""
 
     rating: float
     half: float
     group: int
+    is_close: bool = True
 
 
 def groups(players, points):
@@ -60,7 +62,7 @@ def groups(players, points):
 
 
 def strengths(players, points):
-    """Returns the logarithms of the likeliest strengths of a group, with the mean 0."""
+    """Returns the logarithms of the likeliest strengths of a group, with the mean 0, and whether the steps were enough for them."""
     met = {one: [] for one in players}
     for one in players:
         for other in players:
@@ -77,7 +79,7 @@ def strengths(players, points):
         found = new
         if change < CLOSE:
             break
-    return {one: math.log(it) for one, it in found.items()}
+    return {one: math.log(it) for one, it in found.items()}, change < CLOSE
 
 
 def variances(players, points, logs):
@@ -123,7 +125,7 @@ def rated(players, points):
             found[group[0]] = Rating(None, None, None)
             continue
         number += 1
-        logs = strengths(group, points)
+        logs, is_close = strengths(group, points)
         for one, variance in zip(group, variances(group, points, logs)):
-            found[one] = Rating(SCALE * logs[one], SCALE * NORMAL_95 * math.sqrt(variance), number)
+            found[one] = Rating(SCALE * logs[one], SCALE * NORMAL_95 * math.sqrt(variance), number, is_close)
     return found

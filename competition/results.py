@@ -42,7 +42,8 @@ def fault_of_record(record, match, strikes):
     }
     for key, value in wanted.items():
         if record.get(key) != value:
-            return f"its {key} is {record.get(key)!r}, and the schedule has {value!r}"
+            said = "competition.toml" if key == "strikes" else "the schedule"
+            return f"its {key} is {record.get(key)!r}, and {said} has {value!r}"
     return None if record["phase"] in ("finished", "aborted") else f"its match is not over: {record['phase']}"
 
 

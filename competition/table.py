@@ -2,7 +2,7 @@
 
 It follows from the records alone. A player's result in a match is won where its goal is above that of every other player, lost where
 one is above its own, else drawn; in a match of one role, or without goals, it is none of the three. With `forfeit` a player that was
-retired in a match has lost it, whatever the goals, against each player that was not, and its goal counts as 0."""
+retired in a match has lost it, whatever the goals and also without any, against each player that was not, and its goal counts as 0."""
 
 from dataclasses import dataclass, field
 

@@ -4,6 +4,8 @@ import csv
 import io
 import json
 
+from competition.ratings import MOST_STEPS
+
 HEADS = ("player", "matches", "goals", "won", "drawn", "lost", "moves", "replaced", "absent", "retired", "rating", "half", "group")
 METHOD = (
     "Bradley and Terry's model, by Hunter's MM iteration (The Annals of Statistics 32, 2004); a draw is half a win; "
@@ -37,7 +39,7 @@ def rating_text(table, line, sign="+-"):
     if not line.rating or line.rating.rating is None:
         return "none"
     several = max(it.rating.group or 0 for it in table.lines.values() if it.rating) > 1
-    return f"{line.rating.rating:.0f} {sign} {line.rating.half:.0f}" + (f" in {line.rating.group}" if several else "")
+    return f"{round(line.rating.rating)} {sign} {round(line.rating.half)}" + (f" in {line.rating.group}" if several else "")
 
 
 def goals_text(line):
@@ -81,6 +83,8 @@ def notes(table):
     unrated = [it.player for it in table.standings() if it.rating and it.rating.rating is None] if table.is_of_pairs() else []
     if unrated:
         yield f"no rating: {', '.join(unrated)} (no chain of points leads to and from the others)"
+    if unsettled := [it.player for it in table.standings() if it.rating and not it.rating.is_close]:
+        yield f"rating not settled: {', '.join(unsettled)} (after {MOST_STEPS:,} steps it was still changing)"
 
 
 def table_text(plan, tables):

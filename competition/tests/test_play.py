@@ -371,7 +371,7 @@ class Play(InFolder):
         toml.write_text(toml.read_text().replace("strikes = 1", "strikes = 2"))
         status, out, said = run(self.folder, "play")
         self.assertEqual((status, out), (2, ""))
-        self.assertIn("records/cup-001.json is lawful, and of another match: its strikes is 1, and the schedule has 2", said)
+        self.assertIn("records/cup-001.json is lawful, and of another match: its strikes is 1, and competition.toml has 2", said)
         self.assertEqual(len(list((self.folder / "records").iterdir())), 2)
 
     def test_plan_does_not_change_what_was_played(self):

@@ -5,13 +5,15 @@ import random
 import unittest
 from collections import Counter
 from dataclasses import replace
+from unittest import mock
 
 from competition.competition_file import read_competition
 from competition.plan import Plan
+from competition.ratings import Rating
 from competition.results import Result, result_of, times_of
 from competition.schedule import Match
-from competition.table import Line, tables_of
-from competition.table_text import crosstable_rows, standings_rows, table_files
+from competition.table import Line, Table, tables_of
+from competition.table_text import crosstable_rows, notes, rating_text, standings_rows, table_files
 from competition.tests.support import toml
 
 NAMES = ["ann", "bob", "cid", "dan"]
@@ -94,6 +96,17 @@ class Tables(unittest.TestCase):
         self.assertEqual([line(both, it, head).lost for it in ("ann", "bob")], [1, 1])
         self.assertEqual(tables_of(competition(head), both)[0].met, {})
 
+    def test_forfeit_without_goals(self):
+        # `toolong` or `nogoal`, with a player that was retired: it is the other's win, and no goal is counted for that one.
+        results = [result(["ann", "bob"], [], [0, 5], retired=[False, True])]
+        for head, won, lost, mean in (("", 0, 0, None), ("forfeit = true", 1, 1, 0)):
+            found = [line(results, it, head) for it in ("ann", "bob")]
+            self.assertEqual([(it.won, it.drawn, it.lost, it.mean()) for it in found], [(won, 0, 0, None), (0, 0, lost, mean)])
+            self.assertEqual(tables_of(competition(head), results)[0].points.get(("ann", "bob")), won or None)
+        three = [result(["ann", "bob", "cid"], [], [0, 5, 0], retired=[False, True, False], game="three")]
+        found = [line(three, it, "forfeit = true") for it in ("ann", "bob", "cid")]
+        self.assertEqual([(it.won, it.drawn, it.lost) for it in found], [(0, 1, 0), (0, 0, 1), (0, 1, 0)])
+
     def test_three_players(self):
         results = [result(["ann", "bob", "cid"], [50, 50, 0], game="three")]
         found = [line(results, it) for it in ("ann", "bob", "cid")]
@@ -116,6 +129,19 @@ class Tables(unittest.TestCase):
         last = {**record, "errors": [["", ""], ["", "TO"], ["", "IL x"]]}
         self.assertEqual(result_of(last, match).retired, (False, True))
         self.assertEqual(result_of(last, match).errors[1], {"TO": 1, "IL": 1})
+
+    def test_a_rating_next_to_nothing_has_no_sign(self):
+        for rating, said in ((-0.4, "0 +- 118"), (0.4, "0 +- 118"), (-0.6, "-1 +- 118"), (-118.5, "-118 +- 118")):
+            lines = {"ann": Line("ann", matches=1, rating=Rating(rating, 118.2, 1))}
+            self.assertEqual(rating_text(Table("two", lines), lines["ann"]), said)
+
+    def test_a_rating_that_is_not_settled_is_told(self):
+        results = [result(it, goals) for it in (NAMES[:2], NAMES[1:3], NAMES[2:]) for goals in ([100, 0], [100, 0], [0, 100])]
+        for steps, said in ((100_000, []), (3, ["rating not settled: ann, bob, cid, dan (after 100,000 steps it was still changing)"])):
+            with mock.patch("competition.ratings.MOST_STEPS", steps):
+                tables = tables_of(competition(), results)
+            self.assertEqual(list(notes(tables[0])), said)
+            self.assertEqual(json.loads(table_files(Plan(None, competition(), {}, results), tables)["table.json"])["tables"][0]["notes"], said)
 
     def test_files_say_the_same(self):
         results = [result(["ann", "bob"], [100, 0]), result(["bob", "ann"], [50, 50]), result(["cid"], [30], game="one")]
