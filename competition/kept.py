@@ -4,35 +4,60 @@ import itertools
 import os
 
 from competition.files import write_whole
+from competition.referee import Unchecked
 from competition.results import fault_of_record, read_record, result_of
 
-# This many matches are checked together, so that only their records are in memory at once.
-TOGETHER = 250
+# So many matches are checked together, and so many bytes of their files unless one match has more, since all of these are in memory.
+TOGETHER, BYTES_TOGETHER = 250, 1 << 27
 # What the referee reads of a record, before its line's end, and of an account.
 MOST_OF_RECORD, MOST_OF_ACCOUNT = 16_777_216, 268_435_456
 
 
-def read_or_none(path):
+def read_at_most(path, most):
+    """Returns the bytes of a file; of one that has more than these, no more than show it."""
+    with open(path, "rb") as file:
+        return file.read(most + 1)
+
+
+def read_or_none(path, most):
     try:
-        return path.read_bytes()
+        return read_at_most(path, most)
     except FileNotFoundError:
         return None
+
+
+def size_of(path):
+    return path.stat().st_size if path.exists() else 0
+
+
+def batches(folder, matches):
+    """Gives the matches in order, so many at a time as are checked together."""
+    batch, size = [], 0
+    for match in matches:
+        more = min(size_of(folder.record(match.id)), MOST_OF_RECORD) + min(size_of(folder.account(match.id)), MOST_OF_ACCOUNT)
+        if batch and (len(batch) == TOGETHER or size + more > BYTES_TOGETHER):
+            yield batch
+            batch, size = [], 0
+        batch.append(match)
+        size += more
+    if batch:
+        yield batch
 
 
 def fault_of_files(record, account):
     """Returns why files are not even handed to the referee, or none. What it would skip, or end at, is here."""
     if account is None:
         return "its account is missing"
-    if not account.endswith(b"\n"):
-        return "its account is cut off"
     if len(account) > MOST_OF_ACCOUNT:
         return f"its account has more than {MOST_OF_ACCOUNT:,} bytes"
+    if not account.endswith(b"\n"):
+        return "its account is cut off"
+    if len(record) - 1 > MOST_OF_RECORD:
+        return f"its record has more than {MOST_OF_RECORD:,} bytes"
     if record.count(b"\n") != 1 or not record.endswith(b"\n"):
         return "its record is not one line"
     if not record.startswith(b"{"):
         return "its record does not begin with `{`"
-    if len(record) - 1 > MOST_OF_RECORD:
-        return f"its record has more than {MOST_OF_RECORD:,} bytes"
     return None
 
 
@@ -40,8 +65,8 @@ def looked_at(plan, referee, game, matches):
     """Gives for each of these matches of a game, which have records, its result, or why it does not count: because its files are wrong,
     or though they are right, since they are of another match. Where the referee can't tell, this ends with `Unchecked`."""
     rules = plan.folder.rules_of(game)
-    records = [plan.folder.record(it.id).read_bytes() for it in matches]
-    accounts = [read_or_none(plan.folder.account(it.id)) for it in matches]
+    records = [read_at_most(plan.folder.record(it.id), MOST_OF_RECORD + 1) for it in matches]
+    accounts = [read_or_none(plan.folder.account(it.id), MOST_OF_ACCOUNT) for it in matches]
     faults = list(map(fault_of_files, records, accounts))
     whole = [at for at, fault in enumerate(faults) if not fault]
     verdicts = dict(zip(whole, referee.verdicts(rules, [records[at] for at in whole])))
@@ -62,13 +87,20 @@ def looked_at(plan, referee, game, matches):
 def look_at_records(plan, referee):
     """Returns the results of the matches that count, by their ids; of the others that have records why their files are wrong; and of
     those whose files are right in what they are not those of the match."""
+    try:
+        return all_looked_at(plan, referee)
+    except MemoryError:
+        raise Unchecked("records and accounts can't be checked: want of memory") from None
+
+
+def all_looked_at(plan, referee):
     results, faults, misfits, by_game = {}, {}, {}, {}
     for match in plan.matches:
         if plan.folder.record(match.id).exists():
             by_game.setdefault(match.game, []).append(match)
     for game, matches in by_game.items():
-        for at in range(0, len(matches), TOGETHER):
-            for match, fault, misfit, result in looked_at(plan, referee, game, matches[at : at + TOGETHER]):
+        for batch in batches(plan.folder, matches):
+            for match, fault, misfit, result in looked_at(plan, referee, game, batch):
                 if fault:
                     faults[match.id] = fault
                 elif misfit:
