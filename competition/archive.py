@@ -18,7 +18,7 @@ from competition.plan import faults_of_descriptions, read_plan, sums_text
 from competition.referee import VERSION_LINE, Unchecked
 from competition.results import match_line
 from competition.table import tables_of
-from competition.table_text import in_order, table_files
+from competition.table_text import TABLE_FILES, in_order, table_files
 
 SUMS, VERSION, HOW = "SHA256SUMS", "VERSION", "CHECK.txt"
 SUM_LINE = re.compile(r"([0-9a-f]{64})  (\S+)")
@@ -45,6 +45,10 @@ What this does not show: that the players of these names sent these answers, and
 
 class Spoilt(Exception):
     """What is wrong with an archive, in lines."""
+
+
+class TooLarge(Exception):
+    """What there is to publish is more than `check` would take."""
 
 
 def files_below(folder):
@@ -76,21 +80,40 @@ def contents(plan, referee, results):
     yield HOW, HOW_TO.format(name=plan.competition.name).encode("ascii")
 
 
+def own_files(plan):
+    """Returns the files of the competition that stand directly in its folder, and the descriptions of its games."""
+    folder = plan.folder
+    # The last three are there where the folder comes out of an archive.
+    others = (folder.path / it for it in (*TABLE_FILES, SUMS, VERSION, HOW))
+    return [folder.competition, folder.schedule, folder.matches, *others, *map(folder.description, plan.competition.games)]
+
+
 def publish(plan, referee, results, path):
     """Writes the archive, the same for the same files, and returns its sum."""
     made_anew(plan, results)
-    sums, made = {}, hashlib.sha256()
+    made = hashlib.sha256()
     with written_whole(path) as file:
         with gzip.GzipFile(filename="", mode="wb", fileobj=file, mtime=0) as packed, tarfile.open(fileobj=packed, mode="w|") as archive:
-            for name, data in contents(plan, referee, results):
-                data = data if isinstance(data, bytes) else data.read_bytes()
-                sums[name] = hashlib.sha256(data).hexdigest()
+            size = 0
+            for name, data in with_sums(contents(plan, referee, results)):
+                size += len(data)
+                if size > MOST_BYTES:
+                    raise TooLarge(f"it has more than {MOST_BYTES:,} bytes, which are the most of an archive")
                 add(archive, f"{plan.competition.name}/{name}", data)
-            add(archive, f"{plan.competition.name}/{SUMS}", sums_text(sums))
     with open(path, "rb") as file:
         while data := file.read(1 << 20):
             made.update(data)
     return made.hexdigest()
+
+
+def with_sums(contents):
+    """Gives the names and bytes of what is published, and the sums last."""
+    sums = {}
+    for name, data in contents:
+        data = data if isinstance(data, bytes) else data.read_bytes()
+        sums[name] = hashlib.sha256(data).hexdigest()
+        yield name, data
+    yield SUMS, sums_text(sums)
 
 
 def add(archive, name, data):
@@ -108,8 +131,12 @@ def unpacked(path, room):
             for it in archive:
                 size += it.size
                 parts = it.name.split("/")
-                if not it.isreg() or not NAME.fullmatch(it.name) or {".", ".."} & set(parts) or it.name in known or size > MOST_BYTES:
-                    raise Spoilt(f"{it.name!r} is no plain file below one folder, or there twice, or too large")
+                if not it.isreg() or not NAME.fullmatch(it.name) or {".", ".."} & set(parts):
+                    raise Spoilt(f"{it.name!r} is no plain file below one folder")
+                if it.name in known:
+                    raise Spoilt(f"{it.name!r} is there twice")
+                if size > MOST_BYTES:
+                    raise Spoilt(f"with {it.name!r} it has more than {MOST_BYTES:,} bytes, which are the most of an archive")
                 top = top or parts[0]
                 if parts[0] != top:
                     raise Spoilt(f"{it.name!r} is not below {top}")

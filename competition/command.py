@@ -2,10 +2,11 @@
 
 import argparse
 import collections
+import os
 import pathlib
 import sys
 
-from competition.archive import check_archive, publish
+from competition.archive import TooLarge, check_archive, own_files, publish
 from competition.files import Refused, held, write_whole
 from competition.kept import look_at_records
 from competition.pages import Pages
@@ -157,28 +158,37 @@ def run_pages(asked, referee):
 
 
 def archive_path(plan, to):
-    """Returns where the archive is to stand. Refuses what it can't replace, and a folder that is not there."""
+    """Returns where the archive is to stand. Refuses what it can't replace, a folder that is not there, and the places of the
+    competition's own files."""
     path = pathlib.Path(to or plan.folder.path / f"{plan.competition.name}.tar.gz")
     if path.exists() and not path.is_file():
         raise Refused(f"{path} is no plain file: `--to` names the file of the archive")
     if not path.parent.is_dir():
         raise Refused(f"{path} can't be written: {path.parent} is no folder")
+    top, parent = os.path.realpath(plan.folder.path), os.path.realpath(path.parent)
+    if parent.startswith(os.path.join(top, "")):
+        place = f"directly in {plan.folder.path}, or outside of it"
+        raise Refused(f"{path} stands among the files of the competition: `--to` names a file {place}")
+    if os.path.realpath(path) in map(os.path.realpath, own_files(plan)):
+        raise Refused(f"{path} is a file of the competition: `--to` names the file of the archive")
     return path
 
 
 def run_publish(asked, referee):
     plan = read_plan(asked.folder, referee)
     path = archive_path(plan, asked.to)
-    results, is_faulty = known_results(plan, referee)
+    results, _ = known_results(plan, referee)
     missing = len(plan.matches) - len(results)
-    faults = [f"{missing} matches have no lawful record"] if missing else faults_of_descriptions(plan, plan.folder.description)
-    if faults := list(faults):
-        for it in faults:
-            print(f"ggp_competition: nothing is published: {it}", file=sys.stderr)
-        return 1
-    write_matches(plan, results)
-    say(f"{publish(plan, referee, results, path)}  {path}")
-    return is_faulty
+    faults = [f"{missing} matches have no lawful record"] if missing else list(faults_of_descriptions(plan, plan.folder.description))
+    if not faults:
+        write_matches(plan, results)
+        try:
+            say(f"{publish(plan, referee, results, path)}  {path}")
+        except TooLarge as why:
+            faults = [str(why)]
+    for it in faults:
+        print(f"ggp_competition: nothing is published: {it}", file=sys.stderr)
+    return bool(faults)
 
 
 def run_check(asked, referee):

@@ -7,6 +7,7 @@ import json
 from competition.ratings import MOST_STEPS
 
 HEADS = ("player", "matches", "goals", "won", "drawn", "lost", "moves", "replaced", "absent", "retired", "rating", "half", "group")
+TABLE_FILES = "table.txt", "table.csv", "crosstable.csv", "table.json"
 METHOD = (
     "Bradley and Terry's model, by Hunter's MM iteration (The Annals of Statistics 32, 2004); a draw is half a win; "
     "intervals of 95% from the observed information; 400 points are odds of 10 to 1"
@@ -149,10 +150,5 @@ def json_text(plan, tables):
 
 def table_files(plan, tables):
     """Returns the files of the table by their names, each as bytes."""
-    texts = {
-        "table.txt": table_text(plan, tables),
-        "table.csv": csv_text(tables),
-        "crosstable.csv": crosstable_csv(tables),
-        "table.json": json_text(plan, tables),
-    }
-    return {name: it.encode("ascii") for name, it in texts.items()}
+    texts = table_text(plan, tables), csv_text(tables), crosstable_csv(tables), json_text(plan, tables)
+    return {name: it.encode("ascii") for name, it in zip(TABLE_FILES, texts)}

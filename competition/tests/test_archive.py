@@ -12,10 +12,13 @@ import shutil
 import tarfile
 import tempfile
 import unittest
+from unittest import mock
 
+from competition.archive import Spoilt, unpacked
+from competition.command import main
 from competition.files import written_whole
 from competition.tests.players import TestPlayer
-from competition.tests.support import GAMES, ODD, program_but, run, toml
+from competition.tests.support import GAMES, ODD, program, program_but, run, toml
 
 HEAD = "start = 5\nplay = 5\nstrikes = 1\nforfeit = true\n"
 
@@ -75,6 +78,12 @@ def headers_for_headers(_):
     it = tarfile.TarInfo("x")
     it.type = tarfile.XHDTYPE
     return gzip.compress(it.tobuf(tarfile.USTAR_FORMAT) * 3000)
+
+
+def twice(_):
+    """Returns an archive that has a file twice."""
+    it = tarfile.TarInfo("cup/schedule.tsv")
+    return gzip.compress(2 * it.tobuf() + bytes(1024))
 
 
 def nonsense(files):
@@ -144,6 +153,7 @@ SPOILINGS = {
     "there are no sums": (without("cup/SHA256SUMS"), "SHA256SUMS is missing"),
     "a name leads out of the folder": (beside("cup/../../out.txt"), "is no plain file below one folder"),
     "a name is absolute": (beside("/tmp/out.txt"), "is no plain file below one folder"),
+    "a file is there twice": (twice, "'cup/schedule.tsv' is there twice"),
     "a file is a link": (beside("cup/more", b"", tarfile.SYMTYPE), "is no plain file below one folder"),
 }
 
@@ -253,10 +263,34 @@ class Archive(unittest.TestCase):
             ("none/a.tgz", "none/a.tgz can't be written: none is no folder"),
             ("competition.toml/a.tgz", "competition.toml/a.tgz can't be written: competition.toml is no folder"),
         ]
-        before = sorted(self.folder.rglob("*"))
+        among = "stands among the files of the competition: `--to` names a file directly in ., or outside of it"
+        wrong += [(it, f"{it} {among}") for it in ("pages/a.tgz", "records/cup-001.json", f"{self.other}/link/rules/odd.kif", "pages/matches/a.tgz")]
+        (self.other / "link").symlink_to(self.folder)
+        names = "competition.toml", "schedule.tsv", "matches.jsonl", "table.txt", "table.csv", "crosstable.csv", "table.json", "odd.kif", "VERSION"
+        own = [*names, f"{self.other}/link/odd.kif"]
+        wrong += [(it, f"{it} is a file of the competition: `--to` names the file of the archive") for it in own]
+        before = {it: it.is_file() and it.read_bytes() for it in self.folder.rglob("*")}
         for to, words in wrong:
             self.assertEqual(run(self.folder, "publish", "--to", to), (2, "", f"ggp_competition: {words}\n"))
-        self.assertEqual((sorted(self.folder.rglob("*")), sorted(it.name for it in self.other.iterdir())), (before, ["pipe", "there"]))
+        self.assertEqual({it: it.is_file() and it.read_bytes() for it in self.folder.rglob("*")}, before)
+        self.assertEqual(sorted(it.name for it in self.other.iterdir()), ["link", "pipe", "there"])
+
+    def test_an_archive_has_a_greatest_size(self):
+        cup, size = self.other / "cup", sum(map(len, self.files().values()))
+        shutil.copytree(self.folder, cup)
+        before = (cup / "cup.tar.gz").read_bytes()
+        words = ["ggp_competition", "publish", str(cup), "--program", program()]
+        for most, status in ((size - 1, 1), (size, 0)):
+            said = io.StringIO()
+            with mock.patch("competition.archive.MOST_BYTES", most), mock.patch("sys.argv", words), mock.patch("sys.stderr", said), mock.patch("sys.stdout", io.StringIO()):
+                self.assertEqual(main(), status)
+            self.assertEqual(said.getvalue(), f"ggp_competition: nothing is published: it has more than {most:,} bytes, which are the most of an archive\n" if status else "")
+            self.assertEqual(((cup / "cup.tar.gz").read_bytes(), [*cup.glob(".*")]), (before, []))
+            with mock.patch("competition.archive.MOST_BYTES", most), tempfile.TemporaryDirectory() as room:
+                try:
+                    self.assertEqual((unpacked(self.archive, pathlib.Path(room)).name, status), ("cup", 0))
+                except Spoilt as why:
+                    self.assertEqual((str(why), status), (f"with 'cup/SHA256SUMS' it has more than {most:,} bytes, which are the most of an archive", 1))
 
     def test_a_file_that_is_not_finished_leaves_nothing(self):
         file = self.other / "file"
