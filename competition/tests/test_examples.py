@@ -54,6 +54,16 @@ class Examples(unittest.TestCase):
         status, page, said = run(SHOW_RECORD, RECORD)
         self.assertEqual((status, said, page.startswith("<!DOCTYPE html>"), page.endswith("</html>\n")), (0, "", True, True))
 
+    def test_the_longest_record(self):
+        record, most = RECORD.read_bytes().rstrip(b"\n"), 16 << 20
+        with tempfile.TemporaryDirectory() as room:
+            file = pathlib.Path(room) / "record"
+            for more, end, is_read in ((0, b"\n", True), (0, b"", True), (1, b"", False), (1, b"\n", False), (2, b"\n", False)):
+                file.write_bytes(record[:-1] + b" " * (most + more - len(record)) + b"}" + end)
+                status, page, said = run(SHOW_RECORD, file)
+                wanted = (0, "") if is_read else (1, "show-record: no record: it is longer than 16 MiB\n")
+                self.assertEqual((status, said, bool(page)), (*wanted, is_read), (more, end))
+
     def test_words_of_players(self):
         for player in PLAYERS:
             for word in ("x", "0", "65536", "-1", "9147.5", ""):
