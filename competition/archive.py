@@ -51,6 +51,14 @@ class TooLarge(Exception):
     """What there is to publish is more than `check` would take."""
 
 
+def sum_of_file(path):
+    found = hashlib.sha256()
+    with open(path, "rb") as file:
+        while data := file.read(1 << 20):
+            found.update(data)
+    return found.hexdigest()
+
+
 def files_below(folder):
     """Returns the files below a folder, by their names from there, in order."""
     return {str(it.relative_to(folder)): it for it in sorted(folder.rglob("*")) if it.is_file()}
@@ -91,7 +99,6 @@ def own_files(plan):
 def publish(plan, referee, results, path):
     """Writes the archive, the same for the same files, and returns its sum."""
     made_anew(plan, results)
-    made = hashlib.sha256()
     with written_whole(path) as file:
         with gzip.GzipFile(filename="", mode="wb", fileobj=file, mtime=0) as packed, tarfile.open(fileobj=packed, mode="w|") as archive:
             size = 0
@@ -100,10 +107,7 @@ def publish(plan, referee, results, path):
                 if size > MOST_BYTES:
                     raise TooLarge(f"it has more than {MOST_BYTES:,} bytes, which are the most of an archive")
                 add(archive, f"{plan.competition.name}/{name}", data)
-    with open(path, "rb") as file:
-        while data := file.read(1 << 20):
-            made.update(data)
-    return made.hexdigest()
+    return sum_of_file(path)
 
 
 def with_sums(contents):
@@ -164,7 +168,7 @@ def faults_of_sums(folder):
     for name in sorted(files.keys() - sums.keys()):
         yield f"{name} has no sum"
     for name in sorted(files.keys() & sums.keys()):
-        if hashlib.sha256(files[name].read_bytes()).hexdigest() != sums[name]:
+        if sum_of_file(files[name]) != sums[name]:
             yield f"{name} is not the one of its sum"
 
 
@@ -249,5 +253,7 @@ def looked_at(path, referee):
             return str(why).replace(f"{room}/", "").splitlines(), ""
         except Unchecked as why:
             raise Unchecked(str(why).replace(f"{room}/", "")) from None
+        except MemoryError:
+            raise Unchecked("the archive can't be checked: want of memory") from None
     said = f"the sums, the schedule, {len(results)} records and accounts, the table and the pages are right"
     return faults, f"{said}; played by {made_by}, checked by {referee.version()}"

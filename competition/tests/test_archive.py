@@ -229,6 +229,14 @@ class Archive(unittest.TestCase):
         said = "ggp_competition: `ggp_manager replay` came to no verdict with cup/rules/countdown.kif: it said nothing, status -9; nothing is changed\n"
         self.assertEqual(run(self.folder, "check", "cup.tar.gz", "--program", short), (3, "", said))
 
+    def test_an_archive_for_which_memory_is_short(self):
+        words, said = ["ggp_competition", "check", str(self.archive), "--program", program()], io.StringIO()
+        for place in ("competition.archive.unpacked", "competition.kept.read_at_most"):
+            with mock.patch(place, side_effect=MemoryError), mock.patch("sys.argv", words), mock.patch("sys.stderr", said):
+                self.assertEqual(main(), 3)
+        what = "the archive", "records and accounts"
+        self.assertEqual(said.getvalue(), "".join(f"ggp_competition: {it} can't be checked: want of memory; nothing is changed\n" for it in what))
+
     def test_sums_that_were_made_anew_are_taken_of_what_is_right(self):
         (self.other / "again.tar.gz").write_bytes(packed(self.files()))
         self.assertEqual(run(self.other, "check", "again.tar.gz")[0], 0)
