@@ -3,12 +3,33 @@ import contextlib
 import io
 import os
 import sys
+import tempfile
+import time
 import unittest
+import unittest.mock
 
 sys.path.insert(0, os.path.dirname(os.path.dirname(os.path.realpath(__file__))))
 from looking import Beside, is_well, name_of
 
 WELL, WRONG = ["sh", "-c", "echo said"], ["sh", "-c", "echo why >&2; exit 3"]
+SECONDS = 60
+
+
+def is_soon(is_so):
+    """Returns whether something is so before long."""
+    ends = time.monotonic() + SECONDS
+    while not is_so() and time.monotonic() < ends:
+        time.sleep(0.01)
+    return is_so()
+
+
+def has_ended(process):
+    """Returns whether a process has ended, though nobody may have waited for it."""
+    try:
+        with open(f"/proc/{process}/stat", encoding="utf-8", errors="replace") as it:
+            return it.read().rpartition(") ")[2].startswith("Z")
+    except OSError:
+        return True
 
 
 class Looking(unittest.TestCase):
@@ -39,6 +60,40 @@ class Looking(unittest.TestCase):
             beside.start()
             beside.join()
         self.assertEqual((stops, beside.all_well), ([], True))
+
+    def test_one_that_cannot_be_begun_is_not_well(self):
+        stops, said = [], io.StringIO()
+        with contextlib.redirect_stdout(said):
+            self.assertFalse(is_well([["/nonexistent"]]))
+            beside = Beside([["/nonexistent"], WELL], lambda: stops.append(True))
+            beside.start()
+            beside.join()
+        self.assertEqual((stops, beside.all_well), ([True], False))
+        self.assertEqual(said.getvalue().count("WRONG, it can't be run: [Errno 2] No such file or directory: '/nonexistent'\n"), 2)
+        self.assertNotIn("said\n", said.getvalue())
+
+    def test_a_fault_of_the_thread_stops_the_work_beside(self):
+        stops = []
+        beside = Beside([WELL], lambda: stops.append(True))
+        with unittest.mock.patch("looking.run", side_effect=RuntimeError), contextlib.redirect_stdout(io.StringIO()):
+            with self.assertRaises(RuntimeError):
+                beside.run()
+        self.assertEqual((stops, beside.all_well), ([True], False))
+
+    def test_one_that_is_ended_is_ended_with_what_it_started(self):
+        stops, said = [], io.StringIO()
+        with tempfile.TemporaryDirectory() as room, contextlib.redirect_stdout(said):
+            look = ["sh", "-c", f"sleep 600 & echo $! > {room}/begun; mv {room}/begun {room}/child; wait"]
+            beside = Beside([look, WELL], lambda: stops.append(True))
+            beside.start()
+            self.assertTrue(is_soon(lambda: os.path.exists(f"{room}/child")))
+            beside.end()
+            beside.join(SECONDS)
+            with open(f"{room}/child", encoding="ascii") as it:
+                child = int(it.read())
+            self.assertTrue(is_soon(lambda: has_ended(child)))
+        self.assertEqual((stops, beside.all_well, beside.is_alive()), ([], False, False))
+        self.assertEqual([said.getvalue().count(it) for it in ("begins", "WRONG, ")], [1, 1])
 
 
 if __name__ == "__main__":
