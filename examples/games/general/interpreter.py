@@ -176,11 +176,16 @@ class Look:
         """All that is true of relations that go round, derived again and again until there is no more."""
         if circle not in known:
             known[circle], count = Facts(fact for name in sorted(circle) for fact in self.game.facts.by_name.get(name, ())), -1
-            while len(known[circle].all) > count:
-                count = len(known[circle].all)
-                asked = [(name, head) for name in sorted(circle) for head, _ in self.game.rules[name]]
-                more = [answer for name, head in asked for answer in self.derived(head, name)]
-                known[circle] = Facts([*known[circle].all, *more])
+            try:
+                while len(known[circle].all) > count:
+                    count = len(known[circle].all)
+                    asked = [(name, head) for name in sorted(circle) for head, _ in self.game.rules[name]]
+                    more = [answer for name, head in asked for answer in self.derived(head, name)]
+                    known[circle] = Facts([*known[circle].all, *more])
+            except GoesRound:
+                # What is not complete may not stay: a circle on which no state bears outlives this look.
+                del known[circle]
+                raise
         return known[circle]
 
     def derived(self, question, name):
