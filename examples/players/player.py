@@ -100,8 +100,10 @@ class Player:
                 if moves not in ("nil", ()):
                     self.state = self.game.next(self.state, moves)
                 return show(self.choose(self.game.legal(self.state, self.role)))
-            case ("stop", _, _) | ("abort", _):
-                self.match = None
+            case ("stop", match_id, _) | ("abort", match_id):
+                # It may name a match that this player has not begun.
+                if match_id == self.match:
+                    self.match = None
                 return "done"
         return "busy"
 
