@@ -14,7 +14,7 @@ import sys
 sys.dont_write_bytecode = True
 sys.path.insert(0, str(pathlib.Path(__file__).resolve().parent.parent / "games/general"))
 import interpreter
-from player import Player, port_and_choice, serve, show
+from player import Player, port_and_choice, say, serve, show
 
 
 class Game(interpreter.Game):
@@ -32,7 +32,7 @@ def count_text(sentences):
 
 def make_game(sentences):
     """Returns the game that START tells, and says how many sentences that are."""
-    print(count_text(sentences), file=sys.stderr)
+    say(count_text(sentences))
     return Game(sentences)
 
 

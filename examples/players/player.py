@@ -10,7 +10,15 @@ the same moves. It needs Python's standard library alone.
 import random
 import re
 import sys
+import threading
+import traceback
 from http.server import BaseHTTPRequestHandler, HTTPServer
+
+# No message of the referee is longer: START is the longest, with rules of at most 1,048,576 bytes before they are printed.
+MOST_BYTES = 4_194_304
+# Rules are looked up by recursion, and each of 8,192 sentences may ask for the next one: that is deeper than Python goes by itself. Older
+# Pythons need a larger stack for it too.
+DEEPEST, STACK = 100_000, 1 << 28
 
 
 def read(text):
@@ -58,7 +66,10 @@ class Game:
             case ("not", inner):
                 return not self.holds(inner, state, joint, known)
             case ("or", *inner):
-                return any(self.holds(one, state, joint, known) for one in inner)
+                for one in inner:
+                    if self.holds(one, state, joint, known):
+                        return True
+                return False
             case ("distinct", one, other):
                 return one != other
             case ("true", term):
@@ -66,9 +77,19 @@ class Game:
             case ("does", _, _):
                 return literal in joint
         if literal not in known:
-            bodies = self.bodies.get(literal, [])
-            known[literal] = any(all(self.holds(one, state, joint, known) for one in body) for body in bodies)
+            known[literal] = self.is_derived(literal, state, joint, known)
         return known[literal]
+
+    def is_derived(self, head, state, joint, known):
+        """Whether all literals of some rule for this head are true."""
+        # (loops, since `any` and `all` would take a part of the stack for each rule)
+        for body in self.bodies.get(head, []):
+            for one in body:
+                if not self.holds(one, state, joint, known):
+                    break
+            else:
+                return True
+        return False
 
     def initial(self):
         return {head[1] for head in self.true_heads("init", set())}
@@ -108,30 +129,54 @@ class Player:
         return "busy"
 
 
+def say(text):
+    """Prints a line on standard error. That nobody reads it any more is no reason to stop playing."""
+    try:
+        print(text, file=sys.stderr)
+    except OSError:
+        pass
+
+
 class Handler(BaseHTTPRequestHandler):
+    # Connections are served one after another: one that sends nothing for so many seconds is closed, so that the next gets its turn.
+    timeout = 10
+
     def do_POST(self):
-        body = self.rfile.read(int(self.headers["Content-Length"])).decode("ascii")
+        size = self.headers["Content-Length"] or ""
+        if not re.fullmatch("[0-9]{1,7}", size) or int(size) > MOST_BYTES:
+            self.send_error(400)
+            return
+        body = self.rfile.read(int(size)).decode("ascii")
         answer = self.server.player.answer(read(body)[0])
-        print(f"{self.headers['Receiver']}: {body[:60]} -> {answer}", file=sys.stderr)
-        answer = answer.encode("ascii")
         self.send_response(200)
         self.send_header("Content-Type", "text/acl")
         self.send_header("Content-Length", str(len(answer)))
         self.end_headers()
-        self.wfile.write(answer)
+        self.wfile.write(answer.encode("ascii"))
+        say(f"{self.headers['Receiver']}: {body[:60]} -> {answer}")
 
     def log_message(self, format, *arguments):
         pass
 
 
+class Server(HTTPServer):
+    def handle_error(self, request, client_address):
+        """Tells what went wrong with a message; the next one is served all the same."""
+        say(traceback.format_exc())
+
+
 def serve(port, player):
     try:
-        server = HTTPServer(("127.0.0.1", port), Handler)
+        server = Server(("127.0.0.1", port), Handler)
     except OSError as why:
         sys.exit(f"port {port}: {why.strerror}")
     server.player = player
+    sys.setrecursionlimit(DEEPEST)
+    threading.stack_size(STACK)
+    serving = threading.Thread(target=server.serve_forever, daemon=True)
+    serving.start()
     try:
-        server.serve_forever()
+        serving.join()
     except KeyboardInterrupt:
         pass
 

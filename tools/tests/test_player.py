@@ -1,13 +1,63 @@
-"""The example player: how it answers, also to what it may not expect."""
+"""The example player: how it answers, also to what it may not expect, and that it goes on."""
+import contextlib
+import io
 import os
+import socket
+import subprocess
 import sys
+import threading
+import time
 import unittest
+import unittest.mock
 
 TOP = os.path.dirname(os.path.dirname(os.path.dirname(os.path.realpath(__file__))))
 sys.path.insert(0, f"{TOP}/examples/players")
 import player
+from ports import free_ports
 
 RULES = "((role red) (init p) (legal red go) (legal red (stay 1)))"
+SECONDS = 60
+
+
+def asked(port, body, size=None):
+    """Returns the status of the answer to a message whose length is said to be this, and its body; nothing where there is no answer."""
+    head = f"POST / HTTP/1.0\r\nReceiver: ann\r\nContent-Length: {len(body) if size is None else size}\r\n\r\n"
+    with socket.create_connection(("127.0.0.1", port), SECONDS) as it:
+        it.sendall((head + body).encode())
+        said = b""
+        while piece := it.recv(65536):
+            said += piece
+    head, _, answer = said.decode().partition("\r\n\r\n")
+    return (int(head.split()[1]), answer) if said else None
+
+
+@contextlib.contextmanager
+def server():
+    """The port of a server inside this process, and what it says."""
+    with contextlib.redirect_stderr(io.StringIO()) as said, player.Server(("127.0.0.1", 0), player.Handler) as it:
+        it.player = player.Player(lambda moves: moves[0])
+        threading.Thread(target=it.serve_forever, daemon=True).start()
+        try:
+            yield it.server_port, said
+        finally:
+            it.shutdown()
+
+
+@contextlib.contextmanager
+def started(name, errors):
+    """The port of a player that is a process of its own, and takes connections."""
+    port = free_ports(1)[0]
+    with subprocess.Popen([sys.executable, "-B", f"{TOP}/examples/players/{name}.py", str(port), "1"], stderr=errors) as child:
+        ends = time.monotonic() + SECONDS
+        while time.monotonic() < ends:
+            with socket.socket() as it:
+                if it.connect_ex(("127.0.0.1", port)) == 0:
+                    break
+            time.sleep(0.02)
+        try:
+            yield port
+        finally:
+            child.kill()
 
 
 class Answers(unittest.TestCase):
@@ -27,6 +77,43 @@ class Answers(unittest.TestCase):
         for other in "(ABORT other)", "(STOP other NIL)":
             self.assertEqual((self.answer(other), self.answer("(INFO)"), self.answer("(PLAY m NIL)")), ("done", "busy", "(stay 1)"))
         self.assertEqual((self.answer("(ABORT m)"), self.answer("(INFO)")), ("done", "available"))
+
+
+class Serving(unittest.TestCase):
+    def test_a_length_that_is_none_or_too_large(self):
+        with server() as (port, _):
+            for size in "-1", "x", "", str(player.MOST_BYTES + 1), "1" * 5000:
+                self.assertEqual(asked(port, "(INFO)", size)[0], 400, size)
+            self.assertEqual(asked(port, "(INFO)"), (200, "available"))
+
+    def test_a_connection_that_sends_nothing_is_closed(self):
+        with unittest.mock.patch.object(player.Handler, "timeout", 0.5), server() as (port, _):
+            with socket.create_connection(("127.0.0.1", port), SECONDS) as silent:
+                self.assertEqual(asked(port, "(INFO)"), (200, "available"))
+                self.assertEqual(silent.recv(1), b"")
+
+    def test_a_message_that_is_none_leaves_the_next_one(self):
+        with server() as (port, said):
+            self.assertIsNone(asked(port, ""))
+            self.assertEqual(asked(port, "(INFO)"), (200, "available"))
+        self.assertIn("IndexError", said.getvalue())
+
+    def test_nobody_reads_what_a_player_says(self):
+        for name in "player", "interpreting":
+            ours, theirs = os.pipe()
+            os.close(ours)
+            with started(name, theirs) as port:
+                os.close(theirs)
+                self.assertEqual(asked(port, f"(START m red {RULES} 1 1)"), (200, "ready"))
+                self.assertIsNone(asked(port, ""))
+                self.assertEqual(asked(port, "(PLAY m NIL)")[0], 200)
+
+    def test_a_chain_of_as_many_rules_as_a_game_may_have(self):
+        chain = " ".join(f"(<= (a {it + 1}) (or (b {it}) (not (not (a {it})))))" for it in range(8186))
+        rules = f"((role red) (init p) (a 0) {chain} (<= (legal red go) (a 8186)))"
+        with started("player", subprocess.DEVNULL) as port:
+            self.assertEqual(asked(port, f"(START m red {rules} 1 1)"), (200, "ready"))
+            self.assertEqual(asked(port, "(PLAY m NIL)"), (200, "go"))
 
 
 if __name__ == "__main__":
