@@ -1,4 +1,5 @@
 """Runs the program as somebody might: with any standard streams, in a terminal, and against servers that are no good."""
+import contextlib
 import os
 import pty
 import re
@@ -28,6 +29,35 @@ def checks_memory(program):
         return b"AddressSanitizer" in it.read()
 
 
+@contextlib.contextmanager
+def begun(words, **streams):
+    """Begins a program, and gives its process. It is killed where it does not end within the patience, or where it is left by a fault: no
+    read of what it says, and no wait for it, is without an end."""
+    child = subprocess.Popen(words, **streams)
+    patience = threading.Timer(PATIENCE, child.kill)
+    patience.daemon = True
+    patience.start()
+    try:
+        with child:
+            try:
+                yield child
+            except BaseException:
+                child.kill()
+                raise
+    finally:
+        patience.cancel()
+
+
+def wait_until(is_so, seconds, rest=0.01):
+    """Returns whether something is so before the seconds are over."""
+    ends = time.monotonic() + seconds
+    while not is_so():
+        if time.monotonic() > ends:
+            return False
+        time.sleep(rest)
+    return True
+
+
 def asked(program, words, text=b""):
     """Returns what the program comes to with these words, on this input."""
     ran = subprocess.run([program, *words], input=text, capture_output=True, timeout=PATIENCE)
@@ -45,7 +75,7 @@ def asked_in_shell(program, words, streams, text=b"", before=""):
 def asked_by_bytes(program, words, count):
     """Does so on an input of this many bytes, each of which takes a read of its own."""
     ours, theirs = socket.socketpair(socket.AF_UNIX, socket.SOCK_SEQPACKET)
-    with subprocess.Popen([program, *words], stdin=theirs, stdout=subprocess.PIPE, stderr=subprocess.PIPE) as child:
+    with begun([program, *words], stdin=theirs, stdout=subprocess.PIPE, stderr=subprocess.PIPE) as child:
         theirs.close()
         try:
             for _ in range(count):
@@ -54,7 +84,7 @@ def asked_by_bytes(program, words, count):
             # The program has read enough.
             pass
         ours.close()
-        output, errors = child.communicate(timeout=PATIENCE)
+        output, errors = child.communicate()
     return Said(child.returncode, output, errors.decode())
 
 
@@ -87,10 +117,9 @@ def asked_in_terminal(program, words, stream="stderr", text=b""):
     with tempfile.TemporaryFile() as given, tempfile.TemporaryFile() as kept:
         given.write(text)
         given.seek(0)
-        with subprocess.Popen([program, *words], stdin=given, **{stream: theirs, other: kept}) as child:
+        with begun([program, *words], stdin=given, **{stream: theirs, other: kept}) as child:
             os.close(theirs)
             shown = read_to_close(ours)
-            child.wait(PATIENCE)
         kept.seek(0)
         return child.returncode, shown, kept.read().decode()
 

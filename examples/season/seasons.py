@@ -2,12 +2,17 @@
 import json
 import pathlib
 import subprocess
+import sys
 import tempfile
-import time
 
 from players_inside import ROLES
 
-GAME = pathlib.Path(__file__).resolve().parent.parent / "games/countdown.kif"
+EXAMPLES = pathlib.Path(__file__).resolve().parent.parent
+sys.path.append(str(EXAMPLES / "faults"))
+# The scripts take it from here.
+from asking import wait_until
+
+GAME = EXAMPLES / "games/countdown.kif"
 BEGUN = "ggp_manager: "
 # README.md says so to its readers.
 CUT_OFF = """[ -z "$(tail -c 1 records)" ] || sed -i '$d' records"""
@@ -32,13 +37,18 @@ def start(program, words, plan, records, **more):
         return subprocess.Popen([program, "season", *words], stdin=given, stdout=records, **more)
 
 
-def ended(child):
-    """Returns the status of a program, and what it told if that goes to a pipe. Where it does not end it is killed."""
+def all_said(child):
+    """Returns what a program writes to its pipes until it ends. Where it does not end it is killed."""
     try:
-        told = child.communicate(timeout=PATIENCE)[1]
+        return child.communicate(timeout=PATIENCE)
     except subprocess.TimeoutExpired:
         child.kill()
-        told = child.communicate()[1]
+        return child.communicate()
+
+
+def ended(child):
+    """Returns the status of a program, and what it told if that goes to a pipe. Where it does not end it is killed."""
+    told = all_said(child)[1]
     return child.returncode, told
 
 
@@ -56,16 +66,6 @@ def cut_off(folder):
 def records_in(lines):
     """Returns the records among these lines; lines of accounts begin with a digit."""
     return [json.loads(line) for line in lines if not line[:1].isdigit()]
-
-
-def wait_until(is_so, seconds, rest=0.01):
-    """Returns whether something is so before the seconds are over."""
-    ends = time.monotonic() + seconds
-    while not is_so():
-        if time.monotonic() > ends:
-            return False
-        time.sleep(rest)
-    return True
 
 
 def errors_of(record):
