@@ -52,20 +52,25 @@ def source_sum(name, known):
     return text_sum(with_below([name], known), ("src",))
 
 
-def kept_volumes(known, file=MEASURED):
-    """Returns the megabytes of each crate that were measured of its text as it is."""
+def source_sums(known):
+    """Returns the sum of each crate: what is measured later of a library that is built now is kept under it."""
+    return {name: source_sum(name, known) for name in known}
+
+
+def kept_volumes(sums, file=MEASURED):
+    """Returns the megabytes of each crate that were measured of its text with this sum."""
     try:
         with open(file, encoding="utf-8") as it:
             found = json.load(it)
     except (OSError, ValueError):
         return {}
-    return {name: found[name]["megabytes"] for name in known if name in found and found[name]["text"] == source_sum(name, known)}
+    return {name: found[name]["megabytes"] for name in sums if name in found and found[name]["text"] == sums[name]}
 
 
-def keep_volumes(volumes, known, file=MEASURED):
-    """Keeps what was measured, each with the sum of the text that it is of."""
-    volumes = {**kept_volumes(known, file), **volumes}
-    found = {name: {"megabytes": it, "text": source_sum(name, known)} for name, it in volumes.items()}
+def keep_volumes(volumes, sums, file=MEASURED):
+    """Keeps what was measured, each with the sum of the text that it is of, as it was before the libraries were built."""
+    volumes = {**kept_volumes(sums, file), **volumes}
+    found = {name: {"megabytes": it, "text": sums[name]} for name, it in volumes.items() if name in sums}
     os.makedirs(os.path.dirname(file), exist_ok=True)
     with open(f"{file}.new", "w", encoding="utf-8") as it:
         json.dump(found, it, indent=1)
@@ -86,6 +91,15 @@ def write_budget(volumes, file=BUDGET):
 def above(volumes, budget):
     """Returns the crates that are above what the budget lets them have, those that have no figure too."""
     return [name for name, it in volumes.items() if it > LEEWAY * budget.get(name, 0)]
+
+
+def fault_of(volumes, budget):
+    """Returns why the budget is not kept, or none."""
+    if not volumes:
+        return "no library was measured"
+    if above(volumes, budget):
+        return "a library is above its budget, as the table says: make it smaller, or store its figure by `tools/budget --write`"
+    return None
 
 
 def table(volumes, budget):

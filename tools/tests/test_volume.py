@@ -6,7 +6,8 @@ import tempfile
 import unittest
 
 sys.path.insert(0, os.path.dirname(os.path.dirname(os.path.realpath(__file__))))
-from volume import OF_A_FUNCTION, OF_A_PARAMETER, OF_A_STEP, above, read_budget, steps_in, table, volume_of, write_budget
+from volume import OF_A_FUNCTION, OF_A_PARAMETER, OF_A_STEP, above, fault_of, keep_volumes, kept_volumes
+from volume import read_budget, steps_in, table, volume_of, write_budget
 
 
 def function(steps, parameters):
@@ -19,6 +20,21 @@ class Budget(unittest.TestCase):
 
     def test_a_crate_without_a_figure_is_above(self):
         self.assertEqual(above({"new": 1}, {}), ["new"])
+
+    def test_why_a_budget_is_not_kept(self):
+        self.assertIsNone(fault_of({"low": 110}, {"low": 100}))
+        self.assertIn("above its budget", fault_of({"low": 111}, {"low": 100}))
+        self.assertEqual(fault_of({}, {"low": 100}), "no library was measured")
+
+    def test_what_was_measured_counts_for_the_text_that_it_is_of(self):
+        with tempfile.TemporaryDirectory() as room:
+            file = f"{room}/bin/volumes.json"
+            self.assertEqual(kept_volumes({"low": "a"}, file), {})
+            keep_volumes({"low": 1, "wide": 2, "new": 3}, {"low": "a", "wide": "b"}, file)
+            self.assertEqual(kept_volumes({"low": "a", "wide": "c"}, file), {"low": 1})
+            # A crate that is not measured again keeps its figure, as long as its text is the same.
+            keep_volumes({"wide": 4}, {"low": "a", "wide": "c"}, file)
+            self.assertEqual(kept_volumes({"low": "a", "wide": "c"}, file), {"low": 1, "wide": 4})
 
     def test_the_table_says_each_crate_and_all(self):
         said = [*table({"low": 110, "wide": 120, "new": 7}, {"low": 100, "wide": 100, "gone": 50})]
