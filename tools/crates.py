@@ -88,11 +88,23 @@ def made_from(parts=PARTS):
     return f"kit: {kit_said()}\ntext: {text_sum(with_below([PROGRAM], crates()), parts)}\n"
 
 
+def said_of(program, made):
+    """Returns what stands beside a program that was made from this: that, and a sum of the program."""
+    return f"{made}program: {sum_of(program)}\n"
+
+
+def write_beside(program, ending, made):
+    """Writes beside a program what it was made from. That comes after the program: what is stopped before leaves none that is current."""
+    with open(f"{program}.{ending}.new", "w", encoding="utf-8") as it:
+        it.write(said_of(program, made))
+    os.replace(f"{program}.{ending}.new", f"{program}.{ending}")
+
+
 def is_current(program, ending, parts=PARTS):
-    """Returns whether the program stands there and the file beside it says that it was made from the text as it is."""
+    """Returns whether the program stands there and the file beside it says that it, and no other, was made from the text as it is."""
     try:
         with open(f"{program}.{ending}", encoding="utf-8") as it:
-            return os.access(program, os.X_OK) and it.read().startswith(made_from(parts))
+            return os.access(program, os.X_OK) and it.read() == said_of(program, made_from(parts))
     except OSError:
         return False
 

@@ -1,10 +1,13 @@
 """What is read of crates.txt, the order of crates, and sums of their text."""
 import os
 import sys
+import tempfile
 import unittest
+import unittest.mock
 
 sys.path.insert(0, os.path.dirname(os.path.dirname(os.path.realpath(__file__))))
-from crates import below, kit_crates, own_deps, rows, spell, with_below
+import crates
+from crates import PARTS, below, is_current, kit_crates, own_deps, rows, spell, with_below, write_beside
 
 TEXT = """\
 # NAME: what it stands on
@@ -33,10 +36,8 @@ class Rows(unittest.TestCase):
         self.assertEqual(kit_crates(twice), {"json": ["one", "two"], "thiserror": ["two"]})
 
     def test_the_repository_names_each_crate_behind_what_it_stands_on(self):
-        from crates import crates
-
         seen = set()
-        for name, deps in crates().items():
+        for name, deps in crates.crates().items():
             self.assertLessEqual(set(deps), seen, name)
             seen.add(name)
 
@@ -50,6 +51,37 @@ class Order(unittest.TestCase):
 
     def test_named_crates_bring_what_they_stand_on_once(self):
         self.assertEqual(with_below(["wide", "middle", "low"], self.known), ["wide", "low", "middle"])
+
+
+class Programs(unittest.TestCase):
+    def test_a_program_is_current_where_it_is_the_one_that_was_made_from_the_text(self):
+        with tempfile.TemporaryDirectory() as room, unittest.mock.patch("crates.made_from", lambda parts: f"text: {room} {parts}\n"):
+            program = f"{room}/program"
+            self.assertFalse(is_current(program, "proved"))
+            write(program, "one")
+            self.assertFalse(is_current(program, "proved"))
+            write_beside(program, "proved", crates.made_from(PARTS))
+            self.assertTrue(is_current(program, "proved"))
+            self.assertFalse(is_current(program, "proved", ("src",)))
+            # Another program in its place, as where a build is stopped behind it.
+            write(program, "two")
+            self.assertFalse(is_current(program, "proved"))
+            write(program, "one")
+            self.assertTrue(is_current(program, "proved"))
+            os.chmod(program, 0o644)
+            self.assertFalse(is_current(program, "proved"))
+
+    def test_a_file_that_says_no_sum_is_not_enough(self):
+        with tempfile.TemporaryDirectory() as room, unittest.mock.patch("crates.made_from", lambda parts: "text: one\n"):
+            write(f"{room}/program", "one")
+            write(f"{room}/program.proved", "text: one\n")
+            self.assertFalse(is_current(f"{room}/program", "proved"))
+
+
+def write(file, text):
+    with open(file, "w", encoding="utf-8") as it:
+        it.write(text)
+    os.chmod(file, 0o755)
 
 
 class Times(unittest.TestCase):
