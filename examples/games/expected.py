@@ -1,12 +1,16 @@
 #!/usr/bin/env python3
 """Writes NAME.out, what a desk must print for NAME.kif and NAME.script: the replies, and the match's record.
 
-Usage: expected.py NAME .., in this folder. It stands apart from the program: rules are looked up from
-the question down, by recursion, where the program evaluates them once in the order of a ranking. It
-takes lawful scripts of one match alone: no line that the desk refuses, and no abort.
+expected.py NAME ..   writes them, in this folder
+expected.py --check   ends with status 1 where one of this folder is not what it would write
+
+It stands apart from the program: rules are looked up from the question down, by recursion, where the program
+evaluates them once in the order of a ranking. It takes lawful scripts of one match alone: no line that the desk
+refuses, and no abort.
 """
 
 import json
+import pathlib
 import sys
 from functools import lru_cache
 
@@ -225,13 +229,32 @@ def run(game, script):
     return replies, match
 
 
+def output(rules, script):
+    """What a desk must print for a description and a script."""
+    replies, match = run(Game(expressions(rules)), script)
+    record = json.dumps(match.record(), separators=(",", ":"), sort_keys=True)
+    return "".join(f"{line}\n" for line in (*replies, record))
+
+
+def check():
+    """Ends with status 1 where an output of this folder is another one, and where there is none."""
+    files = sorted(pathlib.Path(__file__).resolve().parent.glob("*.kif"))
+    for rules in files:
+        if rules.with_suffix(".out").read_text() != output(rules.read_text(), rules.with_suffix(".script").read_text()):
+            sys.exit(f"{rules.stem}.out is not what it must be: run expected.py {rules.stem} in examples/games")
+    if not files:
+        sys.exit("there is no game")
+
+
 def main():
+    if sys.argv[1:] == ["--check"]:
+        check()
+        return
     for name in sys.argv[1:]:
         with open(f"{name}.kif") as rules, open(f"{name}.script") as script:
-            replies, match = run(Game(expressions(rules.read())), script.read())
+            text = output(rules.read(), script.read())
         with open(f"{name}.out", "w") as out:
-            out.writelines(f"{reply}\n" for reply in replies)
-            out.write(json.dumps(match.record(), separators=(",", ":"), sort_keys=True) + "\n")
+            out.write(text)
 
 
 if __name__ == "__main__":

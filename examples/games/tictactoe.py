@@ -1,5 +1,12 @@
 #!/usr/bin/env python3
-"""Writes tic-tac-toe as a ground description: each rule once for each cell, mark and line."""
+"""Writes tic-tac-toe as a ground description: each rule once for each cell, mark and line.
+
+tictactoe.py           prints it
+tictactoe.py --check   ends with status 1 where tictactoe.kif is another one
+"""
+
+import pathlib
+import sys
 
 SIZE = (1, 2, 3)
 BLANK = "b"
@@ -53,6 +60,13 @@ def sentences():
         yield f"(<= (goal {player} 0) (line {other}))"
 
 
-print("; Tic-tac-toe, written by tictactoe.py.")
-for sentence in sentences():
-    print(sentence)
+def main():
+    text = "\n".join(["; Tic-tac-toe, written by tictactoe.py.", *sentences(), ""])
+    if sys.argv[1:] != ["--check"]:
+        print(text, end="")
+    elif pathlib.Path(__file__).with_suffix(".kif").read_text() != text:
+        sys.exit("tictactoe.kif is not what tictactoe.py writes")
+
+
+if __name__ == "__main__":
+    main()
