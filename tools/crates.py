@@ -71,6 +71,13 @@ def texts_of(name, parts=PARTS):
     return sorted(found)
 
 
+def strays(folder, names, top=TOP):
+    """Returns the folders with files below one of the repository that have none of these names: nothing looks there."""
+    with os.scandir(f"{top}/{folder}") as found:
+        others = sorted(it.name for it in found if it.is_dir() and it.name not in names)
+    return [it for it in others if any(files for _, _, files in os.walk(f"{top}/{folder}/{it}"))]
+
+
 def sum_of(file):
     with open(file, "rb") as it:
         return hashlib.sha256(it.read()).hexdigest()

@@ -7,7 +7,7 @@ import unittest.mock
 
 sys.path.insert(0, os.path.dirname(os.path.dirname(os.path.realpath(__file__))))
 import crates
-from crates import PARTS, below, is_current, kit_crates, own_deps, rows, spell, with_below, write_beside
+from crates import PARTS, below, is_current, kit_crates, own_deps, rows, spell, strays, with_below, write_beside
 
 TEXT = """\
 # NAME: what it stands on
@@ -40,6 +40,16 @@ class Rows(unittest.TestCase):
         for name, deps in crates.crates().items():
             self.assertLessEqual(set(deps), seen, name)
             seen.add(name)
+
+
+class Strays(unittest.TestCase):
+    def test_a_folder_of_no_crate_is_named_if_something_is_there(self):
+        with tempfile.TemporaryDirectory() as top:
+            for name in "low", "gone", "empty/out":
+                os.makedirs(f"{top}/edits/{name}")
+            for file in "low/one.edit", "gone/two.edit", "readme":
+                write(f"{top}/edits/{file}", "")
+            self.assertEqual(strays("edits", ["low", "wide"], top), ["gone"])
 
 
 class Order(unittest.TestCase):
