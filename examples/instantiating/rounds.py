@@ -57,11 +57,17 @@ def components(graph):
                     above = open_ones[-1][0]
                     lows[above] = min(lows[above], lows[one])
                 if lows[one] == places[one]:
-                    at = stack.index(one) if len(stack) < 64 else len(stack) - 1 - stack[::-1].index(one)
-                    found.append(stack[at:])
-                    on_stack.difference_update(stack[at:])
-                    del stack[at:]
+                    found.append(popped_until(one, stack))
+                    on_stack.difference_update(found[-1])
     return found
+
+
+def popped_until(one, stack):
+    """Takes what stands on a stack from one on, and returns it in its order."""
+    found = [stack.pop()]
+    while found[-1] != one:
+        found.append(stack.pop())
+    return found[::-1]
 
 
 def is_halved(circle, rules_for):
