@@ -14,7 +14,7 @@ help:
 	@echo 'make games           a match over HTTP of each game of examples/games/general, instantiated by gringo'
 	@echo 'make competition     the tests of competitions: one of 192 matches is killed twice, and goes on'
 	@echo 'make build           proves the program and leaves it at $(PROGRAM), beside it what proved it'
-	@echo 'make install         puts the proved program, ggp_competition and verify-records into $(PREFIX)/bin (PREFIX=DIR: into DIR/bin), and what proved it'
+	@echo 'make install         puts the proved program, ggp_competition and verify-records into $(PREFIX)/bin (PREFIX=DIR: into DIR/bin), and what proved it; as root: sudo env "PATH=$$PATH" make install'
 	@echo 'make dist            an archive of the proved program, with examples and documents, for computers without the kit'
 	@echo 'make looks           what takes seconds: documents, constants, layout, edits, the tests of the tools, the commands of README.md'
 	@echo 'make trials [NAME..] compiles the tests (all, or those of the named crates) and runs them'
@@ -47,8 +47,8 @@ build: needs
 	@tools/build
 
 install: build
-	@install -D -m 755 $(PROGRAM) $(DESTDIR)$(PREFIX)/bin/ggp_manager
-	@install -D -m 644 $(PROGRAM).proved $(DESTDIR)$(PREFIX)/share/ggp_manager/ggp_manager.proved
+	@install -D -m 755 $(PROGRAM) '$(DESTDIR)$(PREFIX)/bin/ggp_manager'
+	@install -D -m 644 $(PROGRAM).proved '$(DESTDIR)$(PREFIX)/share/ggp_manager/ggp_manager.proved'
 	@echo '$(DESTDIR)$(PREFIX)/bin/ggp_manager, and what proved it: $(DESTDIR)$(PREFIX)/share/ggp_manager/ggp_manager.proved'
 	@competition/install '$(DESTDIR)$(PREFIX)'
 
