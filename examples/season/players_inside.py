@@ -73,16 +73,21 @@ class Player:
 
 
 class Hall(threading.Thread):
-    """The thread that serves players."""
+    """The thread that serves players. Each of them has its port once it is made."""
 
     def __init__(self, players):
         super().__init__(daemon=True)
         self.players, self.is_ready = players, threading.Event()
         self.start()
         self.is_ready.wait()
+        if any(it.port is None for it in players):
+            raise RuntimeError("a player can't be served; the thread that serves them says why")
 
     def run(self):
-        asyncio.run(self.serve_all())
+        try:
+            asyncio.run(self.serve_all())
+        finally:
+            self.is_ready.set()
 
     async def serve_all(self):
         self.loop = asyncio.get_running_loop()

@@ -4,10 +4,11 @@ import pathlib
 import sys
 import tempfile
 import unittest
+import unittest.mock
 
 TOP = os.path.dirname(os.path.dirname(os.path.dirname(os.path.realpath(__file__))))
 sys.path.insert(0, f"{TOP}/examples/season")
-from players_inside import Player, Seat
+from players_inside import Hall, Player, Seat
 from seasons import CUT_OFF, cut_off, errors_of, records_in, schedule, whole_lines
 
 
@@ -37,6 +38,20 @@ class Players(unittest.TestCase):
         for match in ("m", "n"):
             self.assertEqual(player.answer(f"(START {match} red ((role red)) 1 1)"), "ready")
         self.assertEqual(sorted(player.seats), ["m", "n"])
+
+
+class Halls(unittest.TestCase):
+    def test_each_player_has_its_port(self):
+        players = [Player("ann", 3), Player("bob", 3)]
+        Hall(players)
+        self.assertEqual(len({it.port for it in players} - {None}), 2)
+
+    def test_a_server_that_cannot_be_started_is_told(self):
+        told = []
+        with unittest.mock.patch("asyncio.start_server", side_effect=OSError), unittest.mock.patch("threading.excepthook", told.append):
+            with self.assertRaises(RuntimeError):
+                Hall([Player("ann", 3)])
+        self.assertEqual(told[0].exc_type, OSError)
 
 
 class Records(unittest.TestCase):
