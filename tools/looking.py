@@ -10,6 +10,8 @@ from crates import spell
 
 # The looks that are being taken: each leads a session of its own, so that it can be ended with all that it started.
 TAKEN = set()
+# A look that is to end has so many seconds to tidy up.
+GRACE = 3
 
 
 def name_of(look):
@@ -17,10 +19,20 @@ def name_of(look):
     return " ".join(it for it in look if not os.path.isabs(it))
 
 
-def end_session(leader):
+def end_session(leader, number=signal.SIGTERM):
     """Ends a process that leads a session, with all that it started there."""
     with contextlib.suppress(ProcessLookupError):
-        os.killpg(leader, signal.SIGTERM)
+        os.killpg(leader, number)
+
+
+def end_looks(leaders, is_over):
+    """Ends looks as Ctrl-C does, and behind the grace what is left of them."""
+    for number in signal.SIGINT, signal.SIGTERM:
+        for it in leaders:
+            end_session(it, number)
+        ends = time.monotonic() + GRACE
+        while not is_over() and time.monotonic() < ends:
+            time.sleep(0.02)
 
 
 def run(look, said=None):
@@ -38,7 +50,7 @@ def run(look, said=None):
             words = ran.stdout.read() if ran.stdout else ""
             _, status, used = os.wait4(ran.pid, 0)
         except BaseException:
-            end_session(ran.pid)
+            end_looks([ran.pid], lambda: ran.poll() is not None)
             raise
         finally:
             TAKEN.discard(ran.pid)
@@ -90,5 +102,4 @@ class Beside(threading.Thread):
     def end(self):
         """Ends the look that is being taken. No other is taken then, and the other work is left to whoever calls this."""
         self.is_ended = True
-        for leader in [*TAKEN]:
-            end_session(leader)
+        end_looks([*TAKEN], lambda: not self.is_alive())

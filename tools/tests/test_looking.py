@@ -13,6 +13,16 @@ from looking import Beside, is_well, name_of
 
 WELL, WRONG = ["sh", "-c", "echo said"], ["sh", "-c", "echo why >&2; exit 3"]
 SECONDS = 60
+# A look that tidies up where it is interrupted.
+TIDY = """
+import pathlib, signal, sys, time
+signal.signal(signal.SIGINT, signal.default_int_handler)
+try:
+    pathlib.Path(sys.argv[1], "begun").touch()
+    time.sleep(600)
+except KeyboardInterrupt:
+    pathlib.Path(sys.argv[1], "tidy").touch()
+"""
 
 
 def is_soon(is_so):
@@ -82,7 +92,8 @@ class Looking(unittest.TestCase):
 
     def test_one_that_is_ended_is_ended_with_what_it_started(self):
         stops, said = [], io.StringIO()
-        with tempfile.TemporaryDirectory() as room, contextlib.redirect_stdout(said):
+        with tempfile.TemporaryDirectory() as room, contextlib.redirect_stdout(said), unittest.mock.patch("looking.GRACE", 0.2):
+            # A shell has what it begins in the background ignore Ctrl-C.
             look = ["sh", "-c", f"sleep 600 & echo $! > {room}/begun; mv {room}/begun {room}/child; wait"]
             beside = Beside([look, WELL], lambda: stops.append(True))
             beside.start()
@@ -94,6 +105,26 @@ class Looking(unittest.TestCase):
             self.assertTrue(is_soon(lambda: has_ended(child)))
         self.assertEqual((stops, beside.all_well, beside.is_alive()), ([], False, False))
         self.assertEqual([said.getvalue().count(it) for it in ("begins", "WRONG, ")], [1, 1])
+
+    def test_one_that_is_ended_tidies_up(self):
+        with tempfile.TemporaryDirectory() as room, contextlib.redirect_stdout(io.StringIO()):
+            beside = Beside([["python3", "-c", TIDY, room]], None)
+            beside.start()
+            self.assertTrue(is_soon(lambda: os.path.exists(f"{room}/begun")))
+            beside.end()
+            self.assertFalse(beside.is_alive())
+            self.assertTrue(os.path.exists(f"{room}/tidy"))
+
+    def test_a_fault_while_one_is_taken_ends_it(self):
+        with tempfile.TemporaryDirectory() as room:
+
+            def interrupted(*_):
+                self.assertTrue(is_soon(lambda: os.path.exists(f"{room}/begun")))
+                raise KeyboardInterrupt
+
+            with unittest.mock.patch("os.wait4", interrupted), self.assertRaises(KeyboardInterrupt):
+                is_well([["python3", "-c", TIDY, room]])
+            self.assertTrue(os.path.exists(f"{room}/tidy"))
 
 
 if __name__ == "__main__":
