@@ -67,8 +67,8 @@ fn right_text<O: Object<Call = Call, Reply = Reply>>(
     entry_bytes(alloc, line, call, &reply)
 }
 
-/// Makes the call that an entry's text tells, of the entry of number `place` in the account. It must be the text that is written for
-/// this call and its reply.
+/// Makes this call, which the account's line of number `place` tells, counted from 1. The line must be the text that is written for the
+/// call and its reply.
 fn replay_call<O: Object<Call = Call, Reply = Reply>>(
     alloc: Global,
     object: &mut O,
@@ -89,8 +89,8 @@ fn replay_call<O: Object<Call = Call, Reply = Reply>>(
     Ok(())
 }
 
-/// Makes the call of an entry's text, which is the one of number `place` in the account. It must be the text that is written for this
-/// call and its reply.
+/// Makes the call that the account's line of number `place` tells, counted from 1, if it tells one. The line must be the text that is
+/// written for the call and its reply.
 fn replay_entry<O: Object<Call = Call, Reply = Reply>>(
     alloc: Global,
     object: &mut O,

@@ -78,7 +78,7 @@ pub fn heads(alloc: Global, rules: &[Rule]) -> Result<IndexSet<Derived>, AllocEr
     Ok(heads)
 }
 
-/// What a term in a head is of.
+/// Which terms of heads are meant: those that stand for states, or those that stand for moves.
 #[derive(Clone, Copy)]
 pub enum TermKind {
     State,

@@ -39,18 +39,28 @@ use std::snapshot::Snapshot;
 pub struct Match<G: Game> {
     game: Snapshot<G>,
     setup: Setup,
+    /// The mark of each role's answer to START.
     start_marks: Vec<Option<Mark>>,
+    /// The turns that are over.
     turns: Vec<Turn<G::Move>>,
+    /// What became of each role's answer in the turn that is open.
     open_answers: Vec<Option<Judgement<G::Move>>>,
     abort_asked: bool,
+    /// The mark of each role's answer to STOP or ABORT.
     end_marks: Vec<Option<Mark>>,
+    /// The state before each turn that is over.
     past: Vec<G::State>,
+    /// The present state.
     state: G::State,
     stage: Stage,
+    /// The number of roles that have answered in this round. In play a retired role counts as one that has.
     answered: usize,
+    /// The number of substituted moves.
     substituted: u64,
     strikes: Vec<RoleStrikes>,
+    /// The legal moves of each role in the present state, in play.
     legal: Vec<RoleMoves<G::Move>>,
+    /// The goal of each role, once the match has stopped.
     goals: Vec<Option<u8>>,
 }
 

@@ -37,7 +37,7 @@ pub enum RefereeFault {
     /// The desk refused to open the match, for this reason. No player was asked anything.
     #[error("refused: {0}")]
     Refused(Refusal),
-    /// The desk did not close.
+    /// The desk did not close, or its opening got no reply.
     #[error("the desk did not close")]
     Unclosed,
     /// The desk's history was full before the match was opened, or at the closing, while calls still waited.
