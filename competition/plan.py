@@ -6,7 +6,7 @@ from dataclasses import dataclass
 
 from competition.competition_file import Competition, Mistake, Mistaken, read_competition
 from competition.descriptions import NoDescription, has_variables, load_description, rules_of, sum_of
-from competition.files import Folder, Refused, held, write_whole
+from competition.files import UNFINISHED, Folder, Refused, held, write_whole
 from competition.schedule import planned, schedule_text
 
 SUM_LINE = re.compile(rb"([0-9a-f]{64})  ([^\n]+)\n")
@@ -100,7 +100,8 @@ def make_plan(path, referee):
 
 def write_plan(folder, wanted):
     """Writes the files of a plan, where no match was played by another one."""
-    played = folder.records.is_dir() and any(folder.records.glob("*.json"))
+    # What a killed `play` has left unfinished is no record.
+    played = folder.records.is_dir() and any(not it.name.startswith(UNFINISHED) for it in folder.records.glob("*.json"))
     for file, data in wanted.items():
         # Sums that are missing come of the descriptions as they are, which give the same rules.
         if played and (file.read_bytes() != data if file.exists() else file != folder.description_sums()):

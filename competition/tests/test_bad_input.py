@@ -41,6 +41,17 @@ class BadInput(InFolder):
             self.assertIn(it, said)
         self.assertEqual(sorted(self.folder.rglob("*")), before)
 
+    def test_a_plan_is_changed_only_before_a_record(self):
+        (self.folder / "game.kif").write_bytes((GAMES / "countdown.kif").read_bytes())
+        (self.folder / "records").mkdir()
+        for name, play in (("none", 2), (".unfinished-7-cup-1.json", 3)):
+            (self.folder / "records" / name).touch()
+            self.write(PLAYERS, [("game", "game.kif")], head=f"play = {play}\n")
+            self.assertEqual(run(self.folder, "plan")[0], 0, name)
+        (self.folder / "records/cup-1.json").touch()
+        self.write(PLAYERS, [("game", "game.kif")], head="play = 4\n")
+        self.assert_refused("schedule.tsv would change, and matches were played", "plan")
+
     def test_descriptions(self):
         for text, words in DESCRIPTIONS:
             with self.subTest(words):
