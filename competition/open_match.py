@@ -28,6 +28,8 @@ class OpenMatch:
         self.room = plan.folder.open / match.id
         self.places = [plan.competition.player(it).place() for it in match.players]
         self.stage, self.children, self.seconds = "asking", [], 0.0
+        # When its players sat down. Where one of them is missed, all matches that were open by then asked it in one try.
+        self.seated = time.monotonic()
         self.result, self.why = None, None
         self.may_begin, self.is_broken = True, False
         self.steps = self.go()
@@ -63,7 +65,6 @@ class OpenMatch:
 
     def ask(self):
         """Asks each player whether it is free. Returns whether the match can begin."""
-        began = time.monotonic()
         asked = [self.child(self.referee.info_words(it), f"info-{at}") for at, it in enumerate(self.places)]
         until = time.monotonic() + self.plan.competition.info
         while time.monotonic() < until and not all(it.is_over() for it in asked):
@@ -71,15 +72,14 @@ class OpenMatch:
         said = [it.output().decode().strip() if it.is_over() and not it.status() else "silent" for it in asked]
         for it in asked:
             it.end()
-        return all([self.is_there(*it, began) for it in zip(self.match.players, said)])
+        return all([self.is_there(*it) for it in zip(self.match.players, said)])
 
-    def is_there(self, player, said, asked):
-        """Returns whether the match can begin as far as this player goes, asked at this time. Else it is put back, or left with the
-        reason."""
+    def is_there(self, player, said):
+        """Returns whether the match can begin as far as this player goes. Else it is put back, or left with the reason."""
         if said in THERE:
             self.seats.was_there(player)
             return True
-        goes_on = self.seats.was_not_there(player, asked)
+        goes_on = self.seats.was_not_there(player, self.seated)
         if goes_on:
             self.tell.line(f"back {self.match.id}: {player} is {said}")
             return False

@@ -32,10 +32,10 @@ class Seats:
     def was_there(self, player):
         self.failed[player] = 0
 
-    def was_not_there(self, player, asked):
-        """Returns whether the player, which was asked at this time, is to be asked again: not if it was asked in vain so often in a row
-        as it may be. A player with several seats may be asked for several matches at once, which is one try."""
-        if asked < self.missed[player]:
+    def was_not_there(self, player, seated):
+        """Returns whether the player, which sat down for a match at this time, is to be asked again: not if it was asked in vain so often
+        in a row as it may be. A player with several seats may be asked for several matches at once, which is one try."""
+        if seated <= self.missed[player]:
             return self.failed[player] < self.tries
         self.idle_until = 0.0
         self.missed[player] = time.monotonic()
