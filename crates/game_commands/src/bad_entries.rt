@@ -4,9 +4,10 @@ use crate::bad_lines::{BadLine, Source, push_bad_line};
 use desk_text::{first_line, first_piece, number_up_to};
 use std::alloc::AllocError;
 
-/// What is wrong with an entry's text that has less than these three fields.
+/// The words for an entry's text that lacks a field of its form.
 const FEWER: &str = "fewer fields than in ";
 
+/// The form of an entry's text.
 const FORM: &str = "LINE CALL REPLY, with a tab between each two";
 
 /// The largest number of a line of a desk.
