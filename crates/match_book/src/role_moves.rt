@@ -30,8 +30,7 @@ impl<M> RoleMoves<M> {
     }
 }
 
-/// The lowest role without a legal move, if there is one, with the legal moves of the roles below
-/// it.
+/// The lowest role without a legal move, if there is one. If there is none, the legal moves of each role.
 pub fn legal_moves<G: Game>(
     alloc: Global,
     game: &G,
