@@ -31,16 +31,23 @@ const COUNTDOWN_RULES: &[u8] = b"(role red) (role blue)
 (<= (goal blue 100) (true (heap 0)) (true (turn red)))
 (<= (goal blue 0) (true (heap 0)) (true (turn blue)))";
 
+/// Whether a script on the game of these rules ends in these records, by the game as it is loaded and by its packed form.
+fn is_played_by_both(
+    alloc: Global,
+    rules: &[u8],
+    script: &str,
+    records: &str,
+) -> Result<bool, Fail> {
+    let sentences = read_all(alloc, rules)?;
+    let loaded = load(alloc, sentences.as_slice())?;
+    let is_loaded = is_played(alloc, loaded, script, records)?;
+    Ok(is_loaded && is_played(alloc, packed(alloc, rules)?, script, records)?)
+}
+
 #[test]
 fn described_countdown_is_countdown(rt: HostRuntime) -> Result<(), Fail> {
-    let alloc = rt.alloc();
-    let sentences = read_all(alloc, COUNTDOWN_RULES)?;
-    let loaded = load(alloc, sentences.as_slice())?;
-    let is_loaded = is_played(alloc, loaded, FINISHED, FINISHED_RECORD)?;
-    holds(&rt, is_loaded, "the game as it is loaded");
-    let game = packed(alloc, COUNTDOWN_RULES)?;
-    let is_packed = is_played(alloc, game, FINISHED, FINISHED_RECORD)?;
-    holds(&rt, is_packed, "the packed game");
+    let is_so = is_played_by_both(rt.alloc(), COUNTDOWN_RULES, FINISHED, FINISHED_RECORD)?;
+    holds(&rt, is_so, "a described game");
     Ok(())
 }
 
@@ -88,8 +95,8 @@ query m -> status aborted round 2 turns 1 substitutions 0
 #[test]
 fn games_end_or_are_aborted(rt: HostRuntime) -> Result<(), Fail> {
     for (rules, script, records) in [ENDED_AT_ONCE, NO_MOVE, TWO_GOALS] {
-        let game = packed(rt.alloc(), rules.as_bytes())?;
-        holds(&rt, is_played(rt.alloc(), game, script, records)?, rules);
+        let is_so = is_played_by_both(rt.alloc(), rules.as_bytes(), script, records)?;
+        holds(&rt, is_so, rules);
     }
     Ok(())
 }

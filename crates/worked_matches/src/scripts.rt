@@ -51,8 +51,12 @@ submit m 0 0 READY -> taken
 submit m 1 0 READY -> taken
 submit m 0 1 ( TAKE 2 ) ; two -> taken
 submit m 1 1 NOOP -> taken
+next m 0 -> owe 2 play ((take 2) noop)
+query m -> status playing round 2 turns 1 substitutions 0
 submit m 1 2 (take 2) (take 1) -> taken
 submit m 0 2 noop -> taken
+next m 0 -> owe 3 play (noop (take 1))
+query m -> status playing round 3 turns 2 substitutions 1
 ";
 
 const SPELLED_RECORD: &str =
