@@ -2,7 +2,8 @@
 ghost use Rattle.std.specs.Prelude.{◌≡◌, take};
 ghost use Rattle.described_games.specs.Places.{line_after, column_after};
 
-use crate::scan::{Scan, is_atom_byte};
+use crate::scan::Scan;
+use kif_text::is_atom_byte;
 
 /// A place in a text: its line and its column, both counted from 1. Columns count bytes.
 #[derive(Clone, Copy)]

@@ -1,6 +1,8 @@
 //! The beginnings and ends of expressions in a text, byte by byte.
 ghost use Rattle.std.specs.Prelude.{◌≡◌, ◌||◌, ◌==◌};
-ghost use Rattle.game_core.specs.Bytes.{is_atom_byte, is_white, semicolon};
+ghost use Rattle.game_core.specs.Bytes.{is_white, semicolon};
+
+use kif_text::is_atom_byte;
 
 /// The state at a place of a text: the number of open lists, and whether a comment or an atom is open.
 #[derive(Clone, Copy)]
@@ -8,13 +10,6 @@ pub struct Scan {
     pub depth: usize,
     in_comment: bool,
     in_atom: bool,
-}
-
-/// Whether a byte may stand in an atom.
-pub fn is_atom_byte(byte: u8) -> bool
-    ensures { result ≡ is_atom_byte byte }
-{
-    byte.is_ascii_graphic() && !matches!(byte, b'(' | b')' | b';')
 }
 
 impl Scan {

@@ -62,6 +62,28 @@ fn fold_all(members: &mut Vec<Expr>)
     }
 }
 
+/// A copy of the expression, folded.
+pub fn folded_copy(alloc: Global, expr: &Expr) -> Result<Expr, AllocError>
+    ensures { IfOk result (λ e. view e ≡ folded (view expr.now)) }
+{
+    let mut copied = copy(alloc, expr)?;
+    fold(&mut copied);
+    Ok(copied)
+}
+
+/// Copies of the expressions, folded.
+pub fn folded_copies(alloc: Global, exprs: &[Expr]) -> Result<Vec<Expr>, AllocError>
+    ensures each { IfOk result (λ v. map view v.items ≡ map folded (map view exprs.now)) }
+    // The same of the expressions as the members of a list.
+    ensures members { IfOk result (λ v. views v.items ≡ all_folded (views exprs.now)) }
+{
+    let mut copies = Vec::with_capacity(alloc, exprs.len())?;
+    for expr in exprs {
+        copies.push(folded_copy(alloc, expr)?)?;
+    }
+    Ok(copies)
+}
+
 fn fold_text(text: &mut Text)
     ensures { text.new ≡ map lower text.old }
 {

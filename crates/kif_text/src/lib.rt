@@ -16,7 +16,8 @@ mod printing;
 mod reader;
 mod reading;
 
-pub use expr::{Expr, copy, fold};
+pub use expr::{Expr, copy, fold, folded_copies, folded_copy};
 pub use fault::KifFault;
 pub use printing::print;
+pub use reader::is_atom_byte;
 pub use reading::{read_all, read_one};

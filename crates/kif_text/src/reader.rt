@@ -35,7 +35,8 @@ fn is_white(byte: u8) -> bool
     matches!(byte, b' ' | b'\t' | b'\r' | b'\n')
 }
 
-fn is_atom_byte(byte: u8) -> bool
+/// Whether the byte may stand in an atom, at any place of it.
+pub fn is_atom_byte(byte: u8) -> bool
     ensures { result ≡ is_atom_byte byte }
 {
     byte.is_ascii_graphic() && !matches!(byte, b'(' | b')' | b';')

@@ -1,15 +1,11 @@
 -- Expressions by their members, and those without the form of a message.
-use Rattle.std.proofs.Common.{◌≡◌, ◌≢◌, ◌<◌, ◌≤◌, Some, None, Err, List, [], ◌∷◌, map, length, refl, ap, arith}
-use Rattle.game_core.specs.Expression.{Expression, atom, list, more, folded, all_folded}
-use Rattle.kif_text.specs.View.{view, views, expressions}
+use Rattle.std.proofs.Common.{◌≡◌, ◌≢◌, ◌<◌, ◌≤◌, Some, None, Err, List, [], ◌∷◌, length, refl, arith}
+use Rattle.game_core.specs.Expression.{Expression, atom, list, all_folded}
+use Rattle.kif_text.specs.View.{views}
 use Rattle.kif_text.specs.declared.expr.Expr.{Expr}
 use Rattle.match_messages.specs.InfoReading.{status_pair}
 use Rattle.match_messages.specs.MessageReading.{members_in, moves_in, info_in, start_in, id_and_moves, abort_in}
 use Rattle.match_messages.specs.declared.messages.MessageFault.TheVariants.{BadMessage}
-
-pub views_folded : (xs : List Expr) → all_folded (views xs) ≡ expressions (map (λ x. folded (view x)) xs)
-views_folded [] = refl
-views_folded (x ∷ xs) = ap (more (folded (view x))) (views_folded xs)
 
 -- a list with a member is a list of moves
 pub moves_listed : (x : Expression) (xs : List Expr) → members_in x ≡ Some (views xs) → 0 < length xs → moves_in x ≡ Some (Some (all_folded (views xs)))

@@ -1,7 +1,6 @@
 //! How messages are read from their texts.
-ghost use Rattle.std.specs.Prelude.{◌≡◌, map, option_copied, option_map, IfOk};
+ghost use Rattle.std.specs.Prelude.{◌≡◌, map, option_copied, option_map};
 ghost use Rattle.game_core.specs.Bytes.{lower};
-ghost use Rattle.game_core.specs.Expression.{folded, all_folded};
 ghost use Rattle.kif_text.specs.View.{view, views};
 ghost use Rattle.match_messages.specs.MessageReading.{is_word, id_in, members_in, moves_in, info_in, start_of, start_in, id_and_moves, abort_of, abort_in, message_of, message_in, message_reading, Gives};
 ghost use Rattle.match_messages.specs.Internal.MessageParts.{GivesMoves, GivesIdAndMoves};
@@ -10,8 +9,8 @@ use crate::clock::clock_in;
 use crate::messages::{Message, MessageFault};
 use desk_calls::is_name;
 use game_core::Text;
-use kif_text::{Expr, KifFault, copy, fold, read_one};
-use std::alloc::{AllocError, Global};
+use kif_text::{Expr, KifFault, folded_copies, folded_copy, read_one};
+use std::alloc::Global;
 
 /// Whether this is the word in any case. `small` gives the word in small letters.
 fn is_word(expr: &Expr, small: &[u8]) -> bool
@@ -50,24 +49,6 @@ fn members_in(expr: &Expr) -> Option<&[Expr]>
     }
 }
 
-fn folded(alloc: Global, expr: &Expr) -> Result<Expr, AllocError>
-    ensures { IfOk result (λ x. view x ≡ folded (view expr.now)) }
-{
-    let mut folded = copy(alloc, expr)?;
-    fold(&mut folded);
-    Ok(folded)
-}
-
-pub(crate) fn all_folded(alloc: Global, exprs: &[Expr]) -> Result<Vec<Expr>, AllocError>
-    ensures { IfOk result (λ v. views v.items ≡ all_folded (views exprs.now)) }
-{
-    let mut all = Vec::with_capacity(alloc, exprs.len())?;
-    for expr in exprs {
-        all.push(folded(alloc, expr)?)?;
-    }
-    Ok(all)
-}
-
 /// The moves that an expression gives: `None` for `NIL` and for the empty list.
 #[tactic(auto, using(crate::proofs::Forms::moves_listed))]
 fn moves_in(alloc: Global, expr: &Expr) -> Result<Option<Vec<Expr>>, MessageFault>
@@ -83,7 +64,7 @@ fn moves_in(alloc: Global, expr: &Expr) -> Result<Option<Vec<Expr>>, MessageFaul
     if moves.is_empty() {
         return Ok(None);
     }
-    Ok(Some(all_folded(alloc, moves)?))
+    Ok(Some(folded_copies(alloc, moves)?))
 }
 
 /// START with an id, a role, rules and both clocks. The clocks are tested last.
@@ -105,8 +86,8 @@ fn start_of(
     };
     Ok(Message::Start {
         id: id.copy(alloc)?,
-        role: folded(alloc, role)?,
-        rules: all_folded(alloc, rules)?,
+        role: folded_copy(alloc, role)?,
+        rules: folded_copies(alloc, rules)?,
         start,
         play,
     })

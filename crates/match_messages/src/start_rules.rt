@@ -4,10 +4,9 @@ ghost use Rattle.game_core.specs.Canonical.{canonical};
 ghost use Rattle.game_core.specs.Expression.{list, all_folded};
 ghost use Rattle.kif_text.specs.View.{views};
 
-use crate::reading::all_folded;
 use crate::writing::push_sentences;
 use game_core::Text;
-use kif_text::Expr;
+use kif_text::{Expr, folded_copies};
 use std::alloc::{AllocError, Global};
 use std::marker::Model;
 use std::snapshot::Snapshot;
@@ -55,7 +54,7 @@ impl PrintedRules {
     pub fn without_capitals(alloc: Global, rules: &[Expr]) -> Result<PrintedRules, AllocError>
         ensures { IfOk result (λ printed. views printed.items ≡ all_folded (views rules.now)) }
     {
-        let folded = all_folded(alloc, rules)?;
+        let folded = folded_copies(alloc, rules)?;
         PrintedRules::of(alloc, &folded)
     }
 

@@ -11,20 +11,14 @@ use crate::placing::place;
 use crate::reading::read_sentence;
 use crate::sentence::Rule;
 use crate::terms::has_variable;
-use kif_text::{Expr, copy, fold};
+use kif_text::{Expr, fold, folded_copies};
 use std::alloc::{AllocError, Global};
 
 /// The sentences without capitals, in memory of their own.
 pub fn folded(alloc: Global, sentences: &[Expr]) -> Result<Vec<Expr>, AllocError>
     ensures { IfOk result (λ v. map expression v.items ≡ map folded (map expression sentences.now)) }
 {
-    let mut copies = Vec::with_capacity(alloc, sentences.len())?;
-    for sentence in sentences {
-        let mut sentence = copy(alloc, sentence)?;
-        fold(&mut sentence);
-        copies.push(sentence)?;
-    }
-    Ok(copies)
+    folded_copies(alloc, sentences)
 }
 
 /// Takes the capitals from the sentences, where they lie.
