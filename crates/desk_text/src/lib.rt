@@ -21,4 +21,4 @@ pub use lines::first_line;
 pub use replaying::{ReplayFault, Replayed, replay};
 pub use reply_lines::{push_reply, refusal_word};
 pub use script_lines::{MAX_NUMBER, call_of};
-pub use words::{first_piece, number_up_to};
+pub use words::{first_piece, plain_number_up_to};

@@ -5,7 +5,7 @@ ghost use Rattle.game_core.specs.Numerals.{plain_number};
 ghost use Rattle.desk_text.specs.Words.{words, max_number, max_in_64_bits};
 ghost use Rattle.desk_text.specs.ScriptLines.{opening_call, open_call, next_call, submit_call, miss_call, query_call, abort_call, strict_call, call_of_words, call_of, is_named, names_in, numbers_in, is_broken};
 
-use crate::words::{first_word, number_up_to, small_number, words};
+use crate::words::{first_word, plain_number_up_to, small_number, words};
 use desk_calls::Call;
 use game_core::{Text, Texts};
 use std::alloc::{AllocError, Global};
@@ -14,7 +14,7 @@ use std::alloc::{AllocError, Global};
 fn number(word: &[u8]) -> Option<u64>
     ensures { result ≡ plain_number word.now max_in_64_bits }
 {
-    number_up_to(word, u64::MAX)
+    plain_number_up_to(word, u64::MAX)
 }
 
 fn texts(alloc: Global, words: &[&[u8]]) -> Result<Texts, AllocError>

@@ -1,10 +1,10 @@
 //! The words of a line, and the numbers in them.
 ghost use Rattle.std.specs.Prelude.{◌≡◌, ◌^◌, ◌≤◌, ◌==◌, ◌∷◌, IfOk, IsTrue, MatchOption, map, option_copied, position};
 ghost use Rattle.std.specs.Str.Parse.{digits_value};
-ghost use Rattle.game_core.specs.Numerals.{are_digits, is_plain_numeral, plain_number};
+ghost use Rattle.game_core.specs.Numerals.{are_digits, plain_number};
 ghost use Rattle.desk_text.specs.Words.{pieces, pieces_behind, words, words_behind, max_in_32_bits};
 
-use game_core::numeral::are_digits;
+use game_core::numeral::is_plain_numeral;
 use std::alloc::{AllocError, Global};
 
 /// The words of a text: the pieces between its spaces. A doubled space gives an empty word.
@@ -38,13 +38,6 @@ pub fn first_word(text: &[u8]) -> (&[u8], Option<&[u8]>)
     first_piece(text, b' ')
 }
 
-/// Whether a word is decimal digits without leading zeros.
-fn is_plain_numeral(word: &[u8]) -> bool
-    ensures { result ≡ is_plain_numeral word.now }
-{
-    are_digits(word) && (word.len() == 1 || word[0] != b'0')
-}
-
 /// The number of these digits. `None` if 64 bits don't hold it.
 fn digits_value(digits: &[u8]) -> Option<u64>
     requires { IsTrue (are_digits digits.now) }
@@ -62,7 +55,7 @@ fn digits_value(digits: &[u8]) -> Option<u64>
 }
 
 /// The number of a word: decimal, without sign or leading zeros, and at most `limit`.
-pub fn number_up_to(word: &[u8], limit: u64) -> Option<u64>
+pub fn plain_number_up_to(word: &[u8], limit: u64) -> Option<u64>
     ensures { result ≡ plain_number word.now limit }
 {
     if !is_plain_numeral(word) {
@@ -76,6 +69,6 @@ pub fn number_up_to(word: &[u8], limit: u64) -> Option<u64>
 pub fn small_number(word: &[u8]) -> Option<u32>
     ensures { result ≡ plain_number word.now max_in_32_bits }
 {
-    let number = number_up_to(word, u64::from(u32::MAX))?;
+    let number = plain_number_up_to(word, u64::from(u32::MAX))?;
     Some(number as u32)
 }

@@ -1,7 +1,7 @@
 //! The explanation of an account's line whose call can't be made again.
 
 use crate::bad_lines::{BadLine, Source, push_bad_line};
-use desk_text::{first_line, first_piece, number_up_to};
+use desk_text::{first_line, first_piece, plain_number_up_to};
 use std::alloc::AllocError;
 
 /// The words for an entry's text that lacks a field of its form.
@@ -18,7 +18,7 @@ fn fault_of(entry: &[u8]) -> BadLine {
     let (number, Some(rest)) = first_piece(entry, b'\t') else {
         return BadLine::new(entry.len(), FEWER, FORM);
     };
-    if number_up_to(number, MAX_DESK_LINE).is_none() {
+    if plain_number_up_to(number, MAX_DESK_LINE).is_none() {
         return BadLine::new(0, "no number of a line", "");
     }
     let (call, _) = first_piece(rest, b'\t');

@@ -1,6 +1,6 @@
 //! The explanation of a script's line, or of an account's call, that can't be read.
 
-use desk_text::{MAX_NUMBER, call_of, first_line, first_piece, number_up_to};
+use desk_text::{MAX_NUMBER, call_of, first_line, first_piece, plain_number_up_to};
 use std::alloc::{AllocError, Global};
 
 /// The form of the lines with one keyword: the keyword, an id, numbers, and the last words.
@@ -85,7 +85,7 @@ impl Source {
                 "no number from 0 to 18446744073709551615 without leading zeros",
             ),
         };
-        match number_up_to(word, limit) {
+        match plain_number_up_to(word, limit) {
             Some(_) => None,
             None => Some(fault),
         }

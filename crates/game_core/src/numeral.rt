@@ -10,7 +10,7 @@ pub fn are_digits(word: &[u8]) -> bool
 }
 
 /// Whether a word is decimal digits without leading zeros.
-fn is_plain_numeral(word: &[u8]) -> bool
+pub fn is_plain_numeral(word: &[u8]) -> bool
     ensures { result ≡ is_plain_numeral word.now }
 {
     are_digits(word) && (word.len() == 1 || word[0] != b'0')
