@@ -3,14 +3,11 @@ ghost use Rattle.std.specs.Prelude.{◌≡◌, ◌⊎◌, ◌∷◌, ◌++◌, �
 ghost use Rattle.call_history.specs.RingLines.{posted_calls, taken_replies, SameLine};
 
 use crate::bell::Bell;
+use crate::moment::let_a_moment_pass;
 use crate::object::Object;
 use crate::ring_line::RingLine;
 use crate::wire::{AskFault, Wire};
 use std::sync::Arc;
-use std::{hint, thread};
-
-/// The number of tries in a row of which one gives the processor to another thread.
-const YIELD_EACH: u64 = 64;
 
 /// A line of a desk over rings, with a limit of tries for each call.
 #[derive(Drop)]
@@ -125,16 +122,6 @@ fn has_stopped(bell: &Option<Arc<Bell>>) -> bool
     }
 }
 
-/// Lets a moment pass after a try. Most moments are shorter than a call takes, since on a busy computer a thread that gives its
-/// processor away gets it back late.
-fn pause(tried: u64) {
-    if tried % YIELD_EACH == YIELD_EACH - 1 {
-        thread::yield_now();
-    } else {
-        hint::spin_loop();
-    }
-}
-
 /// Tries to post a call while tries are `left` and the desk goes on. Each try takes one off. Returns whether the call is posted.
 fn post_within<O: Object>(
     line: &mut RingLine<O>,
@@ -161,7 +148,7 @@ fn post_within<O: Object>(
         if has_stopped(bell) {
             return false;
         }
-        pause(tried);
+        let_a_moment_pass(tried);
     }
     false
 }
@@ -190,7 +177,7 @@ fn take_within<O: Object>(
         if is_last {
             return None;
         }
-        pause(tried);
+        let_a_moment_pass(tried);
     }
     None
 }

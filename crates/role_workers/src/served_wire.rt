@@ -4,15 +4,11 @@ ghost use Rattle.call_history.specs.Told.{told_with};
 ghost use Rattle.call_history.specs.RingLines.{posted_calls, taken_replies, SameLine};
 
 use crate::shared_desk::{Naming, SharedDesk};
-use call_history::{AskFault, Object, RingLine, Wire};
+use call_history::{AskFault, Object, RingLine, Wire, let_a_moment_pass};
 use desk_calls::{Call, Reply};
-use std::{hint, thread};
 
 /// A wire gives up after this many looks for a reply.
 const TURNS: u64 = 1_000_000_000;
-
-/// The number of looks in a row of which one gives the processor to another thread.
-const YIELD_EACH: u64 = 64;
 
 /// A line of a desk that any thread can serve. It has at most one call under way, so that its ring has room for the next.
 #[derive(Drop)]
@@ -112,18 +108,8 @@ fn take_served<O: Object<Call = Call, Reply = Reply>, N: Naming<O>>(
             return None;
         }
         if !desk.serve() {
-            pause(tried);
+            let_a_moment_pass(tried);
         }
     }
     None
-}
-
-/// Lets a moment pass. Most moments are shorter than a round takes, since on a busy computer a thread that gives its processor away
-/// gets it back late.
-fn pause(tried: u64) {
-    if tried % YIELD_EACH == YIELD_EACH - 1 {
-        thread::yield_now();
-    } else {
-        hint::spin_loop();
-    }
 }
