@@ -42,14 +42,14 @@ pub(crate) fn tells_nothing(words: &[&[u8]]) -> bool
     }
 }
 
-/// The largest number in a clock's word.
-const MAX_CLOCK: usize = 4_294_967_295;
+/// The largest number of seconds that a schedule's word may have. A clock's range is smaller (`is_clock` of `desk_calls`).
+const MAX_WORD_SECONDS: usize = 4_294_967_295;
 
 /// The number of seconds in a word. It may be out of a clock's range.
 fn clock(word: &[u8]) -> Option<u32>
     ensures { result ≡ clock_of word.now }
 {
-    Some(plain_number(word, MAX_CLOCK)? as u32)
+    Some(plain_number(word, MAX_WORD_SECONDS)? as u32)
 }
 
 /// The player's address in a word.
