@@ -1,5 +1,5 @@
 -- Numbers in words, as they are read.
-use Rattle.std.proofs.Common.{◌≡◌, ℕ, ◌<◌, ◌≤◌, ◌^◌, ◌∙◌, true, false, cond, leb, ltb, List, Option, Some, None, Result, Ok, Err, length, refl, sym, ap, subst, inl, inr, arith, le-leb, leb-true, ltb-true}
+use Rattle.std.proofs.Common.{◌≡◌, ℕ, ◌<◌, ◌≤◌, ◌^◌, ◌∙◌, true, false, leb, ltb, List, Option, Some, None, Result, Ok, Err, length, refl, sym, ap, subst, inl, inr, arith, le-leb, leb-true, ltb-true}
 use Rattle.std.specs.Char.{is_ascii_digit}
 use Rattle.std.specs.List.{list_all}
 use Rattle.std.specs.Str.Parse.{ParsesUnsigned, digits_value}

@@ -4,7 +4,7 @@ use Rattle.std.specs.List.{AllPairs, AllZip, filter, list_any}
 use Rattle.std.specs.Str.{bytes_eq}
 use Rattle.std.specs.Str.Lines.{strip_carriage_return}
 use Rattle.std.proofs.lemmas.Bool.{both_ways, cases_lt, cond-false, cond-true, not_from_false, or_parts}
-use Rattle.std.proofs.lemmas.List.{get_or-map, get_or_append_left, get_or_push, length-map, length_push, map_more, map-append, take-map}
+use Rattle.std.proofs.lemmas.List.{get_or_append_left, get_or_default, get_or_push, length_push, map_push, map-append}
 use Rattle.std.proofs.lemmas.List.Elements.{All-cons, All-nil, All-weaker, filter-append}
 use Rattle.std.proofs.lemmas.Slice.Eq.{bytes_eq-Decides}
 use Rattle.match_plans.specs.Schedules.{AreMatchesOf, HaveIdsOnce, IsBadLine, IsFaultOf, IsPlanned, line_words, match_words, misplaced, tells_nothing}
@@ -79,32 +79,29 @@ one-more lines line tells =
     ∙ ap (λ more. match_words lines ++ more) (cond-true (kept (words line)) (words line ∷ []) [] (not_from_false _ tells))
 
 -- one more line with a match
-pub next : (strikes : ℕ) (lines : List (Bor (List ℕ))) (i : ℕ) (d : Bor (List ℕ)) (words : List (List ℕ)) (plans : List MatchPlan) (plan : MatchPlan) → i < length lines
-    → words ≡ line_words (strip_carriage_return (get_or lines i d).now) → tells_nothing words ≡ false
-    → AllZip (IsPlanned strikes) (match_words (map (λ line. line.now) (take i lines))) plans → IsPlanned strikes words plan
-    → AllZip (IsPlanned strikes) (match_words (map (λ line. line.now) (take (i + 1) lines))) (plans ++ plan ∷ [])
-next strikes lines i d words plans plan within are tells before here =
-    let more : match_words (map (λ line. line.now) (take (i + 1) lines)) ≡ match_words (map (λ line. line.now) (take i lines)) ++ words ∷ [] =
-    ap match_words (map_more (λ (line : Bor (List ℕ)). line.now) lines i d within)
-    ∙ one-more (map (λ line. line.now) (take i lines)) (get_or lines i d).now (subst (λ ws. tells_nothing ws ≡ false) are tells)
-    ∙ ap (λ ws. match_words (map (λ line. line.now) (take i lines)) ++ ws ∷ []) (sym are) in
+pub next : (strikes : ℕ) (lines : List (Bor (List ℕ))) (line : Bor (List ℕ)) (words : List (List ℕ)) (plans : List MatchPlan) (plan : MatchPlan) → words ≡ line_words (strip_carriage_return line.now) → tells_nothing words ≡ false
+    → AllZip (IsPlanned strikes) (match_words (map (λ it. it.now) lines)) plans → IsPlanned strikes words plan
+    → AllZip (IsPlanned strikes) (match_words (map (λ it. it.now) (lines ++ line ∷ []))) (plans ++ plan ∷ [])
+next strikes lines line words plans plan are tells before here =
+    let more : match_words (map (λ it. it.now) (lines ++ line ∷ [])) ≡ match_words (map (λ it. it.now) lines) ++ words ∷ [] =
+    ap match_words (map_push (λ (it : Bor (List ℕ)). it.now) lines line)
+    ∙ one-more (map (λ it. it.now) lines) line.now (subst (λ ws. tells_nothing ws ≡ false) are tells)
+    ∙ ap (λ ws. match_words (map (λ it. it.now) lines) ++ ws ∷ []) (sym are) in
     subst (λ ws. AllZip (IsPlanned strikes) ws (plans ++ plan ∷ [])) (sym more) (zip-push (IsPlanned strikes) _ plans words plan before here)
 
 -- the first bad line, behind the lines with these matches
-pub bad-line : (roles strikes : ℕ) (items : List (Bor (List ℕ))) (lines : List (List ℕ)) (at : ℕ) (d : Bor (List ℕ)) (words : List (List ℕ)) (before : List MatchPlan) (fault : LineFault)
-    → map (λ line. line.now) items ≡ lines → at < length items → words ≡ line_words (strip_carriage_return (get_or items at d).now)
-    → AreMatchesOf roles strikes (map (λ line. line.now) (take at items)) before → IsFaultOf roles strikes before words fault → IsBadLine roles strikes lines (BadLine (at + 1) fault)
-bad-line roles strikes items lines at d words before fault is within are good bad =
-    let all = map (λ (line : Bor (List ℕ)). line.now) items in
-    let here : words ≡ line_words (strip_carriage_return (get_or all at [])) =
-    are ∙ ap (λ (l : List ℕ). line_words (strip_carriage_return l)) (sym (get_or-map (λ (line : Bor (List ℕ)). line.now) items at d [] within)) in
-    subst (λ ls. IsBadLine roles strikes ls (BadLine (at + 1) fault)) is (
+pub bad-line : (roles strikes : ℕ) (lines : List (List ℕ)) (at : ℕ) (line : List ℕ) (words : List (List ℕ)) (before : List MatchPlan) (fault : LineFault)
+    → (at < length lines) × (line ≡ get_or lines at line) → words ≡ line_words (strip_carriage_return line)
+    → AreMatchesOf roles strikes (take at lines) before → IsFaultOf roles strikes before words fault → IsBadLine roles strikes lines (BadLine (at + 1) fault)
+bad-line roles strikes lines at line words before fault turn are good bad =
+    let here : words ≡ line_words (strip_carriage_return (get_or lines at [])) =
+    are ∙ ap (λ (l : List ℕ). line_words (strip_carriage_return l)) (turn.1 ∙ get_or_default lines at line [] turn.0) in (
       at,
       refl,
       record {
-        within = omega (arith, within, length-map items (λ (line : Bor (List ℕ)). line.now));
+        within = turn.0;
         before = before;
-        are_good = subst (λ ls. AreMatchesOf roles strikes ls before) (sym (take-map (λ (line : Bor (List ℕ)). line.now) at items)) good;
+        are_good = good;
         is_bad = subst (λ ws. IsFaultOf roles strikes before ws fault) here bad;
       },
     )

@@ -3,7 +3,7 @@ ghost use Rattle.std.specs.Prelude.{◌≡◌, ◌==◌, IfOk, IfSome, is_some, 
 ghost use Rattle.std.specs.List.{AllZip};
 ghost use Rattle.std.specs.Result.{result_err};
 ghost use Rattle.match_plans.specs.Addresses.{IsAddress, is_player};
-ghost use Rattle.match_plans.specs.Schedules.{IsPlanned, clock_of, cut_lines, line_words, player_fault, tells_nothing, word_fault};
+ghost use Rattle.match_plans.specs.Schedules.{IsPlanned, clock_of, line_words, player_fault, tells_nothing, word_fault};
 
 use crate::addresses::{PlayerAddress, player_address};
 use crate::plan::MatchPlan;
@@ -11,13 +11,6 @@ use crate::schedule_fault::LineFault;
 use game_core::numeral::plain_number;
 use std::alloc::{AllocError, Global};
 use std::str;
-
-/// The lines of a text: the pieces between its line feeds.
-pub(crate) fn lines<'a>(alloc: Global, text: &'a [u8]) -> Result<Vec<&'a [u8]>, AllocError>
-    ensures { IfOk result (λ v. map (λ l. l.now) v.items ≡ cut_lines text.now) }
-{
-    text.split(|b| *b == b'\n').collect(alloc)
-}
 
 /// The words of a line: the pieces between its spaces and tabs that are not empty.
 pub(crate) fn words<'a>(alloc: Global, line: &'a [u8]) -> Result<Vec<&'a [u8]>, AllocError>

@@ -5,7 +5,7 @@ ghost use Rattle.match_plans.specs.declared.schedule_fault.ScheduleFault.TheVari
 ghost use Rattle.match_plans.specs.Schedules.{HaveIdsOnce, IsBadLine, IsPlanned, cut_lines, match_lines, misplaced};
 
 use crate::plan::MatchPlan;
-use crate::plan_line::{lines, planned_match, tells_nothing, words};
+use crate::plan_line::{planned_match, tells_nothing, words};
 use crate::schedule_fault::{LineFault, ScheduleFault};
 use game_core::lines::without_return;
 use indexmap::IndexSet;
@@ -51,15 +51,16 @@ pub fn read_schedule<'a>(
     ensures once { IfOk result (λ plans. HaveIdsOnce plans.items) }
     ensures bad { IfErr result (λ fault. (fault ≡ Memory) ⊎ IsBadLine roles strikes (cut_lines input.now) fault) }
 {
-    let lines = lines(alloc, input)?;
     let mut ids = IndexSet::new(alloc);
     let mut plans = Vec::new(alloc);
-    for (place, line) in lines.iter().enumerate() {
+    let mut number: u64 = 0;
+    // A list of the lines would take 16 bytes for each line feed.
+    for line in input.split(|b| *b == b'\n') {
+        number += 1;
         let words = words(alloc, without_return(line))?;
         if tells_nothing(&words) {
             continue;
         }
-        let number = place as u64 + 1;
         let plan = match planned_match(alloc, &words, strikes)? {
             Ok(plan) => plan,
             Err(fault) => return Err(ScheduleFault::BadLine(number, fault)),
