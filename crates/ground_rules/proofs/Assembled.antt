@@ -8,7 +8,7 @@ use Rattle.kif_text.specs.View.{expressions}
 use Rattle.rule_sentences.specs.declared.sentence.Derived.{Derived}
 use Rattle.rule_sentences.specs.declared.sentence.Derived.TheVariants.{Legal, Terminal}
 use Rattle.ground_rules.specs.declared.names.TermKind.TheVariants.{State, Move}
-use Rattle.ground_rules.specs.declared.lookups.StateHead.TheVariants.{Init as InitHead, Next as NextHead}
+use Rattle.ground_rules.specs.declared.tables.StateHead.TheVariants.{Init as InitHead, Next as NextHead}
 use Rattle.ground_rules.specs.Lawfulness.Bools.{and-left, and-right}
 use Rattle.ground_rules.specs.Lawfulness.TermTexts.{are_terms_in_any}
 use Rattle.rule_sentences.specs.Descriptions.{Description, is_among, role_names, are_different}

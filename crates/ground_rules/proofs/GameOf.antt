@@ -9,10 +9,10 @@ use Rattle.rule_sentences.specs.declared.sentence.Derived.{Derived}
 use Rattle.rule_sentences.specs.declared.sentence.Derived.TheVariants.{Role, Init, Next, Legal, Goal, Terminal, Other}
 use Rattle.ground_rules.specs.declared.names.TermKind.{TermKind}
 use Rattle.ground_rules.specs.declared.names.TermKind.TheVariants.{State, Move}
-use Rattle.ground_rules.specs.declared.tables.GroundMove.{GroundMove}
+use Rattle.ground_rules.specs.declared.state.GroundMove.{GroundMove}
 use Rattle.ground_rules.specs.declared.tables.Mention.{Mention}
 use Rattle.ground_rules.specs.declared.tables.GoalHead.{GoalHead}
-use Rattle.ground_rules.specs.declared.lookups.StateHead.TheVariants.{Init as InitHead, Next as NextHead}
+use Rattle.ground_rules.specs.declared.tables.StateHead.TheVariants.{Init as InitHead, Next as NextHead}
 use Rattle.ground_rules.specs.Lawfulness.Bools.{and-right, and-both, or-left, or-right, bool-same}
 use Rattle.ground_rules.specs.Lawfulness.Names.{text-sound, text-same, derived-sound}
 use Rattle.numbered_rules.specs.Literals.{Rule}
@@ -23,7 +23,7 @@ use Rattle.ground_rules.specs.Described.{situation, makes, names_of, at_rest, at
 use Rattle.ground_rules.specs.Roles.{RoleTable, no_role}
 use Rattle.numbered_rules.specs.Numbered.{bit, numbered, row_after, unset, is_number}
 use Rattle.ground_rules.specs.Internal.Ranked.{AreRankedFrom}
-use Rattle.ground_rules.specs.Tables.{marked, chosen, only, only_goal, picked}
+use Rattle.ground_rules.specs.Lookups.{marked, chosen, only, only_goal, picked}
 use Rattle.ground_rules.specs.Lawfulness.TableTests.{are_in_order, names}
 use Rattle.ground_rules.specs.States.{StateRows}
 use Rattle.ground_rules.specs.LoadedGame.{GameTables, loaded_game, kept_row, turn_row, settled, role_at, terms_of, IsSettled}

@@ -8,7 +8,7 @@ use Rattle.ground_rules.specs.Lawfulness.Bools.{and-left, and-right}
 use Rattle.ground_rules.specs.Lawfulness.Names.{text-sound, text-same, number-sound}
 use Rattle.rule_sentences.specs.Descriptions.{same_derived}
 use Rattle.ground_rules.specs.Described.{IsGoalAnswer}
-use Rattle.ground_rules.specs.Tables.{only, only_goal}
+use Rattle.ground_rules.specs.Lookups.{only, only_goal}
 use Rattle.numbered_rules.specs.Numbered.{bit}
 use Rattle.ground_rules.specs.Internal.Resolved.{NameTable, atom_number, goal_heads}
 use Rattle.ground_rules.proofs.Mentions.{StandFrom, IsByRow}

@@ -6,12 +6,12 @@ use Rattle.std.proofs.lemmas.List.{length-replicate}
 use Rattle.std.specs.List.{list_any}
 use Rattle.rule_sentences.specs.declared.sentence.Derived.{Derived}
 use Rattle.rule_sentences.specs.declared.sentence.Derived.TheVariants.{Role, Init, Next, Legal, Goal, Terminal, Other}
-use Rattle.ground_rules.specs.declared.lookups.StateHead.TheVariants.{Init as InitHead, Next as NextHead}
+use Rattle.ground_rules.specs.declared.tables.StateHead.TheVariants.{Init as InitHead, Next as NextHead}
 use Rattle.ground_rules.specs.declared.tables.Mention.{Mention}
 use Rattle.ground_rules.specs.Lawfulness.Bools.{bool-same}
 use Rattle.ground_rules.specs.Lawfulness.Names.{text-sound, text-same, number-sound, number-same}
 use Rattle.rule_sentences.specs.Descriptions.{moves_in}
-use Rattle.ground_rules.specs.Tables.{marked, chosen}
+use Rattle.ground_rules.specs.Lookups.{marked, chosen}
 use Rattle.numbered_rules.specs.Numbered.{bit, unset}
 use Rattle.ground_rules.specs.Internal.Resolved.{NameTable, atom_number, with_mention, mentions_by, state_term, legal_mentions, place}
 use Rattle.ground_rules.proofs.TablePlaces.{place-at, place-one}

@@ -2,12 +2,12 @@
 use Rattle.std.proofs.Common.{◌≡◌, ℕ, zero, suc, ◌<◌, Bool, true, false, not, ◌&&◌, ◌||◌, if◌then◌else◌, nat_eq, bytes_eq, List, [], ◌∷◌, length, get_or, map, refl, sym, ap, ◌∙◌, arith}
 use mathlib.Core.Bool.{or-false}
 use Rattle.std.specs.Prelude.{slice_get}
-use Rattle.ground_rules.specs.declared.tables.GroundMove.{GroundMove}
+use Rattle.ground_rules.specs.declared.state.GroundMove.{GroundMove}
 use Rattle.ground_rules.specs.Lawfulness.Bools.{and-left, and-right, not-true, or-false-left, or-false-right}
 use Rattle.ground_rules.specs.Lawfulness.Names.{text-sound, text-same}
 use Rattle.rule_sentences.specs.Descriptions.{is_among, are_different}
 use Rattle.ground_rules.specs.Described.{makes}
-use Rattle.ground_rules.specs.Tables.{picked}
+use Rattle.ground_rules.specs.Lookups.{picked}
 use Rattle.numbered_rules.specs.Numbered.{bit, is_number}
 use Rattle.ground_rules.specs.Internal.Resolved.{place}
 use Rattle.ground_rules.proofs.NameLists.{eq-swap}

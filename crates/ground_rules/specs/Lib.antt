@@ -16,7 +16,7 @@ pub mod Dependence
 pub mod Loading
 pub mod Loaded
 pub mod Roles
-pub mod Tables
+pub mod Lookups
 pub mod States
 pub mod LoadedGame
 pub mod GroundGames

@@ -2,11 +2,11 @@
 use Rattle.std.specs.Prelude.{ℕ, ◌≡◌, ◌<◌, Bool, List, [], map, slice_index_or, length}
 use Rattle.game_core.specs.Play.{Rules}
 use Rattle.ground_rules.specs.declared.tables.Mention.{Mention}
-use Rattle.ground_rules.specs.declared.tables.GroundMove.{GroundMove}
+use Rattle.ground_rules.specs.declared.state.GroundMove.{GroundMove}
 use Rattle.numbered_rules.specs.Literals.{Rule}
 use Rattle.ground_rules.specs.States.{StateRows}
 use Rattle.ground_rules.specs.Roles.{RoleTable, no_role}
-use Rattle.ground_rules.specs.Tables.{marked, chosen, only_goal, picked}
+use Rattle.ground_rules.specs.Lookups.{marked, chosen, only_goal, picked}
 use Rattle.numbered_rules.specs.Numbered.{bit, numbered, row_after, unset}
 
 -- the tables of a game, over numbers for its derived atoms, the terms of its states and those of its moves

@@ -4,7 +4,8 @@ ghost use Rattle.kif_text.specs.View.{views};
 
 use crate::evaluate::{evaluate, pass};
 use crate::loading::GameParts;
-use crate::tables::{GroundMove, GroundState, choose, find_goal, mark, pick};
+use crate::lookups::{choose, find_goal, mark, pick};
+use crate::state::{GroundMove, GroundState};
 use crate::vocabulary::Vocabulary;
 use game_core::Game;
 use kif_text::Expr;

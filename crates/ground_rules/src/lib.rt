@@ -18,6 +18,7 @@ mod loading;
 mod lookups;
 mod names;
 mod resolve;
+mod state;
 pub mod tables;
 pub mod vocabulary;
 
@@ -25,4 +26,4 @@ pub use evaluate::makes;
 pub use ground_game::GroundGame;
 pub use load_game::{load, load_own};
 pub use rule_sentences::LoadFault;
-pub use tables::{GroundMove, GroundState};
+pub use state::{GroundMove, GroundState};

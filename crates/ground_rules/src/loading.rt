@@ -12,10 +12,9 @@ ghost use Rattle.ground_rules.specs.Internal.GameParts.{IsTestOf, IsTableOf, is_
 ghost use Rattle.ground_rules.specs.Internal.SplitRules.{AreSplitOf};
 ghost use Rattle.numbered_rules.specs.Exposed.{exposed_rules};
 
-use crate::lookups::{goal_heads, legal_mentions};
 use crate::names::{TermKind, head_terms, heads, role_names};
 use crate::resolve::{Names, resolve_rules};
-use crate::tables::Role;
+use crate::tables::{Role, goal_heads, legal_mentions};
 use game_core::{MAX_ROLES, Text};
 use numbered_rules::dependence::dependence;
 use numbered_rules::rank::rank;

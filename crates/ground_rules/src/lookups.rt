@@ -1,92 +1,72 @@
-//! The tables of a game, from the heads of its rules.
-ghost use Rattle.std.specs.Prelude.{◌≡◌, IfOk};
-ghost use Rattle.std.specs.Option.{option_copied};
-ghost use Rattle.ground_rules.specs.Internal.Resolved.{state_term, state_mentions, legal_mentions, goal_heads};
+//! What a game looks up in a row of truth values.
+ghost use Rattle.std.specs.Prelude.{◌≡◌, length, map, IfOk};
+ghost use Rattle.std.specs.Cow.{cow_slice_items};
+ghost use Rattle.ground_rules.specs.Lookups.{marked, chosen, only_goal, picked};
+ghost use Rattle.numbered_rules.specs.Numbered.{unset};
 
-use crate::names::place_of_text;
+use crate::state::GroundMove;
 use crate::tables::{GoalHead, Mention};
 use game_core::Text;
-use indexmap::IndexSet;
-use rule_sentences::sentence::Derived;
+use numbered_rules::Row;
 use std::alloc::{AllocError, Global};
+use std::borrow::CowSlice;
 
-/// Which heads give the terms of a state: those of the first state, or of the state after a turn.
-#[derive(Clone, Copy)]
-pub enum StateHead {
-    Init,
-    Next,
-}
-
-/// The term in the head, if it is of this kind.
-fn state_term(head: &Derived, kind: StateHead) -> Option<&Text>
-    ensures { option_copied result ≡ state_term kind head.now }
+/// A row of `terms` values, with the terms of the true mentions set.
+pub fn mark(alloc: Global, mentions: &[Mention], row: &Row, terms: usize) -> Result<Row, AllocError>
+    ensures { IfOk result (λ marks. marks ≡ marked (unset terms) row.now mentions.now) }
 {
-    match (kind, head) {
-        (StateHead::Init, Derived::Init(term)) | (StateHead::Next, Derived::Next(term)) => {
-            Some(term)
-        }
-        _ => None,
-    }
-}
-
-/// The heads of this kind, each with its term and its place among the heads.
-pub fn state_mentions(
-    alloc: Global,
-    heads: &[Derived],
-    terms: &IndexSet<Text>,
-    kind: StateHead,
-) -> Result<Vec<Mention>, AllocError>
-    ensures { IfOk result (λ v. v.items ≡ state_mentions kind terms.now.keys 0 heads.now) }
-{
-    let mut mentions = Vec::new(alloc);
-    for (atom, head) in heads.iter().enumerate() {
-        if let Some(term) = state_term(head, kind) {
-            let term = place_of_text(terms, term);
-            mentions.push(Mention { term, atom })?;
+    let mut marks = Row::unset(alloc, terms)?;
+    for mention in mentions {
+        if row.is_set(mention.atom) {
+            marks.set(mention.term);
         }
     }
-    Ok(mentions)
+    Ok(marks)
 }
 
-/// The `legal` heads about a role, each with the term of its move and its place among the heads.
-pub fn legal_mentions(
-    alloc: Global,
-    heads: &[Derived],
-    terms: &IndexSet<Text>,
-    role: &Text,
-) -> Result<Vec<Mention>, AllocError>
-    ensures { IfOk result (λ v. v.items ≡ legal_mentions terms.now.keys role.now 0 heads.now) }
+/// The moves with true heads.
+pub fn choose(alloc: Global, heads: &[Mention], row: &Row) -> Result<Vec<GroundMove>, AllocError>
+    ensures { IfOk result (λ v. v.items ≡ chosen row.now heads.now) }
 {
-    let mut mentions = Vec::new(alloc);
-    for (atom, head) in heads.iter().enumerate() {
-        if let Derived::Legal(name, term) = head {
-            if name == role {
-                let term = place_of_text(terms, term);
-                mentions.push(Mention { term, atom })?;
+    let mut moves = Vec::new(alloc);
+    for head in heads {
+        if row.is_set(head.atom) {
+            moves.push(GroundMove { term: head.term })?;
+        }
+    }
+    Ok(moves)
+}
+
+/// The value of the true head, if exactly one head is true.
+pub fn find_goal(heads: &[GoalHead], row: &Row) -> Option<u8>
+    ensures { result ≡ only_goal row.now heads.now }
+{
+    let mut found = None;
+    for head in heads {
+        if row.is_set(head.atom) {
+            if found.is_some() {
+                return None;
             }
+            found = Some(head.value);
         }
     }
-    Ok(mentions)
+    found
 }
 
-/// The `goal` heads about a role, each with its value and its place among the heads.
-pub fn goal_heads(
+/// The texts of the terms that are set, in their order. They are borrowed.
+pub fn pick<'a>(
     alloc: Global,
-    heads: &[Derived],
-    role: &Text,
-) -> Result<Vec<GoalHead>, AllocError>
-    ensures { IfOk result (λ v. v.items ≡ goal_heads role.now 0 heads.now) }
+    row: &Row,
+    texts: &'a [Text],
+) -> Result<Vec<CowSlice<'a, u8, Global>>, AllocError>
+    requires { length row.now ≡ length texts.now }
+    ensures { IfOk result (λ v. map cow_slice_items v.items ≡ picked row.now texts.now) }
 {
-    let mut goals = Vec::new(alloc);
-    for (atom, head) in heads.iter().enumerate() {
-        if let Derived::Goal(name, value) = head {
-            if name == role {
-                goals.push(GoalHead {
-                    value: *value,
-                    atom,
-                })?;
-            }
+    let mut found = Vec::new(alloc);
+    for (term, text) in texts.iter().enumerate() {
+        if row.is_set(term) {
+            found.push(CowSlice::Borrowed(text.as_slice()))?;
         }
     }
-    Ok(goals)
+    Ok(found)
 }

@@ -1,13 +1,13 @@
-//! What a game looks up in a row of truth values.
-ghost use Rattle.std.specs.Prelude.{◌≡◌, length, map, IfOk};
-ghost use Rattle.std.specs.Cow.{cow_slice_items};
-ghost use Rattle.ground_rules.specs.Tables.{marked, chosen, only_goal, picked};
-ghost use Rattle.numbered_rules.specs.Numbered.{unset};
+//! The tables of a game, and how they are made from the heads of its rules.
+ghost use Rattle.std.specs.Prelude.{◌≡◌, IfOk};
+ghost use Rattle.std.specs.Option.{option_copied};
+ghost use Rattle.ground_rules.specs.Internal.Resolved.{state_term, state_mentions, legal_mentions, goal_heads};
 
+use crate::names::place_of_text;
 use game_core::Text;
-use numbered_rules::Row;
+use indexmap::IndexSet;
+use rule_sentences::sentence::Derived;
 use std::alloc::{AllocError, Global};
-use std::borrow::CowSlice;
 use std::marker::Model;
 
 /// A term and the derived atom that says something about it.
@@ -63,84 +63,83 @@ impl Role {
     }
 }
 
-/// A state of a ground game: a row with a truth value for each term, and a row with the truth of the
-/// derived atoms that do not depend on moves. Contracts see the rows.
-#[derive(Drop)]
-pub struct GroundState {
-    pub(crate) row: Row,
-    pub(crate) kept: Row,
-}
-
-impl Model for GroundState {
-    ghost use Rattle.ground_rules.specs.States.{StateRows};
-
-    ghost Value = { StateRows };
-
-    ghost view = { λ s. record { row = s.row; kept = s.kept } };
-}
-
-/// A move of a ground game, by the number of its term.
+/// Which heads give the terms of a state: those of the first state, or of the state after a turn.
 #[derive(Clone, Copy)]
-pub struct GroundMove {
-    pub term: usize,
+pub(crate) enum StateHead {
+    Init,
+    Next,
 }
 
-/// A row of `terms` values, with the terms of the true mentions set.
-pub fn mark(alloc: Global, mentions: &[Mention], row: &Row, terms: usize) -> Result<Row, AllocError>
-    ensures { IfOk result (λ marks. marks ≡ marked (unset terms) row.now mentions.now) }
+/// The term in the head, if it is of this kind.
+fn state_term(head: &Derived, kind: StateHead) -> Option<&Text>
+    ensures { option_copied result ≡ state_term kind head.now }
 {
-    let mut marks = Row::unset(alloc, terms)?;
-    for mention in mentions {
-        if row.is_set(mention.atom) {
-            marks.set(mention.term);
+    match (kind, head) {
+        (StateHead::Init, Derived::Init(term)) | (StateHead::Next, Derived::Next(term)) => {
+            Some(term)
         }
+        _ => None,
     }
-    Ok(marks)
 }
 
-/// The moves with true heads.
-pub fn choose(alloc: Global, heads: &[Mention], row: &Row) -> Result<Vec<GroundMove>, AllocError>
-    ensures { IfOk result (λ v. v.items ≡ chosen row.now heads.now) }
-{
-    let mut moves = Vec::new(alloc);
-    for head in heads {
-        if row.is_set(head.atom) {
-            moves.push(GroundMove { term: head.term })?;
-        }
-    }
-    Ok(moves)
-}
-
-/// The value of the true head, if exactly one head is true.
-pub fn find_goal(heads: &[GoalHead], row: &Row) -> Option<u8>
-    ensures { result ≡ only_goal row.now heads.now }
-{
-    let mut found = None;
-    for head in heads {
-        if row.is_set(head.atom) {
-            if found.is_some() {
-                return None;
-            }
-            found = Some(head.value);
-        }
-    }
-    found
-}
-
-/// The texts of the terms that are set, in their order. They are borrowed.
-pub fn pick<'a>(
+/// The heads of this kind, each with its term and its place among the heads.
+pub(crate) fn state_mentions(
     alloc: Global,
-    row: &Row,
-    texts: &'a [Text],
-) -> Result<Vec<CowSlice<'a, u8, Global>>, AllocError>
-    requires { length row.now ≡ length texts.now }
-    ensures { IfOk result (λ v. map cow_slice_items v.items ≡ picked row.now texts.now) }
+    heads: &[Derived],
+    terms: &IndexSet<Text>,
+    kind: StateHead,
+) -> Result<Vec<Mention>, AllocError>
+    ensures { IfOk result (λ v. v.items ≡ state_mentions kind terms.now.keys 0 heads.now) }
 {
-    let mut found = Vec::new(alloc);
-    for (term, text) in texts.iter().enumerate() {
-        if row.is_set(term) {
-            found.push(CowSlice::Borrowed(text.as_slice()))?;
+    let mut mentions = Vec::new(alloc);
+    for (atom, head) in heads.iter().enumerate() {
+        if let Some(term) = state_term(head, kind) {
+            let term = place_of_text(terms, term);
+            mentions.push(Mention { term, atom })?;
         }
     }
-    Ok(found)
+    Ok(mentions)
+}
+
+/// The `legal` heads about a role, each with the term of its move and its place among the heads.
+pub(crate) fn legal_mentions(
+    alloc: Global,
+    heads: &[Derived],
+    terms: &IndexSet<Text>,
+    role: &Text,
+) -> Result<Vec<Mention>, AllocError>
+    ensures { IfOk result (λ v. v.items ≡ legal_mentions terms.now.keys role.now 0 heads.now) }
+{
+    let mut mentions = Vec::new(alloc);
+    for (atom, head) in heads.iter().enumerate() {
+        if let Derived::Legal(name, term) = head {
+            if name == role {
+                let term = place_of_text(terms, term);
+                mentions.push(Mention { term, atom })?;
+            }
+        }
+    }
+    Ok(mentions)
+}
+
+/// The `goal` heads about a role, each with its value and its place among the heads.
+pub(crate) fn goal_heads(
+    alloc: Global,
+    heads: &[Derived],
+    role: &Text,
+) -> Result<Vec<GoalHead>, AllocError>
+    ensures { IfOk result (λ v. v.items ≡ goal_heads role.now 0 heads.now) }
+{
+    let mut goals = Vec::new(alloc);
+    for (atom, head) in heads.iter().enumerate() {
+        if let Derived::Goal(name, value) = head {
+            if name == role {
+                goals.push(GoalHead {
+                    value: *value,
+                    atom,
+                })?;
+            }
+        }
+    }
+    Ok(goals)
 }

@@ -9,10 +9,9 @@ ghost use Rattle.ground_rules.specs.Lawfulness.TermTexts.{are_terms_in_any};
 ghost use Rattle.ground_rules.specs.Internal.Resolved.{table_of};
 ghost use Rattle.ground_rules.specs.Internal.GameParts.{AreNamesOf};
 
-use crate::lookups::{StateHead, state_mentions};
 use crate::names::{into_texts, place_of_head};
 use crate::resolve::Names;
-use crate::tables::{Mention, Role};
+use crate::tables::{Mention, Role, StateHead, state_mentions};
 use game_core::Text;
 use kif_text::Expr;
 use rule_sentences::sentence::Derived;

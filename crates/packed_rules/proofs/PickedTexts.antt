@@ -1,7 +1,7 @@
 -- Picking texts, one place on.
 use Rattle.std.proofs.Common.{ℕ, ◌<◌, ◌+◌, ◌≡◌, Bool, true, false, if◌then◌else◌, List, [], ◌∷◌, ◌++◌, refl, length, get_or, drop, append_assoc}
 use Rattle.std.proofs.lemmas.List.{drop_more}
-use Rattle.ground_rules.specs.Tables.{picked}
+use Rattle.ground_rules.specs.Lookups.{picked}
 
 pub picked-next : (bits : List Bool) (texts : List (List ℕ)) (i : ℕ) (found : List (List ℕ)) → i < length bits → i < length texts
     → (if get_or bits i false then found ++ get_or texts i [] ∷ [] else found) ++ picked (drop (i + 1) bits) (drop (i + 1) texts) ≡ found ++ picked (drop i bits) (drop i texts)

@@ -1,7 +1,7 @@
 //! What a packed game looks up in a row.
 ghost use Rattle.std.specs.Prelude.{◌≡◌, ◌+◌, ◌<◌, ◌^◌, length, map, IfOk, take, drop};
 ghost use Rattle.std.specs.Cow.{cow_slice_items};
-ghost use Rattle.ground_rules.specs.Tables.{marked, chosen, only_goal, picked};
+ghost use Rattle.ground_rules.specs.Lookups.{marked, chosen, only_goal, picked};
 ghost use Rattle.ground_rules.specs.Numbered.{unset};
 
 use crate::bits::BitRow;

@@ -112,7 +112,7 @@ impl PackedGame {
     ghost use Rattle.std.specs.Prelude.{IfOk, map, drop, length};
     ghost use Rattle.kif_text.specs.View.{view as expression};
     ghost use Rattle.ground_rules.specs.Numbered.{unset};
-    ghost use Rattle.ground_rules.specs.Tables.{marked};
+    ghost use Rattle.ground_rules.specs.Lookups.{marked};
     ghost use Rattle.ground_rules.specs.LoadedGame.{settled};
     ghost use Rattle.ground_rules.specs.GroundGames.{tables_with};
     ghost use Rattle.packed_rules.specs.PackedTables.{rest_of, turn_of};

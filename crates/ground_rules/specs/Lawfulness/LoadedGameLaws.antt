@@ -9,13 +9,13 @@ use Rattle.game_core.specs.Canonical.{IsCanonicalText, IsFoldedText}
 use Rattle.game_core.specs.Expression.{Expressions}
 use Rattle.ground_rules.specs.declared.tables.Mention.{Mention}
 use Rattle.ground_rules.specs.declared.tables.GoalHead.{GoalHead}
-use Rattle.ground_rules.specs.declared.tables.GroundMove.{GroundMove}
+use Rattle.ground_rules.specs.declared.state.GroundMove.{GroundMove}
 use Rattle.ground_rules.specs.Lawfulness.Bools.{and-left, and-right, and-both, not-true, or-left, or-right, or-false-left, or-false-right}
 use Rattle.ground_rules.specs.Lawfulness.Names.{text-sound, text-same}
 use Rattle.rule_sentences.specs.Descriptions.{is_among, are_different}
 use Rattle.ground_rules.specs.Roles.{RoleTable, no_role}
 use Rattle.numbered_rules.specs.Numbered.{bit, unset}
-use Rattle.ground_rules.specs.Tables.{marked, chosen, only, picked}
+use Rattle.ground_rules.specs.Lookups.{marked, chosen, only, picked}
 use Rattle.ground_rules.specs.Lawfulness.TableTests.{are_roles, names, has_term, have_distinct_terms, are_goals, comes_before, comes_before_all, are_in_order}
 use Rattle.ground_rules.specs.Lawfulness.TermTexts.{are_terms_in_any}
 use Rattle.ground_rules.specs.Lawfulness.TermTexts.{IsTermText, term-text-folded, term-text-no-question, term-text-at}

@@ -1,5 +1,5 @@
 use Rattle.std.proofs.Common.{◌≡◌, ◌++◌, drop}
-use Rattle.ground_rules.specs.Tables.{chosen}
+use Rattle.ground_rules.specs.Lookups.{chosen}
 use Rattle.packed_rules.proofs.lookups.choose.Given as goal
 
 abbrev pub invariant-loop-head : goal.invariant-loop-head

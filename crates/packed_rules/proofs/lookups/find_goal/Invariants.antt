@@ -1,7 +1,7 @@
 use Rattle.std.proofs.Common.{◌≡◌, ℕ, List, [], ◌∷◌, Option, Some, None, drop, filter}
 use Rattle.ground_rules.specs.Numbered.{bit}
 use Rattle.ground_rules.specs.declared.tables.GoalHead.{GoalHead}
-use Rattle.ground_rules.specs.Tables.{only, only_goal}
+use Rattle.ground_rules.specs.Lookups.{only, only_goal}
 use Rattle.packed_rules.proofs.lookups.find_goal.Given as goal
 
 -- the only goal, where a first one was found

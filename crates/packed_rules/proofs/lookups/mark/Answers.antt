@@ -1,5 +1,5 @@
 use Rattle.std.proofs.Common.{List, Bool, ap, take, drop, ◌∙◌}
-use Rattle.ground_rules.specs.Tables.{marked}
+use Rattle.ground_rules.specs.Lookups.{marked}
 use Rattle.packed_rules.proofs.PackedPasses.{none-terms, none-atoms}
 use Rattle.packed_rules.proofs.lookups.mark.Goals as goal
 

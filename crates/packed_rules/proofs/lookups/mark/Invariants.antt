@@ -1,6 +1,6 @@
 use Rattle.std.proofs.Common.{◌≡◌, take, drop}
 use Rattle.ground_rules.specs.Numbered.{unset}
-use Rattle.ground_rules.specs.Tables.{marked}
+use Rattle.ground_rules.specs.Lookups.{marked}
 use Rattle.packed_rules.proofs.lookups.mark.Given as goal
 
 abbrev pub invariant-loop-mention : goal.invariant-loop-mention

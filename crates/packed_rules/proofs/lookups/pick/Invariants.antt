@@ -1,6 +1,6 @@
 use Rattle.std.proofs.Common.{◌≡◌, ◌++◌, drop, map}
 use Rattle.std.specs.Cow.{cow_slice_items}
-use Rattle.ground_rules.specs.Tables.{picked}
+use Rattle.ground_rules.specs.Lookups.{picked}
 use Rattle.packed_rules.proofs.lookups.pick.Given as goal
 
 abbrev pub invariant-loop-term : goal.invariant-loop-term

@@ -1,7 +1,7 @@
 use Rattle.std.proofs.Common.{◌∙◌, ap, refl, map, length}
 use Rattle.kif_text.specs.View.{view as expression}
 use Rattle.ground_rules.specs.Lawfulness.TableTests.{are_in_order}
-use Rattle.ground_rules.specs.declared.lookups.StateHead.TheVariants.{Init as InitHead, Next as NextHead}
+use Rattle.ground_rules.specs.declared.tables.StateHead.TheVariants.{Init as InitHead, Next as NextHead}
 use Rattle.ground_rules.specs.Internal.Resolved.{table_of, state_mentions}
 use Rattle.rule_sentences.specs.SentenceFaults.{description_of}
 use Rattle.ground_rules.proofs.Assembled.{some-role, few-roles, tables-pass, names-pass, names-read, states-read, moves-read}

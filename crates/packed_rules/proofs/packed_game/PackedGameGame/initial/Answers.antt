@@ -3,7 +3,7 @@ use Rattle.std.specs.Prelude.{IfOk}
 use Rattle.ground_rules.specs.States.{StateRows}
 use Rattle.ground_rules.specs.declared.tables.Mention.{Mention}
 use Rattle.ground_rules.specs.Numbered.{unset}
-use Rattle.ground_rules.specs.Tables.{marked}
+use Rattle.ground_rules.specs.Lookups.{marked}
 use Rattle.ground_rules.specs.LoadedGame.{settled, turn_row}
 use Rattle.packed_rules.specs.PackedGames.{tables_of}
 use Rattle.packed_rules.proofs.PackedPasses.{begun}

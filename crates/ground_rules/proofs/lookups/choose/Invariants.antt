@@ -1,6 +1,6 @@
 use Rattle.std.proofs.Common.{◌≡◌, ◌++◌, drop}
-use Rattle.ground_rules.specs.Tables.{chosen}
-use Rattle.ground_rules.proofs.tables.choose.Given as goal
+use Rattle.ground_rules.specs.Lookups.{chosen}
+use Rattle.ground_rules.proofs.lookups.choose.Given as goal
 
 abbrev pub invariant-loop-head : goal.invariant-loop-head
 invariant-loop-head l = l.moves.items ++ chosen l.row (drop l.head-index l.heads) ≡ chosen l.row l.heads

@@ -1,8 +1,8 @@
 use Rattle.std.proofs.Common.{◌≡◌, ℕ, List, [], ◌∷◌, Option, Some, None, drop, filter}
 use Rattle.numbered_rules.specs.Numbered.{bit}
 use Rattle.ground_rules.specs.declared.tables.GoalHead.{GoalHead}
-use Rattle.ground_rules.specs.Tables.{only, only_goal}
-use Rattle.ground_rules.proofs.tables.find_goal.Given as goal
+use Rattle.ground_rules.specs.Lookups.{only, only_goal}
+use Rattle.ground_rules.proofs.lookups.find_goal.Given as goal
 
 -- the only goal, where a first one was found
 abbrev only_after : Option ℕ → List GoalHead → Option ℕ

@@ -2,8 +2,8 @@ use Rattle.std.proofs.Common.{◌≡◌, ◌<◌, ◌∙◌, true, false, [], ge
 use Rattle.std.specs.Cow.{cow_slice_items}
 use Rattle.std.proofs.lemmas.List.{get_or_read, map_push}
 use Rattle.ground_rules.proofs.Picked.{picked-next}
-use Rattle.ground_rules.proofs.tables.pick.Goals as goal
-use Rattle.ground_rules.proofs.tables.pick.Goals.{then-is_set+in_ok-push, else-is_set}
+use Rattle.ground_rules.proofs.lookups.pick.Goals as goal
+use Rattle.ground_rules.proofs.lookups.pick.Goals.{then-is_set+in_ok-push, else-is_set}
 
 pub loop-term-preserved : goal.loop-term-preserved
 loop-term-preserved c =

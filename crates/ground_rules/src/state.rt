@@ -1,0 +1,25 @@
+//! States and moves of ground games.
+use numbered_rules::Row;
+use std::marker::Model;
+
+/// A state of a ground game: a row with a truth value for each term, and a row with the truth of the
+/// derived atoms that do not depend on moves. Contracts see the rows.
+#[derive(Drop)]
+pub struct GroundState {
+    pub(crate) row: Row,
+    pub(crate) kept: Row,
+}
+
+impl Model for GroundState {
+    ghost use Rattle.ground_rules.specs.States.{StateRows};
+
+    ghost Value = { StateRows };
+
+    ghost view = { λ s. record { row = s.row; kept = s.kept } };
+}
+
+/// A move of a ground game, by the number of its term.
+#[derive(Clone, Copy)]
+pub struct GroundMove {
+    pub term: usize,
+}
