@@ -17,8 +17,8 @@ use std::borrow::CowSlice;
 /// The game of a ground description, with its rules in the order of a ranking.
 #[derive(Drop)]
 pub struct GroundGame {
-    pub vocabulary: Vocabulary,
-    pub rules: SplitRules,
+    vocabulary: Vocabulary,
+    rules: SplitRules,
 }
 
 impl Game for GroundGame {
@@ -154,5 +154,26 @@ impl GroundGame {
         ensures { map expression result.now ≡ sentences_of self.now }
     {
         self.vocabulary.description.as_slice()
+    }
+
+    /// All that the game looks up, apart from its rules.
+    pub fn vocabulary(&self) -> &Vocabulary
+        ensures { result.now ≡ self.now.vocabulary }
+    {
+        &self.vocabulary
+    }
+
+    /// The rules of the game in two parts, each in the order of a ranking.
+    pub fn rules(&self) -> &SplitRules
+        ensures { result.now ≡ self.now.rules }
+    {
+        &self.rules
+    }
+
+    /// The vocabulary alone, for another form of the game.
+    pub fn into_vocabulary(self) -> Vocabulary
+        ensures { result ≡ self.vocabulary }
+    {
+        self.vocabulary
     }
 }

@@ -11,7 +11,7 @@ use std::alloc::{AllocError, Global};
 fn rules_by_place(alloc: Global, game: &GroundGame) -> Result<PackedRules, AllocError>
     ensures { IfOk result (λ p. p ≡ record { terms = length game.now.vocabulary.states.items; plain = game.now.rules }) }
 {
-    PackedRules::new(alloc, &game.rules, game.vocabulary.states.len())
+    PackedRules::new(alloc, game.rules(), game.vocabulary().states.len())
 }
 
 /// The packed form of a game: the same game, of the same description. If memory runs out, the game comes
@@ -21,13 +21,7 @@ pub fn pack(alloc: Global, game: GroundGame) -> Result<PackedGame, (GroundGame, 
     ensures refused { IfErr result (λ e. e.0 ≡ game) }
 {
     match rules_by_place(alloc, &game) {
-        Ok(rules) => {
-            let GroundGame {
-                vocabulary,
-                rules: _,
-            } = game;
-            Ok(PackedGame::new(vocabulary, rules))
-        }
+        Ok(rules) => Ok(PackedGame::new(game.into_vocabulary(), rules)),
         Err(error) => Err((game, error)),
     }
 }
