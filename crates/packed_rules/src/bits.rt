@@ -91,7 +91,7 @@ impl BitRow {
     pub fn unset(alloc: Global, size: usize) -> Result<BitRow, AllocError>
         ensures { IfOk result (λ r. r ≡ unset size) }
     {
-        let words = vec![in alloc; 0u64; size / WORD + 1]?;
+        let words = vec![in alloc; 0u64; size.div_ceil(WORD)]?;
         Ok(BitRow { words, size })
     }
 
