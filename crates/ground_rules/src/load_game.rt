@@ -6,8 +6,8 @@ ghost use Rattle.ground_rules.specs.Loaded.{IsLoadAnswer};
 
 use crate::ground_game::GroundGame;
 use crate::loading::game_parts;
-use kif_text::Expr;
-use rule_sentences::{LoadFault, fold_each, folded, read_rules};
+use kif_text::{Expr, folded_copies};
+use rule_sentences::{LoadFault, fold_each, read_rules};
 use std::alloc::Global;
 
 /// The game of a description without capitals, or its first fault.
@@ -25,7 +25,7 @@ fn load_folded(alloc: Global, description: Vec<Expr>) -> Result<GroundGame, Load
 pub fn load(alloc: Global, sentences: &[Expr]) -> Result<GroundGame, LoadFault>
     ensures { IsLoadAnswer (map folded (map expression sentences.now)) result }
 {
-    let description = folded(alloc, sentences)?;
+    let description = folded_copies(alloc, sentences)?;
     load_folded(alloc, description)
 }
 

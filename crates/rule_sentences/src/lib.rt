@@ -15,4 +15,4 @@ mod terms;
 mod words;
 
 pub use fault::LoadFault;
-pub use rules::{fold_each, folded, read_rules};
+pub use rules::{fold_each, read_rules};

@@ -11,15 +11,8 @@ use crate::placing::place;
 use crate::reading::read_sentence;
 use crate::sentence::Rule;
 use crate::terms::has_variable;
-use kif_text::{Expr, fold, folded_copies};
+use kif_text::{Expr, fold};
 use std::alloc::{AllocError, Global};
-
-/// The sentences without capitals, in memory of their own.
-pub fn folded(alloc: Global, sentences: &[Expr]) -> Result<Vec<Expr>, AllocError>
-    ensures { IfOk result (λ v. map expression v.items ≡ map folded (map expression sentences.now)) }
-{
-    folded_copies(alloc, sentences)
-}
 
 /// Takes the capitals from the sentences, where they lie.
 pub fn fold_each(sentences: &mut [Expr])
