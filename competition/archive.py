@@ -43,7 +43,7 @@ What this does not show: that the players of these names sent these answers, and
 """
 
 
-class Spoilt(Exception):
+class Spoilt(Refused):
     """What is wrong with an archive, in lines."""
 
 
@@ -249,8 +249,8 @@ def looked_at(path, referee):
             wanted["matches.jsonl"] = b"".join(lines)
             faults = list(faults_of_files(folder, plan, results, wanted))
             made_by = (folder / VERSION).read_text("ascii").strip()
-        except (Spoilt, Refused) as why:
-            return str(why).replace(f"{room}/", "").splitlines(), ""
+        except Refused as why:
+            return why.words.replace(f"{room}/", "").splitlines(), ""
         except Unchecked as why:
             raise Unchecked(str(why).replace(f"{room}/", "")) from None
         except MemoryError:

@@ -10,7 +10,7 @@ from competition.archive import TooLarge, check_archive, own_files, publish
 from competition.files import Refused, held, write_whole
 from competition.kept import look_at_records
 from competition.pages import Pages
-from competition.plan import faults_of_descriptions, make_plan, read_plan
+from competition.plan import WRITES, faults_of_descriptions, make_plan, read_plan
 from competition.playing import Playing, play
 from competition.referee import NoReferee, Referee, Unchecked, find_program
 from competition.results import match_line
@@ -179,7 +179,8 @@ def run_publish(asked, referee):
     path = archive_path(plan, asked.to)
     results, _ = known_results(plan, referee)
     missing = len(plan.matches) - len(results)
-    faults = [f"{missing} matches have no lawful record"] if missing else list(faults_of_descriptions(plan, plan.folder.description))
+    faults = [f"{missing} matches have no lawful record"] if missing else []
+    faults = faults or list(faults_of_descriptions(plan, plan.folder.description, f", and {WRITES}"))
     if not faults:
         write_matches(plan, results)
         try:

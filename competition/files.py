@@ -9,7 +9,11 @@ UNFINISHED = ".unfinished-"
 
 
 class Refused(Exception):
-    """Why there is nothing to go on with, in lines."""
+    """Why there is nothing to go on with, in lines, and what helps in the folder of a competition, though not where it is unpacked."""
+
+    def __init__(self, words, advice=None):
+        super().__init__(f"{words}: {advice}" if advice else words)
+        self.words = words
 
 
 @contextlib.contextmanager

@@ -10,6 +10,7 @@ from competition.files import UNFINISHED, Folder, Refused, held, write_whole
 from competition.schedule import planned, schedule_text
 
 SUM_LINE = re.compile(rb"([0-9a-f]{64})  ([^\n]+)\n")
+WRITES = "`ggp_competition plan` writes it"
 
 
 @dataclass
@@ -34,6 +35,24 @@ def read_file(path):
         return path.read_bytes()
     except OSError as why:
         raise Refused(f"{path} can't be read: {why.strerror}") from None
+
+
+def read_planned(path):
+    """Returns the bytes of a file that `plan` has written."""
+    if not path.exists():
+        raise Refused(f"{path} is not there", WRITES)
+    return read_file(path)
+
+
+def is_played(folder):
+    """Returns whether a match has a record. What a killed `play` has left unfinished is none."""
+    return folder.records.is_dir() and any(not it.name.startswith(UNFINISHED) for it in folder.records.glob("*.json"))
+
+
+def refused_plan(folder, path):
+    """Returns the fault of a file that `plan` has written for another competition.toml."""
+    advice = "matches were played, so put back what was changed" if is_played(folder) else f"{WRITES} anew"
+    return Refused(f"{path} is not what {folder.competition} says", advice)
 
 
 def told(path, mistakes):
@@ -100,12 +119,11 @@ def make_plan(path, referee):
 
 def write_plan(folder, wanted):
     """Writes the files of a plan, where no match was played by another one."""
-    # What a killed `play` has left unfinished is no record.
-    played = folder.records.is_dir() and any(not it.name.startswith(UNFINISHED) for it in folder.records.glob("*.json"))
+    played = is_played(folder)
     for file, data in wanted.items():
-        # Sums that are missing come of the descriptions as they are, which give the same rules.
-        if played and (file.read_bytes() != data if file.exists() else file != folder.description_sums()):
-            raise Refused(f"{file} would change, and matches were played: keep the competition as it was, or take another folder")
+        # What is missing is written again.
+        if played and file.exists() and file.read_bytes() != data:
+            raise Refused(f"{file} would change, and matches were played", "put back what was changed, or take another folder")
     try:
         folder.make(folder.rules)
         # The schedule is last, so that there is none without its rules.
@@ -117,14 +135,15 @@ def write_plan(folder, wanted):
 
 def sums_of(path):
     """Returns the sums of a file of sums, by names."""
-    return {name.decode(errors="replace"): it.decode() for it, name in SUM_LINE.findall(read_file(path))}
+    return {name.decode(errors="replace"): it.decode() for it, name in SUM_LINE.findall(read_planned(path))}
 
 
-def faults_of_descriptions(plan, path_of):
-    """Gives each description that is not the one that the rules were made from; `path_of` tells the file of a game."""
+def faults_of_descriptions(plan, path_of, advice=""):
+    """Gives each description that is not the one that the rules were made from; `path_of` tells the file of a game, and the advice what
+    helps where their sums are missing."""
     path = plan.folder.description_sums()
     if not path.is_file():
-        yield f"{path} is missing: it has the sums of the descriptions, and `ggp_competition plan` writes it"
+        yield f"{path} is missing: it has the sums of the descriptions{advice}"
         return
     sums = sums_of(path)
     for game in plan.competition.games:
@@ -143,13 +162,13 @@ def read_rules(folder, competition, referee):
     """Returns the rules of each game by its name, as `plan` wrote them."""
     sums, found = sums_of(folder.rule_sums()), {}
     if sums.keys() != {file.name for game in competition.games for file in folder.rule_files(game)}:
-        raise Refused(f"{folder.rule_sums()} is not what {folder.competition} says: `ggp_competition plan` writes it anew")
+        raise refused_plan(folder, folder.rule_sums())
     for game in competition.games:
         files = folder.rule_files(game)
-        written = list(map(read_file, files))
+        written = list(map(read_planned, files))
         others = [file for file, data in zip(files, written) if sum_of(data) != sums[file.name]]
         if others:
-            raise Refused(f"{others[0]} is not what `ggp_competition plan` wrote")
+            raise Refused(f"{others[0]} is not what `ggp_competition plan` wrote", f"take it away, and {WRITES} again")
         try:
             found[game.name] = rules_of(written[0], files[0], referee, *written[1:])
         except NoDescription as why:
@@ -161,10 +180,8 @@ def read_plan(path, referee):
     """Returns the competition that was planned in a folder. Refuses one whose rules or schedule are not those of the plan."""
     folder = Folder(path)
     competition = competition_of(folder)
-    if not folder.schedule.exists():
-        raise Refused(f"{folder.schedule} is not there: `ggp_competition plan` writes it")
-    rules = read_rules(folder, competition, referee)
+    schedule, rules = read_planned(folder.schedule), read_rules(folder, competition, referee)
     matches = matches_of(folder, competition, rules)
-    if read_file(folder.schedule) != schedule_text(matches):
-        raise Refused(f"{folder.schedule} is not what {folder.competition} says: `ggp_competition plan` writes it anew")
+    if schedule != schedule_text(matches):
+        raise refused_plan(folder, folder.schedule)
     return Plan(folder, competition, rules, matches)

@@ -213,6 +213,8 @@ class Archive(unittest.TestCase):
                 status, out, said = run(self.other, "check", "spoilt.tar.gz")
                 self.assertEqual((status, out), (1, ""))
                 self.assertIn(words, said)
+                # What helps in the folder of a competition does not help here.
+                self.assertNotRegex(said, "plan` writes|put back")
                 self.assertRegex(said, r"^[\x20-\x7e\n]*$")
                 self.assertNotIn(f"{tempfile.gettempdir()}/tmp", said)
         self.assertEqual(sorted(it.name for it in self.other.iterdir()), ["cup.tar.gz", "spoilt.tar.gz"])

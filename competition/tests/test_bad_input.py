@@ -52,6 +52,51 @@ class BadInput(InFolder):
         self.write(PLAYERS, [("game", "game.kif")], head="play = 4\n")
         self.assert_refused("schedule.tsv would change, and matches were played", "plan")
 
+    def played(self):
+        """Plans a competition, and leaves what stands for the record of a match. Returns the files of the plan, with what they hold."""
+        (self.folder / "game.kif").write_bytes((GAMES / "countdown.kif").read_bytes())
+        self.plan(PLAYERS, [("game", "game.kif")], head="start = 2\n")
+        (self.folder / "records").mkdir()
+        (self.folder / "records/cup-001.json").touch()
+        return {it: it.read_bytes() for it in [*(self.folder / "rules").iterdir(), self.folder / "schedule.tsv"]}
+
+    def test_what_was_lost_of_a_plan_is_written_again(self):
+        before, games = self.played(), self.folder / "game.kif"
+        sums = [self.folder / f"rules/{it}" for it in ("SHA256SUMS", "DESCRIPTIONS.sha256")]
+        for lost in (*([it] for it in before), [it for it in before if it.parent.name == "rules"], sums, list(before)):
+            with self.subTest(lost):
+                for it in lost:
+                    it.unlink()
+                if lost != sums[1:]:
+                    self.assert_refused("is not there: `ggp_competition plan` writes it\n", "play")
+                self.assertEqual(run(self.folder, "plan")[::2], (0, ""))
+                self.assertEqual({it: it.read_bytes() for it in before}, before)
+        text = games.read_text()
+        for it in before:
+            games.write_text(text.replace("100", "99"))
+            it.unlink()
+            self.assert_refused("would change, and matches were played: put back what was changed, or take another folder\n", "plan")
+            games.write_text(text)
+            self.assertEqual(run(self.folder, "plan")[::2], (0, ""))
+
+    def test_what_helps_where_a_plan_was_changed(self):
+        self.played()
+        file, rules = self.folder / "competition.toml", self.folder / "rules/game.kif"
+        text = file.read_text()
+        file.write_text(text.replace("start = 2", "start = 3"))
+        for command in ("play", "table", "pages", "publish"):
+            self.assert_refused("schedule.tsv is not what competition.toml says: matches were played, so put back what was changed\n", command)
+        file.write_text(text.replace('name = "game"', 'name = "other"'))
+        self.assert_refused("rules/SHA256SUMS is not what competition.toml says: matches were played, so put back what was changed\n", "play")
+        file.write_text(text)
+        rules.write_text("(role a)")
+        self.assert_refused("rules/game.kif is not what `ggp_competition plan` wrote: take it away, and `ggp_competition plan` writes it again\n", "play")
+        (self.folder / "records/cup-001.json").unlink()
+        file.write_text(text.replace("start = 2", "start = 3"))
+        self.assertEqual(run(self.folder, "plan")[::2], (0, ""))
+        file.write_text(text)
+        self.assert_refused("schedule.tsv is not what competition.toml says: `ggp_competition plan` writes it anew\n", "play")
+
     def test_descriptions(self):
         for text, words in DESCRIPTIONS:
             with self.subTest(words):

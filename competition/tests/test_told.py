@@ -16,7 +16,7 @@ OTHER_RULES = changed("cup/rules/nim.told", lambda it: it.replace(b"100", b"90")
 OTHER_PAGE = changed("cup/pages/games/nim.html", lambda it: it.replace(b"?", b"!", 1))
 SPOILINGS = {
     "players are told other rules": (OTHER_RULES, "rules/nim.told is not what"),
-    "what players are told is missing": (without("cup/rules/nim.told"), "rules/nim.told can't be read"),
+    "what players are told is missing": (without("cup/rules/nim.told"), "rules/nim.told is not there"),
     "players are told ground rules": (OTHERWISE, "rules/SHA256SUMS is not what"),
     "a description is another": (changed("cup/games/nim.kif", lambda it: it + b"; more\n"), "games/nim.kif is not the description that the rules of nim were made from"),
     "a page has other rules for players": (OTHER_PAGE, "pages/games/nim.html does not follow"),
