@@ -100,6 +100,8 @@ def run_plan(asked, referee):
     plan = make_plan(asked.folder, referee)
     for game in plan.competition.games:
         say(f"{game.name}: {said_of_game(plan, [it for it in plan.matches if it.game == game.name])}")
+        for it in plan.rules[game.name].notes:
+            say(f"{game.name}: {it}")
     say(f"{plan.folder.schedule}: {len(plan.matches)} matches of {len(plan.competition.players)} players")
     return 0
 

@@ -3,6 +3,7 @@
 import hashlib
 import importlib.machinery
 import importlib.util
+import itertools
 import pathlib
 import re
 import subprocess
@@ -28,13 +29,15 @@ class NoDescription(Exception):
 @dataclass(frozen=True)
 class Rules:
     """The ground description of a game: its bytes, their sum, and the names of its roles; the bytes of the description with variables
-    that players get, or none if they get the rules themselves; and the sum of the file that all of this was made from, where known."""
+    that players get, or none if they get the rules themselves; the sum of the file that all of this was made from, where known; and what
+    `instantiate` has to say of the rules."""
 
     text: bytes
     sum: str
     roles: tuple
     told: bytes | None = None
     description_sum: str | None = None
+    notes: tuple = ()
 
 
 def sum_of(data):
@@ -108,14 +111,19 @@ def instantiated(path, tells_variables):
         return made.stdout, told.read_bytes() if tells_variables else None
 
 
-def rules_of(text, name, referee, told=None, description_sum=None):
+def notes_of(ground):
+    """Returns what `instantiate` says at the head of what it made: how it was folded or unrolled, and what is left out."""
+    return tuple(it[2:].decode() for it in itertools.takewhile(lambda it: it.startswith(b"; "), ground.splitlines()))
+
+
+def rules_of(text, name, referee, told=None, description_sum=None, notes=()):
     """Returns the rules that a ground description says, as the referee reads it, with the text that players get. Refuses what the
     referee refuses, in its words."""
     try:
         roles = referee.roles(text, name)
     except BadRules as why:
         raise NoDescription(str(why)) from None
-    return Rules(text, sum_of(text), roles, told, description_sum)
+    return Rules(text, sum_of(text), roles, told, description_sum, notes)
 
 
 def load_description(path, referee, tells_variables):
@@ -134,6 +142,6 @@ def load_description(path, referee, tells_variables):
     look_at_sentences(text, places)
     ground, told = instantiated(path, tells_variables)
     try:
-        return rules_of(ground, path, referee, told, description_sum)
+        return rules_of(ground, path, referee, told, description_sum, notes_of(ground))
     except NoDescription as why:
         raise NoDescription(f"its ground rules, by examples/instantiate: {why}") from None

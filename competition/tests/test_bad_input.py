@@ -116,6 +116,19 @@ class BadInput(InFolder):
             f"\n{place} instantiate: nothing is written, since this is past the limit: moves of a (4,225 of 4,096)\n",
         ])
 
+    @unittest.skipUnless(shutil.which("gringo"), "gringo is not installed")
+    def test_what_instantiate_says_of_rules_is_told(self):
+        (self.folder / "coins.kif").write_text("(role a) (init (s 101)) (<= (goal a ?x) (true (s ?x))) (goal a 7)")
+        # What an author says at the head of ground rules is no word of `instantiate`.
+        (self.folder / "one.kif").write_text("; a comment\n" + (GAMES / "buttons.kif").read_text())
+        self.write(PLAYERS, [("coins", "coins.kif"), ("one", "one.kif")])
+        status, out, said = run(self.folder, "plan")
+        self.assertEqual((status, said, [it.split(":")[0] for it in out.splitlines()]), (0, "", ["coins", "coins", "one", "schedule.tsv"]))
+        self.assertEqual(out.splitlines()[1], (
+            "coins: goals past 100 are left out (1): where one would hold at the end, its role keeps the other goal that holds there, "
+            "and if none does the match has no goals"
+        ))
+
     def test_an_instantiation_that_is_ended(self):
         (self.folder / "game.kif").write_text("(role a) (<= (legal a ?x) (n ?x)) (n 1)")
         killed = self.folder / "killed"

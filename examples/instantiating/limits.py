@@ -11,6 +11,7 @@ MOST = {"sentences": 8192, "atomic sentences": 16384, "roles": 16, "moves": 4096
 MOST_IN_A_WORD = 131071
 GOAL = re.compile(r"0|[1-9][0-9]?|100")
 PAST_GOAL = re.compile(r"[1-9][0-9]{2,}")
+WITHOUT_HIGH_GOALS = "where one would hold at the end, its role keeps the other goal that holds there, and if none does the match has no goals"
 
 
 def without_high_goals(rules):

@@ -77,7 +77,7 @@ class Making:
         found = grounding.needed(grounding.ground(program.kept, instances))
         found, high = limits.without_high_goals(found)
         if high:
-            self.notes.append(f"{high:,} goals past 100 are left out: where one would be given, its role has none, and the match no goals")
+            self.notes.append(f"goals past 100 are left out ({high:,}): {limits.WITHOUT_HIGH_GOALS}")
         return grounding.in_order(found)
 
     def explained(self, why):
