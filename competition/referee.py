@@ -43,10 +43,12 @@ def find_program(given):
         return os.path.abspath(shutil.which(given))
     beside = pathlib.Path(sys.argv[0]).absolute().parent
     inside = pathlib.Path(__file__).resolve().parent.parent / "bin"
-    for it in (beside / PROGRAM, beside.parent / "bin" / PROGRAM, inside / PROGRAM, shutil.which(PROGRAM)):
+    folders = list(dict.fromkeys((beside, beside.parent / "bin", inside)))
+    for it in (*(it / PROGRAM for it in folders), shutil.which(PROGRAM)):
         if it and os.access(it, os.X_OK):
             return str(it)
-    raise NoReferee(f"{PROGRAM} is not found beside this program; `--program FILE` names it")
+    looked = ", ".join(map(str, folders))
+    raise NoReferee(f"{PROGRAM} is not in {looked}, nor on the path of the shell (PATH); `--program FILE` names it")
 
 
 def said_lines(said):

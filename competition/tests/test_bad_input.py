@@ -7,7 +7,8 @@ import sys
 import unittest
 from unittest import mock
 
-from competition.descriptions import NoDescription, instantiated
+from competition.descriptions import TOP, NoDescription, instantiated
+from competition.referee import NoReferee, find_program
 from competition.tests.support import COMMAND, GAMES, InFolder, program, program_but, run, run_into_full, toml
 
 PLAYERS = [("ann", "127.0.0.1:9147"), ("bob", "127.0.0.1:9148")]
@@ -200,6 +201,12 @@ class BadInput(InFolder):
             self.assertEqual(subprocess.run([sys.executable, COMMAND, *words], capture_output=True).returncode, 2, words)
         said = subprocess.run([sys.executable, COMMAND, "plan", "--program", "/none"], capture_output=True, text=True)
         self.assertEqual((said.returncode, said.stderr), (2, "ggp_competition: /none is no program that can be run\n"))
+
+    def test_no_referee_is_found(self):
+        with mock.patch("sys.argv", ["/none/bin/ggp_competition"]), mock.patch("os.access", return_value=False), self.assertRaises(NoReferee) as why:
+            find_program(None)
+        said = f"ggp_manager is not in /none/bin, {TOP}/bin, nor on the path of the shell (PATH); `--program FILE` names it"
+        self.assertEqual(str(why.exception), said)
 
     def test_a_full_output(self):
         self.write(PLAYERS, [("tictactoe", GAMES / "tictactoe.kif")])
