@@ -88,6 +88,24 @@ class Play(InFolder):
         self.assertEqual((status, lines(out, "begin")), (1, []))
         self.assertEqual({it.split(": ")[1] for it in lines(out, "missing")}, {"p1 is silent"})
 
+    def test_a_player_that_stays_busy_is_made_silent(self):
+        self.planned(["good", "good", "good"])
+        self.players[2].status = "busy"
+        status, out, _ = run(self.folder, "play")
+        self.assertEqual((status, len(lines(out, "end"))), (1, 2))
+        self.assertIn("nothing is published: 4 matches have no lawful record", run(self.folder, "publish")[2])
+        file, nobody = self.folder / "competition.toml", TestPlayer("nobody")
+        nobody.leave()
+        text = file.read_text().replace(self.players[2].place(), nobody.place())
+        for old, new in (("strikes", 'absent = "play"\nforfeit = true\nstrikes'), ("tries = 2", "tries = 1"), ("wait = 1", "wait = 0"), ("info = 5", "info = 9")):
+            text = text.replace(old, new)
+        file.write_text(f"{text}concurrent = 2\n")
+        status, out, _ = run(self.folder, "play")
+        self.assertEqual((status, len(lines(out, "absent")), len(lines(out, "end"))), (0, 4, 4), out)
+        self.assertEqual([run(self.folder, it)[0] for it in ("plan", "table", "publish")], [0, 0, 0])
+        self.assertEqual(run(self.folder, "check", "cup.tar.gz")[0], 0)
+        self.assert_sound(self.schedule)
+
     def most_at_once(self, more, most):
         """Plays among slow players that take so many matches. Returns in how many at once one of them sat."""
         self.planned(["slow"] * 3, more=more, most=most)
