@@ -53,7 +53,7 @@ class Playing:
             abort_matches({it.match.id: it.places}, self.plan.folder, self.tell)
         if it.result:
             self.results[it.match.id] = it.result
-            self.tell.ends(it.result, it.seconds)
+            self.tell.ends(it.result, self.plan.competition.forfeit, it.seconds)
             self.ended(it.result)
         elif it.why:
             # Where the disk is full the referee may be the first to see it. It says so with status 1, or can't write that either.

@@ -60,15 +60,16 @@ class Teller:
     def begins(self, match):
         self.line(f"begin {match.id} {match.game} {' '.join(match.players)}")
 
-    def ends(self, result, seconds):
-        """Says of each player its goal, and how many of its moves were replaced."""
+    def ends(self, result, forfeit, seconds):
+        """Says of each player its goal, how many of its moves were replaced, and whether it has lost by forfeit."""
         match = result.match
         goals = result.goals or ["none"] * len(match.players)
         said = [f"{player} {goal}" for player, goal in zip(match.players, goals)]
         replaced = [
             f"{player} {result.replaced(role)} of {result.turns}" for role, player in enumerate(match.players) if result.replaced(role)
         ]
-        more = f", replaced {', '.join(replaced)}" if replaced else ""
+        lost = [player for player, was_retired in zip(match.players, result.retired) if forfeit and was_retired]
+        more = "".join(f", {word} {', '.join(found)}" for word, found in (("replaced", replaced), ("forfeit:", lost)) if found)
         self.line(f"end {match.id} {match.game} {', '.join(said)}{more}, {seconds:.1f} s")
 
     def progress(self, over, open_ones, to_come):

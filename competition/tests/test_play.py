@@ -46,6 +46,13 @@ class Play(InFolder):
         status, out, _ = run(self.folder, "play")
         self.assertEqual((status, out), (0, "6 of 6 matches have a lawful record\n"))
 
+    def test_who_has_lost_by_forfeit_is_told(self):
+        for head, said in (("forfeit = true\n", True), ("", False)):
+            self.planned(["good", "lying"], head=HEAD + head)
+            out = run(self.folder, "play")[1]
+            self.assertEqual([", forfeit: p1, " in it for it in lines(out, "end")], [said] * 2, out)
+            shutil.rmtree(self.folder / "records")
+
     def test_times_stand_in_matches_jsonl(self):
         self.planned(["good", "slow"])
         run(self.folder, "play")
