@@ -23,6 +23,7 @@ from competition.table_text import TABLE_FILES, in_order, table_files
 SUMS, VERSION, HOW = "SHA256SUMS", "VERSION", "CHECK.txt"
 SUM_LINE = re.compile(r"([0-9a-f]{64})  (\S+)")
 NAME = re.compile(r"[A-Za-z0-9_.-]+(/[A-Za-z0-9_.-]+){1,3}")
+FOLDER_NAME = re.compile(r"[A-Za-z0-9_.-]+(/[A-Za-z0-9_.-]+){0,2}")
 NOT_PLAIN = re.compile(r"[^\x20-\x7e]")
 MOST_BYTES = 8 << 30
 HOW_TO = """How to check this competition.
@@ -128,14 +129,14 @@ def add(archive, name, data):
 
 def unpacked(path, room):
     """Unpacks an archive into an empty folder, and returns the folder of the competition. It takes plain files alone, below one folder,
-    each once."""
+    each once, and entries for their folders, as `tar` writes them."""
     top, size, known = None, 0, set()
     try:
         with tarfile.open(path, "r:gz") as archive:
             for it in archive:
                 size += it.size
-                parts = it.name.split("/")
-                if not it.isreg() or not NAME.fullmatch(it.name) or {".", ".."} & set(parts):
+                parts, form = it.name.split("/"), FOLDER_NAME if it.isdir() else NAME
+                if not (it.isreg() or it.isdir()) or not form.fullmatch(it.name) or {".", ".."} & set(parts):
                     raise Spoilt(f"{it.name!r} is no plain file below one folder")
                 if it.name in known:
                     raise Spoilt(f"{it.name!r} is there twice")
@@ -144,6 +145,8 @@ def unpacked(path, room):
                 top = top or parts[0]
                 if parts[0] != top:
                     raise Spoilt(f"{it.name!r} is not below {top}")
+                if it.isdir():
+                    continue  # Each folder is made with its first file.
                 known.add(it.name)
                 (room / it.name).parent.mkdir(parents=True, exist_ok=True)
                 with open(room / it.name, "wb") as file:

@@ -9,6 +9,7 @@ import os
 import pathlib
 import re
 import shutil
+import subprocess
 import tarfile
 import tempfile
 import unittest
@@ -155,6 +156,10 @@ SPOILINGS = {
     "a name is absolute": (beside("/tmp/out.txt"), "is no plain file below one folder"),
     "a file is there twice": (twice, "'cup/schedule.tsv' is there twice"),
     "a file is a link": (beside("cup/more", b"", tarfile.SYMTYPE), "is no plain file below one folder"),
+    "a folder leads out of the folder": (beside("cup/..", b"", tarfile.DIRTYPE), "is no plain file below one folder"),
+    "a folder is absolute": (beside("/tmp/out", b"", tarfile.DIRTYPE), "is no plain file below one folder"),
+    "a folder is another one": (beside("out", b"", tarfile.DIRTYPE), "'out' is not below cup"),
+    "there are folders alone": (lambda _: packed({"cup": b""}, {"cup": tarfile.DIRTYPE}), "SHA256SUMS is missing"),
 }
 
 
@@ -241,6 +246,13 @@ class Archive(unittest.TestCase):
 
     def test_sums_that_were_made_anew_are_taken_of_what_is_right(self):
         (self.other / "again.tar.gz").write_bytes(packed(self.files()))
+        self.assertEqual(run(self.other, "check", "again.tar.gz")[0], 0)
+
+    def test_an_archive_that_tar_has_packed_again(self):
+        for words in (["xzf", self.archive], ["czf", "again.tar.gz", "cup"]):
+            subprocess.run(["tar", *words], cwd=self.other, check=True)
+        with tarfile.open(self.other / "again.tar.gz") as archive:
+            self.assertIn("cup/pages/matches", [it.name for it in archive if it.isdir()])
         self.assertEqual(run(self.other, "check", "again.tar.gz")[0], 0)
 
     def test_the_same_again(self):
