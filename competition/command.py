@@ -217,9 +217,6 @@ def main():
     except KeyboardInterrupt:
         print("ggp_competition: interrupted", file=sys.stderr)
         return 1
-    except BrokenPipeError:
-        # The reader of the output wants no more of it.
-        return 1
     except OSError as why:
         print(f"ggp_competition: {why.filename or 'a file'}: {why.strerror}", file=sys.stderr)
         return 1

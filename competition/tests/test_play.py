@@ -455,7 +455,7 @@ class Play(InFolder):
         playing.stdout.close()
         said = playing.stderr.read()
         playing.stderr.close()
-        self.assertEqual((playing.wait(60), said), (1, ""))
+        self.assertEqual((playing.wait(60), said), (1, "ggp_competition: standard output: Broken pipe\n"))
         # A match that begins while the first is checked is played to its end too.
         self.assertIn(len(self.records()), (2, 3, 4))
         self.assertEqual(list((self.folder / "open").iterdir()), [])
