@@ -150,8 +150,10 @@ def prepared(playing):
         folder.drop_unfinished()
     except OSError as why:
         raise Refused(f"{folder.path} can't be written: {why.filename}: {os.strerror(why.errno)}") from None
-    for it in strangers(plan):
-        raise Refused(f"{folder.records / it} is of no match of the schedule")
+    if found := strangers(plan):
+        more = f", and {len(found) - 1} more" if found[1:] else ""
+        advice = f"move what is of no match out of {folder.records}, and play again"
+        raise Refused(f"{folder.records / found[0]} is of no match of the schedule{more}", advice)
     playing.results, faults, misfits = look_at_records(plan, playing.referee)
     for match, why in misfits.items():
         raise Refused(f"{folder.record(match)} is lawful, and of another match: {why}")

@@ -399,6 +399,20 @@ class Play(InFolder):
         self.assertIn("records/cup-001.json is lawful, and of another match: its strikes is 1, and competition.toml has 2", said)
         self.assertEqual(len(list((self.folder / "records").iterdir())), 2)
 
+    def test_a_record_of_no_match_is_to_be_moved(self):
+        self.planned(["good", "good"])
+        run(self.folder, "play")
+        before, records = self.files(), self.folder / "records"
+        for name, more in (("cup-099.json", ""), ("cup-100.json", ", and 1 more")):
+            (records / name).touch()
+            said = f"ggp_competition: records/cup-099.json is of no match of the schedule{more}: move what is of no match out of records, and play again\n"
+            self.assertEqual(run(self.folder, "play"), (2, "", said))
+            self.assertEqual(run(self.folder, "table")[::2], (0, ""))
+        for it in ("cup-099.json", "cup-100.json"):
+            (records / it).rename(self.folder / it)
+        self.assertEqual(run(self.folder, "play"), (0, "2 of 2 matches have a lawful record\n", ""))
+        self.assertEqual(self.files(), before)
+
     def test_plan_does_not_change_what_was_played(self):
         self.planned(["good", "good"])
         run(self.folder, "play")
