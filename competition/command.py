@@ -6,6 +6,7 @@ import os
 import pathlib
 import sys
 
+from competition import VERSION
 from competition.archive import TooLarge, check_archive, own_files, publish
 from competition.files import Refused, held, write_whole
 from competition.kept import look_at_records
@@ -20,16 +21,16 @@ from competition.table_text import in_order, table_files, table_text
 from competition.telling import Teller, say
 
 MOST_AT_ONCE = 1_024
-HELP = """A competition in one folder, of which competition.toml says what is played. FOLDER is the present one if it is not given.
-
-  plan     writes the rules and schedule.tsv
-  play     plays the matches that have no lawful record yet
-  table    prints the table, and writes it as table.txt, table.csv, crosstable.csv and table.json
-  pages    writes the folder `pages`, to be opened in a browser
-  publish  writes one archive of all of it, with sums
-  check    checks such an archive
-
-Status 0: all is well; of `play`, each match has a lawful record. 1: it is not. 2: the command or competition.toml is wrong. 3: the
+HELP = "A competition in one folder, of which competition.toml says what is played."
+COMMANDS = {
+    "plan": "writes the rules and schedule.tsv, as competition.toml says",
+    "play": "plays the matches that have no lawful record yet",
+    "table": "prints the table, and writes it as table.txt, table.csv, crosstable.csv and table.json",
+    "pages": "writes the folder `pages`, to be opened in a browser",
+    "publish": "writes one archive of the whole competition, with sums",
+    "check": "checks an archive that `publish` has written, by what is in it alone",
+}
+STATUS = """status 0: all is well; of `play`, each match has a lawful record. 1: it is not. 2: the command or competition.toml is wrong. 3: the
 referee could not check what is there, as where memory is short; no file of a match was touched.
 """
 
@@ -41,22 +42,29 @@ def count(text):
     return found
 
 
+def add_program(parser, **more):
+    told = "the referee, ggp_manager (the one beside this program, in bin of the repository, or on the path of the shell)"
+    parser.add_argument("--program", metavar="FILE", help=told, **more)
+
+
 def arguments(words):
-    parser = argparse.ArgumentParser("ggp_competition", description=HELP, formatter_class=argparse.RawDescriptionHelpFormatter)
-    parser.add_argument("--program", metavar="FILE", help="the referee, ggp_manager, where it does not stand beside this program")
-    commands = parser.add_subparsers(dest="command", required=True)
-    for name in ("plan", "play", "table", "pages", "publish"):
-        command = commands.add_parser(name)
-        command.add_argument("folder", nargs="?", default=".")
+    parser = argparse.ArgumentParser("ggp_competition", description=HELP, epilog=STATUS)
+    parser.add_argument("--version", action="version", version=f"%(prog)s {VERSION}")
+    add_program(parser)
+    commands = parser.add_subparsers(dest="command", required=True, metavar="COMMAND", title="commands")
+    for name, told in COMMANDS.items():
+        command = commands.add_parser(name, help=told, description=f"{told[0].upper()}{told[1:]}.")
+        add_program(command, default=argparse.SUPPRESS)
+        if name == "check":
+            command.add_argument("archive", metavar="ARCHIVE", help="the file of the archive")
+            continue
+        told = "the folder of the competition, with competition.toml (the present one)"
+        command.add_argument("folder", nargs="?", default=".", metavar="FOLDER", help=told)
         if name == "play":
             command.add_argument("--at-once", type=count, default=4, metavar="N", help="at most N matches at once (4)")
             command.add_argument("--watch", action="store_true", help="write the pages anew as matches end")
         if name == "publish":
             command.add_argument("--to", metavar="FILE", help="the archive (NAME.tar.gz in the folder)")
-        command.add_argument("--program", metavar="FILE", default=argparse.SUPPRESS)
-    command = commands.add_parser("check")
-    command.add_argument("archive")
-    command.add_argument("--program", metavar="FILE", default=argparse.SUPPRESS)
     return parser.parse_args(words)
 
 

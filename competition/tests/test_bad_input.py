@@ -7,9 +7,10 @@ import sys
 import unittest
 from unittest import mock
 
+from competition.command import COMMANDS
 from competition.descriptions import TOP, NoDescription, instantiated
 from competition.referee import NoReferee, find_program
-from competition.tests.support import COMMAND, GAMES, InFolder, program, program_but, run, run_into_full, toml
+from competition.tests.support import COMMAND, GAMES, InFolder, call, program, program_but, run, run_into_full, toml
 
 PLAYERS = [("ann", "127.0.0.1:9147"), ("bob", "127.0.0.1:9148")]
 FACTS = "(role a)\n(role b)\n"
@@ -201,6 +202,21 @@ class BadInput(InFolder):
             self.assertEqual(subprocess.run([sys.executable, COMMAND, *words], capture_output=True).returncode, 2, words)
         said = subprocess.run([sys.executable, COMMAND, "plan", "--program", "/none"], capture_output=True, text=True)
         self.assertEqual((said.returncode, said.stderr), (2, "ggp_competition: /none is no program that can be run\n"))
+
+    def test_help_and_version(self):
+        def said(*words):
+            done = subprocess.run([sys.executable, COMMAND, *words], capture_output=True, text=True, check=True, env={**os.environ, "COLUMNS": "200"})
+            self.assertEqual(done.stderr, "")
+            return done.stdout
+
+        self.assertEqual(said("--version"), call("--version").decode().replace("ggp_manager", "ggp_competition"))
+        whole = said("--help")
+        for name, told in COMMANDS.items():
+            self.assertRegex(whole, rf"\n +{name} +{told}\n")
+            of_command = said(name, "--help")
+            self.assertIn(f"\n{told[0].upper()}{told[1:]}.\n", of_command)
+            self.assertRegex(of_command, r"\n +(FOLDER|ARCHIVE) +the (folder of the competition|file of the archive)")
+            self.assertRegex(of_command, r"\n +--program FILE +the referee, ggp_manager \(")
 
     def test_no_referee_is_found(self):
         with mock.patch("sys.argv", ["/none/bin/ggp_competition"]), mock.patch("os.access", return_value=False), self.assertRaises(NoReferee) as why:

@@ -36,6 +36,13 @@ class Examples(unittest.TestCase):
             self.assertEqual(run(INSTANTIATE, "--seconds", word, GROUND)[0], 0, word)
         self.assertRegex(run(INSTANTIATE, "--seconds", "0.000001", NIM)[2], "^instantiate: stopped after 1e-06 s")
 
+    def test_help_of_instantiate(self):
+        status, out, said = run(INSTANTIATE, "--help", env={**os.environ, "COLUMNS": "200"})
+        self.assertEqual((status, said), (0, ""))
+        self.assertIn("\nReads the description of a game with variables, and writes the ground description", out)
+        for option in ("FILE", "--seconds N", "--folded", "--unfolded", "--told TOLD"):
+            self.assertRegex(out, rf"\n  {option} +[a-z]")
+
     def test_a_full_output(self):
         with open("/dev/full", "w") as full:
             status, _, said = run(INSTANTIATE, GROUND, stdout=full)
