@@ -9,6 +9,7 @@ import sys
 from competition import VERSION
 from competition.archive import TooLarge, check_archive, own_files, publish
 from competition.files import Refused, held, write_whole
+from competition.game import add_game, run_game
 from competition.kept import look_at_records
 from competition.pages import Pages
 from competition.plan import WRITES, faults_of_descriptions, make_plan, read_plan
@@ -65,6 +66,7 @@ def arguments(words):
             command.add_argument("--watch", action="store_true", help="write the pages anew as matches end")
         if name == "publish":
             command.add_argument("--to", metavar="FILE", help="the archive (NAME.tar.gz in the folder)")
+    add_program(add_game(commands), default=argparse.SUPPRESS)
     return parser.parse_args(words)
 
 

@@ -42,6 +42,11 @@ class Install(unittest.TestCase):
         self.assertEqual(self.run_there("ggp_competition", "pages", cwd=cup).returncode, 0)
         self.assertTrue((cup / "pages/index.html").exists())
 
+    def test_it_looks_at_a_game_where_it_was_put(self):
+        done = self.run_there("ggp_competition", "game", GAMES / "countdown.kif", text=True)
+        self.assertEqual((done.returncode, done.stderr), (0, ""))
+        self.assertIn("random matches, seeds 1 to 20: 20 finished, 0 aborted\n", done.stdout)
+
     def test_it_checks_records_where_it_was_put(self):
         records = RECORD.read_bytes() * 3 + b"none\n"
         done = self.run_there("verify-records", "--piece", "600", "ggp_manager", "--", "--countdown", "3", input=records)

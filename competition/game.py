@@ -1,0 +1,152 @@
+"""Looks at the description of a game: whether the referee accepts it, what is suspicious in it, and how random matches of it end."""
+
+import argparse
+import pathlib
+from collections import Counter
+
+from competition.descriptions import MOST_BYTES, NoDescription, has_variables, load_description, sentence_places
+from competition.files import Refused
+from competition.random_matches import RandomMatches
+from competition.suspicious import suspicions
+from competition.telling import Teller
+
+HELP = "says whether the description of a game is accepted, what is suspicious in it, and how random matches of it end"
+STATUS = "status 0: nothing is wrong, though something may be suspicious. 1: it is not accepted, a match is aborted, or none ends."
+MOST_MATCHES, MOST_SECONDS, MOST_SEED = 10_000, 1_000_000, 10**18
+# So many seeds are listed, and so many bytes of a state.
+LISTED, MOST_STATE = 10, 500
+INTERPRETER = "examples/games/expected.py"
+
+
+def number_of(text, least, most):
+    """Returns the whole number that a word says. It has to be a number from the least to the most."""
+    if not (text.isascii() and text.isdigit() and least <= int(text) <= most):
+        raise argparse.ArgumentTypeError(f"{text} is no number from {least:,} to {most:,}")
+    return int(text)
+
+
+def matches(text):
+    return number_of(text, 0, MOST_MATCHES)
+
+
+def seed(text):
+    return number_of(text, 0, MOST_SEED)
+
+
+def seconds(text):
+    return number_of(text, 1, MOST_SECONDS)
+
+
+def add_game(commands):
+    """Adds the command `game` to those of the command line, and returns it."""
+    command = commands.add_parser("game", help=HELP, description=f"{HELP[0].upper()}{HELP[1:]}.", epilog=STATUS)
+    command.add_argument("file", metavar="FILE", help="the description, with or without variables")
+    command.add_argument("--matches", type=matches, default=20, metavar="N", help="play N random matches (20)")
+    command.add_argument("--seed", type=seed, default=1, metavar="S", help="the seed of the first match; each further one has the next (1)")
+    command.add_argument("--seconds", type=seconds, default=60, metavar="T", help="begin no turn after T seconds of matches (60)")
+    return command
+
+
+def read_description(path):
+    try:
+        if path.exists() and not path.is_file():
+            raise Refused(f"{path} is no plain file")
+        with open(path, "rb") as it:
+            return it.read(MOST_BYTES + 1)
+    except OSError as why:
+        raise Refused(f"{path} can't be read: {why.strerror}") from None
+
+
+def run_game(asked, referee):
+    path, tell = pathlib.Path(asked.file), Teller()
+    text = read_description(path)
+    try:
+        is_wrong = tell_game(tell, asked, referee, path, text)
+    finally:
+        tell.clear()
+    if tell.fault:
+        raise tell.fault
+    return is_wrong
+
+
+def tell_game(tell, asked, referee, path, text):
+    """Tells all that there is to tell of a description. Returns whether it is not accepted, or something is wrong with its matches."""
+    tell.draw("the description")
+    try:
+        rules = load_description(path, referee, False)
+    except NoDescription as why:
+        for it in str(why).splitlines():
+            tell.line(f"{path} is not accepted: {it}")
+        tell_suspicions(tell, text, None)
+        return True
+    tell.line(f"{path} is accepted: {said_of_rules(text, rules)}")
+    for it in rules.notes:
+        tell.line(f"its ground rules: {it}")
+    tell_suspicions(tell, text, rules.text)
+    return bool(asked.matches) and tell_matches(tell, asked, referee, rules)
+
+
+def said_of_rules(text, rules):
+    count, ground = len(sentence_places(text)), len(sentence_places(rules.text))
+    became = f", which became {ground:,} ground ones" if has_variables(text) else ""
+    return f"{count:,} sentences{became}; roles {' '.join(rules.roles)}"
+
+
+def tell_suspicions(tell, text, ground):
+    try:
+        found = suspicions(text, ground)
+    except NoDescription:
+        # That it is none is told already.
+        return
+    for it in found:
+        tell.line(f"suspicious: {it}")
+    if not found:
+        tell.line("nothing else is suspicious" if ground is None else "nothing is suspicious")
+
+
+# ---- Matches -------------------------------------------------------------------------------------
+
+
+def tell_matches(tell, asked, referee, rules):
+    """Plays random matches, and tells how they ended. Returns whether anything is wrong with one, or none came to its end."""
+    played = RandomMatches(rules.text, referee, asked.file, tell, asked.seconds)
+    played.run(asked.seed, asked.matches)
+    ended, aborted = played.ended, Counter(it.cause for it in played.ended if it.cause)
+    for it in played.notes:
+        tell.line(it)
+    if ended:
+        seeds = f"seeds {ended[0].seed} to {ended[-1].seed}" if len(ended) > 1 else f"seed {ended[0].seed}"
+        tell.line(f"random matches, {seeds}: {len(ended) - aborted.total():,} finished, {aborted.total():,} aborted")
+        for cause in aborted:
+            tell.line(said_of_cause(cause, [it for it in ended if it.cause == cause]))
+        tell_figures(tell, rules.roles, ended)
+    if played.uncompared:
+        tell.line(f"the program had not played {played.uncompared:,} of them after {asked.seconds:,} s: their records are not compared")
+    for number, keys in played.differing:
+        tell.line(f"seed {number}: the program's record is not that of {INTERPRETER}, by {' and '.join(keys)}: please report it")
+    return bool(aborted or played.differing or not ended)
+
+
+def said_of_cause(cause, ended):
+    """Returns what there is to say of the matches that were aborted for a cause."""
+    first = ended[0]
+    seeds = ", ".join(str(it.seed) for it in ended[:LISTED]) + (", .." if len(ended) > LISTED else "")
+    state = " ".join(first.state) or "empty"
+    state = state if len(state) <= MOST_STATE else f"{state[:MOST_STATE]}.."
+    said = f"aborted with `{cause}`: {len(ended):,}, {'seeds' if len(ended) > 1 else 'seed'} {seeds}"
+    return f"{said}; after turn {first.turns:,} of seed {first.seed} the state is {state}"
+
+
+def spread(numbers):
+    """Returns the least, the greatest and the mean of numbers, as text."""
+    if min(numbers) == max(numbers):
+        return f"always {numbers[0]:,}"
+    return f"{min(numbers):,} to {max(numbers):,}, on average {sum(numbers) / len(numbers):,.1f}"
+
+
+def tell_figures(tell, roles, ended):
+    tell.line(f"turns of a match: {spread([it.turns for it in ended])}")
+    for role, name in enumerate(roles):
+        goals = [it.goals[role] for it in ended if it.goals]
+        most = max(it.choices[role] for it in ended)
+        tell.line(f"{name}: goals {spread(goals) if goals else 'none'}; most legal moves at once: {most:,}")

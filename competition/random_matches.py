@@ -1,0 +1,166 @@
+"""Random matches of a game: an interpreter says what is legal and what follows, and the program's desk has to make the same records."""
+
+import json
+import random
+import subprocess
+import sys
+import tempfile
+import time
+from dataclasses import dataclass
+
+from competition.descriptions import TOP, script_module
+from competition.referee import unchecked
+from competition.telling import REDRAWN
+
+# It shares nothing with the program, and says of each match which record has to come of it.
+expected = script_module(TOP / "examples/games/expected.py", "expected_records")
+# The bytes of a script and the matches of a desk that one run of the program gets, below what it takes.
+MOST_BYTES, MOST_MATCHES = 1_000_000, 1_000
+# Rules that ask for one another are looked up by recursion.
+MOST_CALLS = 20_000
+
+
+class TimeIsOver(Exception):
+    """The seconds are over."""
+
+
+class Interpreter(expected.Game):
+    """The game of a ground description, which keeps what it has looked up of the state that was asked for last."""
+
+    kept = None
+
+    def question(self, state, joint):
+        if joint:
+            return super().question(state, joint)
+        if self.kept is None or self.kept[0] is not state:
+            self.kept = state, super().question(state, joint)
+        return self.kept[1]
+
+
+@dataclass
+class Ended:
+    """What is kept of a match that is over: its seed, its number of turns, the roles' goals, the cause if it was aborted, by the role's
+    name, its last state, and the most moves that each role could choose from."""
+
+    seed: int
+    turns: int
+    goals: list
+    cause: str | None
+    state: list
+    choices: list
+
+
+def named(cause, roles):
+    """Returns the cause with the role's name in the place of its number."""
+    word, _, number = (cause or "").partition(" ")
+    return f"{word} {expected.text_of(roles[int(number)])}" if number else cause
+
+
+class RandomMatches:
+    """Matches of one game, each with a seed of its own."""
+
+    def __init__(self, rules, referee, name, tell, seconds):
+        self.game, self.rules, self.referee, self.name = Interpreter(expected.expressions(rules.decode("latin-1"))), rules, referee, name
+        self.tell, self.seconds, self.until = tell, seconds, time.monotonic() + seconds
+        self.ended, self.differing, self.uncompared, self.notes = [], [], 0, []
+        self.waiting, self.size, self.drawn, self.turns = [], 0, 0.0, 0
+        sys.setrecursionlimit(MOST_CALLS)
+
+    def run(self, seed, count):
+        """Plays this many matches, with seeds from this one on. What hinders that is told in notes."""
+        try:
+            for number in range(count):
+                self.play(seed + number, f"match {number + 1} of {count}")
+        except TimeIsOver:
+            ended = f"{len(self.ended):,} of {count:,} matches and {self.turns:,} turns of the next one"
+            self.notes.append(f"the time was over: in {self.seconds:,} s there were {ended}")
+        except RecursionError:
+            self.notes.append("the interpreter can't play it: its rules ask for one another too deeply")
+        self.ask_desk()
+
+    def play(self, seed, said):
+        """Plays a match to its end, with each move chosen among the legal ones, and hands it to the desk, at once or with later ones."""
+        roles, dice = self.game.roles, random.Random(seed)
+        match = expected.Match(self.game, [f"seed-{seed}", "1", "1", *(f"p{it}" for it in range(len(roles)))])
+        match.marks["start"], choices = dict.fromkeys(range(len(roles)), ""), [0] * len(roles)
+        while match.phase()[0] == "playing":
+            self.turns = len(match.moves)
+            self.look_at_clock(said)
+            legal = [self.game.legal(match.states[-1], it) for it in roles]
+            choices = [max(most, len(moves)) for most, moves in zip(choices, legal)]
+            match.turn([(dice.choice(moves), "") for moves in legal])
+        match.marks["end"] = dict.fromkeys(range(len(roles)), "")
+        record = match.record()
+        cause, state = named(record["cause"], roles), record["states"][-1]
+        self.ended.append(Ended(seed, len(match.moves), record["goalValues"], cause, state, choices))
+        self.hand_in(seed, match, record)
+
+    def look_at_clock(self, said):
+        now = time.monotonic()
+        if now > self.until:
+            raise TimeIsOver
+        if now - self.drawn > REDRAWN:
+            self.drawn = now
+            self.tell.draw(f"{said}, {self.turns:,} turns")
+
+    def hand_in(self, seed, match, record):
+        lines = list(lines_of(match))
+        if sum(len(it) + 1 for it in lines) > MOST_BYTES:
+            # The desk gets the turns that it can take: they have to be the same.
+            lines, record = shortened(match)
+        size = sum(len(it) + 1 for it in lines)
+        if self.size + size > MOST_BYTES or len(self.waiting) == MOST_MATCHES:
+            self.ask_desk()
+        self.waiting.append((seed, lines, record))
+        self.size += size
+
+    def ask_desk(self):
+        """Has the program play the waiting matches, in one run, and compares its records."""
+        waiting, self.waiting, self.size = self.waiting, [], 0
+        if not waiting:
+            return
+        self.tell.draw("the program's desk")
+        script = "".join(f"{line}\n" for _, lines, _ in waiting for line in lines)
+        with tempfile.NamedTemporaryFile() as file:
+            file.write(self.rules)
+            file.flush()
+            words = [self.referee.path, "desk", "--rules-file", file.name]
+            try:
+                said = subprocess.run(words, input=script.encode(), capture_output=True, timeout=self.seconds)
+            except subprocess.TimeoutExpired:
+                self.uncompared += len(waiting)
+                return
+        records = [json.loads(it) for it in said.stdout.splitlines() if it.startswith(b"{")]
+        if said.returncode or len(records) != len(waiting):
+            raise unchecked(said, self.name)
+        for (seed, _, wanted), found in zip(waiting, records):
+            keys = [key for key in wanted if wanted[key] != found.get(key)]
+            self.differing += [(seed, keys)] if keys else []
+
+
+def turn_lines(match):
+    """Gives for each turn its lines."""
+    for number, moves in enumerate(match.moves, 1):
+        yield [f"submit {match.name} {role} {number} {expected.text_of(move)}" for role, move in enumerate(moves)]
+
+
+def lines_of(match):
+    """Gives the lines of a script for the whole match, as the desk reads them."""
+    roles = range(len(match.game.roles))
+    yield f"open {match.name} 0 {match.start} {match.play} {' '.join(match.players)}"
+    yield from (f"submit {match.name} {role} 0 READY" for role in roles)
+    for lines in turn_lines(match):
+        yield from lines
+    yield from (f"submit {match.name} {role} {len(match.moves) + 1} DONE" for role in roles if match.marks["end"])
+
+
+def shortened(match):
+    """Cuts a match to the turns that one script can hold. Returns the lines of the script, and the record that has to come of it."""
+    room, turns = MOST_BYTES - 10_000, 0
+    for lines in turn_lines(match):
+        room -= sum(len(it) + 1 for it in lines)
+        if room < 0:
+            break
+        turns += 1
+    match.moves, match.errors, match.states, match.marks["end"] = match.moves[:turns], match.errors[:turns], match.states[: turns + 1], {}
+    return list(lines_of(match)), match.record()

@@ -1,0 +1,308 @@
+"""What in the description of a game is suspicious, though the referee accepts it, each with its place. Nothing is reported that may be
+right: where variables leave open what a sentence comes to, it counts as right."""
+
+import difflib
+import sys
+from collections import Counter
+from typing import NamedTuple
+
+from competition.descriptions import COMMENT, TOKEN, TOP, place_of, sentence_places
+
+sys.path.append(str(TOP / "examples"))
+from instantiating.kif import Refused, expressions, relation, spelled, variables
+from instantiating.sentences import ARITIES, GAME, SECRET, as_read, must_be_atomic, must_be_literal
+from instantiating.told import head_of
+
+# The relations that need no rule to ask for them, and those whose first argument is a role.
+OWN = {*((name, ARITIES[name]) for name in GAME), ("base", 1), ("input", 2)}
+OF_ROLES = {("legal", 2), ("does", 2), ("goal", 2)}
+# The words of GDL with the numbers of their arguments: none for an atom alone, "any" for any number.
+HEADS = {**{name: ARITIES[name] for name in GAME}, "base": 1, "input": 2, "<=": "any"}
+CONDITIONS = {"role": 1, "true": 1, "does": 2, "legal": 2, "goal": 2, "terminal": None, "not": 1, "distinct": 2, "or": "any"}
+# What is written in their places, beside what is misspelt.
+OFTEN = {
+    "<=": "=> <- -> :- <== ==> =< >= <=> < = if".split(),
+    "init": "initial initially start".split(),
+    "role": "player players".split(),
+    "terminal": "end final".split(),
+    "true": "holds is".split(),
+    "does": "do did move".split(),
+    "distinct": "different differ neq != /= <>".split(),
+    "not": "~ ! no".split(),
+    "or": "| ||".split(),
+}
+# How alike two words have to be; so many bytes of a sentence are shown, and so many lines; for so many conditions a word is looked for.
+ALIKE, MOST_SHOWN, MOST_LINES, MOST_GUESSES = 0.75, 80, 100, 100
+
+
+class Part(NamedTuple):
+    """An atomic sentence of a description: the number of its sentence, and the way to it there, by the numbers of members."""
+
+    sentence: int
+    way: tuple
+    atom: object
+
+
+class Finding(NamedTuple):
+    """What is suspicious at a part, and what it has in common with others that are told in one line."""
+
+    part: Part
+    words: str
+    kind: tuple
+
+
+def conditions(literal, way):
+    """Gives each atomic sentence of a literal, with the way to it."""
+    match literal:
+        case ("not", inner):
+            yield from conditions(inner, (*way, 1))
+        case ("or" | "and", *inners):
+            for number, inner in enumerate(inners, 1):
+                yield from conditions(inner, (*way, number))
+        case ("distinct", _, _):
+            pass
+        case _:
+            yield way, literal
+
+
+def may_be(one, other):
+    """Returns whether two terms may be equal, with some values for their variables."""
+    if isinstance(one, str) or isinstance(other, str):
+        return one == other or any(isinstance(it, str) and it.startswith("?") for it in (one, other))
+    return len(one) == len(other) and all(map(may_be, one, other))
+
+
+class Atoms:
+    """Atomic sentences, found by their relations."""
+
+    def __init__(self, atoms):
+        self.plain, self.open = {}, {}
+        for it in dict.fromkeys(atoms):
+            (self.open if variables(it) else self.plain).setdefault(relation(it), {})[it] = None
+
+    def relations(self):
+        return {*self.plain, *self.open}
+
+    def may_give(self, atom):
+        """Returns whether one of them may be this one."""
+        plain, others = self.plain.get(relation(atom), {}), self.open.get(relation(atom), ())
+        if any(may_be(it, atom) for it in others):
+            return True
+        return any(may_be(it, atom) for it in plain) if variables(atom) else atom in plain
+
+
+class Description:
+    """A text with the atomic sentences that stand in it: its heads, and its conditions with the relations that ask for them."""
+
+    def __init__(self, text):
+        self.text = COMMENT.sub(lambda it: b" " * len(it[0]), text)
+        self.places, self.is_well_formed = sentence_places(text), True
+        self.heads, self.conditions, self.asks, self.secrets = [], [], {}, {}
+        for number, sentence in enumerate(expressions(text.decode("latin-1"))):
+            self.read(number, as_read(sentence))
+
+    def read(self, number, sentence):
+        is_rule = sentence[:1] == ("<=",)
+        if is_rule and len(sentence) < 2:
+            self.is_well_formed = False
+            return
+        part = Part(number, (1,) if is_rule else (), head_of(sentence))
+        asked = [Part(number, *it) for at, literal in enumerate(sentence[2:] if is_rule else (), 2) for it in conditions(literal, (at,))]
+        try:
+            must_be_atomic(part.atom, True)
+            for literal in sentence[2:] if is_rule else ():
+                must_be_literal(literal)
+        except Refused as why:
+            # A ground description may have these, but they don't mean there what they mean in GDL-II.
+            if SECRET not in str(why):
+                self.is_well_formed = False
+                return
+            self.secrets[part] = str(why)
+        self.heads.append(part)
+        self.conditions += asked
+        self.asks.setdefault(relation(part.atom), set()).update(relation(it.atom) for it in asked)
+
+    def needed(self):
+        """Returns the relations of the game, and those that they ask for."""
+        found, open_ones = set(), list(OWN)
+        while open_ones:
+            one = open_ones.pop()
+            if one not in found:
+                found.add(one)
+                open_ones += self.asks.get(one, ())
+        return found
+
+    def place(self, part):
+        at = self.places[part.sentence]
+        for number in part.way:
+            at = member_at(self.text, at, number)
+        return place_of(self.text, at)
+
+
+def member_at(text, at, number):
+    """Returns where this member begins of the list that begins there."""
+    level = 0
+    for token in TOKEN.finditer(text, at):
+        if token[0] == b")":
+            level -= 1
+            continue
+        if level == 1:
+            if number == 0:
+                return token.start()
+            number -= 1
+        if token[0] == b"(":
+            level += 1
+    return at
+
+
+def meant(atom, words, names=()):
+    """Returns the word that may be meant by the relation of an atomic sentence, by its look and the number of its arguments: one of GDL,
+    or one of these names. None if there is none."""
+    name, count = relation(atom)
+    fits = [word for word, wanted in words.items() if wanted in (count, "any") or (wanted, count) == (None, 0)]
+    fits = [word for word in fits if word != name]
+    for word in fits:
+        if name in OFTEN.get(word, ()):
+            return word
+    found = difflib.get_close_matches(name, [*(it for it in fits if it.isalpha()), *names], 1, ALIKE)
+    return found[0] if found else None
+
+
+def form(name, count):
+    """Returns how an atomic sentence of a relation looks."""
+    return name if count is None else f"({' '.join([name] + ['_'] * count)})"
+
+
+def listed(name, counts):
+    return " and ".join(f"`{form(name, it)}`" for it in counts)
+
+
+def shown(atom):
+    text = spelled(atom)
+    return text if len(text) <= MOST_SHOWN else f"{text[:MOST_SHOWN]}.."
+
+
+def by_name(relations):
+    """Returns the numbers of arguments of relations, by their names."""
+    found = {}
+    for name, count in sorted(relations, key=str):
+        found.setdefault(name, []).append(count)
+    return found
+
+
+class Search:
+    """The search for what is suspicious in a description; `ground` is the text of its ground rules, where it is accepted."""
+
+    def __init__(self, description, ground):
+        self.description = description
+        self.heads = Atoms(it.atom for it in description.heads)
+        self.asked = Atoms(it.atom for it in description.conditions)
+        self.terms = Atoms(("true", it.atom[1]) for it in description.heads if relation(it.atom) in (("init", 1), ("next", 1)))
+        self.needed, self.known, self.guesses = description.needed(), self.heads, 0
+        self.counts, self.needed_counts, self.names = by_name(self.heads.relations()), by_name(self.needed), {}
+        for name, count in sorted(self.heads.relations(), key=str):
+            self.names.setdefault(count, []).append(name)
+        if ground is not None:
+            self.known = Atoms(map(head_of, expressions(ground.decode("latin-1"))))
+
+    def findings(self):
+        """Gives what is suspicious. Where a sentence has not its form, only misspelt heads are told: it may be what others ask for."""
+        for part, why in self.description.secrets.items():
+            yield Finding(part, why, ("secret", relation(part.atom)))
+        for part in self.description.heads:
+            found = self.of_head(part)
+            if found and (self.description.is_well_formed or found.kind[0] == "misspelt"):
+                yield found
+        if self.description.is_well_formed:
+            yield from filter(None, map(self.of_condition, self.description.conditions))
+            yield from self.of_instances()
+            yield from self.of_roles()
+
+    def of_head(self, part):
+        one = relation(part.atom)
+        if one in OWN:
+            return self.of_role(part) or self.of_term(part)
+        if one in self.needed or part in self.description.secrets:
+            return None
+        word = meant(part.atom, HEADS)
+        if word:
+            words = f"`{one[0]}` is no word of GDL, and nothing of the game asks for it; is `{word}` meant?"
+            return Finding(part, words, ("misspelt", one[0]))
+        words, others = f"nothing of the game asks for `{form(*one)}`", self.needed_counts.get(one[0])
+        return Finding(part, words + (f", only for {listed(one[0], others)}" if others else ""), ("unused", one))
+
+    def of_role(self, part):
+        if relation(part.atom) not in OF_ROLES or self.known.may_give(("role", part.atom[1])):
+            return None
+        return Finding(part, f"{shown(part.atom[1])} is no role", ("role", part.atom[1]))
+
+    def of_term(self, part):
+        if relation(part.atom) not in (("init", 1), ("next", 1)) or self.asked.may_give(("true", part.atom[1])):
+            return None
+        return Finding(part, f"no condition asks for the term {shown(part.atom[1])}", ("unasked", relation(part.atom[1])))
+
+    def of_condition(self, part):
+        one, atom = relation(part.atom), part.atom
+        if found := self.of_role(part):
+            return found
+        if one == ("true", 1):
+            is_given, words = self.terms.may_give(atom), f"no `init` and no `next` gives the term {shown(atom[1])}"
+            return None if is_given else Finding(part, words, ("true", relation(atom[1])))
+        if one == ("does", 2):
+            is_given, words = self.heads.may_give(("legal", *atom[1:])), "no `legal` gives this move"
+            return None if is_given else Finding(part, words, ("does", atom[1], relation(atom[2])))
+        return None if self.heads.may_give(atom) else self.of_missing(part)
+
+    def of_missing(self, part):
+        """Returns what is to be said of a condition that no head may be."""
+        name, count = one = relation(part.atom)
+        counts, words = self.counts.get(name, ()), f"`{form(*one)}` has no rule and no fact"
+        if count in counts:
+            return Finding(part, "no rule and no fact gives this", ("never", one))
+        if counts:
+            words += f", only {listed(name, counts)}"
+        elif word := meant(part.atom, CONDITIONS, self.names_like(count)):
+            words += f"; is `{word}` meant?"
+        return Finding(part, words, ("undefined", one))
+
+    def names_like(self, count):
+        """Returns the names of relations with as many arguments: none after many such questions, since each takes its time."""
+        self.guesses += 1
+        counts = (count,) if count else (None, 0)
+        return [name for it in counts for name in self.names.get(it, ())] if self.guesses <= MOST_GUESSES else []
+
+    def of_instances(self):
+        """Gives the heads that have an instance of what is no role."""
+        for name in ("legal", "goal"):
+            for atom in self.known.plain.get((name, 2), ()):
+                if not self.known.may_give(("role", atom[1])):
+                    part = next((it for it in self.description.heads if variables(it.atom) and may_be(it.atom, atom)), None)
+                    if part:
+                        yield Finding(part, f"{shown(atom[1])} is no role, and an instance has it", ("role", atom[1]))
+
+    def of_roles(self):
+        """Gives what a role lacks, and whether the end does."""
+        for atom in self.known.plain.get(("role", 1), ()):
+            part = next((it for it in self.description.heads if may_be(it.atom, atom)), None)
+            for name in ("legal", "goal"):
+                if not self.known.may_give((name, atom[1], "?it")):
+                    yield Finding(part, f"nothing gives the role {shown(atom[1])} a `{name}`", ("lacks", name, atom))
+        if not self.known.may_give("terminal"):
+            yield Finding(None, "nothing gives `terminal`, so no match is finished", ("terminal",))
+
+
+def suspicions(text, ground=None):
+    """Returns what is suspicious in a description, in lines, in the order of the text; `ground` is the text of its ground rules, where
+    it is accepted. A text that can't be read has nothing that is."""
+    try:
+        description = Description(text)
+    except Refused:
+        return []
+    found = list(Search(description, ground).findings())
+    counts, lines = Counter(it.kind for it in found), {}
+    for it in sorted(found, key=lambda it: it.part[:2] if it.part else (len(description.places), ())):
+        if it.kind not in lines:
+            more = f" (and {counts[it.kind] - 1:,} more like this)" if counts[it.kind] > 1 else ""
+            lines[it.kind] = f"{description.place(it.part)}: {it.words}: {shown(it.part.atom)}{more}" if it.part else it.words
+    lines = list(lines.values())
+    return lines if len(lines) <= MOST_LINES else [*lines[:MOST_LINES], f"there are {len(lines) - MOST_LINES:,} more such lines"]

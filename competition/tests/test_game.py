@@ -1,0 +1,236 @@
+"""The command `game`: what is suspicious in a description, and how random matches of it end."""
+
+import shutil
+import subprocess
+import sys
+import unittest
+from unittest import mock
+
+from competition import random_matches
+from competition.referee import Referee
+from competition.suspicious import suspicions
+from competition.telling import Teller
+from competition.tests.support import COMMAND, GAMES, InFolder, program, program_but, run, run_into_full
+
+# A game of two turns, in which nothing is suspicious.
+SOUND = """(role ann) (role bob)
+(init (step 1))
+(<= (legal ann go) (true (step 1)))
+(<= (legal ann stay) (not (true (step 1))))
+(legal bob wait)
+(<= (next (step 2)) (true (step 1)) (does ann go))
+(<= (next (step 3)) (true (step 2)))
+(<= over (true (step 3)))
+(<= terminal over)
+(<= (goal ann 100) over) (<= (goal bob 0) over)
+"""
+# What is put in the place of what, or behind all, and what is then suspicious.
+CHANGES = [
+    ("(init", "(initial", [
+        "line 2, column 1: `initial` is no word of GDL, and nothing of the game asks for it; is `init` meant?: (initial (step 1))",
+        "line 3, column 20: no `init` and no `next` gives the term (step 1): (true (step 1)) (and 2 more like this)",
+    ]),
+    ("(<= terminal", "(=> terminal", [
+        "line 9, column 1: `=>` is no word of GDL, and nothing of the game asks for it; is `<=` meant?: (=> terminal over)",
+        "nothing gives `terminal`, so no match is finished",
+    ]),
+    ("(true (step 3)", "(treu (step 3)", [
+        "line 7, column 5: no condition asks for the term (step 3): (next (step 3))",
+        "line 8, column 10: `(treu _)` has no rule and no fact; is `true` meant?: (treu (step 3))",
+    ]),
+    ("terminal over", "terminal ovre", ["line 9, column 14: `ovre` has no rule and no fact; is `over` meant?: ovre"]),
+    ("terminal over", "terminal (over)", ["line 9, column 14: `(over)` has no rule and no fact, only `over`: (over)"]),
+    ("legal bob", "legal bbo", [
+        "line 1, column 12: nothing gives the role bob a `legal`: (role bob)",
+        "line 5, column 1: bbo is no role: (legal bbo wait)",
+    ]),
+    ("goal ann", "goal anne", [
+        "line 1, column 1: nothing gives the role ann a `goal`: (role ann)",
+        "line 10, column 5: anne is no role: (goal anne 100)",
+    ]),
+    ("does ann", "does eve", ["line 6, column 37: eve is no role: (does eve go)"]),
+    ("does ann go", "does ann gone", ["line 6, column 37: no `legal` gives this move: (does ann gone)"]),
+    ("(not (true (step 1)))", "(or (true x) (not (true (y 1))))", [
+        "line 4, column 26: no `init` and no `next` gives the term x: (true x)",
+        "line 4, column 40: no `init` and no `next` gives the term (y 1): (true (y 1))",
+    ]),
+    (None, "(init (mark 1)) (init (mark 2))", [
+        "line 11, column 1: no condition asks for the term (mark 1): (init (mark 1)) (and 1 more like this)",
+    ]),
+    (None, "(line 1) (<= (base (step 1)) (n 1)) (n 1)", ["line 11, column 1: nothing of the game asks for `(line _)`: (line 1)"]),
+    (None, "(over 1)", ["line 11, column 1: nothing of the game asks for `(over _)`, only for `over`: (over 1)"]),
+    (None, "(n 1) (<= terminal (n 2))", ["line 11, column 20: no rule and no fact gives this: (n 2)"]),
+    (None, "(sees ann bob)", [
+        "line 11, column 1: `sees` is of GDL-II, games with chance or with what some can't see; here each role sees every move:"
+        " (sees ann bob)",
+    ]),
+]
+# What leaves open what it comes to, and so is not suspicious.
+OPEN = """(player ann) (player bob) (<= (role ?r) (player ?r))
+(init (cell 1)) (succ 1 2) (succ 2 3)
+(<= (legal ?r (go ?n)) (player ?r) (true (cell ?n)))
+(<= (next (cell ?n)) (does ?r (go ?m)) (succ ?m ?n)) (<= (next ?t) (true ?t) (does ann ?any))
+(<= (terminal) (true (cell 3)))
+(<= (goal ?r 100) (role ?r)) (<= (base (cell ?n)) (number ?n)) (<= (input ?r (go ?n)) (role ?r) (number ?n))
+(<= (number ?n) (succ ?n ?m)) (<= (number ?m) (succ ?n ?m))
+"""
+# What stands in the games of this repository and is asked for by nothing there.
+KNOWN = {"checkers": "`(kind _)`", "farmers": "`(ten _)`", "foxandhounds": "`(line _)`"}
+ENDLESS = "(role ann) (init (step 1)) (legal ann go) (<= (next (step 1)) (true (step 1))) (<= terminal (true (step 2))) (goal ann 1)"
+
+
+class Suspicious(unittest.TestCase):
+    def test_a_sound_game(self):
+        for ground in (None, SOUND.encode()):
+            self.assertEqual(suspicions(SOUND.encode(), ground), [])
+            self.assertEqual(suspicions(OPEN.encode(), None), [])
+
+    def test_changes(self):
+        for old, new, words in CHANGES:
+            with self.subTest(new):
+                text = (SOUND + new if old is None else SOUND.replace(old, new, 1)).encode()
+                self.assertEqual(suspicions(text, text), words)
+
+    def test_ground_rules_say_more(self):
+        ground = b"(role ann) (role bob) (legal ann x) (goal ann 1) terminal"
+        said = [f"line 1, column 31: nothing gives the role bob a `{it}`: (role ?r)" for it in ("legal", "goal")]
+        self.assertEqual(suspicions(OPEN.encode(), ground), said)
+
+    def test_an_instance_of_what_is_no_role(self):
+        ground = b"(role ann) (role bob) (legal ann x) (legal bob x) (legal eve x) (legal eve y) (goal ann 1) (goal bob 1) terminal"
+        said = "line 3, column 5: eve is no role, and an instance has it: (legal ?r (go ?n)) (and 1 more like this)"
+        self.assertEqual(suspicions(OPEN.replace("(go ?n)) (player", "?m) (player", 1).encode(), ground), [said.replace("(go ?n)", "?m")])
+        self.assertEqual(suspicions(SOUND.encode(), SOUND.encode() + b"(legal eve x)"), [])
+
+    def test_of_what_has_not_its_form_only_misspelt_heads_are_told(self):
+        said = "line 1, column 1: `=>` is no word of GDL, and nothing of the game asks for it; is `<=` meant?: (=> (legal ?r x) y)"
+        self.assertEqual(suspicions(b"(=> (legal ?r x) y) (<= (next) p) (<=) (<= q) (line 1)"), [said])
+        self.assertEqual(suspicions(b"(" * 70 + b"a" + b")" * 70), [])
+
+    def test_the_games_of_this_repository(self):
+        files = [*GAMES.glob("*.kif"), *GAMES.glob("general/*.kif")]
+        self.assertGreater(len(files), 30)
+        for file in files:
+            found = suspicions(file.read_bytes())
+            self.assertEqual(len(found), file.stem in KNOWN, found)
+            for it in found:
+                self.assertIn(f"nothing of the game asks for {KNOWN[file.stem]}", it)
+
+
+class Game(InFolder):
+    def look(self, text, *words):
+        """Returns the status of a run over this description, and the lines that it printed."""
+        (self.folder / "game.kif").write_text(text)
+        status, out, said = run(self.folder, "game", "game.kif", *words)
+        self.assertEqual(said, "")
+        return status, out.splitlines()
+
+    def test_a_sound_game(self):
+        status, lines = self.look(SOUND)
+        self.assertEqual((status, lines), (0, [
+            "game.kif is accepted: 12 sentences; roles ann bob",
+            "nothing is suspicious",
+            "random matches, seeds 1 to 20: 20 finished, 0 aborted",
+            "turns of a match: always 2",
+            "ann: goals always 100; most legal moves at once: 1",
+            "bob: goals always 0; most legal moves at once: 1",
+        ]))
+
+    def test_suspicions_alone_are_no_fault(self):
+        status, lines = self.look(SOUND + "(line 1)", "--matches", "0")
+        self.assertEqual((status, lines[1:]), (0, ["suspicious: line 11, column 1: nothing of the game asks for `(line _)`: (line 1)"]))
+
+    def test_a_description_that_is_not_accepted(self):
+        status, lines = self.look("(role a)\n(=> (legal a x) p)\n(<= (next x) (init x))")
+        self.assertEqual((status, lines), (1, [
+            "game.kif is not accepted: line 3, column 14: init or next as a condition, but they are for heads: (<= (next x) (init x))",
+            "suspicious: line 2, column 1: `=>` is no word of GDL, and nothing of the game asks for it; is `<=` meant?: (=> (legal a x) p)",
+        ]))
+        for text, words in [("", "line 1, column 1: there is no sentence"), ("(role a", "line 1, column 1: a list that is not closed")]:
+            self.assertEqual(self.look(text), (1, [f"game.kif is not accepted: {words}"]))
+
+    def test_aborted_matches(self):
+        status, lines = self.look(SOUND.replace("(not (true (step 1)))", "(true (step 3))"), "--matches", "3", "--seed", "7")
+        self.assertEqual(status, 1)
+        self.assertEqual(lines[2:5], [
+            "random matches, seeds 7 to 9: 0 finished, 3 aborted",
+            "aborted with `nolegal ann`: 3, seeds 7, 8, 9; after turn 1 of seed 7 the state is (step 2)",
+            "turns of a match: always 1",
+        ])
+        status, lines = self.look(SOUND.replace("bob 0", "ann 0"), "--matches", "1")
+        self.assertEqual(status, 1)
+        self.assertEqual(lines[3], "aborted with `nogoal ann`: 1, seed 1; after turn 2 of seed 1 the state is (step 3)")
+        self.assertEqual(lines[5], "ann: goals none; most legal moves at once: 1")
+
+    def test_a_game_that_does_not_end(self):
+        status, lines = self.look(ENDLESS, "--matches", "1")
+        self.assertEqual((status, lines[3]), (1, "aborted with `toolong`: 1, seed 1; after turn 10,000 of seed 1 the state is (step 1)"))
+        status, lines = self.look(ENDLESS, "--matches", "10000", "--seconds", "1")
+        self.assertEqual(status, 1)
+        self.assertRegex(lines[2], r"^the time was over: in 1 s there were \d+ of 10,000 matches and [\d,]+ turns of the next one$")
+
+    def test_a_match_is_that_of_its_seed(self):
+        tictactoe = (GAMES / "tictactoe.kif").read_text()
+        alone = [self.look(tictactoe, "--matches", "1", "--seed", str(it))[1][2:] for it in (4, 5, 5)]
+        self.assertEqual(alone[1], alone[2])
+        self.assertEqual(alone[0][0], "random matches, seed 4: 1 finished, 0 aborted")
+        turns = [int(it[1].removeprefix("turns of a match: always ")) for it in alone[:2]]
+        said = self.look(tictactoe, "--matches", "2", "--seed", "4")[1][3]
+        self.assertTrue(said.endswith(f"on average {sum(turns) / 2:.1f}") or said == f"turns of a match: always {turns[0]}", said)
+
+    def test_rules_that_are_too_deep_for_the_interpreter(self):
+        chain = "".join(f"(<= p{it} p{it + 1})\n" for it in range(7_000))
+        status, lines = self.look(SOUND + chain + "p7000 (<= terminal (not p0))")
+        self.assertEqual((status, lines[2:]), (1, ["the interpreter can't play it: its rules ask for one another too deeply"]))
+
+    def test_a_program_that_plays_otherwise(self):
+        (self.folder / "game.kif").write_text(SOUND)
+        other = 'input=$(cat); if [[ "$input" = *seed-* ]]; then {}; fi; ' + program() + ' "$@" <<< "$input"; exit $?'
+        cases = {
+            program() + ''' "$@" <<< "$input" | sed 's/"goalValues":.100,/"goalValues":[99,/'; exit 0''': (
+                1, "seed 1: the program's record is not that of examples/games/expected.py, by goalValues: please report it\n", "",
+            ),
+            "exec sleep 30": (0, "the program had not played 1 of them after 1 s: their records are not compared\n", ""),
+            "echo 'ggp_manager: want of memory' >&2; exit 3": (
+                3, "",
+                "ggp_competition: `ggp_manager desk` came to no verdict with game.kif: want of memory, status 3; nothing is changed\n",
+            ),
+        }
+        for done, (wanted, printed, told) in cases.items():
+            path = program_but(self.folder / "other", '"$1" = desk', other.format(done))
+            status, out, said = run(self.folder, "game", "game.kif", "--matches", "1", "--seconds", "1", "--program", path)
+            self.assertEqual((status, said), (wanted, told), out)
+            self.assertIn(printed, out)
+
+    def test_a_match_that_one_script_does_not_hold(self):
+        with mock.patch("competition.random_matches.MOST_BYTES", 30_000):
+            played = random_matches.RandomMatches(ENDLESS.encode(), Referee(program()), "game.kif", Teller(), 60)
+            played.run(1, 1)
+        self.assertEqual((played.differing, played.notes, played.ended[0].turns), ([], [], 10_000))
+
+    @unittest.skipUnless(shutil.which("gringo"), "gringo is not installed")
+    def test_games_with_variables(self):
+        status, out, said = run(self.folder, "game", GAMES / "general/nim.kif", "--matches", "2")
+        self.assertEqual((status, said), (0, ""))
+        self.assertIn("nim.kif is accepted: 28 sentences, which became 284 ground ones; roles first second\nnothing is suspicious\n", out)
+        status, lines = self.look(OPEN + "(<= (goal ?r 200) (true (cell ?n)) (role ?r))", "--matches", "1")
+        self.assertEqual(status, 0)
+        self.assertRegex(lines[1], "^its ground rules: .*goals past 100 are left out")
+        status, lines = self.look("(role a)\n(<= (legal ?r x) (not (role ?r)))")
+        self.assertEqual(status, 1)
+        self.assertRegex(lines[0], r"^game.kif is not accepted: line 2, column 1: sentence 1, .*: \?r is unsafe")
+
+    def test_what_is_wrong_before_it(self):
+        for word, said in [("none", "none can't be read: No such file or directory"), (".", ". is no plain file")]:
+            self.assertEqual(run(self.folder, "game", word), (2, "", f"ggp_competition: {said}\n"))
+        for words in (["--matches", "x"], ["--matches", "10001"], ["--seed", "-1"], ["--seconds", "0"], ["--seconds", "1.5"]):
+            done = subprocess.run([sys.executable, COMMAND, "game", GAMES / "buttons.kif", *words], capture_output=True, text=True)
+            self.assertEqual((done.returncode, f"{words[1]} is no number from " in done.stderr), (2, True), done.stderr)
+
+    def test_a_full_output(self):
+        said = run_into_full(self.folder, "game", str(GAMES / "buttons.kif"))
+        self.assertEqual(said, (1, "ggp_competition: standard output: No space left on device\n"))
+
+
+if __name__ == "__main__":
+    unittest.main()
