@@ -1,5 +1,5 @@
 -- The check of a player in each role of a game.
-use Rattle.std.specs.Prelude.{◌≡◌, ◌==◌, ◌<◌, ◌++◌, ◌∷◌, [], ℕ, List, Option, IfSome, codes, is_some, length, map, min, option_and_then}
+use Rattle.std.specs.Prelude.{◌≡◌, ◌==◌, ◌<◌, ◌≤◌, ◌++◌, ◌∷◌, [], ℕ, List, Option, IfSome, codes, is_some, length, map, min, option_and_then, take}
 use Rattle.std.specs.Fmt.{decimal}
 use Rattle.std.specs.Io.KnownBytes.{Appends}
 use Rattle.std.specs.List.{concat, sum_by}
@@ -21,6 +21,8 @@ use Rattle.match_play.specs.declared.role_turns.RoleTurn.{RoleTurn}
 use Rattle.player_check.specs.Rows.{bad_answers}
 use Rattle.player_check.specs.Seats.{IsPlanFor}
 use Rattle.player_check.specs.Tables.{AreRows, header}
+use Rattle.player_check.specs.declared.check.CheckFault.{CheckFault}
+use Rattle.player_check.specs.declared.check.CheckFault.TheVariants.{WriteFault}
 use Rattle.player_check.specs.declared.watched.Exchange.{Exchange}
 use Rattle.player_check.specs.declared.watched.Participant.{Participant}
 
@@ -73,23 +75,38 @@ abbrev pub table_text : List Told → List ℕ
 table_text [] = []
 table_text (role ∷ roles) = header ++ all_rows (role ∷ roles)
 
--- Between the two contents of a stream the table of the first roles was written, so many of them, in their order. The number of bad
--- answers is that of all of these.
-pub record WritesTable {S M : Type 0} (AreTurns : ℕ → List RoleTurn → Type 0) (g : Rules S M) (count bad : ℕ) (old new : Option (List ℕ)) : Type 0 where
+-- The text is the table of the first roles of a game, so many of them, in their order. The number of bad answers is that of all of
+-- these.
+pub record IsTable {S M : Type 0} (AreTurns : ℕ → List RoleTurn → Type 0) (g : Rules S M) (count bad : ℕ) (text : List ℕ) : Type 0 where
   pub roles : List Told
   pub so_many : length roles ≡ count
   pub each : EachAt (λ role told. IsToldOf (AreTurns role) (g.role_name role) told.rows told.bad) roles
   pub is_bad : bad ≡ all_bad roles
-  pub written : Appends old new (table_text roles)
+  pub is_text : text ≡ table_text roles
 
--- the table of the check of a player in the first roles of this game
-abbrev pub WritesRoles : (H : Type 0) → {P : Type 0} → (RolePlace → PlayerAddress → P → Type 0) → (P → Option (List Handed)) → HostedGame → CheckPlan → ℕ → ℕ → Option (List ℕ) → Option (List ℕ) → Type 0
-WritesRoles H is_reached handed game plan count bad old new = WritesTable (AreTurnsIn H is_reached handed game plan) (loaded_game (tables_of game.game.now)) count bad old new
+-- the number of roles of this game
+abbrev pub roles_of : HostedGame → ℕ
+roles_of game = (loaded_game (tables_of game.game.now)).roles
 
--- the table of the check of a player in each role of this game
-abbrev pub WritesCheck : (H : Type 0) → {P : Type 0} → (RolePlace → PlayerAddress → P → Type 0) → (P → Option (List Handed)) → HostedGame → CheckPlan → ℕ → Option (List ℕ) → Option (List ℕ) → Type 0
-WritesCheck H is_reached handed game plan bad old new = WritesRoles H is_reached handed game plan (loaded_game (tables_of game.game.now)).roles bad old new
+module _ (H : Type 0) {P : Type 0} (is_reached : RolePlace → PlayerAddress → P → Type 0) (handed : P → Option (List Handed)) (game : HostedGame) (plan : CheckPlan) where
+  -- the text is the table of the check of a player in the first roles of this game
+  abbrev pub IsTableOf : ℕ → ℕ → List ℕ → Type 0
+  IsTableOf count bad text = IsTable (AreTurnsIn H is_reached handed game plan) (loaded_game (tables_of game.game.now)) count bad text
 
--- the table of a check that ended early: some role is missing, and each role after it
-abbrev pub WritesEarlier : (H : Type 0) → {P : Type 0} → (RolePlace → PlayerAddress → P → Type 0) → (P → Option (List Handed)) → HostedGame → CheckPlan → Option (List ℕ) → Option (List ℕ) → Type 0
-WritesEarlier H is_reached handed game plan old new = (count : ℕ) × (count < (loaded_game (tables_of game.game.now)).roles) × (bad : ℕ) × WritesRoles H is_reached handed game plan count bad old new
+  -- between the two contents of a stream the table of all roles was written
+  abbrev pub WritesCheck : ℕ → Option (List ℕ) → Option (List ℕ) → Type 0
+  WritesCheck bad old new = (text : List ℕ) × IsTableOf (roles_of game) bad text × Appends old new text
+
+  -- the table of the first roles was written: some role is missing, and each role after it
+  abbrev pub WritesEarlier : Option (List ℕ) → Option (List ℕ) → Type 0
+  WritesEarlier old new = (count bad : ℕ) × (text : List ℕ) × (count < roles_of game) × IsTableOf count bad text × Appends old new text
+
+  -- a beginning of the table of the first roles was written, of one or more of them
+  abbrev pub WritesPart : Option (List ℕ) → Option (List ℕ) → Type 0
+  WritesPart old new = (count bad taken : ℕ) × (text : List ℕ) × (0 < count) × (count ≤ roles_of game) × IsTableOf count bad text
+      × (taken ≤ length text) × Appends old new (take taken text)
+
+  -- what was written of a check that ended early with this fault
+  abbrev pub EndsEarly : CheckFault → Option (List ℕ) → Option (List ℕ) → Type 0
+  EndsEarly WriteFault old new = WritesPart old new
+  EndsEarly fault old new = WritesEarlier old new

@@ -1,7 +1,7 @@
 //! The check of a player: a match for each role of a game, in which the player is watched.
 ghost use Rattle.std.specs.Prelude.{◌≡◌, ◌≢◌, ◌<◌, ◌++◌, ℕ, List, Err, IfErr, IfOk, OnOk, option_copied};
 ghost use Rattle.game_core.specs.Counting.{one_more};
-ghost use Rattle.player_check.specs.Checks.{AreTurnsIn, IsToldOf, WritesCheck, WritesEarlier};
+ghost use Rattle.player_check.specs.Checks.{AreTurnsIn, EndsEarly, IsToldOf, WritesCheck};
 ghost use Rattle.player_check.specs.Rows.{bad_answers, later_turns, next_turn};
 ghost use Rattle.player_check.specs.Seats.{IsPlanFor, nobody};
 ghost use Rattle.player_check.specs.Tables.{AreRows};
@@ -23,7 +23,7 @@ use std::time::Clock;
 use thiserror::Error;
 use whole_streams::{WriteFault, write_all};
 
-/// Why a check did not end. The table has the rows of the earlier matches.
+/// Why a check did not end. The table has the rows of the earlier matches, and after a write fault a beginning of the last one's.
 #[derive(Clone, Copy, Debug, PartialEq, Eq, Error)]
 pub enum CheckFault {
     /// A match has no turns to show, for this reason.
@@ -207,7 +207,7 @@ where
     S: Reach<P> + TellsShortages,
     ensures table { IfOk result (λ bad. WritesCheck H (S.is_reached reach.now) P.handed game.entry plan.now bad (W.contents writer.old.stream) (W.contents writer.new.stream)) }
     ensures clear { OnOk result (S.is_clear reach.now 0) }
-    ensures early { IfErr result (λ fault. fault ≢ faults.WriteFault → WritesEarlier H (S.is_reached reach.now) P.handed game.entry plan.now (W.contents writer.old.stream) (W.contents writer.new.stream)) }
+    ensures early { IfErr result (λ fault. EndsEarly H (S.is_reached reach.now) P.handed game.entry plan.now fault (W.contents writer.old.stream) (W.contents writer.new.stream)) }
     ensures written { OnOk result (writer.new.faults ≡ writer.old.faults) }
     ensures failed { result ≡ Err faults.WriteFault → writer.new.faults ≡ one_more writer.old.faults }
     ensures others { IfErr result (λ fault. fault ≢ faults.WriteFault → writer.new.faults ≡ writer.old.faults) }

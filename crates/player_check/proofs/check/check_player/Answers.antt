@@ -1,6 +1,7 @@
-use Rattle.std.proofs.Common.{◌++◌, ◌∙◌, ap, arith, refl}
+use Rattle.std.proofs.Common.{◌++◌, ◌∙◌, [], ap, arith, refl}
+use Rattle.std.proofs.KnownBytes.{Appends-nil}
 use Rattle.player_check.specs.Tables.{header}
-use Rattle.player_check.proofs.RoleTables.{all-told, if-other, if-write, no-table, none-told, told-next}
+use Rattle.player_check.proofs.RoleTables.{all-told, ends-earlier, if-is, no-table, none-told, part-next, told-next}
 use Rattle.player_check.proofs.check.check_player.Goals as goal
 
 pub loop-role-init : goal.loop-role-init
@@ -22,10 +23,17 @@ pub returns-clause-clear : goal.returns-clause-clear
 returns-clause-clear g c = c.loop-role.invariant.clear (omega (arith, c.loop-role-test.false, c.loop-role.auto.role-end, c.roles-role-end.ensures, c.args.game.game.now.vocabulary.some_role))
 
 pub returns-in_err-extend_from_slice-clause-early : goal.returns-in_err-extend_from_slice-clause-early
-returns-in_err-extend_from_slice-clause-early g c = if-other _ _ (0, omega (arith, c.args.game.game.now.vocabulary.some_role), 0, no-table _ _ _)
+returns-in_err-extend_from_slice-clause-early g c = if-is _ _ _ c.from_residual.ensures.1 (0, 0, [], omega (arith, c.args.game.game.now.vocabulary.some_role), no-table _ _, Appends-nil _)
 
 pub returns-in_err-more-clause-early : goal.returns-in_err-more-clause-early
-returns-in_err-more-clause-early g c = if-other _ _ (c.loop-role.role, omega (arith, c.loop-role-test.true, c.roles-role-end.ensures), c.loop-role.bad, c.loop-role.invariant.told.table)
+returns-in_err-more-clause-early g c =
+    let so-far = c.loop-role.invariant.told in
+    if-is _ _ _ c.from_residual-in_err-more.ensures.1
+    (ends-earlier _ _ _ _ _ _ _ _ c.in_err-more.ensures.others (c.loop-role.role, c.loop-role.bad, so-far.written, omega (arith, c.loop-role-test.true, c.roles-role-end.ensures), so-far.table, so-far.appended))
 
 pub returns-in_err-write_all-clause-early : goal.returns-in_err-write_all-clause-early
-returns-in_err-write_all-clause-early g c = if-write _ _ c.from_residual-in_err-write_all.ensures.1
+returns-in_err-write_all-clause-early g c =
+    let told = c.in_ok-more.ensures.told in
+    let part = c.in_err-write_all.ensures.prefix in
+    if-is _ _ _ c.from_residual-in_err-write_all.ensures.1
+    (part-next _ _ _ _ _ part.0 _ _ _ _ _ _ _ (omega (arith, c.loop-role-test.true, c.roles-role-end.ensures)) c.loop-role.invariant.told told.1 told.2 c.deref.ensures.value part.1 part.2)
