@@ -10,7 +10,9 @@ use Rattle.std.proofs.lemmas.List.Sums.{count_by-le-length, sum_by-append, sum_b
 use Rattle.match_plans.specs.declared.season_form.RecordOrder.{RecordOrder}
 use Rattle.match_plans.specs.declared.season_form.RecordOrder.TheVariants.{OfSchedule}
 use Rattle.match_season.specs.Lineups.{times}
-use Rattle.match_season.specs.Seasons.{Rises, Settles, WritesAllBut, WritesMatches, WritesMore, is_open, mark, places_of, settled_in}
+use Rattle.match_season.specs.Seasons.{Rises, Settles, WritesAllBut, WritesMatches, WritesMore, WritesMoreAndPart, WritesPart, WritesSomeAndPart, WritesUpTo, is_open, mark, places_of, settled_in}
+use Rattle.match_season.specs.declared.season_output.SeasonFault.{SeasonFault}
+use Rattle.match_season.specs.declared.season_output.SeasonFault.TheVariants.{WriteFault}
 use Rattle.match_season.specs.declared.written.Written.{Written}
 
 concat-append : (xs ys : List (List ℕ)) → concat (xs ++ ys) ≡ concat xs ++ concat ys
@@ -207,3 +209,50 @@ all-but I order all missing before after a b none long few is some =
       in_order = λ asked. subst (Rises 0 some.places) long (some.in_order asked);
       written = some.written;
     }
+
+-- After further matches the write of one that was open failed.
+pub more-to_part : (I : ℕ → List ℕ → Type 0) (O Q : List ℕ → Type 0) (u v : Written) (a b c : Option (List ℕ)) (last : ℕ) → ((xs : List ℕ) → O xs → Q (xs ++ last ∷ []))
+    → WritesMore I O u v a b → is_open v.is_settled.items last ≡ true → WritesPart I last b c → WritesMoreAndPart I Q u a c
+more-to_part I O Q u v a b c last join before was-open part = record {
+  last = last;
+  between = v;
+  middle = b;
+  whole = more-weaker I O (λ places. Q (places ++ last ∷ [])) u v a b join before;
+  was_open = was-open;
+  part = part;
+}
+
+pub more-then_part : (I : ℕ → List ℕ → Type 0) (O P Q : List ℕ → Type 0) (u v : Written) (a b c : Option (List ℕ)) → ((xs ys : List ℕ) → O xs → P ys → Q (xs ++ ys))
+    → WritesMore I O u v a b → WritesMoreAndPart I P v b c → WritesMoreAndPart I Q u a c
+more-then_part I O P Q u v a b c join before now =
+    let end = now.last ∷ [] in
+    record {
+      last = now.last;
+      between = now.between;
+      middle = now.middle;
+      whole = more-trans I O (λ places. P (places ++ end)) (λ places. Q (places ++ end)) u v now.between a b now.middle
+          (λ xs ys first then. subst Q (sym (append_assoc xs ys end)) (join xs (ys ++ end) first then)) before now.whole;
+      was_open = now.was_open;
+      part = now.part;
+    }
+
+-- no match of these is there twice
+some-and_part : (I : ℕ → List ℕ → Type 0) (order : RecordOrder) (all : ℕ) (before : Written) (a b : Option (List ℕ))
+    → WritesMoreAndPart I (λ places. order ≡ OfSchedule → Rises 0 places all) before a b → WritesSomeAndPart I order all a b
+some-and_part I order all before a b it =
+    let settled = it.between.is_settled.items in
+    record {
+      places = it.whole.places;
+      last = it.last;
+      once = λ at.
+          omega (arith, sum_by-append (λ (n : ℕ). cond (n == at) 1 0) it.whole.places (it.last ∷ []), it.whole.once at, mark-opened settled it.last at it.was_open, mark-few (set settled it.last true) at);
+      in_order = it.whole.in_order;
+      middle = it.middle;
+      written = it.whole.written;
+      part = it.part;
+    }
+
+-- what was written up to a write fault
+pub up_to-write_fault : (I : ℕ → List ℕ → Type 0) (order : RecordOrder) (all : ℕ) (before : Written) (a b : Option (List ℕ)) (fault : SeasonFault) → fault ≡ WriteFault
+    → WritesMoreAndPart I (λ places. order ≡ OfSchedule → Rises 0 places all) before a b → WritesUpTo I order all a b fault
+up_to-write_fault I order all before a b fault is it = subst (WritesUpTo I order all a b) (sym is) (some-and_part I order all before a b it)

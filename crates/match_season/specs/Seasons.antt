@@ -1,5 +1,5 @@
 -- The output of a season.
-use Rattle.std.specs.Prelude.{◌≡◌, ◌≤◌, ◌<◌, ◌+◌, ◌^◌, ◌&&◌, ◌∷◌, ◌⊎◌, ℕ, zero, suc, Bool, true, false, List, [], Option, None, Some, Result, Ok, Err, All, count_by, get_or, if◌then◌else◌, is_ok, length, not, slice_set}
+use Rattle.std.specs.Prelude.{◌≡◌, ◌≤◌, ◌<◌, ◌+◌, ◌^◌, ◌&&◌, ◌∷◌, ◌++◌, ◌⊎◌, ℕ, zero, suc, Bool, true, false, List, [], Option, None, Some, Result, Ok, Err, All, count_by, get_or, if◌then◌else◌, is_ok, length, not, slice_set, take}
 use Rattle.std.specs.List.{AllZip, concat}
 use Rattle.std.specs.Io.KnownBytes.{Appends}
 use Rattle.game_core.specs.Counting.{one_more}
@@ -15,6 +15,16 @@ pub record WritesMatches (IsOutput : ℕ → List ℕ → Type 0) (places : List
   pub texts : List (List ℕ)
   pub are_outputs : AllZip (λ place text. ∥ IsOutput place text ∥₁) places texts
   pub appended : Appends old new (concat texts)
+
+-- Known bytes grow by a prefix of the text.
+abbrev pub AppendsPart : Option (List ℕ) → Option (List ℕ) → List ℕ → Type 0
+AppendsPart old new text = (taken : ℕ) × (taken ≤ length text) × Appends old new (take taken text)
+
+-- Between the two contents of a stream a prefix of the output of the match at this place was written.
+pub record WritesPart (IsOutput : ℕ → List ℕ → Type 0) (place : ℕ) (old new : Option (List ℕ)) : Type 0 where
+  pub text : List ℕ
+  pub is_output : ∥ IsOutput place text ∥₁
+  pub part : AppendsPart old new text
 
 -- there is a match at this place, and it is not settled
 abbrev pub is_open : List Bool → ℕ → Bool
@@ -74,6 +84,15 @@ pub record WritesMore (IsOutput : ℕ → List ℕ → Type 0) (InOrder : List �
   pub counted : Counts before after (length places)
   pub same_places : length after.is_settled.items ≡ length before.is_settled.items
 
+-- The same, and then a prefix of the output of one more match was written, which was not settled. The order holds with its place, too.
+pub record WritesMoreAndPart (IsOutput : ℕ → List ℕ → Type 0) (InOrder : List ℕ → Type 0) (before : Written) (old new : Option (List ℕ)) : Type 0 where
+  pub last : ℕ
+  pub between : Written
+  pub middle : Option (List ℕ)
+  pub whole : WritesMore IsOutput (λ places. InOrder (places ++ last ∷ [])) before between old middle
+  pub was_open : is_open between.is_settled.items last ≡ true
+  pub part : WritesPart IsOutput last middle new
+
 -- Of all matches the missing ones have no record. The output of each other one was written once, in the schedule's order if that is
 -- asked for.
 pub record WritesAllBut (IsOutput : ℕ → List ℕ → Type 0) (order : RecordOrder) (missing all : ℕ) (old new : Option (List ℕ)) : Type 0 where
@@ -82,6 +101,22 @@ pub record WritesAllBut (IsOutput : ℕ → List ℕ → Type 0) (order : Record
   pub once : (place : ℕ) → times places place ≤ 1
   pub in_order : order ≡ OfSchedule → Rises 0 places all
   pub written : WritesMatches IsOutput places old new
+
+-- The outputs of the matches at these places were written, one after another, and then a prefix of the output of one more match. None is
+-- there twice, and they stand in the schedule's order if that is asked for.
+pub record WritesSomeAndPart (IsOutput : ℕ → List ℕ → Type 0) (order : RecordOrder) (all : ℕ) (old new : Option (List ℕ)) : Type 0 where
+  pub places : List ℕ
+  pub last : ℕ
+  pub once : (place : ℕ) → times (places ++ last ∷ []) place ≤ 1
+  pub in_order : order ≡ OfSchedule → Rises 0 (places ++ last ∷ []) all
+  pub middle : Option (List ℕ)
+  pub written : WritesMatches IsOutput places old middle
+  pub part : WritesPart IsOutput last middle new
+
+-- What was written up to this fault: whole outputs and a part of one more before a write fault, and nothing before out of memory.
+abbrev pub WritesUpTo : (ℕ → List ℕ → Type 0) → RecordOrder → ℕ → Option (List ℕ) → Option (List ℕ) → SeasonFault → Type 0
+WritesUpTo IsOutput order all old new WriteFault = WritesSomeAndPart IsOutput order all old new
+WritesUpTo IsOutput order all old new Memory = new ≡ old
 
 -- the failed writes of a stream, after this fault: a write fault comes from one more failed write, out of memory from none
 abbrev pub faults_by : SeasonFault → ℕ → ℕ

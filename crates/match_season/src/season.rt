@@ -1,11 +1,11 @@
 //! Plays a season: the matches of a schedule, several at once, each on a desk of its own.
-ghost use Rattle.std.specs.Prelude.{◌≡◌, ◌↔◌, ℕ, List, false, true, Err, IfOk, IsTrue, OnOk, length, min, replicate};
+ghost use Rattle.std.specs.Prelude.{◌≡◌, ◌↔◌, ℕ, List, false, true, Err, IfErr, IfOk, IsTrue, OnOk, length, min, replicate};
 ghost use denote.Param.Send.{IsSend, IsSync};
 ghost use Rattle.match_messages.specs.contracts.start_rules.PrintedRules.{the_row as rules_row};
 ghost use Rattle.packed_rules.specs.contracts.packed_game.PackedGame.{the_row as game_row};
 ghost use Rattle.match_play.specs.declared.playing.MatchFault.TheVariants.{Memory};
 ghost use Rattle.match_season.specs.Outputs.{IsOutputOf};
-ghost use Rattle.match_season.specs.Seasons.{WritesAllBut, faults_after};
+ghost use Rattle.match_season.specs.Seasons.{WritesAllBut, WritesUpTo, faults_after};
 
 use crate::floor::{Floor, Next};
 use crate::lineup::Lineup;
@@ -121,6 +121,7 @@ fn write_played<N: Naming, R: Wait, W: Write, E: Write>(
 ) -> Result<u64, SeasonFault>
     requires fresh { (nothing.records ≡ 0) × (nothing.is_settled.items ≡ replicate (length plans.now) false) }
     ensures written { IfOk result (λ missing. WritesAllBut N.is_output order missing (length plans.now) (W.contents writer.old.stream) (W.contents writer.new.stream)) }
+    ensures at_fault { IfErr result (WritesUpTo N.is_output order (length plans.now) (W.contents writer.old.stream) (W.contents writer.new.stream)) }
     ensures thread { OnOk result (has_thread ≡ true) }
     ensures faults { writer.new.faults ≡ faults_after result writer.old.faults }
 {
@@ -170,6 +171,7 @@ where
     P: Player + Drop + Send,
     S: Reach<P> + TellsShortages + Sync,
     ensures written { IfOk result (λ missing. WritesAllBut N.is_output form.order missing (length season.now.plans.now) (W.contents writer.old.stream) (W.contents writer.new.stream)) }
+    ensures at_fault { IfErr result (WritesUpTo N.is_output form.order (length season.now.plans.now) (W.contents writer.old.stream) (W.contents writer.new.stream)) }
     ensures faults { writer.new.faults ≡ faults_after result writer.old.faults }
 {
     is_shared(season.game.game);
@@ -182,6 +184,7 @@ where
             requires sent { IsSend N.row × IsSync N.row × IsSync R.row × IsSync S.row × IsSync game_row × IsSync rules_row }
             ensures stream { result.1.ghost_name ≡ writer.entry.ghost_name }
             ensures written { IfOk result.0 (λ missing. WritesAllBut N.is_output form.order missing (length season.entry.now.plans.now) (W.contents writer.entry.now.stream) (W.contents result.1.now.stream)) }
+            ensures at_fault { IfErr result.0 (WritesUpTo N.is_output form.order (length season.entry.now.plans.now) (W.contents writer.entry.now.stream) (W.contents result.1.now.stream)) }
             ensures faults { result.1.now.faults ≡ faults_after result.0 writer.entry.now.faults }
         {
             // Before any match begins, since without it no result could be written.
@@ -233,6 +236,7 @@ where
     S: Reach<P> + TellsShortages + Sync,
     requires named { (place : ℕ) (text : List ℕ) → IsOutputOf (S.is_reached reach.now) P.handed game plans.now form.has_history place text → N.is_output place text }
     ensures written { IfOk result (λ missing. WritesAllBut N.is_output form.order missing (length plans.now) (W.contents writer.old.stream) (W.contents writer.new.stream)) }
+    ensures at_fault { IfErr result (WritesUpTo N.is_output form.order (length plans.now) (W.contents writer.old.stream) (W.contents writer.new.stream)) }
     ensures faults { writer.new.faults ≡ faults_after result writer.old.faults }
 {
     let floor = Floor::of(Lineup::of(alloc, plans, form)?);
@@ -259,7 +263,8 @@ where
 /// other match is running, it has no record.
 ///
 /// If there is no room to count the records, or not a single thread can be made, the result is out of memory, and no match was begun.
-/// Otherwise each match without a record is reported. After a failed write no further match begins.
+/// Otherwise each match without a record is reported. After a failed write no further match begins, and the output ends with a part, maybe
+/// none or all, of the output of one match. Whenever the result is out of memory, nothing was written.
 pub fn play_season<'f, 'a, R, P, S, W: Write, E: Write + Send>(
     rt: &R,
     alloc: Global,
@@ -275,6 +280,7 @@ where
     P: Player + Drop + Send,
     S: Reach<P> + TellsShortages + Sync,
     ensures written { IfOk result (λ missing. WritesAllBut (IsOutputOf (S.is_reached reach.now) P.handed game.entry plans.now form.has_history) form.order missing (length plans.now) (W.contents writer.old.stream) (W.contents writer.new.stream)) }
+    ensures at_fault { IfErr result (WritesUpTo (IsOutputOf (S.is_reached reach.now) P.handed game.entry plans.now form.has_history) form.order (length plans.now) (W.contents writer.old.stream) (W.contents writer.new.stream)) }
     ensures faults { writer.new.faults ≡ faults_after result writer.old.faults }
 {
     if plans.is_empty() {

@@ -1,9 +1,10 @@
 //! Writes a season: the record of each match, followed by its account.
-ghost use Rattle.std.specs.Prelude.{◌≡◌, ◌<◌, ◌≤◌, ◌+◌, ◌-◌, [], ℕ, false, true, IfOk, OnErr, OnOk, None, Some, if◌then◌else◌, is_some, length, not, replicate, slice_set};
+ghost use Rattle.std.specs.Prelude.{◌≡◌, ◌<◌, ◌≤◌, ◌+◌, ◌-◌, [], ℕ, false, true, IfErr, IfOk, OnErr, OnOk, None, Some, if◌then◌else◌, is_some, length, not, replicate, slice_set};
 ghost use Rattle.std.specs.Io.KnownBytes.{Appends};
 ghost use Rattle.std.specs.List.{AllWithin, HoldsAt};
 ghost use Rattle.match_plans.specs.declared.season_form.RecordOrder.TheVariants.{OfSchedule};
-ghost use Rattle.match_season.specs.Seasons.{ArePlaced, Settles, HasAll, Rises, WritesMatches, WritesMore, faults_after, is_open, places_of, settled_on};
+ghost use Rattle.match_season.specs.Seasons.{AppendsPart, ArePlaced, Settles, HasAll, Rises, WritesMatches, WritesMore, WritesMoreAndPart, WritesPart, WritesUpTo, faults_after, is_open, places_of, settled_on};
+ghost use Rattle.match_season.specs.declared.season_output.SeasonFault.TheVariants.{WriteFault as write_fault};
 
 use crate::results::{Naming, Over, Results};
 use crate::written::Written;
@@ -90,6 +91,7 @@ fn write_ended<W: Write>(
     ensures written { OnOk result (Appends (W.contents writer.old.stream) (W.contents writer.new.stream) (if is_open written.old.is_settled.items place then ended.now.text else [])) }
     ensures settled { OnOk result (Settles written.old written.new place (if is_open written.old.is_settled.items place then 1 else 0)) }
     ensures err { OnErr result (written.new ≡ written.old) }
+    ensures at_fault { IfErr result (λ fault. (fault ≡ write_fault) × (is_open written.old.is_settled.items place ≡ true) × AppendsPart (W.contents writer.old.stream) (W.contents writer.new.stream) ended.now.text) }
     ensures faults { writer.new.faults ≡ faults_after result writer.old.faults }
 {
     if !written.is_open(place) {
@@ -111,6 +113,7 @@ fn write_outcome<N: Naming, R: Wait, W: Write, E: Write>(
     ensures written { OnOk result (WritesMatches N.is_output (places_of written.old over.place over.outcome) (W.contents writer.old.stream) (W.contents writer.new.stream)) }
     ensures settled { OnOk result (Settles written.old written.new over.place (length (places_of written.old over.place over.outcome))) }
     ensures err { OnErr result (written.new ≡ written.old) }
+    ensures at_fault { IfErr result (λ fault. (fault ≡ write_fault) × (is_open written.old.is_settled.items over.place ≡ true) × WritesPart N.is_output over.place (W.contents writer.old.stream) (W.contents writer.new.stream)) }
     ensures faults { writer.new.faults ≡ faults_after result writer.old.faults }
 {
     let Over {
@@ -142,6 +145,7 @@ fn write_waiting<N: Naming, R: Wait, W: Write, E: Write>(
     ensures stops { IfOk result (λ place. place < length waiting.old → HoldsAt (λ it. is_some it ≡ false) waiting.old place) }
     ensures placed { ArePlaced (λ over. over.place) waiting.old → ArePlaced (λ over. over.place) waiting.new }
     ensures settled { ArePlaced (λ over. over.place) waiting.old → IfOk result (λ place. written.new.is_settled.items ≡ settled_on written.old.is_settled.items next (place - next)) }
+    ensures at_fault { IfErr result (λ fault. (fault ≡ write_fault) × WritesMoreAndPart N.is_output (λ places. ArePlaced (λ over. over.place) waiting.old → Rises next places (length waiting.old)) written.old (W.contents writer.old.stream) (W.contents writer.new.stream)) }
     ensures faults { writer.new.faults ≡ faults_after result writer.old.faults }
 {
     let count = waiting.len();
@@ -198,6 +202,7 @@ pub fn write_season<N: Naming, R: Wait, W: Write, E: Write>(
     ensures all { OnOk result (HasAll results.new.is_closed written.new) }
     ensures written { OnOk result (WritesMore N.is_output (λ places. order ≡ OfSchedule → Rises 0 places (length written.old.is_settled.items)) written.old written.new (W.contents writer.old.stream) (W.contents writer.new.stream)) }
     ensures settled { order ≡ OfSchedule → OnOk result ((count : ℕ) × (written.new.is_settled.items ≡ settled_on written.old.is_settled.items 0 count)) }
+    ensures at_fault { IfErr result (WritesUpTo N.is_output order (length written.old.is_settled.items) (W.contents writer.old.stream) (W.contents writer.new.stream)) }
     ensures faults { writer.new.faults ≡ faults_after result writer.old.faults }
 {
     let count = written.is_settled.len();

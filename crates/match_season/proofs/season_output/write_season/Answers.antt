@@ -1,9 +1,10 @@
 use Rattle.std.proofs.Common.{ℕ, ◌≡◌, ◌≤◌, ◌-◌, ◌+◌, ◌∙◌, true, is_some, ap, length, refl, sym, subst, arith}
 use Rattle.std.proofs.lemmas.Bool.{false≢true}
 use Rattle.std.proofs.lemmas.List.{length-replicate, take_at}
+use Rattle.std.proofs.lemmas.Result.{err_from_is_err_and}
 use Rattle.match_season.specs.Seasons.{ArePlaced, HasAll, settled_on}
 use Rattle.match_season.proofs.Placed.{placed-none, settled-trans}
-use Rattle.match_season.proofs.WrittenLines.{more-none, more-trans, more-weaker, rises-higher, rises-lower, rises-trans}
+use Rattle.match_season.proofs.WrittenLines.{more-none, more-then_part, more-trans, more-weaker, rises-higher, rises-lower, rises-trans, up_to-write_fault}
 use Rattle.match_season.proofs.season_output.write_season.Goals as goal
 use Rattle.match_season.proofs.season_output.write_season.Goals.{in-None, in-Some+in_default}
 
@@ -38,6 +39,23 @@ loop-preserved g c =
           c.loop.invariant.written c.in_ok-next.ensures.written;
       faults = c.in_ok-next.ensures.faults ∙ c.loop.invariant.faults;
     }
+
+pub returns-in_err-next-clause-at_fault : goal.returns-in_err-next-clause-at_fault
+returns-in_err-next-clause-at_fault g c =
+    let next = c.loop.next in
+    let before = c.loop.invariant in
+    let first : ArePlaced _ c.deref_mut.result.now = subst (ArePlaced (λ over. over.place)) (sym c.deref_mut.ensures.value) before.placed in
+    let same : c.deref_mut-in-loop.result.now ≡ c.keep.new.waiting = grind (arith, take_at) in
+    let second : ArePlaced _ c.deref_mut-in-loop.result.now = subst (ArePlaced (λ over. over.place)) (sym same) (c.keep.ensures.placed first) in
+    let from = c.first_to_write-first.result in
+    let failed = c.in_err-next.ensures.at_fault in
+    let p = err_from_is_err_and c.from_residual-in_err-next.result c.from_residual-in_err-next.ensures.1 in
+    rw (p.1, p.2) (up_to-write_fault _ _ _ _ _ _ _ failed.0
+    (more-then_part _ _ _ _ _ _ _ _ _
+    (λ xs ys first then asked.
+    let start : from ≡ next = c.first_to_write-first.ensures asked in
+    rises-trans 0 xs next ys _ (first asked) (rises-higher next ys _ _ (omega arith) (rises-lower next from ys _ (omega (arith, start)) (then second))))
+    before.written failed.1))
 
 pub returns-clause-all : goal.returns-clause-all
 returns-clause-all g c =

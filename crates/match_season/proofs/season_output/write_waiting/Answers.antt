@@ -1,8 +1,9 @@
-use Rattle.std.proofs.Common.{◌≡◌, ◌-◌, ◌+◌, ◌∙◌, ℕ, Option, Some, None, HoldsAt, true, false, get_or, is_some, length, refl, sym, ap, subst, arith}
+use Rattle.std.proofs.Common.{◌≡◌, ◌-◌, ◌+◌, ◌∙◌, ℕ, Option, Some, None, HoldsAt, true, false, get_or, is_some, length, ◌∷◌, [], refl, sym, ap, subst, arith}
 use Rattle.std.proofs.lemmas.List.{get_or-set_other}
 use Rattle.std.proofs.lemmas.List.Elements.{AllWithin-more, at_read}
+use Rattle.std.proofs.lemmas.Result.{err_from_is_err_and}
 use Rattle.match_season.specs.Seasons.{settled_on}
-use Rattle.match_season.proofs.WrittenLines.{more-none, more-settled, more-weaker, rises-higher, rises-lower, rises-trans}
+use Rattle.match_season.proofs.WrittenLines.{more-none, more-settled, more-to_part, more-weaker, rises-higher, rises-lower, rises-trans}
 use Rattle.match_season.proofs.Placed.{placed-set, settled-next, settled-none}
 use Rattle.match_season.proofs.season_output.write_waiting.Goals as goal
 
@@ -43,6 +44,25 @@ loop-place-preserved g c =
       faults = c.in_ok-write_outcome.ensures.faults ∙ before.faults;
     }
 
+pub returns-in_err-write_outcome-clause-at_fault : goal.returns-in_err-write_outcome-clause-at_fault
+returns-in_err-write_outcome-clause-at_fault g c =
+    let before = c.loop-place.invariant in
+    let place = c.loop-place.place in
+    let it = c.index-waiting-place in
+    let over = c.in-Some.over in
+    let is : it.result ≡ Some over = it.is ∙ (sym c.take.ensures.value ∙ c.in-Some.is) in
+    let at : get_or c.loop-place.waiting place None ≡ Some over = at_read c.loop-place.waiting (λ o. o ≡ Some over) place it.result (omega arith) it.is is None in
+    let failed = c.in_err-write_outcome.ensures.at_fault in
+    let p = err_from_is_err_and c.from_residual.result c.from_residual.ensures.1 in
+    rw (p.1, p.2) (
+      failed.0,
+      more-to_part _ _ _ _ _ _ _ _ over.place
+          (λ xs first placed.
+          let here : over.place ≡ place = before.placed placed place over at in
+          rises-trans c.args.next xs (c.args.next + (place - c.args.next)) (over.place ∷ []) _ (first placed) (omega (arith, here), omega (arith, here)))
+          before.written failed.1 failed.2,
+    )
+
 pub returns-in_default : goal.returns-in_default
 returns-in_default g c =
     let before = c.loop-place.invariant in
@@ -58,6 +78,7 @@ returns-in_default g c =
       placed = λ placed. placed-set _ c.loop-place.waiting place _ (λ over found. cc (sym c.take.ensures.after ∙ found)) (before.placed placed);
       settled = before.settled;
       stops = λ _ d. subst P (before.ahead place d (omega arith)) (here d);
+      at_fault = tt;
       faults = before.faults;
     }
 
@@ -72,5 +93,6 @@ returns g c =
       stops = λ lt. absurd (omega (arith, lt));
       placed = before.placed;
       settled = λ placed. before.settled placed ∙ ap (λ (n : ℕ). settled_on c.args.written.now.is_settled.items c.args.next n) all;
+      at_fault = tt;
       faults = before.faults;
     }
