@@ -1,3 +1,4 @@
 mod NewLines
 mod LineParts
+mod RefereeFaults
 mod Sent

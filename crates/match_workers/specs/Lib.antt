@@ -1,5 +1,6 @@
 pub mod Briefs
 pub mod RefereeFaults
+pub mod Refusals
 pub mod LineParts
 pub mod Ends
 pub mod Refereeing

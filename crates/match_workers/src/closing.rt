@@ -1,5 +1,5 @@
 //! The end of a match's desk.
-ghost use Rattle.std.specs.Prelude.{◌≡◌, IfOk, IfErr, length, All};
+ghost use Rattle.std.specs.Prelude.{◌≡◌, None, IfOk, IfErr, length, All};
 ghost use Rattle.call_history.specs.Lines.{HasAll};
 ghost use Rattle.call_history.specs.RingLines.{AreEndsOf};
 ghost use Rattle.call_history.specs.RingClosing.{end_numbers, IsServed, TakesPrefix};
@@ -7,6 +7,7 @@ ghost use Rattle.match_desk.specs.Headline.{HasHeadline};
 ghost use Rattle.match_workers.specs.Internal.Closings.{WasIdle};
 ghost use Rattle.match_workers.specs.declared.refereeing.RefereeFault.TheVariants.{Unclosed as IsUnclosed};
 ghost use Rattle.match_workers.specs.LineParts.{AreCounts};
+ghost use Rattle.match_workers.specs.RefereeFaults.{reason_of};
 
 use crate::refereeing::RefereeFault;
 use call_history::laws::lines_stay;
@@ -26,6 +27,8 @@ pub fn close_match<G: Game + Drop>(
     ensures served { IfOk result (λ c. All (IsServed c.history.items) lines.items) }
     ensures replies { IfOk result (λ c. All (TakesPrefix c.history.items) lines.items) }
     ensures made { IfOk result (λ c. AreCounts c.history.items c.made_by_line.items) }
+
+    ensures no_refusal { IfErr result (λ fault. reason_of fault ≡ None) }
 
     // The waiting calls are served first, or else a full history would be reported as an unclosed desk.
     ensures unclosed { IfErr result (λ fault. fault ≡ IsUnclosed → WasIdle desk lines.items) }

@@ -1,22 +1,25 @@
 //! A whole match between players.
-ghost use Rattle.std.specs.Prelude.{◌≡◌, ◌∷◌, ◌++◌, [], ◌+◌, ◌<◌, List, IfOk, IfErr, OnOk, length, vec_len};
+ghost use Rattle.std.specs.Prelude.{◌≡◌, ◌≢◌, ◌∷◌, ◌++◌, [], ◌+◌, ◌<◌, List, None, IfOk, IfErr, OnOk, length, vec_len};
 ghost use Rattle.call_history.specs.Faults.{ask_fault};
 ghost use Rattle.call_history.specs.Limits.{max_entries};
 ghost use Rattle.call_history.specs.RingLines.{posted_calls, taken_replies, SameLine, SamePorts, IsNewLine};
-ghost use Rattle.desk_calls.specs.declared.call.Refusal.{Refusal as Reason};
-ghost use Rattle.desk_calls.specs.declared.call.Reply.TheVariants.{Opened as IsOpened, Refused as IsRefused};
+ghost use Rattle.desk_calls.specs.declared.call.Reply.TheVariants.{Opened as IsOpened};
+ghost use Rattle.match_desk.specs.Open.{open_refusal};
 ghost use Rattle.match_messages.specs.StartRules.{sentences_of};
 ghost use Rattle.match_workers.specs.Briefs.{AreRoleNames};
 ghost use Rattle.match_workers.specs.LineParts.{open_call};
 ghost use Rattle.match_workers.specs.Refereeing.{IsRefereed};
 ghost use Rattle.match_workers.specs.declared.refereeing.RefereeFault.TheVariants.{Memory as IsMemory};
-ghost use Rattle.match_workers.specs.RefereeFaults.{referee_fault};
+ghost use Rattle.match_workers.specs.RefereeFaults.{reason_of, referee_fault};
+ghost use Rattle.match_workers.specs.Refusals.{manager_of, match_refusal};
 ghost use Rattle.role_workers.specs.RoleLines.{AreSeatLines};
 
 use crate::closing::close_match;
 use call_history::laws::{lines_stay, new_lines_are_lines, numbers_are_of_ends};
-use call_history::{AskFault, CallFault, Closed, DeskFault, MAX_ENTRIES, RingLine, open_rings};
-use desk_calls::{Refusal, Reply, Setup};
+use call_history::{
+    AskFault, CallFault, Closed, DeskFault, MAX_ENTRIES, Object, RingLine, open_rings,
+};
+use desk_calls::{Call, Refusal, Reply, Setup};
 use game_core::{Game, Text, Texts};
 use kif_text::Expr;
 use match_desk::{Manager, open_call};
@@ -133,6 +136,7 @@ fn open_desk<G: Game + Drop>(
     game: G,
 ) -> Result<(DeskHolder<Manager<G>>, Vec<RingLine<Manager<G>>>), AllocError>
     ensures games { IfOk result (λ opened. opened.0.desk.journal.object.games ≡ game ∷ []) }
+    ensures manager { IfOk result (λ opened. opened.0.desk.journal.object ≡ manager_of game) }
     ensures most { IfOk result (λ opened. opened.0.desk.journal.most ≡ max_entries) }
     ensures desk { IfOk result (λ opened. length opened.0.desk.ports ≡ (G.rules game).roles + 1) }
     ensures first { IfOk result (λ opened. IsNewLine opened.0.desk.ports 0 opened.0.line) }
@@ -150,8 +154,28 @@ fn open_desk<G: Game + Drop>(
     Ok((DeskHolder { desk, line }, lines))
 }
 
-/// Opens a match of the desk's one game.
+/// The call that opens a match of the manager's first game, not made yet. The error is the refusal with which the manager would reply,
+/// or out of memory.
+fn accepted_call<G: Game>(
+    alloc: Global,
+    manager: &Manager<G>,
+    setup: Setup,
+) -> Result<Call, RefereeFault>
+    ensures call { IfOk result (λ call. call ≡ open_call setup) }
+    ensures opens { OnOk result (open_refusal G.rules manager.now 0 setup ≡ None) }
+    ensures refused { IfErr result (λ fault. fault ≢ RefereeFault.Memory → reason_of fault ≡ open_refusal G.rules manager.now 0 setup) }
+{
+    let call = open_call(0, setup);
+    match manager.answer(alloc, &call)? {
+        Reply::Refused(reason) => Err(RefereeFault::Refused(reason)),
+        _ => Ok(call),
+    }
+}
+
+/// Opens a match of the desk's one game. The manager is asked first whether it refuses the call, since nothing ties a reply that came
+/// over a ring to it until the desk is closed.
 fn open_match<G: Game + Drop>(
+    alloc: Global,
     holder: &mut DeskHolder<Manager<G>>,
     setup: Setup,
 ) -> Result<(), RefereeFault>
@@ -160,14 +184,13 @@ fn open_match<G: Game + Drop>(
     ensures games { holder.new.desk.journal.object.games ≡ holder.old.desk.journal.object.games }
     ensures call { OnOk result (posted_calls holder.new.line ≡ posted_calls holder.old.line ++ open_call setup ∷ []) }
     ensures reply { OnOk result (taken_replies holder.new.line ≡ taken_replies holder.old.line ++ IsOpened ∷ []) }
-    ensures refused { IfErr result (λ fault. (reason : Reason) → fault ≡ RefereeFault.Refused reason
-        → (posted_calls holder.new.line ≡ posted_calls holder.old.line ++ open_call setup ∷ [])
-        × (taken_replies holder.new.line ≡ taken_replies holder.old.line ++ IsRefused reason ∷ [])) }
+    ensures opens { OnOk result (open_refusal G.rules holder.old.desk.journal.object 0 setup ≡ None) }
+    ensures refused { IfErr result (λ fault. fault ≢ RefereeFault.Memory → reason_of fault ≡ open_refusal G.rules holder.old.desk.journal.object 0 setup) }
 {
-    let reply = ask_own(holder, open_call(0, setup))?;
+    let call = accepted_call(alloc, holder.desk.journal().object(), setup)?;
+    let reply = ask_own(holder, call)?;
     match reply {
         Reply::Opened => Ok(()),
-        Reply::Refused(refusal) => Err(RefereeFault::Refused(refusal)),
         _ => Err(RefereeFault::Unclosed),
     }
 }
@@ -191,8 +214,12 @@ where
     R: Threads + Wait + Sync,
     requires { vec_len players ≡ length setup.players }
 
-    ensures { IfOk result (λ r. IsRefereed G.rules P.handed game setup (sentences_of rules.entry).items tries players.items r.1.items
+    ensures refereed { IfOk result (λ r. IsRefereed G.rules P.handed game setup (sentences_of rules.entry).items tries players.items r.1.items
         r.0.closed.object r.0.closed.history.items r.0.closed.made_by_line.items r.0.ends.items) }
+
+    // If the match is refused, so is this call, for the same reason, unless memory runs out. No other fault is a refusal.
+    ensures opens { OnOk result (match_refusal G.rules game setup ≡ None) }
+    ensures refused { IfErr result (λ fault. fault ≢ RefereeFault.Memory → reason_of fault ≡ match_refusal G.rules game setup) }
 {
     lines_stay::<Manager<G>>();
     new_lines_are_lines::<Manager<G>>();
@@ -208,7 +235,7 @@ where
         tries,
     };
     let (mut holder, others) = open_desk(alloc, game)?;
-    open_match(&mut holder, setup)?;
+    open_match(alloc, &mut holder, setup)?;
     let AttendedMatch {
         desk,
         lines,
@@ -247,8 +274,12 @@ where
     R: Threads + Wait + Sync,
     requires { vec_len players ≡ length setup.players }
 
-    ensures { IfOk result (λ r. (left : List _) × IsRefereed G.rules P.handed game setup rules.items tries players.items left
+    ensures refereed { IfOk result (λ r. (left : List _) × IsRefereed G.rules P.handed game setup rules.items tries players.items left
         r.closed.object r.closed.history.items r.closed.made_by_line.items r.ends.items) }
+
+    // If the match is refused, so is this call, for the same reason, unless memory runs out. No other fault is a refusal.
+    ensures opens { OnOk result (match_refusal G.rules game setup ≡ None) }
+    ensures refused { IfErr result (λ fault. fault ≢ RefereeFault.Memory → reason_of fault ≡ match_refusal G.rules game setup) }
 {
     let rules = StartRules::Sentences(&rules);
     let (refereed, _players) = referee_shared(rt, alloc, game, setup, rules, players, tries)?;

@@ -1,4 +1,4 @@
-use Rattle.std.proofs.Common.{◌≡◌, ◌∙◌, sym, subst}
+use Rattle.std.proofs.Common.{◌≡◌, ◌∙◌, sym, ap, subst}
 use Rattle.std.proofs.lemmas.Result.{err_from_is_err_and}
 use Rattle.call_history.specs.Faults.{ask_fault}
 use Rattle.call_history.specs.declared.journal.CallFault.{CallFault}
@@ -6,8 +6,9 @@ use Rattle.call_history.specs.declared.journal.CallFault.TheVariants.{Full, Memo
 use Rattle.call_history.specs.Lines.{HasAll}
 use Rattle.call_history.specs.RingClosing.{end_numbers}
 use Rattle.match_desk.specs.Headline.{HasHeadline}
-use Rattle.match_workers.specs.RefereeFaults.{referee_fault}
+use Rattle.match_workers.specs.RefereeFaults.{reason_of, referee_fault}
 use Rattle.match_workers.specs.declared.refereeing.RefereeFault.TheVariants.{Unclosed}
+use Rattle.match_workers.proofs.RefereeFaults.{no_reason}
 use Rattle.match_workers.proofs.closing.close_match.Goals as goal
 
 -- a fault of the last rounds is reported as what it is
@@ -43,3 +44,8 @@ pub returns-in_err-serve_all-clause-unclosed : goal.returns-in_err-serve_all-cla
 returns-in_err-serve_all-clause-unclosed g c =
     let p = err_from_is_err_and c.from_residual.result c.from_residual.ensures.1 in
     rw p.1 (λ is. absurd (never_unclosed c.in_err-serve_all.field-0.0.cause (sym p.2 ∙ is)))
+
+pub returns-in_err-serve_all-clause-no_refusal : goal.returns-in_err-serve_all-clause-no_refusal
+returns-in_err-serve_all-clause-no_refusal g c =
+    let p = err_from_is_err_and c.from_residual.result c.from_residual.ensures.1 in
+    rw p.1 (ap reason_of p.2 ∙ no_reason (ask_fault c.in_err-serve_all.field-0.0.cause))

@@ -1,19 +1,13 @@
-use Rattle.std.proofs.Common.{◌≡◌, ◌∙◌, sym}
+use Rattle.std.proofs.Common.{◌∙◌, sym, ap}
 use Rattle.std.proofs.lemmas.Result.{err_from_is_err_and}
-use Rattle.call_history.specs.declared.wire.AskFault.{AskFault}
-use Rattle.call_history.specs.declared.wire.AskFault.TheVariants.{Full, Memory, Stalled}
-use Rattle.desk_calls.specs.declared.call.Refusal.{Refusal}
-use Rattle.match_workers.specs.RefereeFaults.{referee_fault}
-use Rattle.match_workers.specs.declared.refereeing.RefereeFault.TheVariants.{Refused}
+use Rattle.match_desk.specs.Open.{open_refusal}
+use Rattle.match_workers.specs.RefereeFaults.{reason_of}
+use Rattle.match_workers.proofs.RefereeFaults.{no_reason}
 use Rattle.match_workers.proofs.refereeing.open_match.Goals as goal
-
--- a fault of the desk is no refusal
-never_refused : (cause : AskFault) (reason : Refusal) → referee_fault cause ≡ Refused reason → ⊥
-never_refused Full reason is = cc
-never_refused Memory reason is = cc
-never_refused Stalled reason is = cc
 
 pub returns-in_err-reply-clause-refused : goal.returns-in_err-reply-clause-refused
 returns-in_err-reply-clause-refused g c =
-    let p = err_from_is_err_and c.from_residual.result c.from_residual.ensures.1 in
-    rw p.1 (λ reason is. absurd (never_refused c.in_err-reply.field-0.0 reason (sym p.2 ∙ is)))
+    let p = err_from_is_err_and c.from_residual-in_err-reply.result c.from_residual-in_err-reply.ensures.1 in
+    let manager = c.object.ensures ∙ ap (λ j. j.object) c.journal.ensures.journal in
+    let opens = ap (λ d. open_refusal g.G.Game.rules d 0 c.args.setup) (sym manager) ∙ c.in_ok-call.ensures.opens in
+    rw p.1 (λ _. ap reason_of p.2 ∙ no_reason c.in_err-reply.field-0.0 ∙ sym opens)

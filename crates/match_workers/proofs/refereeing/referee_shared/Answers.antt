@@ -2,11 +2,14 @@ use denote.Exit.{yes}
 use denote.Param.Send.{param_send, arg_send}
 use Rattle.match_workers.proofs.Sent.{manager_send}
 use Rattle.std.proofs.Common.{◌≡◌, ◌∙◌, ◌+◌, ◌++◌, ◌∷◌, [], length, refl, sym, ap, subst, arith}
+use Rattle.std.proofs.lemmas.Result.{err_from_is_err_and}
 use Rattle.match_desk.specs.Headline.{HasHeadline}
+use Rattle.match_desk.specs.Open.{open_refusal}
 use Rattle.desk_calls.specs.declared.call.Reply.TheVariants.{Opened}
 use Rattle.match_messages.specs.declared.brief.Brief.{Brief}
 use Rattle.match_workers.specs.Briefs.{IsBriefOf}
 use Rattle.match_workers.specs.LineParts.{open_call}
+use Rattle.match_workers.specs.RefereeFaults.{reason_of}
 use Rattle.match_workers.proofs.NewLines.{seats_of_ports}
 use Rattle.match_workers.proofs.LineParts.{opens_match, ends_of, as_many, role_lines}
 use Rattle.match_workers.proofs.refereeing.referee_shared.Goals as goal
@@ -28,8 +31,8 @@ attend_match-requires-clause-ports g c κs within = omega (arith, c.in_ok-holder
 pub close_match-requires : goal.close_match-requires
 close_match-requires g c = record { lines = c.in_ok-desk.ensures.lines }
 
-pub returns : goal.returns
-returns g c =
+pub returns-clause-refereed : goal.returns-clause-refereed
+returns-clause-refereed g c =
     let rules = g.G.Game.rules c.args.game in
     let opened = c.in_ok-holder.ensures in
     let played = c.in_ok-desk.field-0 in
@@ -60,3 +63,19 @@ returns g c =
 
 pub attend_match-requires-send-O : goal.attend_match-requires-send-O
 attend_match-requires-send-O g c κs within = param_send _ _ (arg_send _ yes _ (manager_send _ _ _ g.G.Game c.type_bounds.send-G c.type_bounds.send-G-State c.type_bounds.send-G-Move))
+
+pub returns-clause-opens : goal.returns-clause-opens
+returns-clause-opens g c =
+    ap (λ d. open_refusal g.G.Game.rules d 0 c.args.setup) (sym c.in_ok-holder.ensures.manager) ∙ c.in_ok-open_match.ensures.opens
+
+pub returns-in_err-open_match-clause-refused : goal.returns-in_err-open_match-clause-refused
+returns-in_err-open_match-clause-refused g c =
+    let p = err_from_is_err_and c.from_residual-in_err-open_match.result c.from_residual-in_err-open_match.ensures.1 in
+    let refused = c.in_err-open_match.ensures.refused in
+    rw p.1 (λ no_memory. ap reason_of p.2 ∙ refused (λ is. no_memory (p.2 ∙ is)) ∙ ap (λ d. open_refusal g.G.Game.rules d 0 c.args.setup) c.in_ok-holder.ensures.manager)
+
+pub returns-in_err-closed-clause-refused : goal.returns-in_err-closed-clause-refused
+returns-in_err-closed-clause-refused g c =
+    let p = err_from_is_err_and c.from_residual-in_err-closed.result c.from_residual-in_err-closed.ensures.1 in
+    let opens = ap (λ d. open_refusal g.G.Game.rules d 0 c.args.setup) (sym c.in_ok-holder.ensures.manager) ∙ c.in_ok-open_match.ensures.opens in
+    rw p.1 (λ _. ap reason_of p.2 ∙ c.in_err-closed.ensures.no_refusal ∙ sym opens)
