@@ -1,6 +1,7 @@
 -- The end of a match between players.
-use Rattle.std.specs.Prelude.{◌≡◌, ℕ, true, false, List, Some, IfSome, slice_get, option_and_then}
+use Rattle.std.specs.Prelude.{◌≡◌, ℕ, true, false, List, Option, Some, None, IfSome, slice_get, option_and_then}
 use Rattle.game_core.specs.Play.{Rules}
+use Rattle.desk_calls.specs.declared.call.Refusal.{Refusal}
 use Rattle.match_book.specs.MatchValue.{GameMatch}
 use Rattle.match_book.specs.Phase.{is_over}
 use Rattle.match_desk.specs.ManagerValue.{ManagerValue, game_match}
@@ -9,7 +10,7 @@ use Rattle.match_record.specs.LawfulRecord.{IsLawfulRecord}
 use Rattle.match_workers.specs.declared.refereeing.RefereeFault.{RefereeFault}
 use Rattle.match_workers.specs.declared.refereeing.RefereeFault.TheVariants.{Refused as MatchRefused, Unclosed, Full, Memory as RefereeMemory}
 use Rattle.match_play.specs.declared.playing.MatchFault.{MatchFault}
-use Rattle.match_play.specs.declared.playing.MatchFault.TheVariants.{Memory, Refused, NotEnded}
+use Rattle.match_play.specs.declared.playing.MatchFault.TheVariants.{Memory, Refused, NotEnded, Shortage}
 
 -- this is the desk's first match, and it is over
 pub record HasEndedMatch {G S M : Type 0} (rules : G → Rules S M) (d : ManagerValue G M) (held : GameMatch G M) : Type 0 where
@@ -33,3 +34,10 @@ referee_fault (MatchRefused reason) = Refused reason
 referee_fault Unclosed = NotEnded
 referee_fault Full = NotEnded
 referee_fault RefereeMemory = Memory
+
+-- the reason of a refusal: none for any other fault
+abbrev pub reason_of : MatchFault → Option Refusal
+reason_of (Refused reason) = Some reason
+reason_of NotEnded = None
+reason_of (Shortage shortage) = None
+reason_of Memory = None

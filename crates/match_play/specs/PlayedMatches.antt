@@ -6,6 +6,7 @@ use Rattle.packed_rules.specs.declared.packed_game.PackedGame.{PackedGame}
 use Rattle.kif_text.specs.declared.expr.Expr.{Expr}
 use Rattle.call_history.specs.declared.journal.Entry.{Entry}
 use Rattle.desk_calls.specs.declared.setup.Setup.{Setup}
+use Rattle.desk_calls.specs.declared.call.Refusal.{Refusal}
 use Rattle.match_desk.specs.ManagerValue.{ManagerValue}
 use Rattle.desk_calls.specs.declared.call.Call.{Call}
 use Rattle.desk_calls.specs.declared.call.Reply.{Reply}
@@ -16,6 +17,7 @@ use Rattle.role_workers.specs.declared.attend_fault.AttendFault.{AttendFault}
 use Rattle.role_workers.specs.Handing.{Handed}
 use Rattle.role_workers.specs.Places.{EachAt}
 use Rattle.match_workers.specs.Refereeing.{IsRefereed}
+use Rattle.match_workers.specs.Refusals.{match_refusal}
 use Rattle.match_play.specs.Limits.{max_tries}
 use Rattle.match_play.specs.Matches.{IsEndedRecord}
 use Rattle.match_play.specs.RoleTurns.{AreEndedTurns}
@@ -38,6 +40,10 @@ role_place place plan role = record { place = place; id = plan.id; role = role }
 pub record AreReached {P : Type 0} (is_reached : RolePlace → PlayerAddress → P → Type 0) (place : ℕ) (plan : MatchPlan) (players : List P) : Type 0 where
   pub count : length players ≡ length plan.players.items
   pub each : EachAt (λ role player. IfSome (slice_get plan.players.items role) (λ address. is_reached (role_place place plan role) address player)) players
+
+-- why no match of this game is opened with this setup: none if one is
+abbrev pub packed_refusal : PackedGame → Setup → Option Refusal
+packed_refusal game setup = match_refusal (λ g. loaded_game (tables_of g)) game setup
 
 -- A match of this game was opened with this setup and played by these players, who got these rules. Its record is this text, and its
 -- desk has this history.

@@ -1,14 +1,14 @@
 //! A match between players on the network, from its plan to its record.
-ghost use Rattle.std.specs.Prelude.{◌≡◌, ◌≢◌, ℕ, List, IfOk, IfErr, IfSome, MatchOption, length, vec_len};
+ghost use Rattle.std.specs.Prelude.{◌≡◌, ◌≢◌, ℕ, List, None, IfOk, IfErr, IfSome, OnOk, MatchOption, length, vec_len};
 ghost use Rattle.call_history.specs.declared.journal.Entry.{Entry};
 ghost use Rattle.desk_calls.specs.Names.{IsLawfulSetup};
 ghost use Rattle.desk_calls.specs.declared.call.Call.{Call as DeskCall};
 ghost use Rattle.desk_calls.specs.declared.call.Reply.{Reply as DeskReply};
 ghost use Rattle.match_workers.specs.Refereeing.{IsRefereed};
-ghost use Rattle.match_play.specs.Matches.{IsEndedRecord, HasEndedMatch, HasNoEndedMatch};
+ghost use Rattle.match_play.specs.Matches.{IsEndedRecord, HasEndedMatch, HasNoEndedMatch, reason_of};
 ghost use Rattle.match_play.specs.EndedMatches.{IsEndedMatch, match_text};
 ghost use Rattle.match_play.specs.Limits.{max_tries};
-ghost use Rattle.match_play.specs.PlayedMatches.{AreReached, IsSetupOf, IsPlayedMatch};
+ghost use Rattle.match_play.specs.PlayedMatches.{AreReached, IsSetupOf, IsPlayedMatch, packed_refusal};
 
 use crate::hosting::HostedGame;
 use call_history::Entry;
@@ -211,6 +211,10 @@ where
     ensures clear { IfOk result (λ r. S.is_clear reach.now entrants.place) }
     ensures refereed { IfOk result (λ r. (left : List _) × IsRefereed ⟦<PackedGame as Game>⟧.rules P.handed game.entry.game.now entrants.setup game.entry.rules.now.items max_tries entrants.players.items left
         r.closed.object r.closed.history.items r.closed.made_by_line.items r.ends.items) }
+
+    // If the match is refused, so is this call, for the same reason, unless memory runs out. No other fault is a refusal.
+    ensures opens { OnOk result (packed_refusal game.entry.game.now entrants.setup ≡ None) }
+    ensures refused { IfErr result (λ fault. fault ≢ MatchFault.Memory → reason_of fault ≡ packed_refusal game.entry.game.now entrants.setup) }
 {
     let Entrants {
         place,
@@ -246,6 +250,10 @@ where
     P: Player + Drop + Send,
     ensures clear { IfOk result (λ played. S.is_clear reach.now entrants.place) }
     ensures played { IfOk result (λ played. IsPlayedMatch P.handed game.entry.game.now game.entry.rules.now.items max_tries entrants.setup entrants.players.items played.record played.history.items) }
+
+    // If the match is refused, so is this call, for the same reason, unless memory runs out. No other fault is a refusal.
+    ensures opens { OnOk result (packed_refusal game.entry.game.now entrants.setup ≡ None) }
+    ensures refused { IfErr result (λ fault. fault ≢ MatchFault.Memory → reason_of fault ≡ packed_refusal game.entry.game.now entrants.setup) }
 {
     let refereed = refereed_match(rt, alloc, reach, entrants, game)?;
     let record = ended_record(alloc, &refereed.closed.object)?;
@@ -286,6 +294,10 @@ where
     P: Player + Drop + Send,
     ensures clear { IfOk result (λ e. S.is_clear reach.now entrants.place) }
     ensures played { IfOk result (λ e. (line : List ℕ) × (history : List (Entry DeskCall DeskReply)) × IsPlayedMatch P.handed game.entry.game.now game.entry.rules.now.items max_tries entrants.setup entrants.players.items line history × (e.text ≡ match_text line history has_account)) }
+
+    // If the match is refused, so is this call, for the same reason, unless memory runs out. No other fault is a refusal.
+    ensures opens { OnOk result (packed_refusal game.entry.game.now entrants.setup ≡ None) }
+    ensures refused { IfErr result (λ fault. fault ≢ MatchFault.Memory → reason_of fault ≡ packed_refusal game.entry.game.now entrants.setup) }
 {
     let PlayedMatch { record, history } = played_match(rt, alloc, reach, entrants, game)?;
     let text = match_text(alloc, record, &history, has_account)?;

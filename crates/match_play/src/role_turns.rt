@@ -1,7 +1,8 @@
 //! The turns of a match for one of its roles.
-ghost use Rattle.std.specs.Prelude.{◌≡◌, ◌≢◌, ◌<◌, IfOk, IfErr};
+ghost use Rattle.std.specs.Prelude.{◌≡◌, ◌≢◌, ◌<◌, None, IfOk, IfErr, OnOk};
+ghost use Rattle.match_play.specs.Matches.{reason_of};
 ghost use Rattle.match_play.specs.Limits.{max_tries};
-ghost use Rattle.match_play.specs.PlayedMatches.{ArePlayedTurns};
+ghost use Rattle.match_play.specs.PlayedMatches.{ArePlayedTurns, packed_refusal};
 ghost use Rattle.match_play.specs.RoleTurns.{AreTurnsOf, AreEndedTurns, HasNoEndedTurns};
 
 use crate::hosting::HostedGame;
@@ -80,6 +81,10 @@ where
     P: Player + Drop + Send,
     ensures clear { IfOk result (λ told. S.is_clear reach.now entrants.place) }
     ensures played { IfOk result (λ told. ArePlayedTurns P.handed game.entry.game.now game.entry.rules.now.items max_tries entrants.setup entrants.players.items role told.items) }
+
+    // If the match is refused, so is this call, for the same reason, unless memory runs out. No other fault is a refusal.
+    ensures opens { OnOk result (packed_refusal game.entry.game.now entrants.setup ≡ None) }
+    ensures refused { IfErr result (λ fault. fault ≢ MatchFault.Memory → reason_of fault ≡ packed_refusal game.entry.game.now entrants.setup) }
 {
     let refereed = refereed_match(rt, alloc, reach, entrants, game)?;
     let turns = ended_turns(alloc, &refereed.closed.object, role)?;
