@@ -214,72 +214,72 @@ const CHECK: [Argument; 9] = [
     COUNTDOWN, RULES, RULES_FILE, TOLD, START, PLAY, STRIKES, LOG, PLAYER,
 ];
 
-/// A command with these arguments.
-fn command_of<'a>(
-    alloc: Global,
+/// The form of a command.
+#[derive(Clone, Copy)]
+pub struct CommandForm {
     name: &'static str,
     about: &'static str,
-    arguments: &[Argument],
-) -> Result<Command<'a>, AllocError> {
-    let mut command = Command::new(alloc, name).about(about);
-    for argument in arguments {
-        command = command.arg(argument.arg(alloc))?;
-    }
-    Ok(command)
+    arguments: &'static [Argument],
 }
 
-/// The names of the commands.
-pub const COMMANDS: [&str; 8] = [
-    "desk", "run", "season", "verify", "replay", "info", "check", "abort",
+impl CommandForm {
+    /// The command in the form of `clap`.
+    pub fn command<'a>(self, alloc: Global) -> Result<Command<'a>, AllocError> {
+        let mut command = Command::new(alloc, self.name).about(self.about);
+        for argument in self.arguments {
+            command = command.arg(argument.arg(alloc))?;
+        }
+        Ok(command)
+    }
+}
+
+/// The commands.
+const COMMANDS: [CommandForm; 8] = [
+    CommandForm {
+        name: "desk",
+        about: "Answers a script from standard input, line by line",
+        arguments: &DESK,
+    },
+    CommandForm {
+        name: "run",
+        about: "Referees a match between players over HTTP, and prints its record",
+        arguments: &RUN,
+    },
+    CommandForm {
+        name: "season",
+        about: "Referees the matches of the schedule on standard input, and prints their records",
+        arguments: &SEASON,
+    },
+    CommandForm {
+        name: "verify",
+        about: "Says whether the record on standard input is lawful",
+        arguments: &VERIFY,
+    },
+    CommandForm {
+        name: "replay",
+        about: "Makes the calls of the account on standard input again, and compares each reply",
+        arguments: &REPLAY,
+    },
+    CommandForm {
+        name: "info",
+        about: "Asks a player whether it is free",
+        arguments: &INFO,
+    },
+    CommandForm {
+        name: "check",
+        about: "Plays a match with a player for each role, and prints what it answered and what that counted as",
+        arguments: &CHECK,
+    },
+    CommandForm {
+        name: "abort",
+        about: "Sends players ABORT, for a match whose referee is gone",
+        arguments: &ABORT,
+    },
 ];
 
-/// The command with this name.
-pub fn command_named<'a>(alloc: Global, name: &str) -> Result<Command<'a>, AllocError> {
-    match name {
-        "desk" => command_of(
-            alloc,
-            "desk",
-            "Answers a script from standard input, line by line",
-            &DESK,
-        ),
-        "run" => command_of(
-            alloc,
-            "run",
-            "Referees a match between players over HTTP, and prints its record",
-            &RUN,
-        ),
-        "season" => command_of(
-            alloc,
-            "season",
-            "Referees the matches of the schedule on standard input, and prints their records",
-            &SEASON,
-        ),
-        "verify" => command_of(
-            alloc,
-            "verify",
-            "Says whether the record on standard input is lawful",
-            &VERIFY,
-        ),
-        "replay" => command_of(
-            alloc,
-            "replay",
-            "Makes the calls of the account on standard input again, and compares each reply",
-            &REPLAY,
-        ),
-        "info" => command_of(alloc, "info", "Asks a player whether it is free", &INFO),
-        "abort" => command_of(
-            alloc,
-            "abort",
-            "Sends players ABORT, for a match whose referee is gone",
-            &ABORT,
-        ),
-        _ => command_of(
-            alloc,
-            "check",
-            "Plays a match with a player for each role, and prints what it answered and what that counted as",
-            &CHECK,
-        ),
-    }
+/// The form of the command with this name.
+pub fn form_named(name: &str) -> Option<CommandForm> {
+    COMMANDS.iter().find(|form| form.name == name).copied()
 }
 
 /// The program's command line.
@@ -290,8 +290,8 @@ pub fn program<'a>(alloc: Global) -> Result<Command<'a>, AllocError> {
         .no_binary_name(true)
         .subcommand_required(true)
         .bin_name(PROGRAM)?;
-    for name in COMMANDS {
-        program = program.subcommand(command_named(alloc, name)?)?;
+    for form in COMMANDS {
+        program = program.subcommand(form.command(alloc)?)?;
     }
     Ok(program)
 }

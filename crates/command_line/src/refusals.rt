@@ -1,7 +1,7 @@
 //! The words about a refused command line.
 
 use crate::arguments::{ArgumentFault, WrongValue};
-use crate::program::{PROGRAM, command_named, program};
+use crate::program::{PROGRAM, form_named, program};
 use clap::error::ErrorKind;
 use std::alloc::{AllocError, Global};
 
@@ -59,8 +59,11 @@ fn words_of(alloc: Global, command: &str, wrong: WrongValue<'_>) -> Result<Strin
 /// The words about a wrong value of a command, and the command's usage.
 fn wrong_value(alloc: Global, command: &str, wrong: WrongValue<'_>) -> Result<String, AllocError> {
     let what = words_of(alloc, command, wrong)?;
+    let Some(form) = form_named(command) else {
+        return Ok(what);
+    };
     let title = format!(in alloc; "{PROGRAM} {command}")?;
-    let mut command = command_named(alloc, command)?.bin_name(title.as_str())?;
+    let mut command = form.command(alloc)?.bin_name(title.as_str())?;
     let error = command.error(ErrorKind::ValueValidation, what.as_str())?;
     error.to_string(alloc)
 }
