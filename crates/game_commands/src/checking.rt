@@ -8,6 +8,7 @@ ghost use Rattle.game_commands.specs.Verdicts.{IsVerdict, AreVerdicts, verdict_l
 ghost use Rattle.game_commands.specs.Checks.{lawful_line, CheckFails, BeginsWithLines, LineFails, CheckStops};
 
 use crate::fault::Fault;
+use crate::remarks::Remarks;
 use crate::script_fault::ScriptFault;
 use crate::verdicts::{Verdict, verdict_line, verdict_on};
 use game_core::{Counted, Game};
@@ -46,12 +47,14 @@ impl From<VerifyFault> for Fault {
     }
 }
 
-/// Reads a record, checks it by the game, and writes `lawful`. For an unlawful record the fault is the first test that it fails.
+/// Reads a record, checks it by the game, and writes `lawful`. For an unlawful record the fault is the first test that it fails. The
+/// remarks say what helps if the input seems to have several records.
 pub fn check_record<G: Game, R: Read, W: Write>(
     alloc: Global,
     game: &G,
     reader: &mut Counted<R>,
     writer: &mut Counted<W>,
+    remarks: &mut Remarks,
 ) -> Result<(), Fault>
     ensures lawful { OnOk result ((text : List ℕ)
         × Consumes (R.remaining reader.old.stream) (R.remaining reader.new.stream) text
@@ -64,7 +67,10 @@ pub fn check_record<G: Game, R: Read, W: Write>(
         × CheckFails R.remaining W.contents (G.rules game.now) fault text reader.old reader.new writer.old writer.new) }
 {
     let record = read_to_end(alloc, reader, MAX_RECORD)?;
-    verify(alloc, game, &record)?;
+    if let Err(fault) = verify(alloc, game, &record) {
+        remarks.unlawful(&record, fault);
+        return Err(Fault::from(fault));
+    }
     Ok(write_all(writer, b"lawful\n")?)
 }
 

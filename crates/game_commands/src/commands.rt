@@ -59,7 +59,7 @@ fn perform<G: Game + Drop, R: Read, W: Write>(
             )?;
             unless_none(count, Fault::BadLines(count))
         }
-        GameCommand::Verify => check_record(alloc, &game, reader, writer),
+        GameCommand::Verify => check_record(alloc, &game, reader, writer, remarks),
         GameCommand::VerifyLines => match check_records(alloc, &game, reader, writer) {
             Ok(count) => unless_none(count, Fault::UnlawfulRecords(count)),
             Err(fault) => Err(fault),

@@ -4,6 +4,7 @@ use crate::bad_entries::push_bad_entry;
 use crate::bad_lines::push_first_bad_line;
 use described_games::{DescriptionFault, push_explanation};
 use ground_rules::LoadFault;
+use match_record::VerifyFault;
 use std::alloc::{AllocError, Global};
 
 /// The lines that explain a fault, each with a line feed. There are none if they are not wanted, or if they were out of memory.
@@ -14,13 +15,26 @@ pub struct Remarks {
     lines: String,
 }
 
-/// What helps against the fault of a text, in words, if something does. A text without a list may be the name of a file.
+/// What helps against the fault of a text, in words, if something does. A text without a list may be the name of a file, but an empty
+/// one can't be.
 fn remedy(text: &[u8], fault: DescriptionFault) -> Option<&'static str> {
     match fault {
-        DescriptionFault::Unfit(LoadFault::NoRole) if !text.contains(&b'(') => {
+        DescriptionFault::Unfit(LoadFault::NoRole) if !text.is_empty() && !text.contains(&b'(') => {
             Some("--rules takes the rules themselves, and --rules-file the name of their file")
         }
         _ => fault.remedy(),
+    }
+}
+
+/// What helps against a text of several lines where one record was expected.
+const LINES: &str =
+    "ggp_manager: the text has several lines: with --lines each line is checked as a record\n";
+
+/// Whether the text has more than one line.
+fn has_lines(text: &[u8]) -> bool {
+    match text.iter().position(|byte| *byte == b'\n') {
+        Some(end) => end.saturating_add(1) < text.len(),
+        None => false,
     }
 }
 
@@ -70,6 +84,16 @@ impl Remarks {
     /// Explains the line of this number of an account. Lines are numbered from 1. `right` is the right line, if the line holds a call.
     pub fn bad_entry(&mut self, account: &[u8], number: u64, right: Option<&[u8]>) {
         if self.is_wanted && push_bad_entry(account, number, right, &mut self.lines).is_err() {
+            self.lines.clear();
+        }
+    }
+
+    /// Says what helps against the fault of a text that is no record, if it has several lines.
+    pub fn unlawful(&mut self, text: &[u8], fault: VerifyFault) {
+        if !self.is_wanted || !matches!(fault, VerifyFault::NotJson) || !has_lines(text) {
+            return;
+        }
+        if self.lines.push_str(LINES).is_err() {
             self.lines.clear();
         }
     }

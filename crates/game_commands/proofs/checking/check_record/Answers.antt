@@ -1,5 +1,4 @@
 use Rattle.std.proofs.Common.{rules, ◌≡◌, ◌≢◌, ◌≤◌, List, ℕ, length, refl, sym, subst}
-use Rattle.std.proofs.lemmas.Result.{err_from_is_err_and}
 use Rattle.std.specs.Io.KnownBytes.{Consumes, IsAtEnd}
 use Rattle.std.specs.Prelude.{Option}
 use Rattle.game_core.specs.Counting.{Counting}
@@ -25,17 +24,16 @@ check_fails remaining contents g text reader reader' writer WrongGoals short rea
 check_fails remaining contents g text reader reader' writer WrongEnd short read ended unlawful first = (short, read, refl, ended, unlawful (λ same. absurd cc), first)
 check_fails remaining contents g text reader reader' writer Memory short read ended unlawful first = (short, read, refl)
 
-pub returns-in_err-verify-clause-fails : goal.returns-in_err-verify-clause-fails
-returns-in_err-verify-clause-fails g c =
+pub returns-in-Err-clause-fails : goal.returns-in-Err-clause-fails
+returns-in-Err-clause-fails g c =
     let game = g.G.Game.rules c.args.game.now in
     let text = c.deref.result.now in
     let reader = c.args.reader.now in
     let reader' = c.read_to_end.new.reader in
     let writer = c.args.writer.now in
-    let passed = err_from_is_err_and c.from_residual-in_err-verify.result c.from_residual-in_err-verify.ensures.1 in
     let given : Consumes (g.R.Read.remaining reader.stream) (g.R.Read.remaining reader'.stream) text = search rules in
     let short : length text ≤ max_record = search rules in
     let read : reader'.faults ≡ reader.faults = search rules in
     let ended : IsAtEnd (g.R.Read.remaining reader'.stream) = search rules in
-    let why = check_fails g.R.Read.remaining g.W.Write.contents game text reader reader' writer c.in_err-verify.field-0.0 short read ended c.in_err-verify.ensures.refused c.in_err-verify.ensures.first in
-    rw passed.1 (text, given, subst (λ fault. CheckFails g.R.Read.remaining g.W.Write.contents game fault text reader reader' writer writer) (sym passed.2) why)
+    let why = check_fails g.R.Read.remaining g.W.Write.contents game text reader reader' writer c.in-Err.fault short read ended c.in-Err.ensures.refused c.in-Err.ensures.first in
+    (text, given, subst (λ fault. CheckFails g.R.Read.remaining g.W.Write.contents game fault text reader reader' writer writer) (sym c.from.ensures) why)
