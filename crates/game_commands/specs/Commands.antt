@@ -20,11 +20,11 @@ use Rattle.match_plans.specs.declared.game_source.GameSource.TheVariants.{Countd
 use Rattle.match_plans.specs.declared.game_source.RulesSource.{RulesSource}
 use Rattle.match_plans.specs.declared.game_source.RulesSource.TheVariants.{Text, File}
 use Rattle.game_commands.specs.declared.fault.Fault.{Fault}
-use Rattle.game_commands.specs.declared.fault.Fault.TheVariants.{WrongUse, Memory, BadDescription, RulesFile, BadLines, UnlawfulRecords}
-use Rattle.game_commands.specs.declared.rules.FileFault.{FileFault}
+use Rattle.game_commands.specs.declared.fault.Fault.TheVariants.{WrongUse, Memory, BadDescription, BadLines, UnlawfulRecords}
+use Rattle.game_commands.specs.declared.files.NamedFile.TheVariants.{Rules as RulesFile}
 use Rattle.game_commands.specs.declared.script_fault.ScriptFault.{ScriptFault}
 use Rattle.game_commands.specs.declared.verdicts.Verdict.{Verdict}
-use Rattle.game_commands.specs.Faults.{script_fault}
+use Rattle.game_commands.specs.Faults.{IsFileFault, script_fault}
 use Rattle.game_commands.specs.ScriptFaults.{ScriptFails}
 use Rattle.game_commands.specs.Verdicts.{AreVerdicts, verdict_lines, count_unlawful}
 use Rattle.game_commands.specs.Replays.{account_lines, IsReplayed, ReplayFails}
@@ -73,10 +73,6 @@ Fails remaining contents rules game command fault reader reader' writer writer' 
 
 -- ---- the game of a source
 
--- out of memory, or why the file of the rules could not be read
-abbrev pub IsFileFault : Fault → Type 0
-IsFileFault fault = (fault ≡ Memory) ⊎ ((why : FileFault) × (fault ≡ RulesFile why))
-
 -- the text is that of the source; a file may have any text
 abbrev pub IsTextOf : RulesSource → List ℕ → Type 0
 IsTextOf (Text rules) text = text ≡ rules.now
@@ -85,7 +81,7 @@ IsTextOf (File path) text = Unit {0}
 -- the fault for a text that can't be had: only a file's
 abbrev pub HasNoText : RulesSource → Fault → Type 0
 HasNoText (Text rules) fault = ⊥
-HasNoText (File path) fault = IsFileFault fault
+HasNoText (File path) fault = IsFileFault RulesFile fault
 
 -- this holds of the game of the source
 abbrev pub HoldsOfGame : GameSource → ((G S M : Type 0) → (G → Rules S M) → G → Type 0) → Type 0

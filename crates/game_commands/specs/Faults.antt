@@ -1,4 +1,7 @@
--- The program's fault for a fault of one of its parts.
+-- The program's fault for a fault of one of its parts, and its status.
+use Rattle.std.specs.Prelude.{◌≡◌, ◌⊎◌, ℕ}
+use Rattle.match_plans.specs.declared.schedule_fault.ScheduleFault.{ScheduleFault}
+use Rattle.match_plans.specs.declared.schedule_fault.ScheduleFault.TheVariants.{BadLine, Memory as ScheduleMemory}
 use Rattle.record_reading.specs.declared.verify_fault.VerifyFault.{VerifyFault}
 use Rattle.record_reading.specs.declared.verify_fault.VerifyFault.TheVariants.{Memory as CheckMemory}
 use Rattle.whole_streams.specs.declared.whole.InputFault.{InputFault}
@@ -6,8 +9,10 @@ use Rattle.whole_streams.specs.declared.whole.InputFault.TheVariants.{ReadFault 
 use Rattle.game_commands.specs.declared.script_fault.ScriptFault.{ScriptFault}
 use Rattle.game_commands.specs.declared.script_fault.ScriptFault.TheVariants.{ReadFault as ScriptReadFault, TooLong as ScriptTooLong, Memory as ScriptMemory, WriteFault as ScriptWriteFault}
 use Rattle.game_commands.specs.declared.fault.Fault.{Fault}
-use Rattle.game_commands.specs.declared.fault.Fault.TheVariants.{Memory, RulesFile, ReadFault, InputTooLong, WriteFault, NotLawful}
-use Rattle.game_commands.specs.declared.rules.FileFault.TheVariants.{Unread, TooLong as FileTooLong}
+use Rattle.game_commands.specs.declared.fault.Fault.TheVariants.{WrongUse, Memory, File, ReadFault, InputTooLong, WriteFault, BadSchedule, NotLawful}
+use Rattle.game_commands.specs.declared.files.NamedFile.{NamedFile}
+use Rattle.game_commands.specs.declared.files.FileFault.{FileFault}
+use Rattle.game_commands.specs.declared.files.FileFault.TheVariants.{Unread, TooLong as FileTooLong}
 
 abbrev pub script_input_fault : InputFault → ScriptFault
 script_input_fault InputReadFault = ScriptReadFault
@@ -24,13 +29,28 @@ script_fault ScriptWriteFault = WriteFault
 abbrev pub input_fault : InputFault → Fault
 input_fault fault = script_fault (script_input_fault fault)
 
--- a file of rules that can't be read
-abbrev pub reading_fault : InputFault → Fault
-reading_fault InputReadFault = RulesFile Unread
-reading_fault TooLong = RulesFile FileTooLong
-reading_fault InputMemory = Memory
+-- a file that can't be read
+abbrev pub reading_fault : NamedFile → InputFault → Fault
+reading_fault named InputReadFault = File named Unread
+reading_fault named TooLong = File named FileTooLong
+reading_fault named InputMemory = Memory
+
+-- out of memory, or why the file that is named for this could not be read
+abbrev pub IsFileFault : NamedFile → Fault → Type 0
+IsFileFault named fault = (fault ≡ Memory) ⊎ ((why : FileFault) × (fault ≡ File named why))
 
 -- a record that fails a test is not lawful
 abbrev pub check_fault : VerifyFault → Fault
 check_fault CheckMemory = Memory
 check_fault fault = NotLawful fault
+
+-- a schedule with a bad line is a bad one
+abbrev pub schedule_fault : ScheduleFault → Fault
+schedule_fault (BadLine number why) = BadSchedule number why
+schedule_fault ScheduleMemory = Memory
+
+-- The program's status for a fault. Without one it is 0.
+abbrev pub status_of : Fault → ℕ
+status_of WrongUse = 2
+status_of Memory = 3
+status_of fault = 1

@@ -5,11 +5,13 @@ ghost use Rattle.std.specs.Str.Lines.{lines};
 ghost use Rattle.game_core.specs.Bytes.{space};
 ghost use Rattle.desk_calls.specs.Phases.{is_last};
 ghost use Rattle.game_commands.specs.Done.{AreDone, AreNamesOf, is_noted, match_names};
+ghost use Rattle.game_commands.specs.Faults.{IsFileFault};
 ghost use Rattle.game_commands.specs.declared.fault.Fault.TheVariants.{Memory};
+ghost use Rattle.game_commands.specs.declared.files.NamedFile.TheVariants.{Records};
 
 use crate::checking::MAX_RECORD;
 use crate::fault::Fault;
-use crate::rules::{opening_fault, reading_fault};
+use crate::files::{FileFault, NamedFile, opening_fault, reading_fault};
 use game_core::{Counted, Game};
 use indexmap::IndexSet;
 use match_plans::MatchPlan;
@@ -100,7 +102,8 @@ impl DoneMatches {
 
     /// Notes the match of a line, if the line is its lawful record and the match is over. Any other line is skipped.
     fn note<G: Game>(&mut self, alloc: Global, game: &G, line: &[u8]) -> Result<(), Fault>
-        ensures { OnOk result ((first : List (List ℕ)) → AreDone (G.rules game.now) first self.old → AreDone (G.rules game.now) (first ++ line.now ∷ []) self.new) }
+        ensures noted { OnOk result ((first : List (List ℕ)) → AreDone (G.rules game.now) first self.old → AreDone (G.rules game.now) (first ++ line.now ∷ []) self.new) }
+        ensures memory { IfErr result (λ fault. fault ≡ Memory) }
     {
         match done_names(alloc, game, line) {
             Ok(Some(names)) => self.add(names),
@@ -111,7 +114,8 @@ impl DoneMatches {
 
     /// Adds the names of a match.
     fn add(&mut self, names: Vec<u8>) -> Result<(), Fault>
-        ensures { OnOk result ((others : List ℕ) → IsTrue (is_noted self.new others) ↔ (IsTrue (is_noted self.old others) ⊎ (names.items ≡ others))) }
+        ensures added { OnOk result ((others : List ℕ) → IsTrue (is_noted self.new others) ↔ (IsTrue (is_noted self.old others) ⊎ (names.items ≡ others))) }
+        ensures memory { IfErr result (λ fault. fault ≡ Memory) }
     {
         self.names.insert(names)?;
         Ok(())
@@ -124,10 +128,11 @@ fn done_in<G: Game, R: Read>(
     game: &G,
     reader: &mut Counted<R>,
 ) -> Result<DoneMatches, Fault>
-    ensures { IfOk result (λ done. (input : List ℕ)
+    ensures done { IfOk result (λ done. (input : List ℕ)
         × Consumes (R.remaining reader.old.stream) (R.remaining reader.new.stream) input
         × IsAtEnd (R.remaining reader.new.stream)
         × AreDone (G.rules game.now) (lines input) done) }
+    ensures fault { IfErr result (IsFileFault Records) }
 {
     lines_are_taken();
     let mut done = DoneMatches {
@@ -142,18 +147,10 @@ fn done_in<G: Game, R: Read>(
                 return Ok(done);
             }
             Ok(NextLine::Nothing) => return Ok(done),
-            Err(fault) => return Err(done_fault(reading_fault(fault))),
+            Err(fault) => return Err(reading_fault(NamedFile::Records, fault)),
         }
     }
-    Err(Fault::InputTooLong)
-}
-
-/// The fault for a file of records, by that for a file of rules.
-fn done_fault(fault: Fault) -> Fault {
-    match fault {
-        Fault::RulesFile(why) => Fault::DoneFile(why),
-        _ => fault,
-    }
+    Err(Fault::File(NamedFile::Records, FileFault::TooLong))
 }
 
 /// The matches of the game that are over, by the file of records at this path. Each line is one record. Other lines are skipped, and so
@@ -164,11 +161,12 @@ pub fn done_matches<F: Files, G: Game>(
     game: &G,
     path: &str,
 ) -> Result<DoneMatches, Fault>
-    ensures { IfOk result (λ done. (input : List ℕ) × AreDone (G.rules game.now) (lines input) done) }
+    ensures done { IfOk result (λ done. (input : List ℕ) × AreDone (G.rules game.now) (lines input) done) }
+    ensures fault { IfErr result (IsFileFault Records) }
 {
     let file = match fs::open(files, path) {
         Ok(file) => file,
-        Err(error) => return Err(done_fault(opening_fault(error))),
+        Err(error) => return Err(opening_fault(NamedFile::Records, error)),
     };
     done_in(alloc, game, &mut Counted::new(file))
 }

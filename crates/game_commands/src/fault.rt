@@ -1,6 +1,9 @@
 //! The faults of the program.
+ghost use Rattle.std.specs.Prelude.{◌≡◌};
+ghost use Rattle.game_commands.specs.Faults.{schedule_fault, script_fault, status_of};
+ghost use Rattle.game_commands.specs.declared.fault.Fault.TheVariants.{Memory, WriteFault};
 
-use crate::rules::FileFault;
+use crate::files::{FileFault, NamedFile};
 use crate::script_fault::ScriptFault;
 use desk_calls::Refusal;
 use desk_text::refusal_word;
@@ -19,14 +22,10 @@ pub enum Fault {
     Memory,
     /// The text of the rules is not KIF, or is no ground description.
     BadDescription,
-    /// The file of the rules could not be read.
-    RulesFile(FileFault),
-    /// The file of the players' rules could not be read.
-    ToldFile(FileFault),
+    /// The file that the command line names for this could not be read.
+    File(NamedFile, FileFault),
     /// The file of the players' rules is not KIF.
     BadTold,
-    /// The file of records of matches that are over could not be read.
-    DoneFile(FileFault),
     /// Standard input failed.
     ReadFault,
     /// The input is longer than its limit.
@@ -40,7 +39,7 @@ pub enum Fault {
     /// The match has neither finished nor been aborted.
     MatchNotEnded,
     /// The referee had this shortage in the match, so an answer in it is not the player's.
-    NoRecord(Shortage),
+    Shortage(Shortage),
     /// The schedule's line of this number is bad. No match was begun.
     BadSchedule(u64, LineFault),
     /// The number of a schedule's matches without a record. The other records are output.
@@ -61,7 +60,9 @@ pub enum Fault {
 
 impl Fault {
     /// The program's status.
-    pub fn status(self) -> u8 {
+    pub fn status(self) -> u8
+        ensures { result ≡ status_of self }
+    {
         match self {
             Fault::WrongUse => 2,
             Fault::Memory => 3,
@@ -75,10 +76,8 @@ impl Fault {
             Fault::WrongUse => "wrong use",
             Fault::Memory => "want of memory",
             Fault::BadDescription => "bad description",
-            Fault::RulesFile(_) => "bad description: ",
-            Fault::ToldFile(_) => "bad told description: ",
+            Fault::File(named, _) => named.words(),
             Fault::BadTold => "bad told description",
-            Fault::DoneFile(_) => "bad file of records: ",
             Fault::ReadFault => "read fault",
             Fault::InputTooLong => "input too long",
             Fault::WriteFault => "write fault",
@@ -86,7 +85,7 @@ impl Fault {
             Fault::Refused(_) => "refused ",
             Fault::MatchNotEnded => "match not ended",
             Fault::BadSchedule(_, _) => "bad schedule: line ",
-            Fault::NoRecord(_) => "match without record: ",
+            Fault::Shortage(_) => "match without record: ",
             Fault::NoRecords(_) => "matches without record ",
             Fault::NotLawful(_) => "not lawful: ",
             Fault::UnlawfulRecords(_) => "records not lawful ",
@@ -101,11 +100,9 @@ impl fmt::Display for Fault {
     fn fmt<F: fmt::Write>(&self, f: &mut fmt::Formatter<F>) -> fmt::Result {
         f.write_str(self.words())?;
         match *self {
-            Fault::RulesFile(why) | Fault::ToldFile(why) | Fault::DoneFile(why) => {
-                f.write_str(why.words())
-            }
+            Fault::File(_, why) => f.write_str(why.words()),
             Fault::Refused(refusal) => f.write_str(refusal_word(refusal)),
-            Fault::NoRecord(shortage) => write!(f, "{shortage}"),
+            Fault::Shortage(shortage) => write!(f, "{shortage}"),
             Fault::NotLawful(fault) => write!(f, "{fault}"),
             Fault::BadSchedule(number, why) => write!(f, "{number}: {why}"),
             Fault::NoEntry(number) => write!(f, "{number} is no entry"),
@@ -120,9 +117,6 @@ impl fmt::Display for Fault {
 }
 
 impl From<AllocError> for Fault {
-    ghost use Rattle.std.specs.Prelude.{◌≡◌};
-    ghost use Rattle.game_commands.specs.declared.fault.Fault.TheVariants.{Memory};
-
     ghost from_gives = { λ _ given. given ≡ Memory };
 
     fn from(_: AllocError) -> Fault {
@@ -131,9 +125,6 @@ impl From<AllocError> for Fault {
 }
 
 impl<T: Drop> From<AllocFailed<T>> for Fault {
-    ghost use Rattle.std.specs.Prelude.{◌≡◌};
-    ghost use Rattle.game_commands.specs.declared.fault.Fault.TheVariants.{Memory};
-
     ghost from_gives = { λ _ given. given ≡ Memory };
 
     fn from(_: AllocFailed<T>) -> Fault {
@@ -142,6 +133,8 @@ impl<T: Drop> From<AllocFailed<T>> for Fault {
 }
 
 impl From<ScheduleFault> for Fault {
+    ghost from_gives = { λ fault given. given ≡ schedule_fault fault };
+
     fn from(fault: ScheduleFault) -> Fault {
         match fault {
             ScheduleFault::BadLine(number, why) => Fault::BadSchedule(number, why),
@@ -151,9 +144,6 @@ impl From<ScheduleFault> for Fault {
 }
 
 impl From<ScriptFault> for Fault {
-    ghost use Rattle.std.specs.Prelude.{◌≡◌};
-    ghost use Rattle.game_commands.specs.Faults.{script_fault};
-
     ghost from_gives = { λ fault given. given ≡ script_fault fault };
 
     fn from(fault: ScriptFault) -> Fault {
@@ -167,9 +157,6 @@ impl From<ScriptFault> for Fault {
 }
 
 impl From<WriteFault> for Fault {
-    ghost use Rattle.std.specs.Prelude.{◌≡◌};
-    ghost use Rattle.game_commands.specs.declared.fault.Fault.TheVariants.{WriteFault};
-
     ghost from_gives = { λ _ given. given ≡ WriteFault };
 
     fn from(_: WriteFault) -> Fault {

@@ -24,11 +24,11 @@ loop-preserved g c =
       was.1 ++ c.deref.result.now ∷ [],
       Consumes-trans _ _ _ _ _ was.2 next.1,
       begins_line c.lines_are_taken.ensures.first (was.0 ++ next.0) was.1 bytes c.deref.result.now left (begins_more was.0 was.1 c.loop.buffer next.0 was.3) line,
-      c.in_ok-note-in-Ok-Ended.ensures was.1 was.4,
+      c.in_ok-note-in-Ok-Ended.ensures.noted was.1 was.4,
     )
 
-pub returns-in-Ok-Last : goal.returns-in-Ok-Last
-returns-in-Ok-Last g c =
+pub returns-in-Ok-Last-clause-done : goal.returns-in-Ok-Last-clause-done
+returns-in-Ok-Last-clause-done g c =
     let was = c.loop.invariant in
     let next = c.in-Ok-Last.ensures.next in
     let last = subst (λ n. IsNextLine (g.R.Read.remaining c.next_line.new.reader.stream) (c.loop.buffer ++ next.0) n c.next_line.new.self) c.in-Ok-Last.field-0-is next.2 in
@@ -37,11 +37,11 @@ returns-in-Ok-Last g c =
       was.0 ++ next.0,
       Consumes-trans _ _ _ _ _ was.2 next.1,
       last.4,
-      subst (λ ls. AreDone (g.G.Game.rules c.args.game.now) ls c.note-in-Ok-Last.new.self) (sym cut) (c.in_ok-note-in-Ok-Last.ensures was.1 was.4),
+      subst (λ ls. AreDone (g.G.Game.rules c.args.game.now) ls c.note-in-Ok-Last.new.self) (sym cut) (c.in_ok-note-in-Ok-Last.ensures.noted was.1 was.4),
     )
 
-pub returns-in-Ok-Nothing : goal.returns-in-Ok-Nothing
-returns-in-Ok-Nothing g c =
+pub returns-in-Ok-Nothing-clause-done : goal.returns-in-Ok-Nothing-clause-done
+returns-in-Ok-Nothing-clause-done g c =
     let was = c.loop.invariant in
     let next = c.in-Ok-Nothing.ensures.next in
     let none = subst (λ n. IsNextLine (g.R.Read.remaining c.next_line.new.reader.stream) (c.loop.buffer ++ next.0) n c.next_line.new.self) c.in-Ok-Nothing.field-0-is next.2 in
