@@ -1,2 +1,4 @@
 mod LargestNumbers
 mod SeasonEnds
+mod TaskEnds
+mod ToldPlayers

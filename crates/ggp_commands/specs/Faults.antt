@@ -14,7 +14,7 @@ use Rattle.command_line.specs.declared.tasks.HostedTask.TheVariants.{Check}
 use Rattle.command_line.specs.declared.arguments.ArgumentFault.{ArgumentFault}
 use Rattle.command_line.specs.declared.arguments.ArgumentFault.TheVariants.{Memory as ArgumentMemory}
 use Rattle.game_commands.specs.declared.fault.Fault.{Fault}
-use Rattle.game_commands.specs.declared.fault.Fault.TheVariants.{WrongUse, Memory, WriteFault, NoAnswer, Refused, MatchNotEnded, NoRecord, NoRecords, BadAnswers}
+use Rattle.game_commands.specs.declared.fault.Fault.TheVariants.{WrongUse, Memory, WriteFault, NoAnswer, Refused, MatchNotEnded, Shortage, NoRecords, BadAnswers}
 
 -- a refused command line is a wrong use
 abbrev pub argument_fault : ArgumentFault → Fault
@@ -24,7 +24,7 @@ argument_fault fault = WrongUse
 abbrev pub match_fault : MatchFault → Fault
 match_fault (MatchRefused refusal) = Refused refusal
 match_fault NotEnded = MatchNotEnded
-match_fault (MatchShortage shortage) = NoRecord shortage
+match_fault (MatchShortage shortage) = Shortage shortage
 match_fault MatchMemory = Memory
 
 abbrev pub season_fault : SeasonFault → Fault

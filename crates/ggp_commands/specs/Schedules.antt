@@ -1,23 +1,30 @@
 -- The matches of a season that are played.
-use Rattle.std.specs.Prelude.{◌≡◌, ℕ, Bool, true, false, List, MatchOption, Option, filter, length, map, not}
+use Rattle.std.specs.Prelude.{◌≡◌, ◌⊎◌, ℕ, Bool, true, false, List, MatchOption, Option, filter, is_some, length, map, not}
 use Rattle.std.specs.List.{AllZip}
 use Rattle.std.specs.Str.Lines.{lines}
 use Rattle.ground_rules.specs.LoadedGame.{loaded_game}
 use Rattle.packed_rules.specs.PackedGames.{tables_of}
 use Rattle.packed_rules.specs.declared.packed_game.PackedGame.{PackedGame}
 use Rattle.game_commands.specs.Done.{AreDone, is_noted, match_names}
+use Rattle.game_commands.specs.Faults.{IsFileFault, schedule_fault}
 use Rattle.game_commands.specs.declared.done.DoneMatches.{DoneMatches}
+use Rattle.game_commands.specs.declared.fault.Fault.{Fault}
+use Rattle.game_commands.specs.declared.fault.Fault.TheVariants.{Memory}
+use Rattle.game_commands.specs.declared.files.NamedFile.TheVariants.{Records}
 use Rattle.command_line.specs.declared.tasks.HostedTask.{HostedTask}
 use Rattle.command_line.specs.declared.tasks.HostedTask.TheVariants.{Season}
 use Rattle.command_line.specs.declared.tasks.SeasonPlan.{SeasonPlan}
-use Rattle.match_plans.specs.Schedules.{match_lines, IsPlanned}
+use Rattle.match_plans.specs.Schedules.{cut_lines, match_lines, IsBadLine, IsPlanned}
 use Rattle.match_plans.specs.declared.addresses.PlayerAddress.{PlayerAddress}
 use Rattle.match_plans.specs.declared.plan.MatchPlan.{MatchPlan}
 use Rattle.match_plans.specs.declared.reach.RolePlace.{RolePlace}
+use Rattle.match_plans.specs.declared.schedule_fault.ScheduleFault.{ScheduleFault}
 use Rattle.role_workers.specs.Handing.{Handed}
 use Rattle.match_play.specs.declared.hosting.HostedGame.{HostedGame}
 use Rattle.match_season.specs.Outputs.{IsOutputOf}
-use Rattle.match_season.specs.Seasons.{WritesAllBut}
+use Rattle.match_season.specs.Seasons.{WritesAllBut, WritesUpTo}
+use Rattle.match_season.specs.declared.season_output.SeasonFault.{SeasonFault}
+use Rattle.ggp_commands.specs.Faults.{season_fault}
 
 -- the task has a schedule for its input
 abbrev pub has_schedule : HostedTask → Bool
@@ -38,8 +45,22 @@ abbrev pub AreToPlay : {F : Type 0} → PackedGame → ℕ → Option F → List
 AreToPlay game strikes done schedule plans = (all : List MatchPlan) × AllZip (IsPlanned strikes) (match_lines schedule) all
     × MatchOption done (plans ≡ all) (λ file. (noted : DoneMatches) × ((records : List ℕ) × AreDone (loaded_game (tables_of game)) (lines records) noted) × (plans ≡ left_of noted all))
 
+-- Why there are no matches to play: out of memory, the schedule's first bad line, or the file of the finished matches that is named can't be
+-- read.
+abbrev pub HasNoPlans : {F : Type 0} → PackedGame → ℕ → Option F → List ℕ → Fault → Type 0
+HasNoPlans game strikes done schedule fault = (fault ≡ Memory)
+    ⊎ (((bad : ScheduleFault) × (fault ≡ schedule_fault bad) × IsBadLine (loaded_game (tables_of game)).roles strikes (cut_lines schedule) bad)
+    ⊎ ((is_some done ≡ true) × IsFileFault Records fault))
+
 -- From one content of a stream to the other the output of each match to play was written, as the season's form asks, but for the missing
 -- ones. Each match is of this game. Its players were reached at the addresses of their roles, and got the game's rules.
 abbrev pub WritesSeason : {P : Type 0} → (RolePlace → PlayerAddress → P → Type 0) → (P → Option (List Handed)) → HostedGame → SeasonPlan → List ℕ → ℕ → Option (List ℕ) → Option (List ℕ) → Type 0
 WritesSeason is_reached handed game season schedule missing old new = (plans : List MatchPlan) × AreToPlay game.game.now season.strikes season.done schedule plans
     × WritesAllBut (IsOutputOf is_reached handed game plans season.form.has_history) season.form.order missing (length plans) old new
+
+-- What a season that ended with this fault has written: nothing if it has no matches to play, and otherwise the outputs up to that fault.
+abbrev pub WritesSeasonUpTo : {P : Type 0} → (RolePlace → PlayerAddress → P → Type 0) → (P → Option (List Handed)) → HostedGame → SeasonPlan → List ℕ → Option (List ℕ) → Option (List ℕ) → Fault → Type 0
+WritesSeasonUpTo is_reached handed game season schedule old new fault =
+    (HasNoPlans game.game.now season.strikes season.done schedule fault × (new ≡ old))
+    ⊎ ((plans : List MatchPlan) × (why : SeasonFault) × AreToPlay game.game.now season.strikes season.done schedule plans × (fault ≡ season_fault why)
+    × WritesUpTo (IsOutputOf is_reached handed game plans season.form.has_history) season.form.order (length plans) old new why)

@@ -1,14 +1,22 @@
 //! The commands, over any streams, runtime and players.
-ghost use Rattle.std.specs.Prelude.{◌≡◌, OnOk};
+ghost use Rattle.std.specs.Prelude.{◌≡◌, IfErr, IfOk, OnOk};
+ghost use Rattle.std.specs.Io.KnownBytes.{Appends};
+ghost use Rattle.match_log.specs.LoggedPlayers.{is_logged_reached, logged_handed};
+ghost use Rattle.match_season.specs.Seasons.{AppendsPart};
+ghost use Rattle.game_commands.specs.Faults.{status_of};
+ghost use Rattle.game_commands.specs.declared.fault.Fault.TheVariants.{WriteFault};
+ghost use Rattle.ggp_commands.specs.Hosting.{IsHosted};
+ghost use Rattle.ggp_commands.specs.Tasks.{Fails, FailsToPlay, Performs, Plays, ReadsInput};
 
 use crate::errands::{abort, info};
 use crate::faults::{argument_fault, task_end};
-use crate::hosting::host;
+use crate::hosting::{Hosting, host};
 use crate::matches::{hold_matches, input_of};
 use crate::terminals::Terminals;
-use command_line::{Task, has_own_word, read_arguments, refusal};
+use command_line::{HostedTask, HostingPlan, Task, has_own_word, read_arguments, refusal};
 use game_commands::{Fault, Remarks, for_game};
 use game_core::Counted;
+use match_log::Outlet;
 use match_plans::{Reach, TellsShortages};
 use network_players::Explains;
 use role_workers::Player;
@@ -65,7 +73,8 @@ fn texts<'a>(alloc: Global, words: &'a [String]) -> Result<Vec<&'a str>, AllocEr
 
 /// Reports the fault of a command, if it has one. Returns the program's status.
 fn end<E: Write>(performed: Result<(), Fault>, remarks: &Remarks, errors: &mut E) -> u8
-    ensures { OnOk performed (result ≡ 0) }
+    ensures none { OnOk performed (result ≡ 0) }
+    ensures some { IfErr performed (λ fault. result ≡ status_of fault) }
 {
     match performed {
         Ok(()) => 0,
@@ -109,6 +118,107 @@ fn task_of<'a>(
     }
 }
 
+/// The game of a plan with the rules for its players, and the input of a task on it.
+fn prepared<F: Files, R: Read>(
+    files: &F,
+    alloc: Global,
+    plan: &HostingPlan<'_>,
+    task: &HostedTask<'_>,
+    reader: &mut Counted<R>,
+    remarks: &mut Remarks,
+) -> Result<(Hosting, Vec<u8>), Fault>
+    ensures hosted { IfOk result (λ prepared. IsHosted plan.now prepared.0.game prepared.0.rules.items) }
+    ensures read { IfOk result (λ prepared. ReadsInput R.remaining task.now prepared.1.items reader.old reader.new) }
+{
+    let hosting = host(files, alloc, *plan, remarks)?;
+    let input = input_of(alloc, task, reader)?;
+    Ok((hosting, input))
+}
+
+/// Plays the matches of a task. Hands the output back, so its content is known.
+fn play<'w, N: Outlet, H, P, S, R: Read, W: Write, E: Write + Send>(
+    rt: &H,
+    alloc: Global,
+    reach: &S,
+    plan: &HostingPlan<'_>,
+    task: &HostedTask<'_>,
+    reader: &mut Counted<R>,
+    writer: &'w mut Counted<W>,
+    errors: &mut E,
+    terminals: Terminals,
+    remarks: &mut Remarks,
+) -> (Result<(), Fault>, &'w mut Counted<W>)
+where
+    H: Net + Clock + Files + Threads + Wait + Sync,
+    P: Player + Explains + Drop + Send,
+    S: Reach<P> + TellsShortages + Sync,
+    requires picked { N.name ≡ writer.ghost_name }
+    ensures output { result.1.ghost_name ≡ writer.entry.ghost_name }
+    ensures played { OnOk result.0 (Plays H (is_logged_reached H (S.is_reached reach.now)) (logged_handed H P.handed) R.remaining W.contents plan.now task.now reader.old reader.new writer.entry.now result.1.now 0) }
+    ensures at_fault { IfErr result.0 (FailsToPlay H (is_logged_reached H (S.is_reached reach.now)) (logged_handed H P.handed) R.remaining W.contents plan.now task.now reader.old reader.new writer.entry.now result.1.now) }
+{
+    let (hosting, input) = match prepared(rt, alloc, plan, task, reader, remarks) {
+        Ok(prepared) => prepared,
+        Err(fault) => return (Err(fault), writer),
+    };
+    let (held, writer) = hold_matches::<N, H, P, S, W, E>(
+        rt,
+        alloc,
+        reach,
+        plan.is_logged,
+        task,
+        hosting.hosted(),
+        &input,
+        writer,
+        errors,
+        terminals,
+    );
+    (task_end(task, held), writer)
+}
+
+/// Performs a task. Hands the output back, so its content is known.
+fn perform_task<'w, N: Outlet, H, P, S, R: Read, W: Write, E: Write + Send>(
+    rt: &H,
+    alloc: Global,
+    reach: &S,
+    task: &Task<'_>,
+    reader: &mut Counted<R>,
+    writer: &'w mut Counted<W>,
+    errors: &mut E,
+    terminals: Terminals,
+    remarks: &mut Remarks,
+) -> (Result<(), Fault>, &'w mut Counted<W>)
+where
+    H: Net + Clock + Files + Threads + Wait + Sync,
+    P: Player + Explains + Drop + Send,
+    S: Reach<P> + TellsShortages + Sync,
+    requires picked { N.name ≡ writer.ghost_name }
+    ensures output { result.1.ghost_name ≡ writer.entry.ghost_name }
+    ensures performed { OnOk result.0 (Performs H (is_logged_reached H (S.is_reached reach.now)) (logged_handed H P.handed) R.remaining W.contents task.now reader.old reader.new writer.entry.now result.1.now) }
+    ensures at_fault { IfErr result.0 (Fails H (is_logged_reached H (S.is_reached reach.now)) (logged_handed H P.handed) R.remaining W.contents task.now reader.old reader.new writer.entry.now result.1.now) }
+{
+    match task {
+        Task::Show(text) => (show(text.as_str(), writer), writer),
+        Task::Game(command, game) => {
+            let performed = for_game(rt, alloc, *command, *game, reader, writer, remarks);
+            (performed, writer)
+        }
+        Task::Info(player) => (info(rt, alloc, player, writer, errors, terminals), writer),
+        Task::Abort(plan) => (abort(rt, alloc, plan, writer, errors, terminals), writer),
+        Task::Host(plan, task) => play::<N, H, P, S, R, W, E>(
+            rt, alloc, reach, plan, task, reader, writer, errors, terminals, remarks,
+        ),
+    }
+}
+
+/// Writes a text.
+fn show<W: Write>(text: &str, writer: &mut Counted<W>) -> Result<(), Fault>
+    ensures whole { OnOk result (Appends (W.contents writer.old.stream) (W.contents writer.new.stream) text.now) }
+    ensures at_fault { IfErr result (λ fault. (fault ≡ WriteFault) × AppendsPart (W.contents writer.old.stream) (W.contents writer.new.stream) text.now) }
+{
+    Ok(write_all(writer, text.as_bytes())?)
+}
+
 /// Performs the command of the words.
 fn perform<H, P, S, R: Read, W: Write, E: Write + Send>(
     rt: &H,
@@ -127,27 +237,8 @@ where
     S: Reach<P> + TellsShortages + Sync,
 {
     let task = task_of(alloc, words, remarks)?;
-    match &task {
-        Task::Show(text) => Ok(write_all(writer, text.as_bytes())?),
-        Task::Game(command, game) => for_game(rt, alloc, *command, *game, reader, writer, remarks),
-        Task::Info(player) => info(rt, alloc, player, writer, errors, terminals),
-        Task::Abort(plan) => abort(rt, alloc, plan, writer, errors, terminals),
-        Task::Host(plan, task) => {
-            let hosting = host(rt, alloc, *plan, remarks)?;
-            let input = input_of(alloc, task, reader)?;
-            let (held, _writer) = hold_matches::<Brand, H, P, S, W, E>(
-                rt,
-                alloc,
-                reach,
-                plan.is_logged,
-                task,
-                hosting.hosted(),
-                &input,
-                writer,
-                errors,
-                terminals,
-            );
-            task_end(task, held)
-        }
-    }
+    let (performed, _writer) = perform_task::<Brand, H, P, S, R, W, E>(
+        rt, alloc, reach, &task, reader, writer, errors, terminals, remarks,
+    );
+    performed
 }

@@ -1,8 +1,10 @@
 //! Single messages to players: a question whether one is free, and ABORT for a match whose referee is gone.
-ghost use Rattle.std.specs.Prelude.{◌≡◌, ℕ, List, IfOk, OnOk, string_bytes};
+ghost use Rattle.std.specs.Prelude.{◌≡◌, ◌≢◌, ◌⊎◌, ℕ, List, false, Err, IfErr, IfOk, OnOk, string_bytes};
 ghost use Rattle.std.specs.Io.KnownBytes.{Appends};
 ghost use Rattle.match_messages.specs.InfoReading.{info_reading};
-ghost use Rattle.ggp_commands.specs.Errands.{abort_line, abort_text, aborted_lines, info_line};
+ghost use Rattle.match_season.specs.Seasons.{AppendsPart};
+ghost use Rattle.game_commands.specs.declared.fault.Fault.TheVariants.{NoAnswer, WriteFault};
+ghost use Rattle.ggp_commands.specs.Errands.{TellsAnswers, abort_line, abort_text, aborted_lines, info_line};
 
 use crate::faults::contact_fault;
 use crate::terminals::Terminals;
@@ -58,7 +60,9 @@ pub fn info<N: Net + Clock, W: Write, E: Write>(
     errors: &mut E,
     terminals: Terminals,
 ) -> Result<(), Fault>
-    ensures { OnOk result ((answer : List ℕ) × Appends (W.contents writer.old.stream) (W.contents writer.new.stream) (info_line (info_reading answer))) }
+    ensures written { OnOk result ((answer : List ℕ) × Appends (W.contents writer.old.stream) (W.contents writer.new.stream) (info_line (info_reading answer))) }
+    ensures at_fault { IfErr result (λ fault. (writer.new ≡ writer.old)
+        ⊎ ((fault ≡ WriteFault) × ((answer : List ℕ) × AppendsPart (W.contents writer.old.stream) (W.contents writer.new.stream) (info_line (info_reading answer))))) }
 {
     let answer = match contact(rt, alloc, player, SECONDS, &info_message()) {
         Ok(answer) => answer,
@@ -108,7 +112,8 @@ fn abort_player<N: Net + Clock, W: Write, E: Write>(
     errors: &mut E,
     terminals: Terminals,
 ) -> Result<bool, Fault>
-    ensures { IfOk result (λ is_answered. Appends (W.contents writer.old.stream) (W.contents writer.new.stream) (abort_line player.now.name.now is_answered)) }
+    ensures told { IfOk result (λ is_answered. Appends (W.contents writer.old.stream) (W.contents writer.new.stream) (abort_line player.now.name.now is_answered)) }
+    ensures others { IfErr result (λ fault. fault ≢ NoAnswer) }
 {
     let is_answered = match contact(rt, alloc, player, SECONDS, message.as_slice()) {
         Ok(_) => true,
@@ -134,7 +139,8 @@ pub fn abort<N: Net + Clock, W: Write, E: Write>(
     errors: &mut E,
     terminals: Terminals,
 ) -> Result<(), Fault>
-    ensures { OnOk result (Appends (W.contents writer.old.stream) (W.contents writer.new.stream) (aborted_lines plan.now.players.items)) }
+    ensures all { OnOk result (Appends (W.contents writer.old.stream) (W.contents writer.new.stream) (aborted_lines plan.now.players.items)) }
+    ensures some { result ≡ Err NoAnswer → TellsAnswers plan.now.players.items false (W.contents writer.old.stream) (W.contents writer.new.stream) }
 {
     if !is_name(plan.id.as_bytes()) {
         return Err(Fault::Refused(Refusal::BadId));

@@ -27,7 +27,7 @@ pub fn match_fault(fault: MatchFault) -> Fault
     match fault {
         MatchFault::Refused(refusal) => Fault::Refused(refusal),
         MatchFault::NotEnded => Fault::MatchNotEnded,
-        MatchFault::Shortage(shortage) => Fault::NoRecord(shortage),
+        MatchFault::Shortage(shortage) => Fault::Shortage(shortage),
         MatchFault::Memory => Fault::Memory,
     }
 }

@@ -1,11 +1,10 @@
 //! The game to play, and the rules for its players.
 ghost use Rattle.std.specs.Prelude.{◌≡◌, ℕ, List, IfOk};
 ghost use Rattle.described_games.specs.Games.{IsDescribed};
-ghost use Rattle.game_commands.specs.Commands.{IsToldText};
-ghost use Rattle.ggp_commands.specs.Hosting.{AreRulesFor, AreSpelled};
+ghost use Rattle.ggp_commands.specs.Hosting.{AreRulesFor, AreSpelled, IsHosted};
 
 use command_line::HostingPlan;
-use game_commands::{Fault, Remarks, file_text, game_of, told_fault, told_rules};
+use game_commands::{Fault, NamedFile, Remarks, file_text, game_of, told_fault, told_rules};
 use match_messages::PrintedRules;
 use match_play::{HostedGame, other_rules, own_rules};
 use packed_rules::PackedGame;
@@ -41,11 +40,7 @@ fn rules_in<F: Files>(
 ) -> Result<PrintedRules, Fault>
     ensures { IfOk result (λ rules. (text : List ℕ) × AreSpelled text rules.items) }
 {
-    let text = match file_text(files, alloc, path) {
-        Ok(text) => text,
-        Err(Fault::RulesFile(why)) => return Err(Fault::ToldFile(why)),
-        Err(fault) => return Err(fault),
-    };
+    let text = file_text(files, alloc, NamedFile::Told, path)?;
     match other_rules(alloc, &text) {
         Ok(rules) => Ok(rules),
         Err(fault) => Err(told_fault(&text, fault, remarks)),
@@ -64,10 +59,7 @@ fn rules_for<F: Files>(
 {
     match told {
         None => Ok(own_rules(alloc, game)?),
-        Some(path) => {
-            let rules = rules_in(files, alloc, path, remarks)?;
-            Ok(rules)
-        }
+        Some(path) => rules_in(files, alloc, path, remarks),
     }
 }
 
@@ -94,8 +86,7 @@ pub fn host<F: Files>(
     plan: HostingPlan<'_>,
     remarks: &mut Remarks,
 ) -> Result<Hosting, Fault>
-    ensures game { IfOk result (λ hosting. (text : List ℕ) × IsToldText plan.entry.game text × IsDescribed text hosting.game) }
-    ensures rules { IfOk result (λ hosting. AreRulesFor plan.entry.told hosting.game hosting.rules.items) }
+    ensures { IfOk result (λ hosting. IsHosted plan.entry hosting.game hosting.rules.items) }
 {
     let text = told_rules(files, alloc, plan.game)?;
     hosting_of(files, alloc, &text, plan.told, remarks)

@@ -22,5 +22,5 @@ pub use commands::{command, report};
 pub use descriptors::descriptors_in;
 pub use errands::{abort, info};
 pub use faults::contact_fault;
-pub use game_commands::{Fault, FileFault, ScriptFault};
+pub use game_commands::{Fault, FileFault, NamedFile, ScriptFault};
 pub use terminals::Terminals;

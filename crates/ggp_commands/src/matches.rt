@@ -1,12 +1,13 @@
 //! The matches of a game, and the reports on them.
-ghost use Rattle.std.specs.Prelude.{◌≡◌, [], false, true, IfOk, OnOk};
-ghost use Rattle.std.specs.Io.KnownBytes.{Consumes, IsAtEnd};
+ghost use Rattle.std.specs.Prelude.{◌≡◌, false, IfErr, IfOk, OnOk};
 ghost use denote.Param.Send.{IsSend, IsSync};
-ghost use Rattle.ggp_commands.specs.Runs.{WritesRun};
+ghost use Rattle.ggp_commands.specs.Faults.{check_fault};
+ghost use Rattle.ggp_commands.specs.Runs.{WritesRun, WritesRunUpTo};
 ghost use Rattle.match_log.specs.LoggedPlayers.{is_logged_reached, logged_handed};
-ghost use Rattle.player_check.specs.Checks.{WritesCheck};
-ghost use Rattle.ggp_commands.specs.Schedules.{WritesSeason, has_schedule};
-ghost use Rattle.ggp_commands.specs.Tasks.{WritesTask};
+ghost use Rattle.player_check.specs.Checks.{EndsEarly, WritesCheck};
+ghost use Rattle.player_check.specs.declared.check.CheckFault.{CheckFault};
+ghost use Rattle.ggp_commands.specs.Schedules.{WritesSeason, WritesSeasonUpTo, has_schedule};
+ghost use Rattle.ggp_commands.specs.Tasks.{EndsTask, ReadsInput, WritesTask, WritesTaskUpTo};
 
 use crate::descriptors::allowed_form;
 use crate::faults::{check_fault, match_fault, season_fault};
@@ -82,6 +83,7 @@ where
     S: Reach<P> + TellsShortages,
     ensures clear { OnOk result (S.is_clear reach.now 0) }
     ensures written { OnOk result (WritesRun (S.is_reached reach.now) P.handed game.entry run.now (W.contents writer.old.stream) (W.contents writer.new.stream)) }
+    ensures at_fault { IfErr result (WritesRunUpTo (S.is_reached reach.now) P.handed game.entry run.now (W.contents writer.old.stream) (W.contents writer.new.stream)) }
 {
     let entrants: Entrants<P> = entrants_of(alloc, reach, 0, &run.plan)?;
     let ended = match ended_match(rt, alloc, reach, entrants, game, run.has_history) {
@@ -101,9 +103,7 @@ pub fn input_of<R: Read>(
     reader: &mut Counted<R>,
 ) -> Result<Vec<u8>, Fault>
     ensures unread { has_schedule task.now ≡ false → reader.new ≡ reader.old }
-    ensures none { has_schedule task.now ≡ false → IfOk result (λ input. input.items ≡ []) }
-    ensures whole { has_schedule task.now ≡ true → IfOk result (λ input. Consumes (R.remaining reader.old.stream) (R.remaining reader.new.stream) input.items
-        × IsAtEnd (R.remaining reader.new.stream)) }
+    ensures read { IfOk result (λ input. ReadsInput R.remaining task.now input.items reader.old reader.new) }
 {
     match task {
         HostedTask::Season(_) => Ok(read_to_end(alloc, reader, MAX_SCHEDULE)?),
@@ -127,7 +127,8 @@ where
     H: Files + Threads + Wait + Sync,
     P: Player + Drop + Send,
     S: Reach<P> + TellsShortages + Sync,
-    ensures { IfOk result (λ missing. WritesSeason (S.is_reached reach.now) P.handed game.entry season.entry schedule.now missing (W.contents writer.old.stream) (W.contents writer.new.stream)) }
+    ensures written { IfOk result (λ missing. WritesSeason (S.is_reached reach.now) P.handed game.entry season.entry schedule.now missing (W.contents writer.old.stream) (W.contents writer.new.stream)) }
+    ensures at_fault { IfErr result (WritesSeasonUpTo (S.is_reached reach.now) P.handed game.entry season.entry schedule.now (W.contents writer.old.stream) (W.contents writer.new.stream)) }
 {
     let plans = plans_of(rt, alloc, game.game, season, schedule)?;
     console.plan(rt, plans.len());
@@ -165,6 +166,7 @@ where
     S: Reach<P> + TellsShortages,
     ensures clear { OnOk result (S.is_clear reach.now 0) }
     ensures written { IfOk result (λ bad. WritesCheck H (S.is_reached reach.now) P.handed game.entry plan.now bad (W.contents writer.old.stream) (W.contents writer.new.stream)) }
+    ensures at_fault { IfErr result (λ fault. (why : CheckFault) × (fault ≡ check_fault why) × EndsEarly H (S.is_reached reach.now) P.handed game.entry plan.now why (W.contents writer.old.stream) (W.contents writer.new.stream)) }
 {
     match check_player::<H, P, S, W>(rt, alloc, reach, plan, game, writer) {
         Ok(bad) => Ok(bad),
@@ -188,6 +190,7 @@ where
     P: Player + Explains + Drop + Send,
     S: Reach<P> + TellsShortages + Sync,
     ensures written { IfOk result (λ count. WritesTask H (is_logged_reached H (S.is_reached reach.now)) (logged_handed H P.handed) game.entry task.now input.now count (W.contents writer.old.stream) (W.contents writer.new.stream)) }
+    ensures at_fault { IfErr result (WritesTaskUpTo H (is_logged_reached H (S.is_reached reach.now)) (logged_handed H P.handed) game.entry task.now input.now (W.contents writer.old.stream) (W.contents writer.new.stream)) }
 {
     let logging = Logging {
         rt,
@@ -229,6 +232,7 @@ where
     P: Player + Explains + Drop + Send,
     S: Reach<P> + TellsShortages + Sync,
     ensures written { IfOk result (λ count. WritesTask H (is_logged_reached H (S.is_reached reach.now)) (logged_handed H P.handed) game.entry task.now input.now count (W.contents writer.old.stream) (W.contents writer.new.stream)) }
+    ensures at_fault { IfErr result (EndsTask H (is_logged_reached H (S.is_reached reach.now)) (logged_handed H P.handed) game.entry task.now input.now (W.contents writer.old.stream) (W.contents writer.new.stream)) }
 {
     // The closure returns the output, so its content is known behind the scope.
     let (performed, _writer) = thread::scope(
@@ -238,6 +242,7 @@ where
             requires sent { IsSync H.row × IsSend E.row }
             ensures stream { result.1.ghost_name ≡ writer.entry.ghost_name }
             ensures written { IfOk result.0 (λ count. WritesTask H (is_logged_reached H (S.is_reached reach.entry.now)) (logged_handed H P.handed) game.entry task.entry.now input.entry.now count (W.contents writer.entry.now.stream) (W.contents result.1.now.stream)) }
+            ensures at_fault { IfErr result.0 (EndsTask H (is_logged_reached H (S.is_reached reach.entry.now)) (logged_handed H P.handed) game.entry task.entry.now input.entry.now (W.contents writer.entry.now.stream) (W.contents result.1.now.stream)) }
         {
             let writing = move || console
                 .notices
@@ -277,6 +282,7 @@ where
     requires picked { N.name ≡ writer.ghost_name }
     ensures output { result.1.ghost_name ≡ writer.entry.ghost_name }
     ensures written { IfOk result.0 (λ count. WritesTask H (is_logged_reached H (S.is_reached reach.now)) (logged_handed H P.handed) game.entry task.now input.now count (W.contents writer.entry.now.stream) (W.contents result.1.now.stream)) }
+    ensures at_fault { IfErr result.0 (EndsTask H (is_logged_reached H (S.is_reached reach.now)) (logged_handed H P.handed) game.entry task.now input.now (W.contents writer.entry.now.stream) (W.contents result.1.now.stream)) }
 {
     let console = Console {
         notices: Notices::new(alloc),

@@ -1,6 +1,6 @@
 //! The matches of a season that are played.
-ghost use Rattle.std.specs.Prelude.{◌≡◌, IfOk};
-ghost use Rattle.ggp_commands.specs.Schedules.{AreToPlay, is_left, left_of};
+ghost use Rattle.std.specs.Prelude.{◌≡◌, IfErr, IfOk};
+ghost use Rattle.ggp_commands.specs.Schedules.{AreToPlay, HasNoPlans, is_left, left_of};
 
 use command_line::SeasonPlan;
 use game_commands::{DoneMatches, Fault, done_matches};
@@ -42,7 +42,8 @@ pub fn plans_of<'a, F: Files>(
     season: SeasonPlan<'_>,
     schedule: &'a [u8],
 ) -> Result<Vec<MatchPlan<'a>>, Fault>
-    ensures { IfOk result (λ plans. AreToPlay game.now season.entry.strikes season.entry.done schedule.now plans.items) }
+    ensures plans { IfOk result (λ plans. AreToPlay game.now season.entry.strikes season.entry.done schedule.now plans.items) }
+    ensures fault { IfErr result (HasNoPlans game.now season.entry.strikes season.entry.done schedule.now) }
 {
     let plans = read_schedule(alloc, schedule, game.roles(), season.strikes)?;
     match season.done {

@@ -1,4 +1,4 @@
 use Rattle.ggp_commands.proofs.commands.perform.Given as goal
 
-abbrev pub ghosts-hold_matches : goal.ghosts-hold_matches
-ghosts-hold_matches g a = record { name = a.writer.ghost_name }
+abbrev pub ghosts-perform_task : goal.ghosts-perform_task
+ghosts-perform_task g a = record { name = a.writer.ghost_name }

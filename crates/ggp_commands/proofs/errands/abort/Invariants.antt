@@ -1,8 +1,7 @@
-use Rattle.std.proofs.Common.{◌≡◌, true, take}
-use Rattle.std.specs.Io.KnownBytes.{Appends}
-use Rattle.ggp_commands.specs.Errands.{aborted_lines}
+use Rattle.std.proofs.Common.{take}
+use Rattle.ggp_commands.specs.Errands.{TellsAnswers}
 use Rattle.ggp_commands.proofs.errands.abort.Given as goal
 
 abbrev pub invariant-loop-player : goal.invariant-loop-player
-invariant-loop-player g l = l.have_answered ≡ true
-    → Appends (g.W.Write.contents l.initial.writer.stream) (g.W.Write.contents l.writer.stream) (aborted_lines (take l.player-index l.plan.players.items))
+invariant-loop-player g l =
+    TellsAnswers (take l.player-index l.plan.players.items) l.have_answered (g.W.Write.contents l.initial.writer.stream) (g.W.Write.contents l.writer.stream)
