@@ -48,11 +48,13 @@ class OpenMatch:
         self.close()
 
     def close(self):
-        """Removes the match's room, except for a match that broke off: its players have yet to be freed."""
+        """Ends the match, and removes its room unless its players have yet to be freed: it broke off, or did so in a `play` before, and
+        has not begun again since."""
+        is_abort_due = self.stage == "asking" and (self.room / "players").exists()
         if self.stage == "asking":
             self.seats.leave(self.match)
         self.stage = "over"
-        if not self.is_broken:
+        if not self.is_broken and not is_abort_due:
             shutil.rmtree(self.room, ignore_errors=True)
 
     def child(self, words, name, given="/dev/null"):

@@ -105,10 +105,11 @@ class Playing:
             if it.stage == "playing":
                 places[it.match.id] = it.places
                 self.left[it.match.id] = "it was ended before its end"
-            if it.stage in ("asking", "playing"):
+            if it.stage == "asking":
+                it.end_children()
+                it.close()
+            elif it.stage == "playing":
                 self.lose(it, None)
-                if not it.is_broken:
-                    shutil.rmtree(it.room, ignore_errors=True)
         abort_matches(places, self.plan.folder, self.tell)
 
 

@@ -41,6 +41,15 @@ class TestPlayer(threading.Thread):
     def place(self):
         return f"{self.at}:{self.port}"
 
+    def go_away(self):
+        """The player is away, and keeps what it knows."""
+        self.socket.shutdown(socket.SHUT_RDWR)
+        self.socket.close()
+
+    def come_back(self):
+        """The player is there again."""
+        self.socket = socket.create_server((self.at, self.port), backlog=64)
+
     def leave(self):
         """The player is there no more."""
         self.is_gone = True

@@ -6,7 +6,6 @@ import pathlib
 import pty
 import shutil
 import signal
-import socket
 import subprocess
 import tempfile
 import time
@@ -131,12 +130,11 @@ class Play(InFolder):
     def test_a_short_outage_is_one_try_of_a_player_with_several_seats(self):
         self.planned(["good"] * 3, head=HEAD.replace("wait = 1", "wait = 4"), more=("concurrent = 4",), most=4)
         for it in self.players:
-            it.socket.shutdown(socket.SHUT_RDWR)
-            it.socket.close()
+            it.go_away()
         playing = start(self.folder, "play", "--at-once", "6")
         said = [playing.stdout.readline() for _ in range(6)]
         for it in self.players:
-            it.socket = socket.create_server((it.at, it.port), backlog=64)
+            it.come_back()
         out, _ = playing.communicate(timeout=60)
         self.assertEqual(([it.split()[0] for it in said], playing.returncode), (["back"] * 6, 0), out)
         self.assertEqual((lines(out, "no record"), len(lines(out, "end"))), ([], 6))
@@ -244,6 +242,31 @@ class Play(InFolder):
     def test_a_match_begun_as_its_run_is_killed_is_not_played(self):
         with subprocess.Popen(["sleep", "60"], preexec_fn=lambda: end_with(0)) as orphan:
             self.assertEqual(orphan.wait(10), -signal.SIGKILL)
+
+    def test_an_abort_without_an_answer_is_due_until_it_is_answered(self):
+        self.planned(["slow", "slow"], head=HEAD.replace("tries = 2", "tries = 1"), form='kind = "schedule"\nlines = ["countdown p0 p1"]')
+        away, players = self.players[0], self.folder / "open/cup-001/players"
+        playing = start(self.folder, "play")
+        while not away.matches:
+            time.sleep(0.02)
+        playing.kill()
+        playing.communicate()
+        away.go_away()
+        unanswered = [f"no answer to abort cup-001: p0@{away.place()}"]
+        status, out, _ = run(self.folder, "play")
+        self.assertEqual((status, lines(out, "no answer"), players.exists()), (1, unanswered, True), out)
+        for number in (signal.SIGTERM, signal.SIGINT):
+            playing = start(self.folder, "play", "--program", program_but(self.folder / "slow", '"$1" = info', "sleep 60"))
+            while not (self.folder / "open/cup-001/info-1").exists() or playing.stdout.readline() != f"{unanswered[0]}\n":
+                time.sleep(0.02)
+            playing.send_signal(number)
+            out, _ = playing.communicate(timeout=60)
+            self.assertEqual((playing.returncode, players.exists()), (1, True), out)
+        away.come_back()
+        self.assertEqual((len(away.matches), away.aborted), (1, []))
+        status, out, _ = run(self.folder, "play")
+        self.assertEqual((status, away.aborted, lines(out, "no answer"), len(lines(out, "end"))), (0, ["cup-001"], [], 1), out)
+        self.assertFalse(players.exists())
 
     def test_two_runs_in_one_folder(self):
         self.planned(["slow", "slow"])
