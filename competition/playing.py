@@ -56,8 +56,7 @@ class Playing:
             self.tell.ends(it.result, self.plan.competition.forfeit, it.seconds)
             self.ended(it.result)
         elif it.why:
-            # Where the disk is full the referee may be the first to see it. It says so with status 1, or can't write that either.
-            self.is_full |= it.why.endswith(("write fault", UNSAID.format(1)))
+            self.is_full |= says_full(it.why, self.plan.competition.hosts)
             self.left[it.match.id] = it.why
             self.tell.line(f"no record {it.match.id}: {it.why}")
         else:
@@ -111,6 +110,12 @@ class Playing:
             elif it.stage == "playing":
                 self.lose(it, None)
         abort_matches(places, self.plan.folder, self.tell)
+
+
+def says_full(why, hosts):
+    """Returns whether a match has no record since the disk is full, which the referee may be the first to see. It says so with status 1,
+    or can't write that either. With hosts that status is parallel's own, for a job that has ended in whatever way."""
+    return why.endswith("write fault") or not hosts and why.endswith(UNSAID.format(1))
 
 
 def abort_matches(places, folder, tell):

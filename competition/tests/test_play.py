@@ -268,6 +268,14 @@ class Play(InFolder):
         self.assertEqual((status, away.aborted, lines(out, "no answer"), len(lines(out, "end"))), (0, ["cup-001"], [], 1), out)
         self.assertFalse(players.exists())
 
+    def test_a_referee_that_is_killed_on_a_host_costs_its_match_alone(self):
+        self.planned(["good"] * 3, head=f'{HEAD}hosts = ["nowhere"]\n')
+        parallel = self.folder / "parallel"
+        parallel.write_text('#!/bin/bash\nmkdir "$0.once" 2> /dev/null && exit 1\nexec bash -c "$(cat)"\n')
+        parallel.chmod(0o755)
+        status, out, _ = run(self.folder, "play", env={**os.environ, "PATH": f"{self.folder}:{os.environ['PATH']}"})
+        self.assertEqual((status, len(lines(out, "no record")), len(lines(out, "abort")), len(lines(out, "end"))), (1, 1, 1, 5), out)
+
     def test_two_runs_in_one_folder(self):
         self.planned(["slow", "slow"])
         playing = start(self.folder, "play")
