@@ -1,5 +1,6 @@
 """Reads competition.toml: what is played, by whom, and in which form. Each mistake is reported with its line and key."""
 
+import ipaddress
 import re
 from dataclasses import dataclass
 
@@ -11,7 +12,9 @@ PLAYER_NAME = re.compile(r"[A-Za-z0-9_.-]{1,64}")
 ADDRESS = re.compile(r"(\[[0-9A-Fa-f:.]+(?:%[A-Za-z0-9_.-]+)?\]|[A-Za-z0-9_.-]+):([0-9]{1,5})")
 MARK = b"\xef\xbb\xbf"
 CONTROL = re.compile(r"[\x00-\x1f\x7f-\x9f]")
-HOST = re.compile(r"[A-Za-z0-9_.@:-]+")
+# What ssh reaches: a name with or without a port, or an IPv6 address. A `:` alone is for parallel this machine, without ssh, and what runs
+# there does not end with it.
+HOST = re.compile(r"(?:[A-Za-z0-9_][A-Za-z0-9_.-]*@)?(?:[A-Za-z0-9_][A-Za-z0-9_.-]*(?::[0-9]{1,5})?|([0-9A-Fa-f:]*:[0-9A-Fa-f:]*))")
 MOST_SECONDS, MOST_STRIKES, MOST_PLAYERS, MOST_ROUNDS = 86_400, 255, 1_000, 1_000
 KINDS = ("round_robin", "gauntlet", "schedule")
 ABSENT = ("leave", "play")
@@ -265,11 +268,19 @@ def refuse_line(section, item, games, players):
             section.mistake("lines", f"the player {name!r} stands there twice", item.line)
 
 
+def is_host(text):
+    found = HOST.fullmatch(text)
+    try:
+        return bool(found and (found[1] is None or ipaddress.IPv6Address(found[1]) != ipaddress.IPv6Address("::")))
+    except ValueError:
+        return False
+
+
 def hosts_of(root):
     found = root.texts("hosts")
     for at, it in enumerate(found):
-        if not HOST.fullmatch(it.value) or it.value.startswith("-"):
-            root.mistake("hosts", f"{it.value!r} is no host", it.line)
+        if not is_host(it.value):
+            root.mistake("hosts", f"{it.value!r} is no host: NAME or USER@NAME is wanted", it.line)
         if it.value in [other.value for other in found[:at]]:
             root.mistake("hosts", f"the host {it.value!r} stands there twice", it.line)
     return tuple(it.value for it in found)

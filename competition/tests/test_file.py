@@ -13,6 +13,7 @@ from competition.tests.support import toml
 PLAYERS = [("ann", "10.0.0.1:9147"), ("bob", "[::1]:9148"), ("cid", "host.example:9149", "concurrent = 3")]
 GAMES = [("chess", "chess.kif"), ("go", "go.kif")]
 GOOD = toml(PLAYERS, GAMES, 'kind = "round_robin"\nrounds = 2', "start = 30\nstrikes = 3\nhosts = [\"one\", \"me@two\"]")
+NO_HOSTS = ":", "::", "@", "a@", "@a", "a@b@c", ".", "..", "a:", ":22", "a:b:c", "me@:", "me@::", "-a", "me@-a", "a b", "2/a", ""
 # What is changed in GOOD, and the mistakes that come of it: the line, the key, and words.
 MISTAKES = [
     ('name = "cup"', "", [(1, "name", "missing")]),
@@ -31,6 +32,7 @@ MISTAKES = [
     ("strikes = 3", 'forfeit = "yes"', [(3, "forfeit", "true or false")]),
     ("strikes = 3", 'absent = "wait"', [(3, "absent", "none of leave, play")]),
     ('"me@two"', '"-oProxyCommand=x"', [(4, "hosts", "is no host")]),
+    *(('"me@two"', f'"{it}"', [(4, "hosts", f"'{it}' is no host: NAME or USER@NAME is wanted")]) for it in NO_HOSTS),
     ('"me@two"', '"one"', [(4, "hosts", "twice")]),
     ('"me@two"', "2", [(4, "hosts", "a text in quotes")]),
     ("[form]", "[from]", [(1, "form", "one [form]"), (5, "from", "no such key")]),
@@ -91,6 +93,11 @@ class CompetitionFile(unittest.TestCase):
         self.assertEqual((found.name, found.strikes, found.hosts), ("cup", 3, ("one", "me@two")))
         self.assertEqual([(it.name, it.place(), it.concurrent) for it in found.players][1:], [("bob", "bob@[::1]:9148", 1), ("cid", "cid@host.example:9149", 3)])
         self.assertEqual([(it.name, it.start, it.play) for it in found.games], [("chess", 30, 10), ("go", 30, 10)])
+
+    def test_hosts(self):
+        hosts = ("localhost", "10.0.0.1", "me@host.example", "a_b-c", "me@two:2222", "::1", "me@2001:db8::1")
+        for it in hosts:
+            self.assertEqual(read_competition(GOOD.replace("me@two", it).encode()).hosts, ("one", it))
 
     def test_what_players_are_told(self):
         found = read_competition(GOOD.replace('file = "go.kif"', 'file = "go.kif"\ntold = "variables"').encode())
