@@ -4,6 +4,7 @@ import hashlib
 import importlib.machinery
 import importlib.util
 import itertools
+import os
 import pathlib
 import re
 import subprocess
@@ -105,7 +106,8 @@ def instantiated(path, tells_variables):
     with tempfile.TemporaryDirectory() as room:
         told = pathlib.Path(room) / "told"
         words = ["--told", str(told)] if tells_variables else []
-        made = subprocess.run([sys.executable, str(INSTANTIATE), *words, str(path)], capture_output=True)
+        # A name that begins with a hyphen would be an option.
+        made = subprocess.run([sys.executable, str(INSTANTIATE), *words, os.path.abspath(path)], capture_output=True)
         if made.returncode:
             raise NoDescription(why_not(made))
         return made.stdout, told.read_bytes() if tells_variables else None

@@ -124,7 +124,7 @@ class RandomMatches:
         with tempfile.NamedTemporaryFile() as file:
             file.write(self.rules)
             file.flush()
-            words = [self.referee.path, "desk", "--rules-file", file.name]
+            words = [self.referee.path, "desk", f"--rules-file={file.name}"]
             try:
                 said = subprocess.run(words, input=script.encode(), capture_output=True, timeout=self.seconds)
             except subprocess.TimeoutExpired:

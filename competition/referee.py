@@ -77,7 +77,7 @@ def unchecked(said, name):
 
 
 class Referee:
-    """The program at a path."""
+    """The program at a path. A file stands in one word with its option, since its name may begin with a hyphen."""
 
     def __init__(self, path):
         self.path = path
@@ -97,7 +97,7 @@ class Referee:
         with tempfile.NamedTemporaryFile() as file:
             file.write(rules)
             file.flush()
-            said = self.call("desk", "--rules-file", file.name, data=tries.encode())
+            said = self.call("desk", f"--rules-file={file.name}", data=tries.encode())
         records = [it for it in said.stdout.splitlines() if it.startswith(b"{")]
         if said.returncode == 1 and last_line(said) == BAD_RULES:
             # The line before says where, and what is wrong there.
@@ -108,22 +108,22 @@ class Referee:
 
     def run_words(self, rules_path, told_path, match, strikes, places):
         """Returns the command that plays a match; START carries the rules of the second path where there is one."""
-        told = [] if told_path is None else ["--told", str(told_path)]
+        told = [] if told_path is None else [f"--told={told_path}"]
         options = f"--id={match.id}", f"--start={match.start}", f"--play={match.play}", f"--strikes={strikes}", "--history", "--log"
-        return [self.path, "run", "--rules-file", str(rules_path), *told, *options, "--", *places]
+        return [self.path, "run", f"--rules-file={rules_path}", *told, *options, "--", *places]
 
     def info_words(self, place):
         return [self.path, "info", "--", place]
 
     def verify_words(self, rules_path):
-        return [self.path, "verify", "--rules-file", str(rules_path)]
+        return [self.path, "verify", f"--rules-file={rules_path}"]
 
     def replay_words(self, rules_path):
-        return [self.path, "replay", "--rules-file", str(rules_path)]
+        return [self.path, "replay", f"--rules-file={rules_path}"]
 
     def verdicts(self, rules_path, records):
         """Returns for each record what `verify` says of it. Each is one line, and begins with `{`."""
-        said = self.call("verify", "--lines", "--rules-file", rules_path, data=b"".join(records))
+        said = self.call("verify", "--lines", f"--rules-file={rules_path}", data=b"".join(records))
         found = said.stdout.decode("ascii", "replace").splitlines()
         wrong = len(found) - found.count("lawful")
         is_told = last_line(said) == NOT_LAWFUL.format(wrong) if wrong else True
@@ -147,7 +147,7 @@ class Referee:
         return found
 
     def replay_gives(self, rules_path, accounts, records):
-        said = self.call("replay", "--rules-file", rules_path, data=b"".join(accounts))
+        said = self.call("replay", f"--rules-file={rules_path}", data=b"".join(accounts))
         if said.returncode != 0 and not is_not_replayed(said.returncode, last_line(said)):
             raise unchecked(said, rules_path)
         return said.returncode == 0 and said.stdout.partition(b"\n")[2] == b"".join(records)

@@ -220,6 +220,13 @@ class Game(InFolder):
         self.assertEqual(status, 1)
         self.assertRegex(lines[0], r"^game.kif is not accepted: line 2, column 1: sentence 1, .*: \?r is unsafe")
 
+    @unittest.skipUnless(shutil.which("gringo"), "gringo is not installed")
+    def test_a_file_whose_name_begins_with_a_hyphen(self):
+        for name in ("-nim.kif", "-"):
+            shutil.copy(GAMES / "general/nim.kif", self.folder / name)
+            status, out, said = run(self.folder, "game", f"./{name}", "--matches", "1")
+            self.assertEqual((status, said, out.splitlines()[0].split(":")[0]), (0, "", f"{name} is accepted"))
+
     def test_what_is_wrong_before_it(self):
         for word, said in [("none", "none can't be read: No such file or directory"), (".", ". is no plain file")]:
             self.assertEqual(run(self.folder, "game", word), (2, "", f"ggp_competition: {said}\n"))

@@ -299,6 +299,20 @@ class Play(InFolder):
         self.assertEqual((playing.returncode, (self.folder / "schedule.tsv").read_bytes()), (0, before))
         self.assertEqual(run(self.folder, "play"), (0, "2 of 2 matches have a lawful record\n", ""))
 
+    def test_a_folder_whose_name_begins_with_a_hyphen(self):
+        self.planned(["good", "good"])
+        cup = self.folder / "-cup"
+        cup.mkdir()
+        shutil.move(self.folder / "competition.toml", cup)
+        shutil.copy(GAMES / "countdown.kif", cup / "-countdown.kif")
+        file = cup / "competition.toml"
+        file.write_text(file.read_text().replace(str(GAMES / "countdown.kif"), "-countdown.kif"))
+        for words in (("plan", "./-cup"), ("play", "./-cup"), ("play", "--program", program(), "--", "-cup"), ("table", "./-cup"), ("publish", "./-cup"), ("check", "./-cup/cup.tar.gz")):
+            status, out, said = run(self.folder, *words)
+            self.assertEqual((status, said), (0, ""), out)
+        self.folder = cup
+        self.assert_sound(self.schedule)
+
     def test_a_folder_that_is_not_there(self):
         self.assertEqual(run(self.folder, "play", "none"), (2, "", "ggp_competition: none can't be read: No such file or directory\n"))
 
