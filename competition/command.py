@@ -188,7 +188,9 @@ def archive_path(plan, to):
 
 def run_publish(asked, referee):
     plan = read_plan(asked.folder, referee)
-    path = archive_path(plan, asked.to)
+    path, pages = archive_path(plan, asked.to), plan.folder.pages
+    if pages.is_symlink():
+        raise Refused(f"{pages} is a link, and `publish` makes that folder anew", "take the link away, and publish again")
     results, _ = known_results(plan, referee)
     missing = len(plan.matches) - len(results)
     faults = [f"{missing} matches have no lawful record"] if missing else []

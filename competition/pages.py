@@ -1,5 +1,6 @@
 """The pages of a competition: a folder of plain HTML that opens without a server. They follow from the folder's files alone."""
 
+import contextlib
 import datetime
 import html
 import shutil
@@ -205,5 +206,6 @@ class Pages:
 
 def made_anew(plan, results):
     """Writes the pages into an empty folder."""
-    shutil.rmtree(plan.folder.pages, ignore_errors=True)
+    with contextlib.suppress(FileNotFoundError):
+        shutil.rmtree(plan.folder.pages)
     Pages(plan).write(results)

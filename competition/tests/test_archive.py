@@ -275,6 +275,23 @@ class Archive(unittest.TestCase):
         self.assertEqual((run(cup, "plan")[0], sums.read_bytes()), (0, before))
         self.assertEqual((run(cup, "publish")[0], (cup / "cup.tar.gz").read_bytes()), (0, published))
 
+    def test_pages_in_another_place_are_not_published(self):
+        cup, web = self.other / "cup", self.other / "web"
+        shutil.copytree(self.folder, cup)
+        published = (cup / "cup.tar.gz").read_bytes()
+        shutil.move(cup / "pages", web)
+        (web / "mine.html").touch()
+        (cup / "pages").symlink_to(web)
+        self.assertEqual(run(cup, "pages")[0], 0)
+        said = "ggp_competition: pages is a link, and `publish` makes that folder anew: take the link away, and publish again\n"
+        self.assertEqual(run(cup, "publish"), (2, "", said))
+        (cup / "pages").unlink()
+        self.assertEqual((run(cup, "publish")[0], (cup / "cup.tar.gz").read_bytes()), (0, published))
+        self.assertTrue((web / "mine.html").exists() and (web / "index.html").exists())
+        shutil.rmtree(cup / "pages")
+        (cup / "pages").touch()
+        self.assertEqual(run(cup, "publish"), (1, "", "ggp_competition: pages: Not a directory\n"))
+
     def test_where_an_archive_can_not_stand(self):
         (self.other / "there").mkdir()
         os.mkfifo(self.other / "pipe")
