@@ -8,7 +8,7 @@ from competition.children import Child
 from competition.files import write_whole
 from competition.hosts import host_of, parallel_words, remote_line
 from competition.kept import keep
-from competition.referee import is_not_lawful, is_not_replayed
+from competition.referee import is_no_answer, is_not_lawful, is_not_replayed
 from competition.results import fault_of_record, read_record, result_of
 
 THERE = ("available", "ready", "unknown")
@@ -71,9 +71,17 @@ class OpenMatch:
         until = time.monotonic() + self.plan.competition.info
         while time.monotonic() < until and not all(it.is_over() for it in asked):
             yield
-        said = [it.output().decode().strip() if it.is_over() and not it.status() else "silent" for it in asked]
-        for it in asked:
+        said, faults = [], []
+        for player, it in zip(self.match.players, asked):
+            is_silent = not it.is_over() or is_no_answer(it.status(), it.last_words())
+            said.append("silent" if is_silent else it.output().decode().strip())
+            if not is_silent and it.status():
+                faults.append(f"{player} could not be asked: {it.last_words()}")
             it.end()
+        if faults:
+            # They are faults of this computer, and tell nothing of a player.
+            self.why = faults[0]
+            return False
         return all([self.is_there(*it) for it in zip(self.match.players, said)])
 
     def is_there(self, player, said):

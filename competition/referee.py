@@ -18,6 +18,7 @@ MOST_BYTES, MOST_MATCHES = 200_000_000, 1_000
 NOT_LAWFUL = "ggp_manager: records not lawful {}"
 NOT_LAWFUL_ITSELF = re.compile(r"ggp_manager: not lawful: .*")
 NOT_REPLAYED = re.compile(r"ggp_manager: not replayed: .*")
+NO_ANSWER = "ggp_manager: no answer"
 VERSION_LINE = re.compile(rb"ggp_manager [0-9]+\.[0-9]+\.[0-9]+\n")
 BAD_RULES = "ggp_manager: bad description"
 
@@ -58,6 +59,11 @@ def said_lines(said):
 
 def last_line(said):
     return (said_lines(said) or [""])[-1]
+
+
+def is_no_answer(status, line):
+    """Returns whether `info` ended since the player did not answer, by its status and the last line that it said."""
+    return status == 1 and line == NO_ANSWER
 
 
 def is_not_lawful(status, line):

@@ -94,6 +94,16 @@ class Play(InFolder):
         self.assertEqual((status, lines(out, "begin")), (1, []))
         self.assertEqual({it.split(": ")[1] for it in lines(out, "missing")}, {"p1 is silent"})
 
+    def test_a_fault_of_info_is_not_the_player_s(self):
+        self.planned(["good", "good"], head=HEAD + 'absent = "play"\n')
+        killed = "it ended with status -9 and no word, as where it is killed or the disk is full"
+        for done, words, count in (("echo 'ggp_manager: write fault' >&2; exit 1", "ggp_manager: write fault", 1), ("kill -9 $$", killed, 2)):
+            faulty = program_but(self.folder / "faulty", f'"$1" = info && "$3" = p0*', done)
+            status, out, _ = run(self.folder, "play", "--at-once", "1", "--program", faulty)
+            told = [f"no record {it[0]}: p0 could not be asked: {words}" for it in self.schedule]
+            self.assertEqual((status, lines(out, "no record"), lines(out, "begin")), (1, told[:count], []), out)
+            self.assertNotIn("silent", out)
+
     def test_a_player_that_stays_busy_is_made_silent(self):
         self.planned(["good", "good", "good"])
         self.players[2].status = "busy"
