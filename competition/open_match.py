@@ -82,22 +82,25 @@ class OpenMatch:
             # They are faults of this computer, and tell nothing of a player.
             self.why = faults[0]
             return False
-        return all([self.is_there(*it) for it in zip(self.match.players, said)])
+        return self.can_begin(dict(zip(self.match.players, said)))
 
-    def is_there(self, player, said):
-        """Returns whether the match can begin as far as this player goes. Else it is put back, or left with the reason."""
-        if said in THERE:
+    def can_begin(self, said):
+        """Returns whether the match can begin by what its players have said. Else it is left with the reason, or put back. What becomes
+        of it is told once all of them are judged."""
+        missed = {player: word for player, word in said.items() if word not in THERE}
+        for player in said.keys() - missed.keys():
             self.seats.was_there(player)
-            return True
-        goes_on = self.seats.was_not_there(player, self.seated)
-        if goes_on:
-            self.tell.line(f"back {self.match.id}: {player} is {said}")
-            return False
-        if said == "silent" and self.plan.competition.absent == "play":
-            self.tell.line(f"absent {self.match.id}: {player} is {said}, and the match is played")
-            return True
-        self.why = f"{player} is {said}"
-        return False
+        again = [it for it in missed if self.seats.was_not_there(it, self.seated)]
+        played_without = [it for it, word in missed.items() if word == "silent" and self.plan.competition.absent == "play"]
+        left = [it for it in missed if it not in again and it not in played_without]
+        if left:
+            self.why = ", ".join(f"{it} is {missed[it]}" for it in left)
+        elif again:
+            self.tell.line(f"back {self.match.id}: {', '.join(f'{it} is {missed[it]}' for it in again)}")
+        else:
+            for it in missed:
+                self.tell.line(f"absent {self.match.id}: {it} is silent, and the match is played")
+        return not left and not again
 
     def play(self):
         """Plays the match. Returns what the referee wrote and said, and when it began and ended; none where it gives no record."""

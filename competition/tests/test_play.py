@@ -104,6 +104,30 @@ class Play(InFolder):
             self.assertEqual((status, lines(out, "no record"), lines(out, "begin")), (1, told[:count], []), out)
             self.assertNotIn("silent", out)
 
+    def test_what_becomes_of_a_match_is_told_once_all_players_are_judged(self):
+        for head, first, second, words in (
+            ('absent = "play"\ntries = 1', "gone", "busy", ["no record cup-001: p1 is busy"]),
+            ('absent = "play"\ntries = 1', "busy", "gone", ["no record cup-001: p0 is busy"]),
+            ("tries = 1", "gone", "busy", ["no record cup-001: p0 is silent, p1 is busy"]),
+            ("tries = 2", "gone", "busy", ["back cup-001: p0 is silent, p1 is busy", "no record cup-001: p0 is silent, p1 is busy"]),
+            ('absent = "play"\ntries = 2', "gone", "gone", ["back cup-001: p0 is silent, p1 is silent", *(f"absent cup-001: p{it} is silent, and the match is played" for it in (0, 1))]),
+        ):
+            self.planned(["good", "good"], head=HEAD.replace("tries = 2\n", f"{head}\n"), form='kind = "schedule"\nlines = ["countdown p0 p1"]')
+            for it, kind in zip(self.players, (first, second)):
+                it.status = "busy"
+                if kind == "gone":
+                    it.leave()
+            out = run(self.folder, "play")[1]
+            self.assertEqual([it for it in out.splitlines() if it.split()[0] in ("back", "absent", "no")], words)
+
+    def test_one_player_s_last_try_is_another_s_first(self):
+        self.planned(["good"] * 3, form='kind = "schedule"\nlines = ["countdown p0 p1", "countdown p0 p2"]')
+        self.players[0].leave()
+        self.players[2].status = "busy"
+        out = run(self.folder, "play", "--at-once", "1")[1]
+        self.assertEqual(lines(out, "back"), ["back cup-001: p0 is silent"])
+        self.assertEqual(lines(out, "no record"), [f"no record cup-00{it}: p0 is silent" for it in (2, 1)])
+
     def test_a_player_that_stays_busy_is_made_silent(self):
         self.planned(["good", "good", "good"])
         self.players[2].status = "busy"
