@@ -19,7 +19,7 @@ from competition.results import match_line
 from competition.seats import Seats
 from competition.table import tables_of
 from competition.table_text import in_order, table_files, table_text
-from competition.telling import Teller, say
+from competition.telling import Teller, ready_streams, say
 
 MOST_AT_ONCE = 1_024
 HELP = "A competition in one folder, of which competition.toml says what is played."
@@ -216,6 +216,7 @@ def run_check(asked, referee):
 
 
 def main():
+    ready_streams()
     asked = arguments(sys.argv[1:])
     try:
         referee = Referee(find_program(asked.program))

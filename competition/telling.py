@@ -12,6 +12,21 @@ def lead_nowhere(output):
     os.dup2(os.open(os.devnull, os.O_WRONLY), output.fileno())
 
 
+def ready_streams():
+    """Has a standard stream that is closed lead nowhere, so that no file takes its number, and spells out what an encoding lacks."""
+    for number, (name, mode) in enumerate((("stdin", "r"), ("stdout", "w"), ("stderr", "w"))):
+        if getattr(sys, name) is None:
+            found = os.open(os.devnull, os.O_RDWR)
+            if found != number:
+                os.dup2(found, number)
+                os.close(found)
+            os.set_inheritable(number, True)
+            setattr(sys, name, open(number, mode, closefd=False))
+    for it in (sys.stdout, sys.stderr):
+        if it.errors == "strict":
+            it.reconfigure(errors="backslashreplace")
+
+
 def say(text, end="\n"):
     """Writes to standard output, at once. A fault names it, and what comes after it goes nowhere."""
     try:

@@ -224,6 +224,16 @@ class BadInput(InFolder):
         said = f"ggp_manager is not in /none/bin, {TOP}/bin, nor on the path of the shell (PATH); `--program FILE` names it"
         self.assertEqual(str(why.exception), said)
 
+    def test_a_folder_with_a_name_that_the_output_can_not_say(self):
+        self.write(PLAYERS, [("countdown", GAMES / "countdown.kif")])
+        for name, encoding, said in (("caf\N{LATIN SMALL LETTER E WITH ACUTE}", "ascii", "caf\\xe9"), (os.fsdecode(b"caf\xff"), "utf-8", "caf\\udcff")):
+            cup = self.folder / name
+            cup.mkdir()
+            shutil.copy(self.folder / "competition.toml", cup)
+            status, out, _ = run(self.folder, "plan", name, env={**os.environ, "PYTHONIOENCODING": encoding})
+            self.assertEqual((status, out.splitlines()[-1]), (0, f"{said}/schedule.tsv: 2 matches of 2 players"))
+            self.assertEqual(run(self.folder, "play", f"{name}/none", env={**os.environ, "PYTHONIOENCODING": encoding})[0], 2)
+
     def test_a_full_output(self):
         self.write(PLAYERS, [("tictactoe", GAMES / "tictactoe.kif")])
         self.assertEqual(run_into_full(self.folder, "plan"), (1, "ggp_competition: standard output: No space left on device\n"))

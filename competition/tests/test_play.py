@@ -13,6 +13,7 @@ import types
 import unittest
 
 from competition.children import end_with
+from competition.files import held
 from competition.playing import interrupts_counted
 from competition.tests.players import TestPlayer
 from competition.tests.support import GAMES, InFolder, program, program_but, run, run_into_full, start
@@ -585,6 +586,16 @@ class Play(InFolder):
         status, out, said = run(self.folder, "check", "cup.tar.gz")
         self.assertEqual((status, said), (0, ""))
         self.assertEqual(self.files(), {name: data for name, data in before.items() if name != "logs/cup-001.txt"})
+
+    def test_streams_that_are_closed(self):
+        self.planned(["good", "good"])
+        self.assertEqual((run(self.folder, "play", preexec_fn=lambda: os.close(2))[0], len(self.records())), (0, 2))
+        shutil.rmtree(self.folder / "records")
+        self.assertEqual(run(self.folder, "play", preexec_fn=lambda: os.closerange(0, 3)), (0, "", ""))
+        self.assert_sound(self.schedule)
+        with held(self.folder):
+            self.assertEqual(run(self.folder, "play", preexec_fn=lambda: os.close(2)), (2, "", ""))
+            self.assertEqual(run(self.folder, "play", preexec_fn=lambda: os.close(1))[:2], (2, ""))
 
     def test_progress_on_a_terminal(self):
         self.planned(["slow", "slow"])
