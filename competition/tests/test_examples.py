@@ -57,6 +57,16 @@ class Examples(unittest.TestCase):
             os.close(writer)
             self.assertEqual((status, said.splitlines()[-1]), (1, f"{words[0].name}: {FULL.partition(':')[0]}: Broken pipe"), said)
 
+    def test_streams_that_are_closed(self):
+        status, out, said = run(SHOW_RECORD, preexec_fn=lambda: os.close(0))
+        self.assertEqual((status, out, said.startswith("show-record: the record can't be read: [Errno 9] Bad file descriptor"), said.count("\n")), (1, "", True, 1))
+        self.assertEqual(run(SHOW_RECORD, preexec_fn=lambda: os.close(2)), (1, "", ""))
+        for number in (0, 2):
+            self.assertEqual(run(SHOW_RECORD, RECORD, preexec_fn=lambda: os.close(number)), run(SHOW_RECORD, RECORD))
+        said = f"show-record: {FULL.partition(':')[0]}: Bad file descriptor\n"
+        for closed in ((1, 2), (0, 2)):
+            self.assertEqual(run(SHOW_RECORD, RECORD, preexec_fn=lambda: os.closerange(*closed)), (1, "", said))
+
     def test_pages_are_as_before(self):
         status, page, said = run(SHOW_RECORD, RECORD)
         self.assertEqual((status, said, page.startswith("<!DOCTYPE html>"), page.endswith("</html>\n")), (0, "", True, True))
