@@ -10,7 +10,7 @@ import unittest
 
 from competition.descriptions import TOP
 
-INSTANTIATE, SHOW_RECORD = TOP / "examples/instantiate", TOP / "examples/show-record"
+INSTANTIATE, PLAY_A_MATCH, SHOW_RECORD = (TOP / f"examples/{it}" for it in ("instantiate", "play-a-match", "show-record"))
 PLAYERS = [TOP / f"examples/players/{it}.py" for it in ("player", "interpreting")]
 NIM, GROUND = TOP / "examples/games/general/nim.kif", TOP / "examples/games/countdown.kif"
 RECORD = TOP / "examples/records/countdown-3-second_version.record"
@@ -80,6 +80,18 @@ class Examples(unittest.TestCase):
                 status, page, said = run(SHOW_RECORD, file)
                 wanted = (0, "") if is_read else (1, "show-record: no record: it is longer than 16 MiB\n")
                 self.assertEqual((status, said, bool(page)), (*wanted, is_read), (more, end))
+
+    def test_a_match_of_no_game(self):
+        with tempfile.TemporaryDirectory() as room:
+            file = pathlib.Path(room) / "game.kif"
+            faults = [(None, "can't be read: No such file or directory"), *((it, "is no ground description") for it in (b"", b"\xff", b"(role a))", b"()", b"(role)", b"(init x)"))]
+            for text, words in faults:
+                if text is not None:
+                    file.write_bytes(text)
+                done = subprocess.run([PLAY_A_MATCH, "none", file], stdin=subprocess.DEVNULL, capture_output=True, text=True, timeout=60)
+                self.assertEqual((done.returncode, done.stdout, done.stderr), (1, "", f"play-a-match: {file} {words}\n"))
+        done = subprocess.run([PLAY_A_MATCH, "none"], stdin=subprocess.DEVNULL, capture_output=True, text=True, timeout=60)
+        self.assertEqual((done.returncode, done.stdout, done.stderr), (2, "", "usage: play-a-match PROGRAM RULES-FILE [OPTION ..]\n"))
 
     def test_words_of_players(self):
         for player in PLAYERS:
