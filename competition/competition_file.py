@@ -15,7 +15,7 @@ CONTROL = re.compile(r"[\x00-\x1f\x7f-\x9f]")
 # What ssh reaches: a name with or without a port, or an IPv6 address. A `:` alone is for parallel this machine, without ssh, and what runs
 # there does not end with it.
 HOST = re.compile(r"(?:[A-Za-z0-9_][A-Za-z0-9_.-]*@)?(?:[A-Za-z0-9_][A-Za-z0-9_.-]*(?::[0-9]{1,5})?|([0-9A-Fa-f:]*:[0-9A-Fa-f:]*))")
-MOST_SECONDS, MOST_STRIKES, MOST_PLAYERS, MOST_ROUNDS = 86_400, 255, 1_000, 1_000
+MOST_SECONDS, MOST_STRIKES, MOST_PLAYERS, MOST_ROUNDS, MOST_PORT = 86_400, 255, 1_000, 1_000, 65_535
 KINDS = ("round_robin", "gauntlet", "schedule")
 ABSENT = ("leave", "play")
 # What START carries: the rules that the referee plays, or the description that they were made from.
@@ -213,12 +213,19 @@ def games_of(root, clocks):
     return found
 
 
+def is_place(text):
+    """Returns whether a text is the NAME@HOST:PORT of a player."""
+    name, _, address = text.partition("@")
+    found = ADDRESS.fullmatch(address)
+    return bool(PLAYER_NAME.fullmatch(name) and found and 1 <= int(found[2]) <= MOST_PORT)
+
+
 def refuse_address(section):
     address = section.text("address")
     found = ADDRESS.fullmatch(address or "")
     if address is not None and not found:
         section.mistake("address", f"{address!r} is no HOST:PORT")
-    elif found and not 1 <= int(found[2]) <= 65_535:
+    elif found and not 1 <= int(found[2]) <= MOST_PORT:
         section.mistake("address", f"the port {found[2]} is not from 1 to 65,535")
     return address
 

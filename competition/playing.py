@@ -9,6 +9,7 @@ import signal
 import time
 
 from competition.children import UNSAID
+from competition.competition_file import is_place
 from competition.files import Refused
 from competition.kept import look_at_records, set_aside, strangers
 from competition.messages import send_aborts
@@ -129,22 +130,31 @@ def abort_matches(places, folder, tell):
             shutil.rmtree(folder.open / match, ignore_errors=True)
 
 
+def places_in(room):
+    """Returns the players of a match that was open; none where nothing in its room names them."""
+    try:
+        found = (room / "players").read_text("ascii").split()
+    except (OSError, ValueError):
+        return []
+    return found if all(map(is_place, found)) else []
+
+
 def rooms(plan):
     """Returns the folders of matches that were open, of this plan or of one before it, and not what else stands beside them."""
     names = {it.id for it in plan.matches}
     found = (it for it in sorted(plan.folder.open.iterdir()) if it.is_dir() and not it.is_symlink())
-    return [it for it in found if it.name in names or (it / "players").is_file()]
+    return [it for it in found if it.name in names or places_in(it)]
 
 
 def clear_open_rooms(plan, results, tell):
     """Frees the players of the matches that were open when a run before this one was killed."""
     places = {}
     for room in rooms(plan):
-        players = room / "players"
-        if room.name in results or not players.exists():
+        found = places_in(room)
+        if room.name in results or not found:
             shutil.rmtree(room)
         else:
-            places[room.name] = players.read_text().split()
+            places[room.name] = found
     abort_matches(places, plan.folder, tell)
 
 

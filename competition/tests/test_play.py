@@ -564,11 +564,17 @@ class Play(InFolder):
         (rooms / "mine/notes").touch()
         (rooms / "link").symlink_to(self.folder)
         (rooms / "cup-001").mkdir()
+        words = b"hello", b"p0@127.0.0.1", b"p0@127.0.0.1:65536", b"p0@127.0.0.1:1 and more", b"\xff", b""
+        for at, word in enumerate(words):
+            (rooms / f"foo-{at}").mkdir()
+            (rooms / f"foo-{at}/players").write_bytes(word)
+        (rooms / "cup-002").mkdir()
+        (rooms / "cup-002/players").write_bytes(words[0])
         (rooms / "old-001").mkdir()
         (rooms / "old-001/players").write_text(f"p0@{self.players[0].place()}\n")
         status, out, said = run(self.folder, "play")
         self.assertEqual((status, said, lines(out, "abort")), (0, "", [f"abort old-001: p0@{self.players[0].place()}"]), out)
-        self.assertEqual(sorted(it.name for it in rooms.iterdir()), [".DS_Store", "link", "mine"])
+        self.assertEqual(sorted(it.name for it in rooms.iterdir()), [".DS_Store", *(f"foo-{it}" for it in range(6)), "link", "mine"])
         self.assertTrue((rooms / "mine/notes").exists() and (self.folder / "schedule.tsv").exists())
 
     def test_a_match_without_its_log_counts(self):
