@@ -39,7 +39,7 @@ checks all that follows. By hand, in this folder:
 
 The rules are ground descriptions; games has the descriptions that they were made from, whose sums when the plan was made are in
 rules/DESCRIPTIONS.sha256. Where rules/GAME.told is there, the players of that game were told this in place of rules/GAME.kif. The
-version of the referee is in VERSION.
+version of the referee with which this was published is in VERSION.
 What this does not show: that the players of these names sent these answers, and when. Keep the sum of the archive as you got it.
 """
 
@@ -218,7 +218,7 @@ def plain(words):
 
 
 def faults_of_words(folder):
-    """Gives what is wrong with the files that say how the archive is checked, and which program has played."""
+    """Gives what is wrong with the files that say how the archive is checked, and with which program it was published."""
     if not (folder / HOW).is_file():
         yield f"{HOW} is missing"
     if not (folder / VERSION).is_file():
@@ -259,4 +259,4 @@ def looked_at(path, referee):
         except MemoryError:
             raise Unchecked("the archive can't be checked: want of memory") from None
     said = f"the sums, the schedule, {len(results)} records and accounts, the table and the pages are right"
-    return faults, f"{said}; played by {made_by}, checked by {referee.version()}"
+    return faults, f"{said}; published with {made_by}, checked by {referee.version()}"

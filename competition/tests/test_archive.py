@@ -208,7 +208,7 @@ class Archive(unittest.TestCase):
         shutil.copy(self.archive, self.other)
         status, out, said = run(self.other, "check", "cup.tar.gz")
         self.assertEqual((status, said), (0, ""))
-        self.assertRegex(out, "the sums, the schedule, 12 records and accounts, the table and the pages are right; played by ")
+        self.assertRegex(out, "the sums, the schedule, 12 records and accounts, the table and the pages are right; published with ggp_manager [0-9.]+, checked by ggp_manager [0-9.]+\n$")
         files = self.files()
         spoilt = dict(self.plain_spoilings(files))
         spoilt |= {name: spoil(dict(files)) for name, (spoil, _) in SPOILINGS.items() if spoil}
