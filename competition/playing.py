@@ -57,7 +57,7 @@ class Playing:
             self.tell.ends(it.result, self.plan.competition.forfeit, it.seconds)
             self.ended(it.result)
         elif it.why:
-            self.is_full |= says_full(it.why, self.plan.competition.hosts)
+            self.is_full |= says_full(it.why, it.is_broken and self.plan.competition.hosts)
             self.left[it.match.id] = it.why
             self.tell.line(f"no record {it.match.id}: {it.why}")
         else:
@@ -113,10 +113,10 @@ class Playing:
         abort_matches(places, self.plan.folder, self.tell)
 
 
-def says_full(why, hosts):
+def says_full(why, is_of_parallel):
     """Returns whether a match has no record since the disk is full, which the referee may be the first to see. It says so with status 1,
-    or can't write that either. With hosts that status is parallel's own, for a job that has ended in whatever way."""
-    return why.endswith("write fault") or not hosts and why.endswith(UNSAID.format(1))
+    or can't write that either. Of parallel that status says only that its job has ended in whatever way."""
+    return why.endswith("write fault") or not is_of_parallel and why.endswith(UNSAID.format(1))
 
 
 def abort_matches(places, folder, tell):
