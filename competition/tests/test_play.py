@@ -12,7 +12,7 @@ import time
 import types
 import unittest
 
-from competition.children import end_with
+from competition.children import UNSAID, end_with
 from competition.files import held
 from competition.playing import interrupts_counted
 from competition.tests.players import TestPlayer
@@ -96,9 +96,10 @@ class Play(InFolder):
         self.assertEqual({it.split(": ")[1] for it in lines(out, "missing")}, {"p1 is silent"})
 
     def test_a_fault_of_info_is_not_the_player_s(self):
-        self.planned(["good", "good"], head=HEAD + 'absent = "play"\n')
-        killed = "it ended with status -9 and no word, as where it is killed or the disk is full"
-        for done, words, count in (("echo 'ggp_manager: write fault' >&2; exit 1", "ggp_manager: write fault", 1), ("kill -9 $$", killed, 2)):
+        self.planned(["good", "good"], head=HEAD + 'absent = "play"\nhosts = ["nowhere"]\n')
+        write_fault = "ggp_manager: write fault"
+        # The disk may be full where a write fails, and where nothing can be said of it.
+        for done, words, count in ((f"echo '{write_fault}' >&2; exit 1", write_fault, 1), ("exit 1", UNSAID.format(1), 1), ("kill -9 $$", UNSAID.format(-9), 2)):
             faulty = program_but(self.folder / "faulty", f'"$1" = info && "$3" = p0*', done)
             status, out, _ = run(self.folder, "play", "--at-once", "1", "--program", faulty)
             told = [f"no record {it[0]}: p0 could not be asked: {words}" for it in self.schedule]
