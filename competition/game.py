@@ -122,6 +122,8 @@ def tell_matches(tell, asked, referee, rules):
         tell_figures(tell, rules.roles, ended)
     if played.uncompared:
         tell.line(f"the program had not played {played.uncompared:,} of them after {asked.seconds:,} s: their records are not compared")
+    if played.too_long:
+        tell.line(f"{played.too_long:,} of them have a move that no player can make: their records are not compared")
     for number, keys in played.differing:
         tell.line(f"seed {number}: the program's record is not that of {INTERPRETER}, by {' and '.join(keys)}: please report it")
     return bool(aborted or played.differing or not ended)

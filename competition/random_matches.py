@@ -10,6 +10,7 @@ from dataclasses import dataclass
 
 from competition.descriptions import TOP, script_module
 from competition.referee import unchecked
+from competition.suspicious import is_too_long
 from competition.telling import REDRAWN
 
 # It shares nothing with the program, and says of each match which record has to come of it.
@@ -62,7 +63,7 @@ class RandomMatches:
     def __init__(self, rules, referee, name, tell, seconds):
         self.game, self.rules, self.referee, self.name = Interpreter(expected.expressions(rules.decode("latin-1"))), rules, referee, name
         self.tell, self.seconds, self.until = tell, seconds, time.monotonic() + seconds
-        self.ended, self.differing, self.uncompared, self.notes = [], [], 0, []
+        self.ended, self.differing, self.uncompared, self.too_long, self.notes = [], [], 0, 0, []
         self.waiting, self.size, self.drawn, self.turns = [], 0, 0.0, 0
         sys.setrecursionlimit(MOST_CALLS)
 
@@ -104,6 +105,10 @@ class RandomMatches:
             self.tell.draw(f"{said}, {self.turns:,} turns")
 
     def hand_in(self, seed, match, record):
+        if any(is_too_long(move) for moves in match.moves for move in moves):
+            # The desk takes no such answer.
+            self.too_long += 1
+            return
         lines = list(lines_of(match))
         if sum(len(it) + 1 for it in lines) > MOST_BYTES:
             # The desk gets the turns that it can take: they have to be the same.

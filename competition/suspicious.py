@@ -33,6 +33,8 @@ OFTEN = {
 }
 # How alike two words have to be; so many bytes of a sentence are shown, and so many lines; for so many conditions a word is looked for.
 ALIKE, MOST_SHOWN, MOST_LINES, MOST_GUESSES = 0.75, 80, 100, 100
+# The desk takes no answer that is longer.
+MOST_ANSWER = 4_096
 
 
 class Part(NamedTuple):
@@ -103,15 +105,15 @@ class Description:
 
     def read(self, number, sentence):
         is_rule = sentence[:1] == ("<=",)
-        if is_rule and len(sentence) < 2:
+        if not sentence or (is_rule and len(sentence) < 2):
             self.is_well_formed = False
             return
         part = Part(number, (1,) if is_rule else (), head_of(sentence))
         asked = [Part(number, *it) for at, literal in enumerate(sentence[2:] if is_rule else (), 2) for it in conditions(literal, (at,))]
         try:
-            must_be_atomic(part.atom, True)
             for literal in sentence[2:] if is_rule else ():
                 must_be_literal(literal)
+            must_be_atomic(part.atom, True)
         except Refused as why:
             # A ground description may have these, but they don't mean there what they mean in GDL-II.
             if SECRET not in str(why):
@@ -182,6 +184,11 @@ def shown(atom):
     return text if len(text) <= MOST_SHOWN else f"{text[:MOST_SHOWN]}.."
 
 
+def is_too_long(move):
+    """Returns whether no player can make a move, since the desk takes no answer that is as long."""
+    return len(spelled(move)) > MOST_ANSWER
+
+
 def by_name(relations):
     """Returns the numbers of arguments of relations, by their names."""
     found = {}
@@ -221,7 +228,7 @@ class Search:
     def of_head(self, part):
         one = relation(part.atom)
         if one in OWN:
-            return self.of_role(part) or self.of_term(part)
+            return self.of_role(part) or self.of_move(part) or self.of_term(part)
         if one in self.needed or part in self.description.secrets:
             return None
         word = meant(part.atom, HEADS)
@@ -235,6 +242,11 @@ class Search:
         if relation(part.atom) not in OF_ROLES or self.known.may_give(("role", part.atom[1])):
             return None
         return Finding(part, f"{shown(part.atom[1])} is no role", ("role", part.atom[1]))
+
+    def of_move(self, part):
+        if relation(part.atom) != ("legal", 2) or not is_too_long(part.atom[2]):
+            return None
+        return Finding(part, f"no player can make this move: its text is longer than {MOST_ANSWER:,} bytes", ("long", relation(part.atom[2])))
 
     def of_term(self, part):
         if relation(part.atom) not in (("init", 1), ("next", 1)) or self.asked.may_give(("true", part.atom[1])):
@@ -272,9 +284,13 @@ class Search:
         return [name for it in counts for name in self.names.get(it, ())] if self.guesses <= MOST_GUESSES else []
 
     def of_instances(self):
-        """Gives the heads that have an instance of what is no role."""
+        """Gives the heads that have an instance of what is no role, or a move that is too long."""
         for name in ("legal", "goal"):
             for atom in self.known.plain.get((name, 2), ()):
+                if name == "legal" and is_too_long(atom[2]):
+                    part = next((it for it in self.description.heads if variables(it.atom) and may_be(it.atom, atom)), None)
+                    if part:
+                        yield self.of_move(part._replace(atom=atom))
                 if not self.known.may_give(("role", atom[1])):
                     part = next((it for it in self.description.heads if variables(it.atom) and may_be(it.atom, atom)), None)
                     if part:

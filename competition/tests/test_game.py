@@ -102,6 +102,19 @@ class Suspicious(unittest.TestCase):
         self.assertEqual(suspicions(OPEN.replace("(go ?n)) (player", "?m) (player", 1).encode(), ground), [said.replace("(go ?n)", "?m")])
         self.assertEqual(suspicions(SOUND.encode(), SOUND.encode() + b"(legal eve x)"), [])
 
+    def test_a_move_that_no_player_can_make(self):
+        said = "line 5, column 1: no player can make this move: its text is longer than 4,096 bytes: (legal bob (wait "
+        for length, is_found in ((4_096, False), (4_097, True)):
+            move = f"(wait {'x' * (length - 7)})"
+            texts = [(SOUND.replace("bob wait", f"bob {move}"), None), (SOUND.replace("bob wait", "bob ?m"), f"{SOUND} (legal bob {move})")]
+            for text, ground in texts:
+                found = suspicions(text.encode(), ground and ground.encode())
+                self.assertEqual([it.startswith(said) for it in found], [True] * is_found, found)
+
+    def test_an_empty_list(self):
+        for text in (b"(role a) ()", b"(role a) (<= ())", b"(<= (sees a b) ())", b"(<= p ())", b"(<= p (not ()))", b"(p ())", b"((a) b)"):
+            self.assertEqual(suspicions(text), [])
+
     def test_of_what_has_not_its_form_only_misspelt_heads_are_told(self):
         said = "line 1, column 1: `=>` is no word of GDL, and nothing of the game asks for it; is `<=` meant?: (=> (legal ?r x) y)"
         self.assertEqual(suspicions(b"(=> (legal ?r x) y) (<= (next) p) (<=) (<= q) (line 1)"), [said])
@@ -177,6 +190,12 @@ class Game(InFolder):
         turns = [int(it[1].removeprefix("turns of a match: always ")) for it in alone[:2]]
         said = self.look(tictactoe, "--matches", "2", "--seed", "4")[1][3]
         self.assertTrue(said.endswith(f"on average {sum(turns) / 2:.1f}") or said == f"turns of a match: always {turns[0]}", said)
+
+    def test_a_move_that_no_player_can_make(self):
+        status, lines = self.look(SOUND.replace("bob wait", f"bob (wait {'x' * 5_000})"), "--matches", "2")
+        self.assertEqual((status, lines[2]), (0, "random matches, seeds 1 to 2: 2 finished, 0 aborted"))
+        self.assertEqual(lines[-1], "2 of them have a move that no player can make: their records are not compared")
+        self.assertRegex(lines[1], r"^suspicious: line 5, column 1: no player can make this move: ")
 
     def test_rules_that_are_too_deep_for_the_interpreter(self):
         chain = "".join(f"(<= p{it} p{it + 1})\n" for it in range(7_000))
