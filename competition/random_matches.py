@@ -1,6 +1,5 @@
 """Random matches of a game: an interpreter says what is legal and what follows, and the program's desk has to make the same records."""
 
-import json
 import random
 import subprocess
 import sys
@@ -9,7 +8,7 @@ import time
 from dataclasses import dataclass
 
 from competition.descriptions import TOP, script_module
-from competition.referee import unchecked
+from competition.referee import read_records, unchecked
 from competition.suspicious import is_too_long
 from competition.telling import REDRAWN
 
@@ -135,8 +134,8 @@ class RandomMatches:
             except subprocess.TimeoutExpired:
                 self.uncompared += len(waiting)
                 return
-        records = [json.loads(it) for it in said.stdout.splitlines() if it.startswith(b"{")]
-        if said.returncode or len(records) != len(waiting):
+        records = read_records(said)
+        if said.returncode or records is None or len(records) != len(waiting):
             raise unchecked(said, self.name)
         for (seed, _, wanted), found in zip(waiting, records):
             keys = [key for key in wanted if wanted[key] != found.get(key)]

@@ -82,6 +82,18 @@ def unchecked(said, name):
     return Unchecked(f"`{PROGRAM} {said.args[1]}` came to no verdict with {name}: {words}, status {said.returncode}")
 
 
+def read_records(said):
+    """Returns the records that a run of the desk has printed: None where one is none."""
+    try:
+        return [json.loads(it) for it in said.stdout.splitlines() if it.startswith(b"{")]
+    except (ValueError, RecursionError):
+        return None
+
+
+def is_text_list(value):
+    return isinstance(value, list) and all(isinstance(it, str) for it in value)
+
+
 class Referee:
     """The program at a path. A file stands in one word with its option, since its name may begin with a hyphen."""
 
@@ -104,13 +116,13 @@ class Referee:
             file.write(rules)
             file.flush()
             said = self.call("desk", f"--rules-file={file.name}", data=tries.encode())
-        records = [it for it in said.stdout.splitlines() if it.startswith(b"{")]
         if said.returncode == 1 and last_line(said) == BAD_RULES:
             # The line before says where, and what is wrong there.
             raise BadRules(said_lines(said)[-2:][0].removeprefix("ggp_manager: "))
-        if said.returncode or len(records) != 1:
+        records = read_records(said)
+        if said.returncode or records is None or len(records) != 1 or not is_text_list(records[0].get("roles")):
             raise unchecked(said, name)
-        return tuple(json.loads(records[0])["roles"])
+        return tuple(records[0]["roles"])
 
     def run_words(self, rules_path, told_path, match, strikes, places):
         """Returns the command that plays a match; START carries the rules of the second path where there is one."""
