@@ -2,11 +2,15 @@
 
 import argparse
 import pathlib
+import re
+import shutil
+import sys
 from collections import Counter
 
 from competition.descriptions import MOST_BYTES, NoDescription, has_variables, load_description, sentence_places
 from competition.files import Refused
 from competition.random_matches import RandomMatches
+from competition.referee import Unchecked
 from competition.suspicious import suspicions
 from competition.telling import Teller
 
@@ -16,6 +20,11 @@ MOST_MATCHES, MOST_SECONDS, MOST_SEED = 10_000, 1_000_000, 10**18
 # So many seeds are listed, and so many bytes of a state.
 LISTED, MOST_STATE = 10, 500
 INTERPRETER = "examples/games/expected.py"
+# How `instantiate` ends where it says nothing of the description.
+NO_VERDICT = re.compile(
+    r"instantiate ended with status .*|instantiate: (error: |gringo is not installed).*|.*: can't open file .*"
+    r"|([a-z_]+\.)*[A-Z]\w*(Error|Exception|Interrupt)\b.*"
+)
 
 
 def number_of(text, least, most):
@@ -58,22 +67,40 @@ def read_description(path):
 
 
 def run_game(asked, referee):
+    """Tells what there is to tell of a description, and returns the status."""
     path, tell = pathlib.Path(asked.file), Teller()
-    text = read_description(path)
+    text, why = read_description(path), None
     try:
-        is_wrong = tell_game(tell, asked, referee, path, text)
+        status = int(tell_game(tell, asked, referee, path, text))
+    except Unchecked as it:
+        status, why = 3, it
     finally:
         tell.clear()
+    if why:
+        print(f"ggp_competition: {why}", file=sys.stderr)
     if tell.fault:
         raise tell.fault
-    return is_wrong
+    return status
+
+
+def load(path, text, referee):
+    """Returns the rules of a description. Where it has to be instantiated, and that came to no verdict, this is no fault of its own."""
+    if len(text) <= MOST_BYTES and has_variables(text) and not shutil.which("gringo"):
+        raise Unchecked(f"{path} can't be instantiated: the grounder gringo is not installed")
+    try:
+        return load_description(path, referee, False)
+    except NoDescription as why:
+        said = str(why).splitlines()[-1]
+        if NO_VERDICT.fullmatch(said):
+            raise Unchecked(f"examples/instantiate came to no verdict with {path}: {said}") from None
+        raise
 
 
 def tell_game(tell, asked, referee, path, text):
     """Tells all that there is to tell of a description. Returns whether it is not accepted, or something is wrong with its matches."""
     tell.draw("the description")
     try:
-        rules = load_description(path, referee, False)
+        rules = load(path, text, referee)
     except NoDescription as why:
         for it in str(why).splitlines():
             tell.line(f"{path} is not accepted: {it}")

@@ -1,5 +1,6 @@
 """The command `game`: what is suspicious in a description, and how random matches of it end."""
 
+import os
 import shutil
 import subprocess
 import sys
@@ -212,14 +213,33 @@ class Game(InFolder):
             "exec sleep 30": (0, "the program had not played 1 of them after 1 s: their records are not compared\n", ""),
             "echo 'ggp_manager: want of memory' >&2; exit 3": (
                 3, "",
-                "ggp_competition: `ggp_manager desk` came to no verdict with game.kif: want of memory, status 3; nothing is changed\n",
+                "ggp_competition: `ggp_manager desk` came to no verdict with game.kif: want of memory, status 3\n",
             ),
+            "echo '{garbage'; exit 0": (3, "", "ggp_competition: `ggp_manager desk` came to no verdict with game.kif: it said nothing, status 0\n"),
         }
         for done, (wanted, printed, told) in cases.items():
             path = program_but(self.folder / "other", '"$1" = desk', other.format(done))
             status, out, said = run(self.folder, "game", "game.kif", "--matches", "1", "--seconds", "1", "--program", path)
             self.assertEqual((status, said), (wanted, told), out)
             self.assertIn(printed, out)
+
+    def test_a_program_that_prints_no_record(self):
+        (self.folder / "game.kif").write_text(SOUND)
+        said = "ggp_competition: `ggp_manager desk` came to no verdict with game.kif: it said nothing, status 0\n"
+        for record in ("{garbage", "{}", '{"roles": 1}', '{"roles": [1]}', "\\xff{", '{"a":' * 9_999):
+            path = program_but(self.folder / "other", '"$1" = desk', f"printf '%b\\n' '{record}'; exit 0")
+            self.assertEqual(run(self.folder, "game", "game.kif", "--program", path), (3, "", said))
+
+    def test_a_grounder_that_comes_to_no_verdict(self):
+        (self.folder / "game.kif").write_text(OPEN)
+        (self.folder / "gringo").write_text("#!/bin/bash\nkill -9 $PPID\nsleep 9\n")
+        (self.folder / "gringo").chmod(0o755)
+        said = "examples/instantiate came to no verdict with game.kif: instantiate ended with status -9"
+        path = f"{self.folder}:{os.environ['PATH']}"
+        self.assertEqual(run(self.folder, "game", "game.kif", env={**os.environ, "PATH": path}), (3, "", f"ggp_competition: {said}\n"))
+        self.assertEqual(run(self.folder, "game", "game.kif", env={**os.environ, "PATH": "/nowhere"}), (
+            3, "", "ggp_competition: game.kif can't be instantiated: the grounder gringo is not installed\n",
+        ))
 
     def test_a_match_that_one_script_does_not_hold(self):
         with mock.patch("competition.random_matches.MOST_BYTES", 30_000):
