@@ -153,7 +153,7 @@ def tell_matches(tell, asked, referee, rules):
         tell.line(f"{played.too_long:,} of them have a move that no player can make: their records are not compared")
     for number, keys in played.differing:
         tell.line(f"seed {number}: the program's record is not that of {INTERPRETER}, by {' and '.join(keys)}: please report it")
-    return bool(aborted or played.differing or not ended)
+    return bool(aborted or played.differing or not (ended or played.is_too_deep))
 
 
 def said_of_cause(cause, ended):

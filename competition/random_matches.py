@@ -31,10 +31,48 @@ class Interpreter(expected.Game):
 
     def question(self, state, joint):
         if joint:
-            return super().question(state, joint)
+            return self.looked_up(state, joint)
         if self.kept is None or self.kept[0] is not state:
-            self.kept = state, super().question(state, joint)
+            self.kept = state, self.looked_up(state, joint)
         return self.kept[1]
+
+    def looked_up(self, state, joint):
+        """Does the same as the question of a game, by plain loops: some interpreters of Python let no other calls go deep."""
+        known, rules = {}, self.rules
+
+        def holds(literal):
+            match literal:
+                case ("true", term):
+                    return term in state
+                case ("does", role, move):
+                    return role in joint and joint[role] == move
+                case ("not", inner):
+                    return not holds(inner)
+                case ("or", *inner):
+                    for it in inner:
+                        if holds(it):
+                            return True
+                    return False
+                case ("distinct", first, second):
+                    return first != second
+                case _:
+                    return is_derived(literal)
+
+        def is_derived(atom):
+            if atom in known:
+                return known[atom]
+            found = False
+            for body in rules.get(atom, ()):
+                for literal in body:
+                    if not holds(literal):
+                        break
+                else:
+                    found = True
+                    break
+            known[atom] = found
+            return found
+
+        return is_derived
 
 
 @dataclass
@@ -63,7 +101,7 @@ class RandomMatches:
         self.game, self.rules, self.referee, self.name = Interpreter(expected.expressions(rules.decode("latin-1"))), rules, referee, name
         self.tell, self.seconds, self.until = tell, seconds, time.monotonic() + seconds
         self.ended, self.differing, self.uncompared, self.too_long, self.notes = [], [], 0, 0, []
-        self.waiting, self.size, self.drawn, self.turns = [], 0, 0.0, 0
+        self.waiting, self.size, self.drawn, self.turns, self.is_too_deep = [], 0, 0.0, 0, False
         sys.setrecursionlimit(MOST_CALLS)
 
     def run(self, seed, count):
@@ -75,6 +113,7 @@ class RandomMatches:
             ended = f"{len(self.ended):,} of {count:,} matches and {self.turns:,} turns of the next one"
             self.notes.append(f"the time was over: in {self.seconds:,} s there were {ended}")
         except RecursionError:
+            self.is_too_deep = True
             self.notes.append("the interpreter can't play it: its rules ask for one another too deeply")
         self.ask_desk()
 

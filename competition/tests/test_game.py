@@ -199,9 +199,14 @@ class Game(InFolder):
         self.assertRegex(lines[1], r"^suspicious: line 5, column 1: no player can make this move: ")
 
     def test_rules_that_are_too_deep_for_the_interpreter(self):
-        chain = "".join(f"(<= p{it} p{it + 1})\n" for it in range(7_000))
+        chain = "".join(f"(<= p{it} (or p{it + 1}))\n" for it in range(7_000))
         status, lines = self.look(SOUND + chain + "p7000 (<= terminal (not p0))")
-        self.assertEqual((status, lines[2:]), (1, ["the interpreter can't play it: its rules ask for one another too deeply"]))
+        self.assertEqual((status, lines[2:]), (0, ["the interpreter can't play it: its rules ask for one another too deeply"]))
+
+    def test_rules_that_are_deep(self):
+        chain = "".join(f"(<= p{it} (or q p{it + 1}))\n" for it in range(2_000))
+        status, lines = self.look(SOUND + chain + "p2000 (<= q (true (step 7))) (<= terminal (not p0))", "--matches", "1")
+        self.assertEqual((status, lines[3]), (0, "turns of a match: always 2"))
 
     def test_a_program_that_plays_otherwise(self):
         (self.folder / "game.kif").write_text(SOUND)
