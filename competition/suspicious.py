@@ -35,6 +35,7 @@ OFTEN = {
 ALIKE, MOST_SHOWN, MOST_LINES, MOST_GUESSES = 0.75, 80, 100, 100
 # The desk takes no answer that is longer.
 MOST_ANSWER = 4_096
+TOO_LONG = f"no player can make this move: its text is longer than {MOST_ANSWER:,} bytes"
 
 
 class Part(NamedTuple):
@@ -209,8 +210,10 @@ class Search:
         self.counts, self.needed_counts, self.names = by_name(self.heads.relations()), by_name(self.needed), {}
         for name, count in sorted(self.heads.relations(), key=str):
             self.names.setdefault(count, []).append(name)
+        self.facts = set()
         if ground is not None:
-            self.known = Atoms(map(head_of, expressions(ground.decode("latin-1"))))
+            sentences = expressions(ground.decode("latin-1"))
+            self.known, self.facts = Atoms(map(head_of, sentences)), {it for it in sentences if it[0] != "<="}
 
     def findings(self):
         """Gives what is suspicious. Where a sentence has not its form, only misspelt heads are told: it may be what others ask for."""
@@ -246,7 +249,7 @@ class Search:
     def of_move(self, part):
         if relation(part.atom) != ("legal", 2) or not is_too_long(part.atom[2]):
             return None
-        return Finding(part, f"no player can make this move: its text is longer than {MOST_ANSWER:,} bytes", ("long", relation(part.atom[2])))
+        return Finding(part, TOO_LONG, ("long", relation(part.atom[2])))
 
     def of_term(self, part):
         if relation(part.atom) not in (("init", 1), ("next", 1)) or self.asked.may_give(("true", part.atom[1])):
@@ -284,17 +287,21 @@ class Search:
         return [name for it in counts for name in self.names.get(it, ())] if self.guesses <= MOST_GUESSES else []
 
     def of_instances(self):
-        """Gives the heads that have an instance of what is no role, or a move that is too long."""
+        """Gives the instances with a move that is too long, and those that hold always and are of what is no role. Others may never
+        hold: this is left open."""
         for name in ("legal", "goal"):
             for atom in self.known.plain.get((name, 2), ()):
                 if name == "legal" and is_too_long(atom[2]):
-                    part = next((it for it in self.description.heads if variables(it.atom) and may_be(it.atom, atom)), None)
-                    if part:
-                        yield self.of_move(part._replace(atom=atom))
-                if not self.known.may_give(("role", atom[1])):
-                    part = next((it for it in self.description.heads if variables(it.atom) and may_be(it.atom, atom)), None)
-                    if part:
-                        yield Finding(part, f"{shown(atom[1])} is no role, and an instance has it", ("role", atom[1]))
+                    yield from self.of_instance(atom, TOO_LONG, ("long", relation(atom[2])))
+                if atom in self.facts and not self.known.may_give(("role", atom[1])):
+                    yield from self.of_instance(atom, f"{shown(atom[1])} is no role, and a fact of the ground rules has it", ("role", atom[1]))
+
+    def of_instance(self, atom, words, kind):
+        """Gives what there is to say of an instance, at the head that it is of: at none where it may be of several."""
+        parts = [it for it in self.description.heads if relation(it.atom) == relation(atom) and may_be(it.atom, atom)]
+        if all(variables(it.atom) for it in parts) and parts:
+            is_sure = len(parts) == 1
+            yield Finding(parts[0]._replace(atom=atom) if is_sure else None, words if is_sure else f"{words}: {shown(atom)}", kind)
 
     def of_roles(self):
         """Gives what a role lacks, and whether the end does."""

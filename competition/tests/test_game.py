@@ -98,10 +98,14 @@ class Suspicious(unittest.TestCase):
         self.assertEqual(suspicions(OPEN.encode(), ground), said)
 
     def test_an_instance_of_what_is_no_role(self):
-        ground = b"(role ann) (role bob) (legal ann x) (legal bob x) (legal eve x) (legal eve y) (goal ann 1) (goal bob 1) terminal"
-        said = "line 3, column 5: eve is no role, and an instance has it: (legal ?r (go ?n)) (and 1 more like this)"
-        self.assertEqual(suspicions(OPEN.replace("(go ?n)) (player", "?m) (player", 1).encode(), ground), [said.replace("(go ?n)", "?m")])
-        self.assertEqual(suspicions(SOUND.encode(), SOUND.encode() + b"(legal eve x)"), [])
+        ground = b"(role ann) (role bob) (legal ann x) (legal bob x) (goal ann 1) (goal bob 1) terminal "
+        text, eve = OPEN.replace("(go ?n)) (player", "?m) (player", 1), b"(legal eve x) (legal eve y)"
+        said = "eve is no role, and a fact of the ground rules has it"
+        self.assertEqual(suspicions(text.encode(), ground + eve), [f"line 3, column 5: {said}: (legal eve x) (and 1 more like this)"])
+        self.assertEqual(suspicions(text.encode() + b"(<= (legal ?any x) (role ?any))", ground + eve[:14]), [f"{said}: (legal eve x)"])
+        # What holds in some states alone may hold in none.
+        self.assertEqual(suspicions(text.encode(), ground + b"(<= (legal eve x) (true (cell 1)))"), [])
+        self.assertEqual(suspicions(SOUND.encode(), SOUND.encode() + eve), [])
 
     def test_a_move_that_no_player_can_make(self):
         said = "line 5, column 1: no player can make this move: its text is longer than 4,096 bytes: (legal bob (wait "
