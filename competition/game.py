@@ -104,12 +104,12 @@ def tell_game(tell, asked, referee, path, text):
     except NoDescription as why:
         for it in str(why).splitlines():
             tell.line(f"{path} is not accepted: {it}")
-        tell_suspicions(tell, text, None)
+        tell_suspicions(tell, text, None, asked.seconds)
         return True
     tell.line(f"{path} is accepted: {said_of_rules(text, rules)}")
     for it in rules.notes:
         tell.line(f"its ground rules: {it}")
-    tell_suspicions(tell, text, rules.text)
+    tell_suspicions(tell, text, rules.text, asked.seconds)
     return bool(asked.matches) and tell_matches(tell, asked, referee, rules)
 
 
@@ -119,15 +119,14 @@ def said_of_rules(text, rules):
     return f"{count:,} sentences{became}; roles {' '.join(rules.roles)}"
 
 
-def tell_suspicions(tell, text, ground):
-    try:
-        found = suspicions(text, ground)
-    except NoDescription:
-        # That it is none is told already.
-        return
-    for it in found:
+def tell_suspicions(tell, text, ground, seconds):
+    tell.draw("what is suspicious")
+    found = suspicions(text, ground, seconds)
+    for it in found.lines:
         tell.line(f"suspicious: {it}")
-    if not found:
+    if found.cut:
+        tell.line(found.cut)
+    elif not found.lines:
         tell.line("nothing else is suspicious" if ground is None else "nothing is suspicious")
 
 

@@ -2,11 +2,14 @@
 right: where variables leave open what a sentence comes to, it counts as right."""
 
 import difflib
+import itertools
+import math
 import sys
+import time
 from collections import Counter
 from typing import NamedTuple
 
-from competition.descriptions import COMMENT, TOKEN, TOP, place_of, sentence_places
+from competition.descriptions import COMMENT, TOKEN, TOP, NoDescription, place_of, sentence_places
 
 sys.path.append(str(TOP / "examples"))
 from instantiating.kif import Refused, expressions, relation, spelled, variables
@@ -31,11 +34,19 @@ OFTEN = {
     "not": "~ ! no".split(),
     "or": "| ||".split(),
 }
-# How alike two words have to be; so many bytes of a sentence are shown, and so many lines; for so many conditions a word is looked for.
-ALIKE, MOST_SHOWN, MOST_LINES, MOST_GUESSES = 0.75, 80, 100, 100
+# How alike two words have to be; so many bytes of a sentence are shown, and so many lines; so many names are compared, all together.
+ALIKE, MOST_SHOWN, MOST_LINES, MOST_COMPARED = 0.75, 80, 100, 50_000
+MOST_LISTED = 3
 # The desk takes no answer that is longer.
 MOST_ANSWER = 4_096
 TOO_LONG = f"no player can make this move: its text is longer than {MOST_ANSWER:,} bytes"
+
+
+NOT_ALL = "the rest was not looked at"
+
+
+class TimeIsOver(Exception):
+    """The seconds are over."""
 
 
 class Part(NamedTuple):
@@ -75,6 +86,45 @@ def may_be(one, other):
     return len(one) == len(other) and all(map(may_be, one, other))
 
 
+def places(atom, way=()):
+    """Gives each place in an atomic sentence with what stands there: an atom, the length of a list, or None for a variable."""
+    if isinstance(atom, str):
+        yield way, None if atom.startswith("?") else atom
+        return
+    yield way, len(atom)
+    for number, member in enumerate(atom):
+        yield from places(member, (*way, number))
+
+
+def without_names(term):
+    """Returns the term with the same variable in the place of each."""
+    if isinstance(term, str):
+        return "?" if term.startswith("?") else term
+    return tuple(map(without_names, term))
+
+
+class Index:
+    """Atomic sentences, found by what stands at one place of them."""
+
+    def __init__(self, atoms):
+        self.table = {}
+        for it in atoms:
+            for place in places(it):
+                self.table.setdefault(place, []).append(it)
+
+    def alike(self, atom):
+        """Returns those that may have what this one has at one place: at that one where they are fewest."""
+        best, least = (), None
+        for way, word in places(atom):
+            if word is not None:
+                # What has a variable there, or where a list stands that has this place in it, may have all.
+                found = [self.table.get((way[:it], None), ()) for it in range(len(way) + 1)] + [self.table.get((way, word), ())]
+                count = sum(map(len, found))
+                if least is None or count < least:
+                    best, least = found, count
+        return itertools.chain(*best)
+
+
 class Atoms:
     """Atomic sentences, found by their relations."""
 
@@ -82,16 +132,28 @@ class Atoms:
         self.plain, self.open = {}, {}
         for it in dict.fromkeys(atoms):
             (self.open if variables(it) else self.plain).setdefault(relation(it), {})[it] = None
+        self.indexes, self.answers = {}, {}
 
     def relations(self):
         return {*self.plain, *self.open}
 
+    def like(self, atom):
+        """Gives those that may be this one: itself first."""
+        one, is_open = relation(atom), bool(variables(atom))
+        if not is_open and atom in self.plain.get(one, ()):
+            yield atom
+        for name, atoms in (("open", self.open), ("plain", self.plain))[: 1 + is_open]:
+            if one in atoms:
+                if (name, one) not in self.indexes:
+                    self.indexes[name, one] = Index(atoms[one])
+                yield from (it for it in self.indexes[name, one].alike(atom) if may_be(it, atom))
+
     def may_give(self, atom):
         """Returns whether one of them may be this one."""
-        plain, others = self.plain.get(relation(atom), {}), self.open.get(relation(atom), ())
-        if any(may_be(it, atom) for it in others):
-            return True
-        return any(may_be(it, atom) for it in plain) if variables(atom) else atom in plain
+        asked = without_names(atom)
+        if asked not in self.answers:
+            self.answers[asked] = next(self.like(asked), None) is not None
+        return self.answers[asked]
 
 
 class Description:
@@ -135,33 +197,40 @@ class Description:
                 open_ones += self.asks.get(one, ())
         return found
 
-    def place(self, part):
-        at = self.places[part.sentence]
-        for number in part.way:
-            at = member_at(self.text, at, number)
-        return place_of(self.text, at)
+    def told_places(self, parts):
+        """Returns the places of parts, by their sentences and ways, in the words that tell them."""
+        wanted, found = {}, {}
+        for it in parts:
+            wanted.setdefault(it.sentence, set()).add(it.way)
+        for number, ways in wanted.items():
+            for way, at in starts(self.text, self.places[number], ways).items():
+                found[number, way] = place_of(self.text, at)
+        return found
 
 
-def member_at(text, at, number):
-    """Returns where this member begins of the list that begins there."""
-    level = 0
+def starts(text, at, ways):
+    """Returns where the members begin that these ways lead to, of the sentence that begins there."""
+    found, way = {}, []
     for token in TOKEN.finditer(text, at):
         if token[0] == b")":
-            level -= 1
-            continue
-        if level == 1:
-            if number == 0:
-                return token.start()
-            number -= 1
+            way.pop()
+        elif tuple(way) in ways:
+            found[tuple(way)] = token.start()
         if token[0] == b"(":
-            level += 1
-    return at
+            way.append(0)
+        elif way:
+            way[-1] += 1
+        if not way or len(found) == len(ways):
+            break
+    return found
 
 
 def meant(atom, words, names=()):
     """Returns the word that may be meant by the relation of an atomic sentence, by its look and the number of its arguments: one of GDL,
     or one of these names. None if there is none."""
     name, count = relation(atom)
+    if len(name) > MOST_SHOWN:
+        return None
     fits = [word for word, wanted in words.items() if wanted in (count, "any") or (wanted, count) == (None, 0)]
     fits = [word for word in fits if word != name]
     for word in fits:
@@ -171,18 +240,22 @@ def meant(atom, words, names=()):
     return found[0] if found else None
 
 
+def cut(text):
+    return text if len(text) <= MOST_SHOWN else f"{text[:MOST_SHOWN]}.."
+
+
 def form(name, count):
     """Returns how an atomic sentence of a relation looks."""
-    return name if count is None else f"({' '.join([name] + ['_'] * count)})"
+    return cut(name if count is None else f"({' '.join([name] + ['_'] * count)})")
 
 
 def listed(name, counts):
-    return " and ".join(f"`{form(name, it)}`" for it in counts)
+    """Returns how a relation looks with these numbers of arguments: with the first of them, where there are many."""
+    return " and ".join([f"`{form(name, it)}`" for it in counts[:MOST_LISTED]] + ["others"] * (len(counts) > MOST_LISTED))
 
 
 def shown(atom):
-    text = spelled(atom)
-    return text if len(text) <= MOST_SHOWN else f"{text[:MOST_SHOWN]}.."
+    return cut(spelled(atom))
 
 
 def is_too_long(move):
@@ -201,12 +274,14 @@ def by_name(relations):
 class Search:
     """The search for what is suspicious in a description; `ground` is the text of its ground rules, where it is accepted."""
 
-    def __init__(self, description, ground):
-        self.description = description
+    def __init__(self, description, ground, until):
+        self.description, self.until, self.said, self.parts = description, until, {}, {}
+        for it in description.heads:
+            self.parts.setdefault(it.atom, []).append(it)
         self.heads = Atoms(it.atom for it in description.heads)
         self.asked = Atoms(it.atom for it in description.conditions)
         self.terms = Atoms(("true", it.atom[1]) for it in description.heads if relation(it.atom) in (("init", 1), ("next", 1)))
-        self.needed, self.known, self.guesses = description.needed(), self.heads, 0
+        self.needed, self.known, self.compared = description.needed(), self.heads, 0
         self.counts, self.needed_counts, self.names = by_name(self.heads.relations()), by_name(self.needed), {}
         for name, count in sorted(self.heads.relations(), key=str):
             self.names.setdefault(count, []).append(name)
@@ -228,12 +303,24 @@ class Search:
             yield from self.of_instances()
             yield from self.of_roles()
 
+    def look_at_clock(self):
+        if time.monotonic() > self.until:
+            raise TimeIsOver
+
     def of_head(self, part):
+        self.look_at_clock()
         one = relation(part.atom)
         if one in OWN:
             return self.of_role(part) or self.of_move(part) or self.of_term(part)
         if one in self.needed or part in self.description.secrets:
             return None
+        if one not in self.said:
+            self.said[one] = self.of_unneeded(part)
+        return self.said[one]._replace(part=part)
+
+    def of_unneeded(self, part):
+        """Returns what is to be said of a head that the game does not need."""
+        one = relation(part.atom)
         word = meant(part.atom, HEADS)
         if word:
             words = f"`{one[0]}` is no word of GDL, and nothing of the game asks for it; is `{word}` meant?"
@@ -257,6 +344,7 @@ class Search:
         return Finding(part, f"no condition asks for the term {shown(part.atom[1])}", ("unasked", relation(part.atom[1])))
 
     def of_condition(self, part):
+        self.look_at_clock()
         one, atom = relation(part.atom), part.atom
         if found := self.of_role(part):
             return found
@@ -266,7 +354,11 @@ class Search:
         if one == ("does", 2):
             is_given, words = self.heads.may_give(("legal", *atom[1:])), "no `legal` gives this move"
             return None if is_given else Finding(part, words, ("does", atom[1], relation(atom[2])))
-        return None if self.heads.may_give(atom) else self.of_missing(part)
+        if self.heads.may_give(atom):
+            return None
+        if ("as a condition", one) not in self.said:
+            self.said["as a condition", one] = self.of_missing(part)
+        return self.said["as a condition", one]._replace(part=part)
 
     def of_missing(self, part):
         """Returns what is to be said of a condition that no head may be."""
@@ -281,16 +373,17 @@ class Search:
         return Finding(part, words, ("undefined", one))
 
     def names_like(self, count):
-        """Returns the names of relations with as many arguments: none after many such questions, since each takes its time."""
-        self.guesses += 1
-        counts = (count,) if count else (None, 0)
-        return [name for it in counts for name in self.names.get(it, ())] if self.guesses <= MOST_GUESSES else []
+        """Returns the names of relations with as many arguments: none where many were compared, since this takes its time."""
+        names = [it for one in ((count,) if count else (None, 0)) for it in self.names.get(one, ()) if len(it) <= MOST_SHOWN]
+        self.compared += len(names)
+        return names if self.compared <= MOST_COMPARED else []
 
     def of_instances(self):
         """Gives the instances with a move that is too long, and those that hold always and are of what is no role. Others may never
         hold: this is left open."""
         for name in ("legal", "goal"):
             for atom in self.known.plain.get((name, 2), ()):
+                self.look_at_clock()
                 if name == "legal" and is_too_long(atom[2]):
                     yield from self.of_instance(atom, TOO_LONG, ("long", relation(atom[2])))
                 if atom in self.facts and not self.known.may_give(("role", atom[1])):
@@ -298,34 +391,54 @@ class Search:
 
     def of_instance(self, atom, words, kind):
         """Gives what there is to say of an instance, at the head that it is of: at none where it may be of several."""
-        parts = [it for it in self.description.heads if relation(it.atom) == relation(atom) and may_be(it.atom, atom)]
-        if all(variables(it.atom) for it in parts) and parts:
+        parts = [] if atom in self.parts else [part for it in self.heads.like(atom) for part in self.parts[it]]
+        if parts:
             is_sure = len(parts) == 1
             yield Finding(parts[0]._replace(atom=atom) if is_sure else None, words if is_sure else f"{words}: {shown(atom)}", kind)
 
     def of_roles(self):
         """Gives what a role lacks, and whether the end does."""
         for atom in self.known.plain.get(("role", 1), ()):
-            part = next((it for it in self.description.heads if may_be(it.atom, atom)), None)
+            self.look_at_clock()
             for name in ("legal", "goal"):
                 if not self.known.may_give((name, atom[1], "?it")):
+                    part = next((self.parts[it][0] for it in self.heads.like(atom)), None)
                     yield Finding(part, f"nothing gives the role {shown(atom[1])} a `{name}`", ("lacks", name, atom))
         if not self.known.may_give("terminal"):
             yield Finding(None, "nothing gives `terminal`, so no match is finished", ("terminal",))
 
 
-def suspicions(text, ground=None):
-    """Returns what is suspicious in a description, in lines, in the order of the text; `ground` is the text of its ground rules, where
-    it is accepted. A text that can't be read has nothing that is."""
+class Suspicions(NamedTuple):
+    """What is suspicious, in lines, and why not all was looked at: nothing where all was."""
+
+    lines: list
+    cut: str = ""
+
+
+def suspicions(text, ground=None, seconds=math.inf):
+    """Returns what is suspicious in a description, in the order of the text; `ground` is the text of its ground rules, where it is
+    accepted. After the seconds the search is cut."""
+    found, why = [], ""
     try:
         description = Description(text)
-    except Refused:
-        return []
-    found = list(Search(description, ground).findings())
-    counts, lines = Counter(it.kind for it in found), {}
+        search = Search(description, ground, time.monotonic() + seconds)
+        for it in search.findings():
+            found.append(it)
+    except (Refused, NoDescription):
+        return Suspicions([], NOT_ALL)
+    except TimeIsOver:
+        why = f"the search for what is suspicious was cut after {seconds:,} s: {NOT_ALL}"
+    return Suspicions(lines_of(description, found), why or ("" if description.is_well_formed else NOT_ALL))
+
+
+def lines_of(description, found):
+    """Returns the lines that tell findings, those of one kind in one line, at the place of the first."""
+    counts, firsts = Counter(it.kind for it in found), {}
     for it in sorted(found, key=lambda it: it.part[:2] if it.part else (len(description.places), ())):
-        if it.kind not in lines:
-            more = f" (and {counts[it.kind] - 1:,} more like this)" if counts[it.kind] > 1 else ""
-            lines[it.kind] = f"{description.place(it.part)}: {it.words}: {shown(it.part.atom)}{more}" if it.part else it.words
-    lines = list(lines.values())
-    return lines if len(lines) <= MOST_LINES else [*lines[:MOST_LINES], f"there are {len(lines) - MOST_LINES:,} more such lines"]
+        firsts.setdefault(it.kind, it)
+    shown_ones = list(firsts.values())[:MOST_LINES]
+    told, lines = description.told_places([it.part for it in shown_ones if it.part]), []
+    for it in shown_ones:
+        more = f" (and {counts[it.kind] - 1:,} more like this)" if counts[it.kind] > 1 else ""
+        lines.append(f"{told[it.part[:2]]}: {it.words}: {shown(it.part.atom)}{more}" if it.part else it.words)
+    return lines + ([f"there are {len(firsts) - MOST_LINES:,} more such lines"] if len(firsts) > MOST_LINES else [])

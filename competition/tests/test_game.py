@@ -4,6 +4,7 @@ import os
 import shutil
 import subprocess
 import sys
+import time
 import unittest
 from unittest import mock
 
@@ -11,7 +12,7 @@ from competition import random_matches
 from competition.referee import Referee
 from competition.suspicious import suspicions
 from competition.telling import Teller
-from competition.tests.support import COMMAND, GAMES, InFolder, program, program_but, run, run_into_full
+from competition.tests.support import COMMAND, GAMES, InFolder, program, program_but, run, run_into_full, slowness
 
 # A game of two turns, in which nothing is suspicious.
 SOUND = """(role ann) (role bob)
@@ -80,32 +81,36 @@ KNOWN = {"checkers": "`(kind _)`", "farmers": "`(ten _)`", "foxandhounds": "`(li
 ENDLESS = "(role ann) (init (step 1)) (legal ann go) (<= (next (step 1)) (true (step 1))) (<= terminal (true (step 2))) (goal ann 1)"
 
 
+def lines_of(text, ground=None):
+    return suspicions(text, ground).lines
+
+
 class Suspicious(unittest.TestCase):
     def test_a_sound_game(self):
         for ground in (None, SOUND.encode()):
-            self.assertEqual(suspicions(SOUND.encode(), ground), [])
-            self.assertEqual(suspicions(OPEN.encode(), None), [])
+            self.assertEqual(lines_of(SOUND.encode(), ground), [])
+            self.assertEqual(lines_of(OPEN.encode(), None), [])
 
     def test_changes(self):
         for old, new, words in CHANGES:
             with self.subTest(new):
                 text = (SOUND + new if old is None else SOUND.replace(old, new, 1)).encode()
-                self.assertEqual(suspicions(text, text), words)
+                self.assertEqual(lines_of(text, text), words)
 
     def test_ground_rules_say_more(self):
         ground = b"(role ann) (role bob) (legal ann x) (goal ann 1) terminal"
         said = [f"line 1, column 31: nothing gives the role bob a `{it}`: (role ?r)" for it in ("legal", "goal")]
-        self.assertEqual(suspicions(OPEN.encode(), ground), said)
+        self.assertEqual(lines_of(OPEN.encode(), ground), said)
 
     def test_an_instance_of_what_is_no_role(self):
         ground = b"(role ann) (role bob) (legal ann x) (legal bob x) (goal ann 1) (goal bob 1) terminal "
         text, eve = OPEN.replace("(go ?n)) (player", "?m) (player", 1), b"(legal eve x) (legal eve y)"
         said = "eve is no role, and a fact of the ground rules has it"
-        self.assertEqual(suspicions(text.encode(), ground + eve), [f"line 3, column 5: {said}: (legal eve x) (and 1 more like this)"])
-        self.assertEqual(suspicions(text.encode() + b"(<= (legal ?any x) (role ?any))", ground + eve[:14]), [f"{said}: (legal eve x)"])
+        self.assertEqual(lines_of(text.encode(), ground + eve), [f"line 3, column 5: {said}: (legal eve x) (and 1 more like this)"])
+        self.assertEqual(lines_of(text.encode() + b"(<= (legal ?any x) (role ?any))", ground + eve[:14]), [f"{said}: (legal eve x)"])
         # What holds in some states alone may hold in none.
-        self.assertEqual(suspicions(text.encode(), ground + b"(<= (legal eve x) (true (cell 1)))"), [])
-        self.assertEqual(suspicions(SOUND.encode(), SOUND.encode() + eve), [])
+        self.assertEqual(lines_of(text.encode(), ground + b"(<= (legal eve x) (true (cell 1)))"), [])
+        self.assertEqual(lines_of(SOUND.encode(), SOUND.encode() + eve), [])
 
     def test_a_move_that_no_player_can_make(self):
         said = "line 5, column 1: no player can make this move: its text is longer than 4,096 bytes: (legal bob (wait "
@@ -113,23 +118,58 @@ class Suspicious(unittest.TestCase):
             move = f"(wait {'x' * (length - 7)})"
             texts = [(SOUND.replace("bob wait", f"bob {move}"), None), (SOUND.replace("bob wait", "bob ?m"), f"{SOUND} (legal bob {move})")]
             for text, ground in texts:
-                found = suspicions(text.encode(), ground and ground.encode())
+                found = lines_of(text.encode(), ground and ground.encode())
                 self.assertEqual([it.startswith(said) for it in found], [True] * is_found, found)
 
     def test_an_empty_list(self):
         for text in (b"(role a) ()", b"(role a) (<= ())", b"(<= (sees a b) ())", b"(<= p ())", b"(<= p (not ()))", b"(p ())", b"((a) b)"):
-            self.assertEqual(suspicions(text), [])
+            self.assertEqual(lines_of(text), [])
 
     def test_of_what_has_not_its_form_only_misspelt_heads_are_told(self):
         said = "line 1, column 1: `=>` is no word of GDL, and nothing of the game asks for it; is `<=` meant?: (=> (legal ?r x) y)"
-        self.assertEqual(suspicions(b"(=> (legal ?r x) y) (<= (next) p) (<=) (<= q) (line 1)"), [said])
-        self.assertEqual(suspicions(b"(" * 70 + b"a" + b")" * 70), [])
+        self.assertEqual(lines_of(b"(=> (legal ?r x) y) (<= (next) p) (<=) (<= q) (line 1)"), [said])
+        self.assertEqual(lines_of(b"(" * 70 + b"a" + b")" * 70), [])
+
+    def test_what_is_not_looked_at(self):
+        for text in (b"(role a", b"", b"(role a) ()", b"(<= (next) p)", b"(" * 70 + b"a" + b")" * 70, b"(role \xff)"):
+            self.assertEqual(suspicions(text).cut, "the rest was not looked at")
+        self.assertEqual(suspicions(SOUND.encode()), ([], ""))
+        said = "the search for what is suspicious was cut after -1 s: the rest was not looked at"
+        self.assertEqual(suspicions(SOUND.encode(), None, -1), ([], said))
+
+    def test_many_sentences_take_no_long_time(self):
+        numbers = range(9_000)
+        cases = {
+            "no rule and no fact gives this: ": [*(f"(p {it} x)" for it in numbers), *(f"(<= terminal (p ?x {it}x))" for it in numbers)],
+            "no `init` and no `next` gives the term ": [
+                *(f"(init (c {it} {it}))" for it in numbers), *(f"(<= terminal (true (c ?x (f {it}))))" for it in numbers),
+            ],
+            "nothing gives the role r0 a `goal`": [f"(role r{it}) (legal q{it} m)" for it in numbers],
+            "`z99` has no rule and no fact": ["(<= terminal (or", *(f"z{it}" for it in numbers), "))"],
+        }
+        for words, text in cases.items():
+            began = time.monotonic()
+            found = lines_of(" ".join(text).encode())
+            self.assertLess(time.monotonic() - began, 5 * slowness())
+            self.assertTrue(any(words in it for it in found), found)
+
+    def test_where_a_condition_stands(self):
+        text = SOUND + "(<= terminal (or (not (a1)) b2)\n  (or (and c3 (not (not d4))) (distinct x y) over) (true (e5 x y)))"
+        found = [it.split(": ")[0] for it in lines_of(text.encode())]
+        self.assertEqual(found, [f"line {it}" for it in ("11, column 23", "11, column 29", "12, column 12", "12, column 25", "12, column 52")])
+
+    def test_names_that_are_long(self):
+        name, arguments = "n" * 200, " x" * 200
+        found = lines_of(f"{SOUND} ({name}) (p{arguments}) (<= terminal ({name} 1 (a{arguments})))".encode())
+        self.assertEqual(len(found), 3)
+        self.assertLess(max(map(len, found)), 330)
+        self.assertIn(f"`({'n' * 79}..`", found[0])
 
     def test_the_games_of_this_repository(self):
         files = [*GAMES.glob("*.kif"), *GAMES.glob("general/*.kif")]
         self.assertGreater(len(files), 30)
         for file in files:
-            found = suspicions(file.read_bytes())
+            found = lines_of(file.read_bytes())
             self.assertEqual(len(found), file.stem in KNOWN, found)
             for it in found:
                 self.assertIn(f"nothing of the game asks for {KNOWN[file.stem]}", it)
@@ -163,9 +203,12 @@ class Game(InFolder):
         self.assertEqual((status, lines), (1, [
             "game.kif is not accepted: line 3, column 14: init or next as a condition, but they are for heads: (<= (next x) (init x))",
             "suspicious: line 2, column 1: `=>` is no word of GDL, and nothing of the game asks for it; is `<=` meant?: (=> (legal a x) p)",
+            "the rest was not looked at",
         ]))
         for text, words in [("", "line 1, column 1: there is no sentence"), ("(role a", "line 1, column 1: a list that is not closed")]:
-            self.assertEqual(self.look(text), (1, [f"game.kif is not accepted: {words}"]))
+            self.assertEqual(self.look(text), (1, [f"game.kif is not accepted: {words}", "the rest was not looked at"]))
+        status, lines = self.look(SOUND + "(goal ann 200)")
+        self.assertEqual((status, lines[1:]), (1, ["nothing else is suspicious"]), lines)
 
     def test_aborted_matches(self):
         status, lines = self.look(SOUND.replace("(not (true (step 1)))", "(true (step 3))"), "--matches", "3", "--seed", "7")
