@@ -15,7 +15,10 @@ from competition.suspicious import suspicions
 from competition.telling import Teller
 
 HELP = "says whether the description of a game is accepted, what is suspicious in it, and how random matches of it end"
-STATUS = "status 0: nothing is wrong, though something may be suspicious. 1: it is not accepted, a match is aborted, or none ends."
+STATUS = """status 0: nothing is wrong, though something may be suspicious. 1: the description is not accepted, a match is aborted, none ends
+within the seconds, or a record is another one than it has to be. 2: the command is wrong, or the file can't be read. 3: there is no
+verdict, as where the referee or the grounder is missing something or was ended, or no temporary file can be written.
+"""
 MOST_MATCHES, MOST_SECONDS, MOST_SEED = 10_000, 1_000_000, 10**18
 # So many seeds are listed, and so many bytes of a state.
 LISTED, MOST_STATE = 10, 500
@@ -74,6 +77,8 @@ def run_game(asked, referee):
         status = int(tell_game(tell, asked, referee, path, text))
     except Unchecked as it:
         status, why = 3, it
+    except OSError as it:
+        status, why = 3, f"{it.filename or 'a temporary file'}: {it.strerror}"
     finally:
         tell.clear()
     if why:

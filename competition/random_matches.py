@@ -3,12 +3,11 @@
 import random
 import subprocess
 import sys
-import tempfile
 import time
 from dataclasses import dataclass
 
 from competition.descriptions import TOP, script_module
-from competition.referee import read_records, unchecked
+from competition.referee import read_records, rules_file, unchecked
 from competition.suspicious import is_too_long
 from competition.telling import REDRAWN
 
@@ -164,10 +163,8 @@ class RandomMatches:
             return
         self.tell.draw("the program's desk")
         script = "".join(f"{line}\n" for _, lines, _ in waiting for line in lines)
-        with tempfile.NamedTemporaryFile() as file:
-            file.write(self.rules)
-            file.flush()
-            words = [self.referee.path, "desk", f"--rules-file={file.name}"]
+        with rules_file(self.rules) as path:
+            words = [self.referee.path, "desk", f"--rules-file={path}"]
             try:
                 said = subprocess.run(words, input=script.encode(), capture_output=True, timeout=self.seconds)
             except subprocess.TimeoutExpired:

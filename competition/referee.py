@@ -1,5 +1,6 @@
 """The program `ggp_manager`, which judges: where it is, and what it is asked."""
 
+import contextlib
 import json
 import os
 import pathlib
@@ -82,6 +83,17 @@ def unchecked(said, name):
     return Unchecked(f"`{PROGRAM} {said.args[1]}` came to no verdict with {name}: {words}, status {said.returncode}")
 
 
+@contextlib.contextmanager
+def rules_file(rules):
+    """Gives the path of a file with rules, as long as it is needed. A fault names it."""
+    with tempfile.NamedTemporaryFile() as file:
+        try:
+            pathlib.Path(file.name).write_bytes(rules)
+        except OSError as why:
+            raise OSError(why.errno, why.strerror, file.name) from None
+        yield file.name
+
+
 def read_records(said):
     """Returns the records that a run of the desk has printed: None where one is none."""
     try:
@@ -112,10 +124,8 @@ class Referee:
     def roles(self, rules, name):
         """Returns the names of the roles of a ground description; `name` says which one it is. Refuses what is none."""
         tries = "".join(f"open r{count} 0 1 1 {' '.join(f'p{it}' for it in range(count))}\n" for count in range(1, MOST_ROLES + 1))
-        with tempfile.NamedTemporaryFile() as file:
-            file.write(rules)
-            file.flush()
-            said = self.call("desk", f"--rules-file={file.name}", data=tries.encode())
+        with rules_file(rules) as path:
+            said = self.call("desk", f"--rules-file={path}", data=tries.encode())
         if said.returncode == 1 and last_line(said) == BAD_RULES:
             # The line before says where, and what is wrong there.
             raise BadRules(said_lines(said)[-2:][0].removeprefix("ggp_manager: "))

@@ -325,6 +325,14 @@ class Game(InFolder):
             done = subprocess.run([sys.executable, COMMAND, "game", GAMES / "buttons.kif", *words], capture_output=True, text=True)
             self.assertEqual((done.returncode, f"{words[1]} is no number from " in done.stderr), (2, True), done.stderr)
 
+    def test_no_temporary_file(self):
+        (self.folder / "game.kif").write_text(SOUND)
+        room = "import os, resource, sys; resource.setrlimit(resource.RLIMIT_FSIZE, (100, 100)); os.execv(sys.argv[1], sys.argv[1:])"
+        words = [sys.executable, "-c", room, sys.executable, COMMAND, "game", "game.kif", "--program", program()]
+        done = subprocess.run(words, cwd=self.folder, env={**os.environ, "TMPDIR": str(self.folder)}, capture_output=True, text=True)
+        self.assertEqual(done.returncode, 3, done)
+        self.assertRegex(done.stderr, rf"^ggp_competition: {self.folder}/\w+: File too large\n$")
+
     def test_a_full_output(self):
         said = run_into_full(self.folder, "game", str(GAMES / "buttons.kif"))
         self.assertEqual(said, (1, "ggp_competition: standard output: No space left on device\n"))
