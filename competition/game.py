@@ -9,7 +9,7 @@ from collections import Counter
 
 from competition.descriptions import MOST_BYTES, NoDescription, has_variables, load_description, sentence_places
 from competition.files import Refused
-from competition.random_matches import RandomMatches
+from competition.random_matches import RandomMatches, counted
 from competition.referee import Unchecked
 from competition.suspicious import suspicions
 from competition.telling import Teller
@@ -19,7 +19,7 @@ STATUS = """status 0: nothing is wrong, though something may be suspicious. 1: t
 within the seconds, or a record is another one than it has to be. 2: the command is wrong, or the file can't be read. 3: there is no
 verdict, as where the referee or the grounder is missing something or was ended, or no temporary file can be written.
 """
-MOST_MATCHES, MOST_SECONDS, MOST_SEED = 10_000, 1_000_000, 10**18
+MOST_MATCHES, MOST_SECONDS, MOST_SEED, MOST_DIGITS = 10_000, 1_000_000, 10**18, 20
 # So many seeds are listed, and so many bytes of a state.
 LISTED, MOST_STATE = 10, 500
 INTERPRETER = "examples/games/expected.py"
@@ -32,8 +32,10 @@ NO_VERDICT = re.compile(
 
 def number_of(text, least, most):
     """Returns the whole number that a word says. It has to be a number from the least to the most."""
-    if not (text.isascii() and text.isdigit() and least <= int(text) <= most):
-        raise argparse.ArgumentTypeError(f"{text} is no number from {least:,} to {most:,}")
+    if not (len(text) <= MOST_DIGITS and text.isascii() and text.isdigit() and least <= int(text) <= most):
+        shown = text if text and text.isprintable() else repr(text)
+        shown = shown if len(shown) <= MOST_DIGITS else f"{shown[:MOST_DIGITS]}.."
+        raise argparse.ArgumentTypeError(f"{shown} is no number from {least:,} to {most:,}")
     return int(text)
 
 
@@ -120,8 +122,8 @@ def tell_game(tell, asked, referee, path, text):
 
 def said_of_rules(text, rules):
     count, ground = len(sentence_places(text)), len(sentence_places(rules.text))
-    became = f", which became {ground:,} ground ones" if has_variables(text) else ""
-    return f"{count:,} sentences{became}; roles {' '.join(rules.roles)}"
+    became = f", which became {counted(ground, 'ground one')}" if has_variables(text) else ""
+    return f"{counted(count, 'sentence')}{became}; roles {' '.join(rules.roles)}"
 
 
 def tell_suspicions(tell, text, ground, seconds):
@@ -154,7 +156,8 @@ def tell_matches(tell, asked, referee, rules):
     if played.uncompared:
         tell.line(f"the program had not played {played.uncompared:,} of them after {asked.seconds:,} s: their records are not compared")
     if played.too_long:
-        tell.line(f"{played.too_long:,} of them have a move that no player can make: their records are not compared")
+        have = "has" if played.too_long == 1 else "have"
+        tell.line(f"{played.too_long:,} of them {have} a move that no player can make: their records are not compared")
     for number, keys in played.differing:
         tell.line(f"seed {number}: the program's record is not that of {INTERPRETER}, by {' and '.join(keys)}: please report it")
     return bool(aborted or played.differing or not (ended or played.is_too_deep))

@@ -87,6 +87,10 @@ class Ended:
     choices: list
 
 
+def counted(number, word):
+    return f"{number:,} {word}{'' if number == 1 else 's'}"
+
+
 def named(cause, roles):
     """Returns the cause with the role's name in the place of its number."""
     word, _, number = (cause or "").partition(" ")
@@ -109,7 +113,7 @@ class RandomMatches:
             for number in range(count):
                 self.play(seed + number, f"match {number + 1} of {count}")
         except TimeIsOver:
-            ended = f"{len(self.ended):,} of {count:,} matches and {self.turns:,} turns of the next one"
+            ended = f"{len(self.ended):,} of {count:,} matches and {counted(self.turns, 'turn')} of the next one"
             self.notes.append(f"the time was over: in {self.seconds:,} s there were {ended}")
         except RecursionError:
             self.is_too_deep = True

@@ -441,4 +441,4 @@ def lines_of(description, found):
     for it in shown_ones:
         more = f" (and {counts[it.kind] - 1:,} more like this)" if counts[it.kind] > 1 else ""
         lines.append(f"{told[it.part[:2]]}: {it.words}: {shown(it.part.atom)}{more}" if it.part else it.words)
-    return lines + ([f"there are {len(firsts) - MOST_LINES:,} more such lines"] if len(firsts) > MOST_LINES else [])
+    return lines + ([f"and so many more such lines: {len(firsts) - MOST_LINES:,}"] if len(firsts) > MOST_LINES else [])

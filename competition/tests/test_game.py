@@ -198,6 +198,11 @@ class Game(InFolder):
         status, lines = self.look(SOUND + "(line 1)", "--matches", "0")
         self.assertEqual((status, lines[1:]), (0, ["suspicious: line 11, column 1: nothing of the game asks for `(line _)`: (line 1)"]))
 
+    def test_one_of_each(self):
+        status, lines = self.look("(role a)", "--matches", "1", "--seconds", "1")
+        self.assertEqual(lines[0], "game.kif is accepted: 1 sentence; roles a")
+        self.assertEqual(status, 1)
+
     def test_a_description_that_is_not_accepted(self):
         status, lines = self.look("(role a)\n(=> (legal a x) p)\n(<= (next x) (init x))")
         self.assertEqual((status, lines), (1, [
@@ -321,9 +326,13 @@ class Game(InFolder):
     def test_what_is_wrong_before_it(self):
         for word, said in [("none", "none can't be read: No such file or directory"), (".", ". is no plain file")]:
             self.assertEqual(run(self.folder, "game", word), (2, "", f"ggp_competition: {said}\n"))
-        for words in (["--matches", "x"], ["--matches", "10001"], ["--seed", "-1"], ["--seconds", "0"], ["--seconds", "1.5"]):
+        for words in (["--matches", "x"], ["--matches", "10001"], ["--seed", "-1"], ["--seconds", "0"], ["--seconds", "1.5"], ["--matches", "\n"]):
             done = subprocess.run([sys.executable, COMMAND, "game", GAMES / "buttons.kif", *words], capture_output=True, text=True)
-            self.assertEqual((done.returncode, f"{words[1]} is no number from " in done.stderr), (2, True), done.stderr)
+            shown = words[1] if words[1].isprintable() else repr(words[1])
+            self.assertEqual((done.returncode, f": {shown} is no number from " in done.stderr), (2, True), done.stderr)
+        for word, shown in [("", "''"), ("9" * 5_000, f"{'9' * 20}..")]:
+            done = subprocess.run([sys.executable, COMMAND, "game", "none", "--seed", word], capture_output=True, text=True)
+            self.assertTrue(done.stderr.endswith(f"argument --seed: {shown} is no number from 0 to 1,000,000,000,000,000,000\n"), done.stderr)
 
     def test_no_temporary_file(self):
         (self.folder / "game.kif").write_text(SOUND)
