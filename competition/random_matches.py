@@ -1,5 +1,7 @@
 """Random matches of a game: an interpreter says what is legal and what follows, and the program's desk has to make the same records."""
 
+import functools
+import hashlib
 import random
 import subprocess
 import sys
@@ -7,7 +9,7 @@ import time
 from dataclasses import dataclass
 
 from competition.descriptions import TOP, script_module
-from competition.referee import read_records, rules_file, unchecked
+from competition.referee import is_text_list, read_records, rules_file, unchecked
 from competition.suspicious import is_too_long
 from competition.telling import REDRAWN
 
@@ -15,6 +17,8 @@ from competition.telling import REDRAWN
 expected = script_module(TOP / "examples/games/expected.py", "expected_records")
 # The bytes of a script and the matches of a desk that one run of the program gets, below what it takes.
 MOST_BYTES, MOST_MATCHES = 1_000_000, 1_000
+# So many bytes of a script are left for what is not of a turn.
+BESIDE_TURNS = 10_000
 # Rules that ask for one another are looked up by recursion.
 MOST_CALLS = 20_000
 
@@ -74,10 +78,52 @@ class Interpreter(expected.Game):
         return is_derived
 
 
+text_of = functools.cache(expected.text_of)
+
+
+def texts_of(state):
+    return sorted(map(text_of, state))
+
+
+def sum_of(texts):
+    """Returns a sum of a state's terms, which is all that is kept of most states."""
+    return hashlib.sha256("\n".join(texts).encode()).digest()
+
+
+class Played(expected.Match):
+    """A match that keeps the last of its states, and of the others only sums."""
+
+    def __init__(self, game, words):
+        super().__init__(game, words)
+        # The turns that one script can hold, and the state after these.
+        self.room, self.held = MOST_BYTES - BESIDE_TURNS, (0, self.states[0])
+
+    def turn(self, judged):
+        super().turn(judged)
+        self.states[-2] = sum_of(texts_of(self.states[-2]))
+        self.room -= sum(len(it) + 1 for it in turn_lines(self, len(self.moves)))
+        if self.room >= 0:
+            self.held = len(self.moves), self.states[-1]
+
+    def shorten(self):
+        """Cuts the match to the turns that one script can hold."""
+        turns, state = self.held
+        self.moves, self.errors, self.states = self.moves[:turns], self.errors[:turns], [*self.states[:turns], state]
+        self.marks["end"] = {}
+
+    def record(self):
+        """Returns the record with sums in the place of states."""
+        sums, self.states = self.states[:-1], self.states[-1:]
+        record = super().record()
+        record["states"] = [*sums, sum_of(record["states"][0])]
+        self.states = [*sums, *self.states]
+        return record
+
+
 @dataclass
 class Ended:
     """What is kept of a match that is over: its seed, its number of turns, the roles' goals, the cause if it was aborted, by the role's
-    name, its last state, and the most moves that each role could choose from."""
+    name, its last state if it is the first one with that cause, and the most moves that each role could choose from."""
 
     seed: int
     turns: int
@@ -103,7 +149,7 @@ class RandomMatches:
     def __init__(self, rules, referee, name, tell, seconds):
         self.game, self.rules, self.referee, self.name = Interpreter(expected.expressions(rules.decode("latin-1"))), rules, referee, name
         self.tell, self.seconds, self.until = tell, seconds, time.monotonic() + seconds
-        self.ended, self.differing, self.uncompared, self.too_long, self.notes = [], [], 0, 0, []
+        self.causes, self.ended, self.differing, self.uncompared, self.too_long, self.notes = {None}, [], [], 0, 0, []
         self.waiting, self.size, self.drawn, self.turns, self.is_too_deep = [], 0, 0.0, 0, False
         sys.setrecursionlimit(MOST_CALLS)
 
@@ -123,7 +169,7 @@ class RandomMatches:
     def play(self, seed, said):
         """Plays a match to its end, with each move chosen among the legal ones, and hands it to the desk, at once or with later ones."""
         roles, dice = self.game.roles, random.Random(seed)
-        match = expected.Match(self.game, [f"seed-{seed}", "1", "1", *(f"p{it}" for it in range(len(roles)))])
+        match = Played(self.game, [f"seed-{seed}", "1", "1", *(f"p{it}" for it in range(len(roles)))])
         match.marks["start"], choices = dict.fromkeys(range(len(roles)), ""), [0] * len(roles)
         while match.phase()[0] == "playing":
             self.turns = len(match.moves)
@@ -133,7 +179,9 @@ class RandomMatches:
             match.turn([(dice.choice(moves), "") for moves in legal])
         match.marks["end"] = dict.fromkeys(range(len(roles)), "")
         record = match.record()
-        cause, state = named(record["cause"], roles), record["states"][-1]
+        cause = named(record["cause"], roles)
+        state = texts_of(match.states[-1]) if cause not in self.causes else []
+        self.causes.add(cause)
         self.ended.append(Ended(seed, len(match.moves), record["goalValues"], cause, state, choices))
         self.hand_in(seed, match, record)
 
@@ -153,7 +201,8 @@ class RandomMatches:
         lines = list(lines_of(match))
         if sum(len(it) + 1 for it in lines) > MOST_BYTES:
             # The desk gets the turns that it can take: they have to be the same.
-            lines, record = shortened(match)
+            match.shorten()
+            lines, record = list(lines_of(match)), match.record()
         size = sum(len(it) + 1 for it in lines)
         if self.size + size > MOST_BYTES or len(self.waiting) == MOST_MATCHES:
             self.ask_desk()
@@ -178,14 +227,16 @@ class RandomMatches:
         if said.returncode or records is None or len(records) != len(waiting):
             raise unchecked(said, self.name)
         for (seed, _, wanted), found in zip(waiting, records):
+            if isinstance(found.get("states"), list) and all(map(is_text_list, found["states"])):
+                found["states"] = list(map(sum_of, found["states"]))
             keys = [key for key in wanted if wanted[key] != found.get(key)]
             self.differing += [(seed, keys)] if keys else []
 
 
-def turn_lines(match):
-    """Gives for each turn its lines."""
-    for number, moves in enumerate(match.moves, 1):
-        yield [f"submit {match.name} {role} {number} {expected.text_of(move)}" for role, move in enumerate(moves)]
+def turn_lines(match, number):
+    """Gives the lines of a turn, which are numbered from 1 on."""
+    for role, move in enumerate(match.moves[number - 1]):
+        yield f"submit {match.name} {role} {number} {text_of(move)}"
 
 
 def lines_of(match):
@@ -193,18 +244,6 @@ def lines_of(match):
     roles = range(len(match.game.roles))
     yield f"open {match.name} 0 {match.start} {match.play} {' '.join(match.players)}"
     yield from (f"submit {match.name} {role} 0 READY" for role in roles)
-    for lines in turn_lines(match):
-        yield from lines
+    for number in range(1, len(match.moves) + 1):
+        yield from turn_lines(match, number)
     yield from (f"submit {match.name} {role} {len(match.moves) + 1} DONE" for role in roles if match.marks["end"])
-
-
-def shortened(match):
-    """Cuts a match to the turns that one script can hold. Returns the lines of the script, and the record that has to come of it."""
-    room, turns = MOST_BYTES - 10_000, 0
-    for lines in turn_lines(match):
-        room -= sum(len(it) + 1 for it in lines)
-        if room < 0:
-            break
-        turns += 1
-    match.moves, match.errors, match.states, match.marks["end"] = match.moves[:turns], match.errors[:turns], match.states[: turns + 1], {}
-    return list(lines_of(match)), match.record()

@@ -267,6 +267,10 @@ class Game(InFolder):
             program() + ''' "$@" <<< "$input" | sed 's/"goalValues":.100,/"goalValues":[99,/'; exit 0''': (
                 1, "seed 1: the program's record is not that of examples/games/expected.py, by goalValues: please report it\n", "",
             ),
+            program() + ''' "$@" <<< "$input" | sed 's/"(step 2)"/"(step 4)"/'; exit 0''': (
+                1, "seed 1: the program's record is not that of examples/games/expected.py, by states: please report it\n", "",
+            ),
+            program() + ''' "$@" <<< "$input" | sed 's/"states":/"states":1,"is":/'; exit 0''': (1, "by states: please report it\n", ""),
             "exec sleep 30": (0, "the program had not played 1 of them after 1 s: their records are not compared\n", ""),
             "echo 'ggp_manager: want of memory' >&2; exit 3": (
                 3, "",
