@@ -11,7 +11,7 @@ from competition.descriptions import MOST_BYTES, NoDescription, has_variables, l
 from competition.files import Refused
 from competition.random_matches import RandomMatches, counted
 from competition.referee import Unchecked
-from competition.suspicious import suspicions
+from competition.suspicious import NOT_ALL, Suspicions, suspicions
 from competition.telling import Teller
 
 HELP = "says whether the description of a game is accepted, what is suspicious in it, and how random matches of it end"
@@ -25,7 +25,7 @@ LISTED, MOST_STATE = 10, 500
 INTERPRETER = "examples/games/expected.py"
 # How `instantiate` ends where it says nothing of the description.
 NO_VERDICT = re.compile(
-    r"instantiate ended with status .*|instantiate: (error: |gringo is not installed).*|.*: can't open file .*"
+    r"instantiate ended with status .*|instantiate: (error: |gringo is not installed|gringo took ).*|.*: can't open file .*"
     r"|([a-z_]+\.)*[A-Z]\w*(Error|Exception|Interrupt)\b.*"
 )
 
@@ -97,9 +97,11 @@ def load(path, text, referee):
     try:
         return load_description(path, referee, False)
     except NoDescription as why:
-        said = str(why).splitlines()[-1]
+        *more, said = str(why).splitlines()
         if NO_VERDICT.fullmatch(said):
-            raise Unchecked(f"examples/instantiate came to no verdict with {path}: {said}") from None
+            # It tells the end of a grounder that was killed in the same words.
+            said = f"{said}, or was ended" if "gringo took" in said else said
+            raise Unchecked(f"examples/instantiate came to no verdict with {path}: {'; '.join([said, *more])}") from None
         raise
 
 
@@ -128,7 +130,7 @@ def said_of_rules(text, rules):
 
 def tell_suspicions(tell, text, ground, seconds):
     tell.draw("what is suspicious")
-    found = suspicions(text, ground, seconds)
+    found = suspicions(text, ground, seconds) if len(text) <= MOST_BYTES else Suspicions([], NOT_ALL)
     for it in found.lines:
         tell.line(f"suspicious: {it}")
     if found.cut:

@@ -19,6 +19,8 @@ from instantiating.told import head_of
 # The relations that need no rule to ask for them, and those whose first argument is a role.
 OWN = {*((name, ARITIES[name]) for name in GAME), ("base", 1), ("input", 2)}
 OF_ROLES = {("legal", 2), ("does", 2), ("goal", 2)}
+# What is looked up in the ground rules.
+KNOWN = {("role", 1), ("legal", 2), ("goal", 2), ("terminal", None)}
 # The words of GDL with the numbers of their arguments: none for an atom alone, "any" for any number.
 HEADS = {**{name: ARITIES[name] for name in GAME}, "base": 1, "input": 2, "<=": "any"}
 CONDITIONS = {"role": 1, "true": 1, "does": 2, "legal": 2, "goal": 2, "terminal": None, "not": 1, "distinct": 2, "or": "any"}
@@ -288,7 +290,8 @@ class Search:
         self.facts = set()
         if ground is not None:
             sentences = expressions(ground.decode("latin-1"))
-            self.known, self.facts = Atoms(map(head_of, sentences)), {it for it in sentences if it[0] != "<="}
+            heads = (it for it in map(head_of, sentences) if relation(it) in KNOWN)
+            self.known, self.facts = Atoms(heads), {it for it in sentences if it[:1] != ("<=",)}
 
     def findings(self):
         """Gives what is suspicious. Where a sentence has not its form, only misspelt heads are told: it may be what others ask for."""

@@ -212,6 +212,9 @@ class Game(InFolder):
         ]))
         for text, words in [("", "line 1, column 1: there is no sentence"), ("(role a", "line 1, column 1: a list that is not closed")]:
             self.assertEqual(self.look(text), (1, [f"game.kif is not accepted: {words}", "the rest was not looked at"]))
+        self.assertEqual(self.look("(" * 70 + "a" + ")" * 70)[1][-1], "the rest was not looked at")
+        said = ["game.kif is not accepted: it has more than 1,048,576 bytes", "the rest was not looked at"]
+        self.assertEqual(self.look(" x" * (1 << 19) + "x"), (1, said))
         status, lines = self.look(SOUND + "(goal ann 200)")
         self.assertEqual((status, lines[1:]), (1, ["nothing else is suspicious"]), lines)
 
@@ -298,6 +301,10 @@ class Game(InFolder):
         said = "examples/instantiate came to no verdict with game.kif: instantiate ended with status -9"
         path = f"{self.folder}:{os.environ['PATH']}"
         self.assertEqual(run(self.folder, "game", "game.kif", env={**os.environ, "PATH": path}), (3, "", f"ggp_competition: {said}\n"))
+        (self.folder / "gringo").write_text("#!/bin/bash\nkill -9 $$\n")
+        status, out, said = run(self.folder, "game", "game.kif", env={**os.environ, "PATH": path})
+        self.assertEqual((status, out), (3, ""))
+        self.assertRegex(said, "^ggp_competition: examples/instantiate came to no verdict with game.kif: .*gringo took .*, or was ended\n$")
         self.assertEqual(run(self.folder, "game", "game.kif", env={**os.environ, "PATH": "/nowhere"}), (
             3, "", "ggp_competition: game.kif can't be instantiated: the grounder gringo is not installed\n",
         ))
