@@ -15,8 +15,8 @@ from competition.suspicious import NOT_ALL, Suspicions, suspicions
 from competition.telling import Teller
 
 HELP = "says whether the description of a game is accepted, what is suspicious in it, and how random matches of it end"
-STATUS = """status 0: nothing is wrong, though something may be suspicious. 1: the description is not accepted, a match is aborted, none ends
-within the seconds, or a record is another one than it has to be. 2: the command is wrong, or the file can't be read. 3: there is no
+STATUS = """status 0: nothing is wrong, though something may be suspicious. 1: the description is not accepted, a match is aborted, none
+ends within the seconds, or a record is another one than it has to be. 2: the command is wrong, or the file can't be read. 3: there is no
 verdict, as where the referee or the grounder is missing something or was ended, or no temporary file can be written.
 """
 MOST_MATCHES, MOST_SECONDS, MOST_SEED, MOST_DIGITS = 10_000, 1_000_000, 10**18, 20
@@ -57,7 +57,8 @@ def add_game(commands):
     command.add_argument("file", metavar="FILE", help="the description, with or without variables")
     command.add_argument("--matches", type=matches, default=20, metavar="N", help="play N random matches (20)")
     command.add_argument("--seed", type=seed, default=1, metavar="S", help="the seed of the first match; each further one has the next (1)")
-    command.add_argument("--seconds", type=seconds, default=60, metavar="T", help="begin no turn after T seconds of matches (60)")
+    told = "search for T seconds at most, and begin no turn after T seconds of matches (60)"
+    command.add_argument("--seconds", type=seconds, default=60, metavar="T", help=told)
     return command
 
 

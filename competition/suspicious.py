@@ -37,7 +37,7 @@ OFTEN = {
     "or": "| ||".split(),
 }
 # How alike two words have to be; so many bytes of a sentence are shown, and so many lines; so many names are compared, all together.
-ALIKE, MOST_SHOWN, MOST_LINES, MOST_COMPARED = 0.75, 80, 100, 50_000
+ALIKE, MOST_SHOWN, MOST_LINES, MOST_COMPARED = 0.75, 80, 100, 20_000
 MOST_LISTED = 3
 # The desk takes no answer that is longer.
 MOST_ANSWER = 4_096
@@ -286,7 +286,8 @@ class Search:
         self.needed, self.known, self.compared = description.needed(), self.heads, 0
         self.counts, self.needed_counts, self.names = by_name(self.heads.relations()), by_name(self.needed), {}
         for name, count in sorted(self.heads.relations(), key=str):
-            self.names.setdefault(count, []).append(name)
+            if len(name) <= MOST_SHOWN:
+                self.names.setdefault(count, []).append(name)
         self.facts = set()
         if ground is not None:
             sentences = expressions(ground.decode("latin-1"))
@@ -377,9 +378,9 @@ class Search:
 
     def names_like(self, count):
         """Returns the names of relations with as many arguments: none where many were compared, since this takes its time."""
-        names = [it for one in ((count,) if count else (None, 0)) for it in self.names.get(one, ()) if len(it) <= MOST_SHOWN]
-        self.compared += len(names)
-        return names if self.compared <= MOST_COMPARED else []
+        lists = [self.names.get(it, []) for it in ((count,) if count else (None, 0))]
+        self.compared += sum(map(len, lists))
+        return sum(lists, []) if self.compared <= MOST_COMPARED else []
 
     def of_instances(self):
         """Gives the instances with a move that is too long, and those that hold always and are of what is no role. Others may never
@@ -390,7 +391,8 @@ class Search:
                 if name == "legal" and is_too_long(atom[2]):
                     yield from self.of_instance(atom, TOO_LONG, ("long", relation(atom[2])))
                 if atom in self.facts and not self.known.may_give(("role", atom[1])):
-                    yield from self.of_instance(atom, f"{shown(atom[1])} is no role, and a fact of the ground rules has it", ("role", atom[1]))
+                    words = f"{shown(atom[1])} is no role, and a fact of the ground rules has it"
+                    yield from self.of_instance(atom, words, ("role", atom[1]))
 
     def of_instance(self, atom, words, kind):
         """Gives what there is to say of an instance, at the head that it is of: at none where it may be of several."""
