@@ -71,7 +71,8 @@ def popped_until(one, stack):
 
 
 def is_halved(circle, rules_for):
-    """Whether the circle is one relation of two places that is derived from its two halves alone."""
+    """Whether the circle is one relation of two places that is derived from its two halves alone, and from any two: where a rule asks for
+    more of some, such as a fact of the game, other halves have no rule, and a circle of so few rounds would lack what goes round them."""
     if any(isinstance(atom, str) or len(atom) != 3 or atom[0] != circle[0][0] for atom in circle):
         return False
     members = set(circle)
@@ -79,6 +80,23 @@ def is_halved(circle, rules_for):
         for rule in rules_for[atom]:
             inner = [it.atom for it in rule.body if it.atom in members]
             if inner and atom not in inner and not (len(rule.body) == 2 == len(inner) and halves(atom, *inner)):
+                return False
+    return has_all_halves(circle, rules_for)
+
+
+def has_all_halves(circle, rules_for):
+    """Whether any two sentences of the circle that can be halves of a third have a rule for it."""
+    begun, bodies = {}, {}
+    for atom in circle:
+        begun.setdefault(atom[1], []).append(atom)
+    for one in circle:
+        for other in begun.get(one[2], ()):
+            whole = (one[0], one[1], other[2])
+            if whole in (one, other):
+                continue
+            if whole not in bodies:
+                bodies[whole] = {frozenset(it.atom for it in rule.body) for rule in rules_for.get(whole, ())}
+            if frozenset((one, other)) not in bodies[whole]:
                 return False
     return True
 

@@ -128,6 +128,19 @@ class Rounds(unittest.TestCase):
                 edges = [pair for pair in itertools.product("01234", repeat=2) if dice.random() < 0.3]
                 self.compare(rules, found, edges)
 
+    def test_ways_that_grow_by_one_edge_are_not_halved(self):
+        # Two ways make a longer one only where the second is an edge of the game: a round then adds one edge, and does not double the way.
+        places = range(6)
+        rules = [Rule(1, ("w", str(a), str(b)), (Literal(True, ("true", (str(a), str(b)))),)) for a, b in itertools.product(places, repeat=2)]
+        for a, b, c in itertools.product(places, repeat=3):
+            if abs(b - c) == 1:
+                halves = dict.fromkeys([("w", str(a), str(b)), ("w", str(b), str(c))])
+                rules.append(Rule(2, ("w", str(a), str(c)), tuple(Literal(True, it) for it in halves)))
+        found, dice = self.unrolled(rules, 35), random.Random(7)
+        self.compare(rules, found, [(str(k), str(k + 1)) for k in range(5)])
+        for _ in range(20):
+            self.compare(rules, found, [(str(a), str(b)) for a, b in itertools.product(places, repeat=2) if dice.random() < 0.2])
+
     def test_stones_need_fewer_rounds(self):
         # Four by four cells of six neighbours, and the stones that are joined to the first row.
         cells = list(itertools.product(range(4), repeat=2))
