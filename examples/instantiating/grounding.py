@@ -55,7 +55,10 @@ def in_order(rules):
     atoms = {atom for rule in rules for atom in (rule.head, *(it.atom for it in rule.body))}
     ranks = {atom: rank for rank, atom in enumerate(sorted(atoms, key=place))}
     rules = sorted(rules, key=lambda it: (it.sentence, ranks[it.head], [(ranks[one.atom], one.positive) for one in it.body]))
-    return list({(it.head, it.body): it for it in reversed(rules)}.values())[::-1]
+    found = {}
+    for it in rules:
+        found.setdefault((it.head, it.body), it)
+    return list(found.values())
 
 
 def sentence_of(rule):
