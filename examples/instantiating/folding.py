@@ -90,6 +90,8 @@ class Folded:
 
     def factored(self, bodies, depth=0):
         """One formula that is true where all of some body is: what most bodies share stands once."""
+        if frozenset() in bodies:
+            return TRUE
         if len(bodies) == 1:
             return self.formulas.all(bodies[0])
         counts = Counter(it for body in bodies for it in body)
