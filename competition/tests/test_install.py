@@ -28,7 +28,7 @@ class Install(unittest.TestCase):
         return subprocess.run(words, env=environment, capture_output=True, **more)
 
     def test_it_says_what_it_has_installed(self):
-        self.assertEqual(self.said, f"{self.prefix}/bin/ggp_competition\n{self.prefix}/bin/verify-records\n")
+        self.assertEqual(self.said, "".join(f"{self.prefix}/bin/{it}\n" for it in ("ggp_competition", "verify-records", "explain-record")))
 
     def test_it_plans_where_it_was_put(self):
         cup = self.room / "cup"
@@ -52,6 +52,15 @@ class Install(unittest.TestCase):
         done = self.run_there("verify-records", "--piece", "600", "ggp_manager", "--", "--countdown", "3", input=records)
         said = done.returncode, done.stdout, done.stderr
         self.assertEqual(said, (1, b"lawful\n" * 3 + b"not lawful: json\n", b"ggp_manager: records not lawful 1\n"))
+
+    def test_it_explains_records_where_it_was_put(self):
+        changed = RECORD.read_bytes().replace(b"(take 1)", b"(take 3)")
+        done = self.run_there("explain-record", "ggp_manager", "--countdown", "3", input=changed)
+        said = done.stdout.decode().splitlines()
+        self.assertEqual((done.returncode, done.stderr, said[0].split()[:3]), (1, b"", ["not", "lawful:", "illegal"]))
+        self.assertIn("found: (take 3)", said)
+        described = self.run_there("explain-record", "ggp_manager", "--rules-file", GAMES / "countdown.kif", RECORD)
+        self.assertEqual((described.returncode, described.stdout, described.stderr), (0, b"lawful\n", b""))
 
 
 if __name__ == "__main__":
