@@ -85,8 +85,9 @@ def is_halved(circle, rules_for):
 
 
 def has_all_halves(circle, rules_for):
-    """Whether any two sentences of the circle that can be halves of a third have a rule for it."""
-    begun, bodies = {}, {}
+    """Whether any two sentences of the circle that can be halves of a third have a rule for it, and it is in the circle as well: what is
+    outside is no half of another, so ways that go over it are not made of halves."""
+    begun, bodies, members = {}, {}, set(circle)
     for atom in circle:
         begun.setdefault(atom[1], []).append(atom)
     for one in circle:
@@ -96,7 +97,7 @@ def has_all_halves(circle, rules_for):
                 continue
             if whole not in bodies:
                 bodies[whole] = {frozenset(it.atom for it in rule.body) for rule in rules_for.get(whole, ())}
-            if frozenset((one, other)) not in bodies[whole]:
+            if whole not in members or frozenset((one, other)) not in bodies[whole]:
                 return False
     return True
 
@@ -174,7 +175,8 @@ def inner(rule, members):
 
 
 def layers(circle, rules_for, last, word):
-    """The rules of all rounds of a circle that its sentences ask for."""
+    """The rules of all rounds of a circle that its sentences ask for. The first rule of a sentence stands where the first one stood that
+    it had, also where that one is left out, since legal moves have their order by it."""
     members, lives = set(circle), alive(circle, rules_for, last)
 
     def named(count, atom):
@@ -185,12 +187,14 @@ def layers(circle, rules_for, last, word):
         below = lives[count - 1] if count else set()
         asked_below = set()
         for atom in circle:
+            place = min(rule.sentence for rule in rules_for[atom]) if count == last else None
             for rule in rules_for[atom] if atom in wanted else ():
                 own = inner(rule, members)
                 if own <= below and atom not in own:
                     body = tuple(Literal(it.positive, named(count - 1, it.atom)) if it.atom in own else it for it in rule.body)
-                    yield Rule(rule.sentence, named(count, atom), body)
+                    yield Rule(rule.sentence if place is None else place, named(count, atom), body)
                     asked_below |= own
+                    place = None
         wanted = asked_below
 
 

@@ -141,6 +141,24 @@ class Rounds(unittest.TestCase):
         for _ in range(20):
             self.compare(rules, found, [(str(a), str(b)) for a, b in itertools.product(places, repeat=2) if dice.random() < 0.2])
 
+    def test_ways_that_go_over_others_outside_are_not_halved(self):
+        # Any two ways make a longer one, but some of these are part of no other: the way from 0 to 0 over 4, 1 and 2 is not made of halves.
+        ends = ["00", "02", "04", "10", "11", "12", "14", "20", "24", "40", "41", "44"]
+        rules = [Rule(1, ("w", *way), (Literal(True, ("true", way)),)) for way in ends]
+        for one, other in itertools.product(ends, repeat=2):
+            if one[1] == other[0]:
+                both = dict.fromkeys([("w", *one), ("w", *other)])
+                rules.append(Rule(2, ("w", one[0], other[1]), tuple(Literal(True, it) for it in both)))
+        self.compare(rules, self.unrolled(rules, 11), ["04", "41", "12", "20"])
+
+    def test_sentences_keep_their_places(self):
+        # The first rules of a and b derive nothing that is not derived before: the sentences stand where these stood.
+        asked = [(1, "a", "b"), (2, "b", "b"), (3, "c", "d"), (4, "b", "c"), (5, "d", "a"), (6, "c", "s")]
+        rules = [Rule(number, head, (Literal(True, ("true", it) if it == "s" else it),)) for number, head, it in asked]
+        found, _ = rounds.unrolled(rules)
+        places = {head: min(it.sentence for it in found if it.head == head) for head in "abcd"}
+        self.assertEqual(places, {"a": 1, "b": 2, "c": 3, "d": 5})
+
     def test_stones_need_fewer_rounds(self):
         # Four by four cells of six neighbours, and the stones that are joined to the first row.
         cells = list(itertools.product(range(4), repeat=2))
