@@ -44,6 +44,18 @@ class Interpreter(unittest.TestCase):
         for _ in range(2):
             self.assertEqual(legal(game), {("go", "1", "2"), ("go", "2", "3"), ("go", "1", "3")})
 
+    def test_a_question_that_would_grow_without_an_end(self):
+        game = Game("(role r) (d 1) (d 2) (d 3) (<= (p ?x) (p (g ?x))) (<= (p ?x) (true ?x)) (<= (legal r ?x) (d ?x) (p ?x))")
+        self.assertEqual(legal(game, [("g", ("g", "1")), "2"]), {"1", "2"})
+
+    def test_relations_of_one_name_differ_by_their_places(self):
+        game = Game("(role r) (d 1) (d 2) (<= (p ?x) (p ?x) (d ?x)) (<= (p ?x) (d ?x) (not (p ?x ?x))) (<= (p ?x ?x) (true ?x)) (<= (legal r ?x) (p ?x))")
+        self.assertEqual(legal(game, ["2"]), {"1"})
+
+    def test_a_denial_of_a_denial_goes_round(self):
+        game = Game("(role r) (<= p (not (not q))) (<= q p) (<= q (true s)) (<= (legal r a) q)")
+        self.assertEqual([legal(game, state) for state in (["s"], [])], [{"a"}, set()])
+
     def test_a_denial_waits_for_its_variables(self):
         game = Game("(role r) (p 1) (p 2) (<= (legal r ?x) (not (true ?x)) (distinct ?x 3) (p ?x)) (p 3)")
         self.assertEqual(legal(game, ["2"]), {"1"})

@@ -4,10 +4,14 @@ program.
 
 A question is an atomic sentence that may have variables, and its answers are the sentences without variables that it fits and
 that are true. Rules are safe, so each answer of a rule has a value for each of its variables. Where a question comes up again while it is
-being answered, its relation goes round: from then on that is derived as a whole, from the facts up.
+being answered, its relation goes round: from then on that is derived as a whole, from the facts up. So it is from the beginning where
+a question could come up again with more in it.
 """
 
 import re
+
+# What a state and the moves of a turn say.
+GIVEN = {("true", 2), ("does", 3)}
 
 
 def read(text):
@@ -79,21 +83,27 @@ def key_of(question, names):
 
 
 def name_of(sentence):
-    return sentence if isinstance(sentence, str) else sentence[0]
+    """The relation of a sentence, which is a name with a number of places: none for an atom."""
+    return (sentence, 0) if isinstance(sentence, str) else (sentence[0], len(sentence))
+
+
+def asked_in(literal):
+    """The sentences that a literal asks for."""
+    match literal:
+        case ("not", inner):
+            yield from asked_in(inner)
+        case ("or" | "and", *inners):
+            for inner in inners:
+                yield from asked_in(inner)
+        case ("distinct", _, _):
+            pass
+        case _:
+            yield literal
 
 
 def names_in(literal):
     """The relations that a literal asks for."""
-    match literal:
-        case ("not", inner):
-            yield from names_in(inner)
-        case ("or" | "and", *inners):
-            for inner in inners:
-                yield from names_in(inner)
-        case ("distinct", _, _):
-            pass
-        case _:
-            yield name_of(literal)
+    return map(name_of, asked_in(literal))
 
 
 def leaves(term, path=()):
@@ -155,7 +165,7 @@ class Look:
     def answers(self, question):
         """The answers to a question, each once."""
         name = name_of(question)
-        if name in ("true", "does"):
+        if name in GIVEN:
             return self.facts.fitting(question)
         if name not in self.game.rules:
             return self.game.facts.fitting(question)
@@ -232,10 +242,10 @@ class Game:
     def __init__(self, text):
         self.rules, self.fixed, self.legals, facts = {}, {}, [], []
         for number, sentence in enumerate(read(text) if isinstance(text, str) else text):
-            is_rule = name_of(sentence) == "<="
+            is_rule = sentence[0] == "<="
             head, body = (sentence[1], sentence[2:]) if is_rule else (sentence, ())
             head, *body = map(as_atom, (head, *body))
-            if name_of(head) == "legal":
+            if head[0] == "legal":
                 self.legals.append((number, head, tuple(body)))
             if is_rule and body:
                 self.rules.setdefault(name_of(head), []).append((head, tuple(body)))
@@ -245,8 +255,9 @@ class Game:
         self.asks = {
             name: {asked for _, body in rules for literal in body for asked in names_in(literal)} for name, rules in self.rules.items()
         }
-        self.timeless = {name for name in self.rules if not self.below(name) & {"true", "does"}}
-        self.circles, self.looping, self.roles = self.found_circles(), set(), []
+        self.timeless = {name for name in self.rules if not self.below(name) & GIVEN}
+        self.circles, self.roles = self.found_circles(), []
+        self.looping = {name for name, circle in self.circles.items() if self.can_grow(circle)}
         self.roles = [head[1] for head in self.asked((), (), lambda look: look.answers(("role", "?role")))]
 
     def below(self, name):
@@ -268,6 +279,11 @@ class Game:
             if circle and not any(denied & circle for body in bodies for literal in body for denied in [set(denied_in(literal))]):
                 found[name] = circle
         return found
+
+    def can_grow(self, circle):
+        """Whether a question could come up again with more in the place of a variable, and so without an end."""
+        asked = [it for name in circle for _, body in self.rules[name] for literal in body for it in asked_in(literal)]
+        return any(not (is_variable(one) or is_ground(one)) for it in asked if name_of(it) in circle for one in it[1:])
 
     def asked(self, state, joint, work):
         """What a question comes to in a state, asked anew where a relation is seen to go round."""
@@ -306,11 +322,13 @@ def as_atom(literal):
     return (literal[0], *map(as_atom, literal[1:])) if literal[0] in ("not", "or", "and") else literal
 
 
-def denied_in(literal):
-    """The relations that stand in a denial."""
+def denied_in(literal, is_denied=False):
+    """The relations that stand in a denial, and not in a denial of it."""
     match literal:
         case ("not", inner):
-            yield from names_in(inner)
+            yield from denied_in(inner, not is_denied)
         case ("or" | "and", *inners):
             for inner in inners:
-                yield from denied_in(inner)
+                yield from denied_in(inner, is_denied)
+        case _ if is_denied:
+            yield from names_in(literal)
