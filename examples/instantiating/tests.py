@@ -228,6 +228,14 @@ class Texts(unittest.TestCase):
         lines = "(role r)\n(p r)\n(<= (legal ?r m) (role ?r))\n(init s)\n(base s)\n(input r m)\n"
         self.assertEqual(told(sentences, rules), lines)
         self.assertNotIn("(base s)", told([*sentences, ("base", "t")], rules))
+        self.assertNotIn("(base s)\n", told([*sentences, *expressions("(<= terminal (not (base s)))")], rules))
+
+    def test_told_has_no_and(self):
+        text = "(<= (p ?x) (and (q ?x) (or a b)) (or c (and (not d) (distinct ?x 1))) (not (and (e (and)) (distinct ?x 2))))"
+        lines = told(expressions(text), []).splitlines()
+        both = "(<= (p ?x) (q ?x) (or a b)"
+        ways = [f"{one} (not {other})" for one in ("c", "(not d) (distinct ?x 1)") for other in ("(e (and))", "(distinct ?x 2)")]
+        self.assertEqual(lines, [f"{both} {way})" for way in ways])
 
 
 if __name__ == "__main__":
