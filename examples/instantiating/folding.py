@@ -9,11 +9,10 @@ What a sentence says never changes, and so does no state, move, goal or end. The
 one was, so the order of roles and of legal moves stays too.
 """
 
-import re
 from collections import Counter
 
 from .formulas import FALSE, TRUE, Formulas
-from .kif import atoms, relation
+from .kif import atoms, fresh_before_digits, relation
 from .sentences import GAME
 
 # Lists stand in one another this deep at most, in sentences that are made of several.
@@ -42,7 +41,7 @@ class Folded:
             if body is not None:
                 self.bodies[head].append(body)
         self.own = {head for head in self.bodies if relation(made.nodes[head][1])[0] in GAME}
-        self.word = fresh_part({name for rule in rules for name in atoms(rule.head)})
+        self.word = fresh_before_digits("part", {name for rule in rules for name in atoms(rule.head)})
         self.part_count = 0
 
     # ---- What it comes to ------------------------------------------------------------------------
@@ -310,13 +309,6 @@ def merged(bodies, formulas):
         bodies = list(dict.fromkeys([it for it in bodies if it not in used] + new))
         if frozenset() in bodies:
             return [frozenset()]
-
-
-def fresh_part(taken):
-    word = "part"
-    while any(re.fullmatch(re.escape(word) + "[0-9]+", name) for name in taken):
-        word += "-"
-    return word
 
 
 def folded(rules, most_sentences, most_bytes):

@@ -83,3 +83,10 @@ def fresh(word, taken):
     while word in taken:
         word += "-"
     return word
+
+
+def fresh_before_digits(word, taken):
+    """The word, with as many strokes behind it as make it and a number none of those that are taken."""
+    while any(re.fullmatch(re.escape(word) + "[0-9]+", one) for one in taken):
+        word += "-"
+    return word

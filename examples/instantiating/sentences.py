@@ -1,12 +1,13 @@
 """The sentences of a description, their forms, and the rules without `or` and `and` that they come to."""
 
 import itertools
+import math
 from typing import NamedTuple
 
-from .kif import Refused, relation, spelled, variables
+from .kif import Refused, atoms, fresh_before_digits, relation, spelled, variables
 
-# So many rules may come of the `or`s of one sentence.
-MOST_WAYS = 10000
+# So many rules may come of the `or`s of one sentence. Past the first number each `or` that can be is a relation of its own.
+FEW_WAYS, MOST_WAYS = 100, 10000
 
 ARITIES = {"role": 1, "init": 1, "true": 1, "next": 1, "does": 2, "legal": 2, "goal": 2, "terminal": None}
 # The relations that make the game: their heads are written whether or not a body asks for them.
@@ -105,16 +106,19 @@ def ways_of(literal, positive=True):
     return [(Literal(positive, literal),)]
 
 
+def is_bound(name, body):
+    return any(name in variables(it.atom) for it in body if it.positive and not it.same)
+
+
 def must_be_safe(rule):
     """Refuses a rule with a variable that no sentence of its body binds."""
-    bound = {name for it in rule.body if it.positive and not it.same for name in variables(it.atom)}
     for name in variables((rule.head, *(it.atom for it in rule.body))):
-        if name not in bound:
+        if not is_bound(name, rule.body):
             raise Refused(f"{name} is unsafe: no sentence of the body that is not negated has it")
 
 
-def rules_of(number, sentence):
-    """The rules of one sentence."""
+def rules_of(number, sentence, names):
+    """The rules of one sentence, and where its `or`s can hold in many ways those of relations for them, by these names."""
     is_rule = isinstance(sentence, tuple) and sentence[:1] == ("<=",)
     if is_rule and len(sentence) < 2:
         raise Refused("a rule without a head")
@@ -122,7 +126,16 @@ def rules_of(number, sentence):
     must_be_atomic(head, True)
     for literal in body:
         must_be_literal(literal)
-    found = [Rule(number, head, way) for way in each_of([ways_of(literal) for literal in body])]
+    ways, found = [ways_of(literal) for literal in body], []
+    if math.prod(map(len, ways)) > FEW_WAYS:
+        for place, own in enumerate(ways):
+            bound = dict.fromkeys(name for way in own for it in way for name in variables(it.atom))
+            if len(own) > 1 and all(is_bound(name, way) for way in own for name in bound):
+                word = next(names)
+                part = (word, *bound) if bound else word
+                found += [Rule(number, part, way) for way in own]
+                ways[place] = [(Literal(True, part),)]
+    found += [Rule(number, head, way) for way in each_of(ways)]
     for rule in found:
         must_be_safe(rule)
     return found
@@ -135,10 +148,11 @@ def cited(number, sentences):
 
 
 def all_rules(sentences):
-    found = []
+    word = fresh_before_digits("either", set(atoms(tuple(sentences))))
+    found, names = [], (f"{word}{count}" for count in itertools.count(1))
     for number, sentence in enumerate(sentences):
         try:
-            found += rules_of(number, as_read(sentence))
+            found += rules_of(number, as_read(sentence), names)
         except Refused as why:
             raise Refused(f"{cited(number, sentences)}: {why}") from None
     return found
