@@ -1,4 +1,5 @@
 """Runs the program as somebody might: with any standard streams, in a terminal, and against servers that are no good."""
+import argparse
 import contextlib
 import os
 import pty
@@ -21,6 +22,16 @@ class Said(NamedTuple):
     status: int
     output: bytes
     errors: str
+
+
+def program_of(text):
+    """Returns the path of the one program that the words of the command line name. `--help` prints this text."""
+    words = argparse.ArgumentParser(description=text, formatter_class=argparse.RawDescriptionHelpFormatter)
+    words.add_argument("program", metavar="PROGRAM", type=os.path.abspath)
+    program = words.parse_args().program
+    if os.path.isdir(program) or not os.access(program, os.X_OK):
+        words.error(f"{program} is no program that can be run")
+    return program
 
 
 def checks_memory(program):

@@ -9,6 +9,7 @@ evaluates them once in the order of a ranking. It takes lawful scripts of one ma
 refuses, and no abort.
 """
 
+import argparse
 import json
 import pathlib
 import sys
@@ -247,10 +248,16 @@ def check():
 
 
 def main():
-    if sys.argv[1:] == ["--check"]:
+    words = argparse.ArgumentParser(description=__doc__, formatter_class=argparse.RawDescriptionHelpFormatter)
+    words.add_argument("--check", action="store_true")
+    words.add_argument("names", metavar="NAME", nargs="*")
+    given = words.parse_args()
+    if not given.check and not given.names:
+        words.error("a NAME or --check is missing")
+    if given.check:
         check()
         return
-    for name in sys.argv[1:]:
+    for name in given.names:
         with open(f"{name}.kif") as rules, open(f"{name}.script") as script:
             text = output(rules.read(), script.read())
         with open(f"{name}.out", "w") as out:

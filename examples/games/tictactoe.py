@@ -5,6 +5,7 @@ tictactoe.py           prints it
 tictactoe.py --check   ends with status 1 where tictactoe.kif is another one
 """
 
+import argparse
 import pathlib
 import sys
 
@@ -61,8 +62,11 @@ def sentences():
 
 
 def main():
+    words = argparse.ArgumentParser(description=__doc__, formatter_class=argparse.RawDescriptionHelpFormatter)
+    words.add_argument("--check", action="store_true")
+    is_check = words.parse_args().check
     text = "\n".join(["; Tic-tac-toe, written by tictactoe.py.", *sentences(), ""])
-    if sys.argv[1:] != ["--check"]:
+    if not is_check:
         print(text, end="")
     elif pathlib.Path(__file__).with_suffix(".kif").read_text() != text:
         sys.exit("tictactoe.kif is not what tictactoe.py writes")

@@ -37,6 +37,9 @@ def make_game(sentences):
 
 
 def main():
+    if {"-h", "--help"} & set(sys.argv[1:]):
+        print(__doc__.strip())
+        return
     if len(sys.argv) not in (2, 3):
         sys.exit(__doc__)
     is_first = sys.argv[2:] == ["first"]

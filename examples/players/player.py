@@ -191,6 +191,9 @@ def port_and_choice(port, seed=None):
 
 
 def main():
+    if {"-h", "--help"} & set(sys.argv[1:]):
+        print(__doc__.strip())
+        return
     if len(sys.argv) not in (2, 3):
         sys.exit(__doc__)
     port, choose = port_and_choice(*sys.argv[1:])

@@ -8,6 +8,7 @@ expected.py --program PROGRAM  asks the program of records of random matches, an
                                ends with status 1 where it says something else
 """
 
+import argparse
 import copy
 import json
 import pathlib
@@ -344,10 +345,14 @@ def compare(program):
 
 
 def main():
-    if sys.argv[1:2] == ["--program"]:
-        return compare(sys.argv[2])
+    words = argparse.ArgumentParser(description=__doc__, formatter_class=argparse.RawDescriptionHelpFormatter)
+    words.add_argument("--check", action="store_true")
+    words.add_argument("--program", metavar="PROGRAM")
+    given = words.parse_args()
+    if given.program:
+        return compare(given.program)
     for path, text in files():
-        if sys.argv[1:] != ["--check"]:
+        if not given.check:
             path.write_text(text)
         elif not path.exists() or path.read_text() != text:
             sys.exit(f"{path.name} is not what it must be: run examples/records/expected.py")
