@@ -69,6 +69,14 @@ class Examples(unittest.TestCase):
         for closed in ((1, 2), (0, 2)):
             self.assertEqual(run(SHOW_RECORD, RECORD, preexec_fn=lambda: os.closerange(*closed)), (1, "", said))
 
+    def test_streams_that_are_closed_to_instantiate(self):
+        whole = run(INSTANTIATE, GROUND)[1]
+        for number in (0, 2):
+            self.assertEqual(run(INSTANTIATE, GROUND, preexec_fn=lambda: os.close(number))[:2], (0, whole))
+        status, out, said = run(INSTANTIATE, GROUND, preexec_fn=lambda: os.close(1))
+        self.assertEqual((status, out, said.splitlines()[-1].partition(":")[0]), (1, "", "instantiate"))
+        self.assertRegex(run(INSTANTIATE, preexec_fn=lambda: os.close(0))[2], r"instantiate: .*Bad file descriptor|standard input is closed")
+
     def test_pages_are_as_before(self):
         status, page, said = run(SHOW_RECORD, RECORD)
         self.assertEqual((status, said, page.startswith("<!DOCTYPE html>"), page.endswith("</html>\n")), (0, "", True, True))

@@ -1,5 +1,6 @@
 """From a description to its ground description: what is done one after the other, and what is said of it."""
 
+import contextlib
 import signal
 import sys
 import time
@@ -135,4 +136,7 @@ def text_of(written, notes):
 
 
 def say(text):
-    print(text, file=sys.stderr)
+    """Writes a line to standard error, where that is open: to print, none is standard output."""
+    if sys.stderr:
+        with contextlib.suppress(OSError):
+            print(text, file=sys.stderr)
