@@ -1,10 +1,12 @@
 """What several of the measuring scripts use."""
+import argparse
 import contextlib
 import importlib.machinery
 import importlib.util
 import os
 import pathlib
 import resource
+import shutil
 import subprocess
 import sys
 
@@ -18,6 +20,13 @@ def script(path):
     module = importlib.util.module_from_spec(importlib.util.spec_from_loader(loader.name, loader))
     loader.exec_module(module)
     return module
+
+
+def program_there(path):
+    """The path of a program that is there, as a word of the command line names it."""
+    if not shutil.which(path):
+        raise argparse.ArgumentTypeError(f"{path} is not there: run make build first")
+    return path
 
 
 def spent():
