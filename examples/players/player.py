@@ -130,9 +130,9 @@ class Player:
 
 
 def say(text):
-    """Prints a line on standard error. That nobody reads it any more is no reason to stop playing."""
+    """Prints a line on standard error, at once, since other players may print there. That nobody reads it is no reason to stop playing."""
     try:
-        print(text, file=sys.stderr)
+        print(f"{text}\n", end="", file=sys.stderr)
     except OSError:
         pass
 
