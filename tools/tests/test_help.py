@@ -14,6 +14,9 @@ READERS = ("ArgumentParser(", "program_of(__doc__)")
 BY_THEMSELVES = "examples/explain-record", "examples/players/interpreting.py", "examples/players/player.py", "examples/show-record"
 # These hand their words on: to `competition/command.py`, and to `rt try`.
 HANDED_ON = "competition/ggp_competition", "tools/try-alone"
+# These are called by those who use the program, and say which Python they need where it is older.
+ASKING_FOR_PYTHON = "competition/ggp_competition", "examples/explain-record", "examples/instantiate", "examples/verify-records"
+OLDER = "import runpy, sys; sys.version_info = (3, 9, 18); runpy.run_path(sys.argv[1], run_name='__main__')"
 
 
 def scripts():
@@ -40,6 +43,12 @@ class Help(unittest.TestCase):
             said = subprocess.run([f"{TOP}/{file}", "--help"], stdin=subprocess.DEVNULL, capture_output=True, text=True)
             self.assertEqual((said.returncode, said.stderr), (0, ""), file)
             self.assertIn(f"{os.path.basename(file)} ", said.stdout)
+
+    def test_an_older_python_is_named(self):
+        for file in ASKING_FOR_PYTHON:
+            said = subprocess.run([sys.executable, "-c", OLDER, f"{TOP}/{file}"], stdin=subprocess.DEVNULL, capture_output=True, text=True)
+            name = os.path.basename(file)
+            self.assertEqual((said.returncode, said.stderr), (1, f"{name}: Python 3.9 runs it, and it needs 3.10 or later\n"))
 
 
 if __name__ == "__main__":
