@@ -22,6 +22,12 @@ def script(path):
     return module
 
 
+def reader(text):
+    """A reader of the words of a command line, whose help has the three parts of this text: what a script does, its usage, its words."""
+    about, usage, words = text.split("\n\n", 2)
+    return argparse.ArgumentParser(usage=usage.strip(), description=about, epilog=words)
+
+
 def program_there(path):
     """The path of a program that is there, as a word of the command line names it."""
     if not shutil.which(path):

@@ -9,7 +9,7 @@ from crates import TOP
 
 FOLDERS = (".ci", "bench", "competition", "examples", "tools")
 # What reads the words of a command line, and prints its help.
-READERS = ("ArgumentParser(", "program_of(__doc__)")
+READERS = ("ArgumentParser(", "program_of(__doc__)", "reader(__doc__)")
 # These print what stands at their head.
 BY_THEMSELVES = "examples/explain-record", "examples/players/interpreting.py", "examples/players/player.py", "examples/show-record"
 # These hand their words on: to `competition/command.py`, and to `rt try`.
