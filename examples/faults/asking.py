@@ -24,14 +24,19 @@ class Said(NamedTuple):
     errors: str
 
 
+def runnable(word):
+    """Returns the path of the program that a word of the command line names."""
+    path = os.path.abspath(word)
+    if os.path.isdir(path) or not os.access(path, os.X_OK):
+        raise argparse.ArgumentTypeError(f"{path} is no program that can be run")
+    return path
+
+
 def program_of(text):
     """Returns the path of the one program that the words of the command line name. `--help` prints this text."""
     words = argparse.ArgumentParser(description=text, formatter_class=argparse.RawDescriptionHelpFormatter)
-    words.add_argument("program", metavar="PROGRAM", type=os.path.abspath)
-    program = words.parse_args().program
-    if os.path.isdir(program) or not os.access(program, os.X_OK):
-        words.error(f"{program} is no program that can be run")
-    return program
+    words.add_argument("program", metavar="PROGRAM", type=runnable)
+    return words.parse_args().program
 
 
 def checks_memory(program):
