@@ -27,9 +27,21 @@ def held(path):
     try:
         try:
             fcntl.flock(found, fcntl.LOCK_EX | fcntl.LOCK_NB)
-        except OSError:
-            raise Refused(f"{path}: another run plans or plays this competition") from None
+        except BlockingIOError:
+            raise Refused(f"{path}: another run plans, plays or publishes this competition") from None
+        except OSError as why:
+            # As on some network file systems, where another run would not be seen.
+            raise Refused(f"{path} can't be held for one run alone: {why.strerror}") from None
         yield
+    finally:
+        os.close(found)
+
+
+def sync(folder):
+    """Has the names in a folder on the disk."""
+    found = os.open(folder, os.O_RDONLY)
+    try:
+        os.fsync(found)
     finally:
         os.close(found)
 
@@ -55,13 +67,8 @@ def written_whole(path, is_lasting=True):
             # Writes do not tell which file it was.
             raise OSError(why.errno, why.strerror, str(path)) from None
         raise
-    if not is_lasting:
-        return
-    folder = os.open(path.parent, os.O_RDONLY)
-    try:
-        os.fsync(folder)
-    finally:
-        os.close(folder)
+    if is_lasting:
+        sync(path.parent)
 
 
 def write_whole(path, data, is_lasting=True):
@@ -133,8 +140,11 @@ class Folder:
         return self.log(match).read_bytes() if self.has_log(match) else b""
 
     def make(self, *folders):
+        """Makes folders that are not there, so that they last as long as what is written into them."""
         for it in (self.path, *folders):
-            it.mkdir(parents=True, exist_ok=True)
+            if not it.is_dir():
+                it.mkdir(parents=True, exist_ok=True)
+                sync(it.parent)
 
     def drop_unfinished(self):
         """Takes away what a write that was broken off has left. Below the folder nobody writes but who holds it."""

@@ -1,5 +1,6 @@
 """The matches of a competition that count: those with a lawful record and an account that gives it again."""
 
+import contextlib
 import itertools
 import os
 
@@ -123,21 +124,35 @@ def free_ending(files, word):
     return next(it for it in endings if not any(file.with_name(file.name + it).exists() for file in files))
 
 
+def files_of(folder, match):
+    """Returns the files of a match, in the order in which they are written: the record last."""
+    return folder.log(match), folder.account(match), folder.record(match)
+
+
 def set_aside(plan, match):
     """Keeps the files of a match that do not count under another name, out of the way of those that are to come. Files that were set
-    aside before stay as they are."""
-    files = plan.folder.record(match), plan.folder.account(match), plan.folder.log(match)
-    ending = free_ending(files, "refused")
-    for file in files:
-        if file.exists():
-            os.replace(file, file.with_name(file.name + ending))
+    aside before stay as they are. Returns whether there are any."""
+    files = files_of(plan.folder, match)
+    there = [it for it in files if it.exists()]
+    ending = free_ending(files, "refused") if there else ""
+    for file in there:
+        os.replace(file, file.with_name(file.name + ending))
+    return bool(there)
 
 
 def keep(folder, match, record, account, log, word=None):
     """Writes the files of a match, the record last, so that what has a record has the others. With a word they get it as an ending, and
-    do not count; what has this ending already stays. Returns the file of the record."""
-    files = {folder.log(match): log, folder.account(match): account, folder.record(match): record}
+    do not count; what has this ending already stays. Returns the file of the record. Where one can't be written those before it go."""
+    files = files_of(folder, match)
     ending = free_ending(files, word) if word else ""
-    for file, data in files.items():
-        write_whole(file.with_name(file.name + ending), data)
-    return file.with_name(file.name + ending)
+    named = [it.with_name(it.name + ending) for it in files]
+    try:
+        for file, data in zip(named, (log, account, record)):
+            write_whole(file, data)
+    except OSError:
+        # Once the record has its name the match counts.
+        with contextlib.suppress(OSError):
+            for file in named if not named[-1].exists() else ():
+                file.unlink(missing_ok=True)
+        raise
+    return named[-1]

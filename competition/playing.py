@@ -176,6 +176,9 @@ def prepared(playing):
     for match, why in faults.items():
         tell.line(f"refused {match}: {why}; its files are set aside, and it is played again")
         set_aside(plan, match)
+    for it in plan.matches:
+        if it.id not in playing.results and it.id not in faults and set_aside(plan, it.id):
+            tell.line(f"aside {it.id}: it has no record; its other files are set aside, and it is played")
     clear_open_rooms(plan, playing.results, tell)
     playing.waiting.extend(it for it in plan.matches if it.id not in playing.results)
 

@@ -1,13 +1,15 @@
 """Which matches are checked together, and what is not even read."""
 
+import errno
+import os
 import pathlib
 import tempfile
 import types
 import unittest
 from unittest import mock
 
-from competition.files import Folder
-from competition.kept import look_at_records
+from competition.files import Folder, Refused, held, write_whole
+from competition.kept import keep, look_at_records, set_aside
 from competition.referee import Unchecked
 
 
@@ -28,6 +30,18 @@ class Counting:
 class Short(Counting):
     def verdicts(self, _, records):
         raise MemoryError
+
+
+def broken_off(function, count, fault):
+    """Returns the function as it is where it goes well so often, and then there is this fault."""
+    left = iter([None] * count)
+
+    def called(*words):
+        for _ in left:
+            return function(*words)
+        raise fault
+
+    return called
 
 
 class Kept(unittest.TestCase):
@@ -67,6 +81,51 @@ class Kept(unittest.TestCase):
         referee = Counting()
         self.assertEqual(look_at_records(self.plan, referee)[1], {"cup-0": "its record has more than 16,777,216 bytes"})
         self.assertEqual(referee.counts, [0])
+
+    def names(self):
+        """Returns the files of the matches and what is in them."""
+        return {str(it.relative_to(self.folder.path)): it.read_bytes() for it in sorted(self.folder.path.glob("*/*"))}
+
+    def test_files_without_a_record_are_set_aside_too(self):
+        self.folder.make(self.folder.logs)
+        self.assertFalse(set_aside(self.plan, "cup-0"))
+        for at, ending in enumerate(("refused", "refused.2")):
+            (self.folder.account("cup-0")).write_text(f"account {at}")
+            (self.folder.log("cup-0")).write_text(f"log {at}")
+            self.assertTrue(set_aside(self.plan, "cup-0"))
+            for file, word in ((self.folder.account("cup-0"), "account"), (self.folder.log("cup-0"), "log")):
+                self.assertEqual((file.exists(), file.with_name(f"{file.name}.{ending}").read_text()), (False, f"{word} {at}"))
+
+    def test_where_setting_aside_is_broken_off_nothing_is_lost(self):
+        self.folder.make(self.folder.logs)
+        for stop in range(3):
+            keep(self.folder, f"cup-{stop}", b"record", b"account", b"log")
+            with mock.patch("competition.kept.os.replace", broken_off(os.replace, stop, KeyboardInterrupt())), self.assertRaises(KeyboardInterrupt):
+                set_aside(self.plan, f"cup-{stop}")
+            self.assertTrue(self.folder.record(f"cup-{stop}").exists(), "it does not look as if the match were new")
+            set_aside(self.plan, f"cup-{stop}")
+            found = [data for name, data in self.names().items() if f"/cup-{stop}." in name]
+            self.assertEqual(sorted(found), [b"account", b"log", b"record"])
+
+    def test_where_a_file_can_not_be_written_none_of_the_match_is_left(self):
+        self.folder.make(self.folder.logs)
+        for word, stop in ((None, 0), (None, 1), (None, 2), ("unchecked", 2)):
+            full = broken_off(write_whole, stop, OSError(errno.ENOSPC, "full"))
+            with mock.patch("competition.kept.write_whole", full), self.assertRaises(OSError):
+                keep(self.folder, "cup-0", b"record", b"account", b"log", word)
+            self.assertEqual(self.names(), {})
+
+    def test_a_folder_that_is_made_lasts(self):
+        new = self.folder.path / "more"
+        with mock.patch("competition.files.sync") as synced:
+            self.folder.make(new, self.folder.records)
+        self.assertEqual([it.args for it in synced.call_args_list], [(self.folder.path,)])
+
+    def test_where_a_folder_can_not_be_held_no_other_run_is_blamed(self):
+        for fault, words in ((BlockingIOError(errno.EAGAIN, "busy"), "another run plans, plays or publishes this competition"), (OSError(errno.EBADF, "bad"), "can't be held for one run alone: bad")):
+            with mock.patch("fcntl.flock", side_effect=fault), self.assertRaises(Refused) as why, held(self.folder.path):
+                pass
+            self.assertIn(words, str(why.exception))
 
     def test_want_of_memory_is_no_verdict(self):
         self.matches(10)

@@ -317,7 +317,7 @@ class Play(InFolder):
         playing = start(self.folder, "play")
         while not list((self.folder / "open").glob("*/players")):
             time.sleep(0.02)
-        self.assertEqual(run(self.folder, "play"), (2, "", "ggp_competition: .: another run plans or plays this competition\n"))
+        self.assertEqual(run(self.folder, "play"), (2, "", "ggp_competition: .: another run plans, plays or publishes this competition\n"))
         playing.communicate(timeout=60)
         self.assertEqual(playing.returncode, 0)
 
@@ -329,7 +329,7 @@ class Play(InFolder):
         while not list((self.folder / "open").glob("*/players")):
             time.sleep(0.02)
         file.write_text(text.replace("play = 5", "play = 6"))
-        self.assertEqual(run(self.folder, "plan"), (2, "", "ggp_competition: .: another run plans or plays this competition\n"))
+        self.assertEqual(run(self.folder, "plan"), (2, "", "ggp_competition: .: another run plans, plays or publishes this competition\n"))
         file.write_text(text)
         playing.communicate(timeout=60)
         self.assertEqual((playing.returncode, (self.folder / "schedule.tsv").read_bytes()), (0, before))
