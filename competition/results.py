@@ -5,7 +5,8 @@ import re
 from collections import Counter
 from dataclasses import dataclass
 
-LOG_LINE = re.compile(r"(\S+) role (\d+) (\S+) message (\d+) \((\w+) .*, (\d+) ms")
+# No number is longer, so that a log of an archive can't be one that Python refuses to read.
+LOG_LINE = re.compile(r"(\S+) role (\d{1,9}) (\S+) message (\d{1,9}) \((\w+) .*, (\d{1,18}) ms")
 TIME_LINE = re.compile(r"(began|ended) (\d{4}-\d\d-\d\dT\d\d:\d\d:\d\d\.\d{3}Z)")
 HOST_LINE = re.compile(r"(host) (\S+)")
 

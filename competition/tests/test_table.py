@@ -162,6 +162,10 @@ class Tables(unittest.TestCase):
         self.assertEqual(found["messages"], [[["play", 1000]], [["start", 7]]])
         self.assertEqual((found["begin"], found["end"], found["host"]), ("2026-01-02T03:04:05.678Z", "2026-01-02T03:04:06.000Z", "one"))
 
+    def test_numbers_of_a_log_that_are_too_long(self):
+        for line in ("m1 role {} ann message 1 (PLAY m1 nil): x, 3 ms", "m1 role 0 ann message {} (PLAY m1 nil): x, 3 ms", "m1 role 0 ann message 1 (PLAY m1 nil): x, {} ms"):
+            self.assertEqual(times_of(line.format("0" * 5000).encode(), 1)["messages"], [[]])
+
     def test_times_that_are_none(self):
         for line in ("began <plaintext>", "began 2026-01-02T03:04:05.678Z<b>", "began 2026-01-02", "ended now", "began 2026-01-02T03:04:05Z"):
             found = times_of(line.encode(), 1)
