@@ -40,9 +40,9 @@ class Child:
     def output(self):
         return self.out.read_bytes()
 
-    def last_words(self):
-        """Returns the last line on standard error, or how the process ended where there is none."""
-        lines = self.said.read_bytes().decode("ascii", "replace").strip().splitlines()
+    def last_words(self, is_word=lambda line: True):
+        """Returns the last line on standard error of those that count as its words, or how the process ended where there is none."""
+        lines = list(filter(is_word, self.said.read_bytes().decode("ascii", "replace").strip().splitlines()))
         return lines[-1] if lines else UNSAID.format(self.status())
 
     def end(self):

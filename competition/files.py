@@ -63,8 +63,8 @@ def written_whole(path, is_lasting=True):
     except BaseException as why:
         with contextlib.suppress(OSError):
             other.unlink()
-        if isinstance(why, OSError) and why.filename is None:
-            # Writes do not tell which file it was.
+        if isinstance(why, OSError) and why.filename in (None, str(other)):
+            # Writes do not tell which file it was, and the other name tells nobody anything.
             raise OSError(why.errno, why.strerror, str(path)) from None
         raise
     if is_lasting:
@@ -138,6 +138,13 @@ class Folder:
     def read_log(self, match):
         """Returns the log of a match. Where it is missing it is empty: the match counts all the same, and its times are unknown."""
         return self.log(match).read_bytes() if self.has_log(match) else b""
+
+    def must_be_text(self):
+        """Refuses a folder whose path the referee would not take as a word."""
+        try:
+            os.fsencode(self.path.absolute()).decode("utf-8")
+        except UnicodeDecodeError:
+            raise Refused(f"{self.path.absolute()}: the path of a competition has to be UTF-8, since the referee takes no other") from None
 
     def make(self, *folders):
         """Makes folders that are not there, so that they last as long as what is written into them."""

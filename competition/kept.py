@@ -3,6 +3,7 @@
 import contextlib
 import itertools
 import os
+import re
 
 from competition.files import write_whole
 from competition.referee import Unchecked
@@ -12,6 +13,8 @@ from competition.results import fault_of_record, read_record, result_of
 TOGETHER, BYTES_TOGETHER = 250, 1 << 27
 # What the referee reads of a record, before its line's end, and of an account.
 MOST_OF_RECORD, MOST_OF_ACCOUNT = 16_777_216, 268_435_456
+# A line of an account: its line of the desk, the word of its call, and the match.
+CALL = re.compile(rb"[0-9]+\t[a-z]+ ([^ \t\n]+)[ \t]")
 
 
 def read_at_most(path, most):
@@ -45,6 +48,16 @@ def batches(folder, matches):
         yield batch
 
 
+def is_of_one_match(account):
+    """Returns whether each line of an account is a call on the match of its first line. Many accounts are replayed as one, where it makes no
+    difference in which of them a call stands."""
+    first = CALL.match(account)
+    if not first:
+        return False
+    calls = re.finditer(rb"^[0-9]+\t[a-z]+ %s[ \t]" % re.escape(first[1]), account, re.MULTILINE)
+    return sum(1 for _ in calls) == account.count(b"\n")
+
+
 def fault_of_files(record, account):
     """Returns why files are not even handed to the referee, or none. What it would skip, or end at, is here."""
     if account is None:
@@ -53,6 +66,8 @@ def fault_of_files(record, account):
         return f"its account has more than {MOST_OF_ACCOUNT:,} bytes"
     if not account.endswith(b"\n"):
         return "its account is cut off"
+    if not is_of_one_match(account):
+        return "its account is not of one match alone"
     if len(record) - 1 > MOST_OF_RECORD:
         return f"its record has more than {MOST_OF_RECORD:,} bytes"
     if record.count(b"\n") != 1 or not record.endswith(b"\n"):

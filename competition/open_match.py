@@ -7,8 +7,8 @@ import time
 from competition.children import Child
 from competition.files import write_whole
 from competition.hosts import host_of, parallel_words, remote_line
-from competition.kept import keep
-from competition.referee import is_no_answer, is_not_lawful, is_not_replayed
+from competition.kept import fault_of_files, keep
+from competition.referee import PROGRAM, is_no_answer, is_not_lawful, is_not_replayed
 from competition.results import fault_of_record, read_record, result_of
 
 THERE = ("available", "ready", "unknown")
@@ -120,11 +120,17 @@ class OpenMatch:
             yield
         self.seconds = time.monotonic() - child.began
         if child.status():
-            self.why, self.is_broken = child.last_words(), True
+            self.why, self.is_broken = child.last_words(self.is_word), True
             return None
         if competition.hosts:
             host = f"host {host_of(job_log)}\n".encode()
         return child.output(), f"began {began}\n".encode() + host + child.said.read_bytes() + f"ended {moment()}\n".encode()
+
+    def is_word(self, line):
+        """Returns whether a line of the referee's standard error says more than its log, which may be cut off."""
+        if self.plan.competition.hosts:
+            return not line.startswith(f"{self.match.id} role ")
+        return line.startswith(f"{PROGRAM}: ")
 
     def check(self, played, log):
         """Has the record verified and the account replayed, and only then puts the files of the match where they count. Where the
@@ -151,7 +157,7 @@ class OpenMatch:
 
     def count(self, read, record, account, log):
         """Puts the files of a match that was found right where they count, if they are of this match."""
-        self.why = fault_of_record(read, self.match, self.plan.competition.strikes)
+        self.why = fault_of_files(record, account) or fault_of_record(read, self.match, self.plan.competition.strikes)
         if not self.why:
             keep(self.plan.folder, self.match.id, record, account, log)
             self.result = result_of(read, self.match)

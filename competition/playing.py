@@ -161,6 +161,7 @@ def clear_open_rooms(plan, results, tell):
 def prepared(playing):
     """Looks at what is there already, frees players of matches that were lost, and lets the others wait."""
     plan, folder, tell = playing.plan, playing.plan.folder, playing.tell
+    folder.must_be_text()
     try:
         folder.make(folder.records, folder.accounts, folder.logs, folder.open)
         folder.drop_unfinished()

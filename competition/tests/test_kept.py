@@ -9,7 +9,7 @@ import unittest
 from unittest import mock
 
 from competition.files import Folder, Refused, held, write_whole
-from competition.kept import keep, look_at_records, set_aside
+from competition.kept import fault_of_files, keep, look_at_records, set_aside
 from competition.referee import Unchecked
 
 
@@ -58,7 +58,7 @@ class Kept(unittest.TestCase):
             match = types.SimpleNamespace(id=f"cup-{len(self.plan.matches)}", game="one")
             self.plan.matches.append(match)
             self.folder.record(match.id).write_bytes(b"{" + b" " * (size - 2) + b"\n")
-            self.folder.account(match.id).write_bytes(b" " * (size - 1) + b"\n")
+            self.folder.account(match.id).write_bytes(f"0\tq {match.id}\t".encode().ljust(size - 1) + b"\n")
 
     def counts(self):
         referee = Counting()
@@ -67,20 +67,28 @@ class Kept(unittest.TestCase):
         return referee.counts
 
     def test_so_many_and_so_many_bytes_are_checked_together(self):
-        self.matches(*[10] * 600)
+        self.matches(*[20] * 600)
         self.assertEqual(self.counts(), [250, 250, 100])
         with mock.patch("competition.kept.BYTES_TOGETHER", 200):
             self.plan.matches.clear()
-            self.matches(50, 50, 50, 300, 10, 10, 100, 20)
+            self.matches(50, 50, 50, 300, 20, 20, 100, 20)
             self.assertEqual(self.counts(), [2, 1, 1, 2, 1, 1])
 
     def test_a_file_past_the_limit_is_not_read_to_its_end(self):
-        self.matches(10)
+        self.matches(20)
         with open(self.folder.record("cup-0"), "r+b") as file:
             file.truncate(1 << 36)
         referee = Counting()
         self.assertEqual(look_at_records(self.plan, referee)[1], {"cup-0": "its record has more than 16,777,216 bytes"})
         self.assertEqual(referee.counts, [0])
+
+    def test_an_account_is_of_one_match_alone(self):
+        right, record = b"0\tstrict cup-1 g 1 1 1 a b\topened\n1\tnext cup-1 0\towe 0 start\n1\tquery cup-1\tstatus\n", b"{}\n"
+        self.assertIsNone(fault_of_files(record, right))
+        for more in (b"1\tnext cup-2 0\towe 0 start\n", b"1\tnext cup-10 0\tover\n", b"{cup-1}\n", b"\n", b"cup-1\n", b" 1\tnext cup-1 0\tover\n", b"1\tquery cup-2\tquery cup-1\t\n"):
+            for account in (more + right, right + more):
+                self.assertEqual(fault_of_files(record, account), "its account is not of one match alone")
+        self.assertEqual(fault_of_files(record, right.replace(b"cup-1", b"c.p-1", 1)), "its account is not of one match alone")
 
     def names(self):
         """Returns the files of the matches and what is in them."""
@@ -115,6 +123,12 @@ class Kept(unittest.TestCase):
                 keep(self.folder, "cup-0", b"record", b"account", b"log", word)
             self.assertEqual(self.names(), {})
 
+    def test_what_can_not_be_written_is_named_as_it_would_be(self):
+        for name, fault in (("none/table.txt", FileNotFoundError), ("records", IsADirectoryError)):
+            with self.assertRaises(fault) as why:
+                write_whole(self.folder.path / name, b"")
+            self.assertEqual(why.exception.filename, str(self.folder.path / name))
+
     def test_a_folder_that_is_made_lasts(self):
         new = self.folder.path / "more"
         with mock.patch("competition.files.sync") as synced:
@@ -128,7 +142,7 @@ class Kept(unittest.TestCase):
             self.assertIn(words, str(why.exception))
 
     def test_want_of_memory_is_no_verdict(self):
-        self.matches(10)
+        self.matches(20)
         with self.assertRaises(Unchecked) as why:
             look_at_records(self.plan, Short())
         self.assertEqual(str(why.exception), "records and accounts can't be checked: want of memory")

@@ -95,6 +95,37 @@ class Play(InFolder):
         self.assertEqual((status, lines(out, "begin")), (1, []))
         self.assertEqual({it.split(": ")[1] for it in lines(out, "missing")}, {"p1 is silent"})
 
+    def test_a_line_of_the_log_is_no_word_of_why_there_is_no_record(self):
+        self.planned(["good", "good"])
+        log = "echo 'cup-001 role 0 p0 message 1 (PLAY cup-001 nil): x, 3 ms' >&2; printf 'cup-001 role 1 p1 mes' >&2"
+        # Status 1 without a word is that of a full disk, also where the log was written before.
+        for done, words, count in (("kill -9 $$", UNSAID.format(-9), 2), ("exit 1", UNSAID.format(1), 1)):
+            faulty = program_but(self.folder / "faulty", '"$1" = run', f"{log}; {done}")
+            status, out, _ = run(self.folder, "play", "--at-once", "1", "--program", faulty)
+            self.assertEqual((status, lines(out, "no record")), (1, [f"no record {it[0]}: {words}" for it in self.schedule[:count]]), out)
+
+    def test_a_folder_whose_name_is_no_text(self):
+        self.planned(["good", "good"])
+        cup = self.folder / os.fsdecode(b"\xff")
+        cup.mkdir()
+        for it in ("competition.toml", "schedule.tsv", "rules"):
+            shutil.move(self.folder / it, cup)
+        said = f"ggp_competition: {self.folder}/\\udcff: the path of a competition has to be UTF-8, since the referee takes no other\n"
+        for command in ("plan", "play"):
+            self.assertEqual(run(cup, command), (2, "", said))
+        self.assertEqual(run(cup, "table")[0], 0)
+
+    def test_files_without_a_record_are_set_aside(self):
+        self.planned(["good", "good"])
+        run(self.folder, "play")
+        kept = {it: (self.folder / it).read_bytes() for it in ("accounts/cup-001.txt", "logs/cup-001.txt")}
+        (self.folder / "records/cup-001.json").unlink()
+        status, out, _ = run(self.folder, "play")
+        told = ["aside cup-001: it has no record; its other files are set aside, and it is played"]
+        self.assertEqual((status, lines(out, "aside"), len(lines(out, "end"))), (0, told, 1), out)
+        self.assertEqual({it: (self.folder / f"{it}.refused").read_bytes() for it in kept}, kept)
+        self.assert_sound(self.schedule)
+
     def test_a_fault_of_info_is_not_the_player_s(self):
         self.planned(["good", "good"], head=HEAD + 'absent = "play"\nhosts = ["nowhere"]\n')
         write_fault = "ggp_manager: write fault"
