@@ -1,5 +1,6 @@
 """One archive of a competition, from which anyone can check it: what is in it, how it is written, and how it is checked."""
 
+import errno
 import gzip
 import hashlib
 import io
@@ -11,21 +12,23 @@ import tarfile
 import tempfile
 import zlib
 
-from competition.files import Refused, written_whole
+from competition.files import UNFINISHED, Refused, written_whole
 from competition.kept import look_at_records, strangers
 from competition.pages import made_anew
-from competition.plan import faults_of_descriptions, read_plan, sums_text
+from competition.plan import faults_of_descriptions, read_plan, read_sums, sums_text
 from competition.referee import VERSION_LINE, Unchecked
 from competition.results import match_line
+from competition.schedule import schedule_text
 from competition.table import tables_of
-from competition.table_text import TABLE_FILES, in_order, table_files
+from competition.table_text import TABLE_FILES, in_order, table_files, without_record
 
-SUMS, VERSION, HOW = "SHA256SUMS", "VERSION", "CHECK.txt"
-SUM_LINE = re.compile(r"([0-9a-f]{64})  (\S+)")
+SUMS, VERSION, HOW, GAPS = "SHA256SUMS", "VERSION", "CHECK.txt", "GAPS.tsv"
 NAME = re.compile(r"[A-Za-z0-9_.-]+(/[A-Za-z0-9_.-]+){1,3}")
 FOLDER_NAME = re.compile(r"[A-Za-z0-9_.-]+(/[A-Za-z0-9_.-]+){0,2}")
 NOT_PLAIN = re.compile(r"[^\x20-\x7e]")
 MOST_BYTES = 8 << 30
+# These are faults of this computer, and tell nothing of an archive.
+SHORTAGES = errno.ENOSPC, errno.EDQUOT, errno.EIO, errno.EMFILE, errno.ENFILE, errno.ENOMEM
 HOW_TO = """How to check this competition.
 
     ggp_competition check {name}.tar.gz
@@ -39,7 +42,8 @@ checks all that follows. By hand, in this folder:
 
 The rules are ground descriptions; games has the descriptions that they were made from, whose sums when the plan was made are in
 rules/DESCRIPTIONS.sha256. Where rules/GAME.told is there, the players of that game were told this in place of rules/GAME.kif. The
-version of the referee with which this was published is in VERSION.
+version of the referee with which this was published is in VERSION. Where GAPS.tsv is there, it has the matches of the schedule that
+have no record.
 What this does not show: that the players of these names sent these answers, and when. Keep the sum of the archive as you got it.
 """
 
@@ -65,10 +69,26 @@ def files_below(folder):
     return {str(it.relative_to(folder)): it for it in sorted(folder.rglob("*")) if it.is_file()}
 
 
+def how_to(plan):
+    """Returns the file that says how the archive is checked."""
+    return HOW_TO.format(name=plan.competition.name).encode("ascii")
+
+
+def matches_text(plan, results):
+    """Returns matches.jsonl."""
+    return b"".join(match_line(it, plan.rules[it.match.game].sum, plan.folder.read_log(it.match.id)) for it in results)
+
+
+def gaps_files(plan, results):
+    """Returns the file that names the matches without a record, by its name; none where there are no such matches."""
+    missing = without_record(plan, results)
+    return {GAPS: schedule_text(missing)} if missing else {}
+
+
 def contents(plan, referee, results):
     """Gives what is published: names, and bytes or the file that has them."""
     folder = plan.folder
-    yield "competition.toml", folder.competition
+    yield "competition.toml", plan.text
     yield "schedule.tsv", folder.schedule
     for file in (folder.rule_sums(), folder.description_sums()):
         yield f"rules/{file.name}", file
@@ -80,20 +100,23 @@ def contents(plan, referee, results):
         for file in (folder.record(it.match.id), folder.account(it.match.id)):
             yield str(file.relative_to(folder.path)), file
         yield str(folder.log(it.match.id).relative_to(folder.path)), folder.read_log(it.match.id)
-    yield "matches.jsonl", folder.matches
+    yield "matches.jsonl", matches_text(plan, results)
+    yield from gaps_files(plan, results).items()
     for name, data in table_files(plan, tables_of(plan.competition, results)).items():
         yield name, data
     for name, file in files_below(folder.pages).items():
-        yield f"pages/{name}", file
+        # What another run is writing there is none of these pages.
+        if not file.name.startswith(UNFINISHED):
+            yield f"pages/{name}", file
     yield VERSION, f"{referee.version()}\n".encode("ascii")
-    yield HOW, HOW_TO.format(name=plan.competition.name).encode("ascii")
+    yield HOW, how_to(plan)
 
 
 def own_files(plan):
     """Returns the files of the competition that stand directly in its folder, and the descriptions of its games."""
     folder = plan.folder
-    # The last three are there where the folder comes out of an archive.
-    others = (folder.path / it for it in (*TABLE_FILES, SUMS, VERSION, HOW))
+    # The last four are there where the folder comes out of an archive.
+    others = (folder.path / it for it in (*TABLE_FILES, SUMS, VERSION, HOW, GAPS))
     return [folder.competition, folder.schedule, folder.matches, *others, *map(folder.description, plan.competition.games)]
 
 
@@ -165,7 +188,10 @@ def faults_of_sums(folder):
     if SUMS not in files:
         yield f"{SUMS} is missing"
         return
-    sums = {name: it for it, name in SUM_LINE.findall(files.pop(SUMS).read_text("utf-8", "replace"))}
+    sums = read_sums(files.pop(SUMS).read_bytes())
+    if sums is None:
+        yield f"{SUMS} has a file twice, or a line that is no sum"
+        return
     for name in sorted(sums.keys() - files.keys()):
         yield f"{name} is missing"
     for name in sorted(files.keys() - sums.keys()):
@@ -206,8 +232,10 @@ def faults_of_matches(plan, referee):
     results, faults, misfits = look_at_records(plan, referee)
     faults |= misfits
     found = [f"{match}: {why}" for match, why in faults.items()]
-    found += [f"{it.id}: it has no record" for it in plan.matches if it.id not in results and it.id not in faults]
-    found += [f"{it.id}: its log is missing" for it in plan.matches if not plan.folder.has_log(it.id)]
+    # What GAPS.tsv has to say is looked at later.
+    wanted = [it for it in plan.matches if it.id in results or it.id in faults or not (plan.folder.path / GAPS).is_file()]
+    found += [f"{it.id}: it has no record" for it in wanted if it.id not in results and it.id not in faults]
+    found += [f"{it.id}: its log is missing" for it in wanted if not plan.folder.has_log(it.id)]
     found += [f"records/{it}: it is of no match of the schedule" for it in strangers(plan)]
     return in_order(plan, results), found
 
@@ -229,7 +257,12 @@ def faults_of_words(folder):
 
 def check_archive(path, referee):
     """Returns what is wrong with an archive, in printable ASCII, and, where nothing is, what was found right."""
-    faults, said = looked_at(path, referee)
+    try:
+        faults, said = looked_at(path, referee)
+    except OSError as why:
+        if why.errno not in SHORTAGES:
+            raise
+        raise Unchecked(f"the archive can't be checked in {tempfile.gettempdir()}: {why.strerror}") from None
     return list(map(plain, faults)), said
 
 
@@ -248,9 +281,9 @@ def looked_at(path, referee):
             if faults:
                 return faults, ""
             wanted = table_files(plan, tables_of(plan.competition, results))
-            lines = (match_line(it, plan.rules[it.match.game].sum, plan.folder.read_log(it.match.id)) for it in results)
-            wanted["matches.jsonl"] = b"".join(lines)
+            wanted |= {"matches.jsonl": matches_text(plan, results), **gaps_files(plan, results)}
             faults = list(faults_of_files(folder, plan, results, wanted))
+            faults += [] if (folder / HOW).read_bytes() == how_to(plan) else [f"{HOW} is not what `publish` writes"]
             made_by = (folder / VERSION).read_text("ascii").strip()
         except Refused as why:
             return why.words.replace(f"{room}/", "").splitlines(), ""
@@ -258,5 +291,7 @@ def looked_at(path, referee):
             raise Unchecked(str(why).replace(f"{room}/", "")) from None
         except MemoryError:
             raise Unchecked("the archive can't be checked: want of memory") from None
-    said = f"the sums, the schedule, {len(results)} records and accounts, the table and the pages are right"
+    missing = len(plan.matches) - len(results)
+    gaps = f"; {missing} of {len(plan.matches)} matches have no record, {GAPS} names them" if missing else ""
+    said = f"the sums, the schedule, {len(results)} records and accounts, the table and the pages are right{gaps}"
     return faults, f"{said}; published with {made_by}, checked by {referee.version()}"

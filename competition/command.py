@@ -7,7 +7,7 @@ import pathlib
 import sys
 
 from competition import VERSION
-from competition.archive import TooLarge, check_archive, own_files, publish
+from competition.archive import TooLarge, check_archive, matches_text, own_files, publish
 from competition.files import Refused, held, write_whole
 from competition.game import add_game, run_game
 from competition.kept import look_at_records
@@ -15,7 +15,6 @@ from competition.pages import Pages
 from competition.plan import WRITES, faults_of_descriptions, make_plan, read_plan
 from competition.playing import Playing, play
 from competition.referee import NoReferee, Referee, Unchecked, find_program
-from competition.results import match_line
 from competition.seats import Seats
 from competition.table import tables_of
 from competition.table_text import in_order, table_files, table_text
@@ -66,6 +65,7 @@ def arguments(words):
             command.add_argument("--watch", action="store_true", help="write the pages anew as matches end")
         if name == "publish":
             command.add_argument("--to", metavar="FILE", help="the archive (NAME.tar.gz in the folder)")
+            command.add_argument("--gaps", action="store_true", help="also if matches have no record; the archive names them")
     add_program(add_game(commands), default=argparse.SUPPRESS)
     return parser.parse_args(words)
 
@@ -75,8 +75,7 @@ def write_matches(plan, results):
     for it in results:
         if not plan.folder.has_log(it.match.id):
             print(f"ggp_competition: {it.match.id} counts without its times: its log is missing", file=sys.stderr)
-    lines = (match_line(it, plan.rules[it.match.game].sum, plan.folder.read_log(it.match.id)) for it in results)
-    write_whole(plan.folder.matches, b"".join(lines))
+    write_whole(plan.folder.matches, matches_text(plan, results))
 
 
 def known_results(plan, referee):
@@ -187,13 +186,22 @@ def archive_path(plan, to):
 
 
 def run_publish(asked, referee):
+    # Until all is written no other run may change what is published.
+    with held(asked.folder):
+        return run_held_publish(asked, referee)
+
+
+def run_held_publish(asked, referee):
     plan = read_plan(asked.folder, referee)
     path, pages = archive_path(plan, asked.to), plan.folder.pages
     if pages.is_symlink():
         raise Refused(f"{pages} is a link, and `publish` makes that folder anew", "take the link away, and publish again")
-    results, _ = known_results(plan, referee)
+    results, is_faulty = known_results(plan, referee)
     missing = len(plan.matches) - len(results)
-    faults = [f"{missing} matches have no lawful record"] if missing else []
+    faults = []
+    if missing and (is_faulty or not asked.gaps):
+        # What is wrong is not a gap: it is played again, or put right.
+        faults = [f"{missing} matches have no lawful record{'' if is_faulty else '; with `--gaps` the others are'}"]
     faults = faults or list(faults_of_descriptions(plan, plan.folder.description, f", and {WRITES}"))
     if not faults:
         write_matches(plan, results)
@@ -233,3 +241,6 @@ def main():
     except OSError as why:
         print(f"ggp_competition: {why.filename or 'a file'}: {why.strerror}", file=sys.stderr)
         return 1
+    except UnicodeEncodeError as why:
+        print(f"ggp_competition: {why.object!r} can't be the name of a file in this locale, whose encoding is {why.encoding}", file=sys.stderr)
+        return 2

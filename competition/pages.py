@@ -10,7 +10,7 @@ from competition.descriptions import TOP, script_module, sum_of
 from competition.files import UNFINISHED, drop_unfinished, write_whole
 from competition.results import times_of
 from competition.table import tables_of
-from competition.table_text import METHOD, crosstable_rows, notes, standings_rows
+from competition.table_text import METHOD, crosstable_rows, notes, standings_rows, without_record
 
 SHOW_RECORD = TOP / "examples/show-record"
 # While matches are played, the pages are written again after SECONDS seconds at the earliest, and for at most a tenth of the time.
@@ -110,10 +110,10 @@ def rules_text(text):
 
 
 class Pages:
-    """The pages of a competition. A match's page and its row are made once."""
+    """The pages of a competition. A match's page and its row are made once. With gaps they name the matches that have no record."""
 
-    def __init__(self, plan):
-        self.plan, self.folder = plan, plan.folder.pages
+    def __init__(self, plan, shows_gaps=False):
+        self.plan, self.folder, self.shows_gaps = plan, plan.folder.pages, shows_gaps
         self.show_record = script_module(SHOW_RECORD, "show_record")
         self.rows, self.next = {}, 0.0
 
@@ -167,6 +167,13 @@ class Pages:
             return "<p>No match is over.</p>"
         return table([MATCH_HEADS, *(self.rows[it.match.id][2 + is_below] for it in results)], LEFT)
 
+    def gaps(self, results):
+        """Gives what the first page says of the matches that have no record, where it does."""
+        missing = without_record(self.plan, results) if self.shows_gaps else []
+        if missing:
+            yield "<h2>Matches without a record</h2><p>These count for nobody.</p>"
+            yield table([["match", "game", "players"], *([it.id, it.game, ", ".join(it.players)] for it in missing)], {0, 1, 2})
+
     def span(self, results):
         """Returns when the first match began and the last one ended, as text."""
         times = [self.rows[it.match.id][:2] for it in results]
@@ -188,6 +195,7 @@ class Pages:
             f'<p class="dim">Ratings: {html.escape(METHOD)}.</p>',
             "<h2>Matches</h2>",
             self.matches(results, False),
+            *self.gaps(results),
         )
 
     def game_page(self, found, results):
@@ -205,7 +213,7 @@ class Pages:
 
 
 def made_anew(plan, results):
-    """Writes the pages into an empty folder."""
+    """Writes the pages that are published, into an empty folder."""
     with contextlib.suppress(FileNotFoundError):
         shutil.rmtree(plan.folder.pages)
-    Pages(plan).write(results)
+    Pages(plan, shows_gaps=True).write(results)

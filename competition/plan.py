@@ -10,17 +10,19 @@ from competition.files import UNFINISHED, Folder, Refused, held, write_whole
 from competition.schedule import planned, schedule_text
 
 SUM_LINE = re.compile(rb"([0-9a-f]{64})  ([^\n]+)\n")
+SUMS_ALONE = re.compile(rb"(?:[0-9a-f]{64}  [^\n]+\n)*")
 WRITES = "`ggp_competition plan` writes it"
 
 
 @dataclass
 class Plan:
-    """A competition with its rules by the names of the games, and its matches in the schedule's order."""
+    """A competition with its rules by the names of the games, its matches in the schedule's order, and the bytes of competition.toml."""
 
     folder: Folder
     competition: Competition
     rules: dict
     matches: list
+    text: bytes = b""
 
     def roles(self, game):
         return self.rules[game].roles
@@ -61,8 +63,10 @@ def told(path, mistakes):
 
 
 def competition_of(folder):
+    """Returns the competition, and the bytes that say it."""
+    text = read_file(folder.competition)
     try:
-        return read_competition(read_file(folder.competition))
+        return read_competition(text), text
     except Mistaken as why:
         raise Refused(told(folder.competition, why.mistakes)) from None
 
@@ -104,17 +108,19 @@ def make_plan(path, referee):
     """Writes the rules and the schedule of the competition in a folder, and returns it. Nothing is written where anything is wrong,
     where matches of another schedule were played, or while any are."""
     folder = Folder(path)
-    competition = competition_of(folder)
+    competition, text = competition_of(folder)
     rules = loaded_games(folder, competition, referee)
     matches = matches_of(folder, competition, rules)
     wanted = {folder.rules_of(name): it.text for name, it in rules.items()}
     wanted |= {folder.told_of(name): it.told for name, it in rules.items() if it.told is not None}
-    wanted[folder.rule_sums()] = sums_text({file.name: sum_of(data) for file, data in wanted.items()})
+    sums = sums_text({file.name: sum_of(data) for file, data in wanted.items()})
     wanted[folder.description_sums()] = sums_text({f"{name}.kif": it.description_sum for name, it in rules.items()})
+    # Without these sums the other files do not count, so where this is broken off it has to be done again.
+    wanted[folder.rule_sums()] = sums
     wanted[folder.schedule] = schedule_text(matches)
     with held(folder.path):
         write_plan(folder, wanted)
-    return Plan(folder, competition, rules, matches)
+    return Plan(folder, competition, rules, matches, text)
 
 
 def write_plan(folder, wanted):
@@ -133,9 +139,23 @@ def write_plan(folder, wanted):
         raise Refused(f"{folder.path} can't be written: {why.filename}: {os.strerror(why.errno)}") from None
 
 
+def read_sums(data):
+    """Returns the sums that the bytes of a file spell, by names. None where it has a name twice, or anything else."""
+    found = {name.decode(errors="replace"): it.decode() for it, name in SUM_LINE.findall(data)}
+    return found if SUMS_ALONE.fullmatch(data) and len(found) == data.count(b"\n") else None
+
+
+def not_planned(path):
+    """Returns the fault of a file that was changed after `plan` wrote it."""
+    return Refused(f"{path} is not what `ggp_competition plan` wrote", f"take it away, and {WRITES} again")
+
+
 def sums_of(path):
-    """Returns the sums of a file of sums, by names."""
-    return {name.decode(errors="replace"): it.decode() for it, name in SUM_LINE.findall(read_planned(path))}
+    """Returns the sums of a file of sums that `plan` has written, by names."""
+    found = read_sums(read_planned(path))
+    if found is None:
+        raise not_planned(path)
+    return found
 
 
 def faults_of_descriptions(plan, path_of, advice=""):
@@ -168,7 +188,7 @@ def read_rules(folder, competition, referee):
         written = list(map(read_planned, files))
         others = [file for file, data in zip(files, written) if sum_of(data) != sums[file.name]]
         if others:
-            raise Refused(f"{others[0]} is not what `ggp_competition plan` wrote", f"take it away, and {WRITES} again")
+            raise not_planned(others[0])
         try:
             found[game.name] = rules_of(written[0], files[0], referee, *written[1:])
         except NoDescription as why:
@@ -179,9 +199,9 @@ def read_rules(folder, competition, referee):
 def read_plan(path, referee):
     """Returns the competition that was planned in a folder. Refuses one whose rules or schedule are not those of the plan."""
     folder = Folder(path)
-    competition = competition_of(folder)
+    competition, text = competition_of(folder)
     schedule, rules = read_planned(folder.schedule), read_rules(folder, competition, referee)
     matches = matches_of(folder, competition, rules)
     if schedule != schedule_text(matches):
         raise refused_plan(folder, folder.schedule)
-    return Plan(folder, competition, rules, matches)
+    return Plan(folder, competition, rules, matches, text)

@@ -19,6 +19,12 @@ def in_order(plan, results):
     return [results[it.id] for it in plan.matches if it.id in results]
 
 
+def without_record(plan, results):
+    """Returns the matches that are not among the results, in the schedule's order."""
+    known = {it.match.id for it in results}
+    return [it for it in plan.matches if it.id not in known]
+
+
 def rounded(number, places):
     """Returns the number for a file: the last places may differ from one machine to another, and are left away."""
     return None if number is None else round(number, places) + 0.0

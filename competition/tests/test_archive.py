@@ -17,7 +17,7 @@ from unittest import mock
 
 from competition.archive import Spoilt, unpacked
 from competition.command import main
-from competition.files import written_whole
+from competition.files import held, written_whole
 from competition.tests.players import TestPlayer
 from competition.tests.support import GAMES, ODD, program, program_but, run, toml
 
@@ -74,6 +74,11 @@ def with_header(key, value):
     return lambda files: packed(files, headers={"cup/schedule.tsv": {key: value}})
 
 
+def sums_changed(change):
+    """Returns a spoiling of the sums themselves."""
+    return lambda files: packed({**files, "cup/SHA256SUMS": change(files["cup/SHA256SUMS"])}, fits=False)
+
+
 def headers_for_headers(_):
     """Returns an archive of nothing but extended headers, each for the next one."""
     it = tarfile.TarInfo("x")
@@ -93,6 +98,14 @@ def nonsense(files):
     old = hashlib.sha256(files["cup/games/odd.kif"]).hexdigest()
     files["cup/games/odd.kif"] = text
     files[sums] = files[sums].replace(old.encode(), hashlib.sha256(text).hexdigest().encode())
+    return packed(files)
+
+
+def moved_calls(files):
+    """Moves the last calls of a match to the head of the account of the match before it, where both are replayed together."""
+    one, other = "cup/accounts/cup-001.txt", "cup/accounts/cup-002.txt"
+    head, *rest = files[other].splitlines(keepends=True)
+    files[one], files[other] = files[one] + head, b"".join(rest)
     return packed(files)
 
 
@@ -126,6 +139,8 @@ SPOILINGS = {
     "a move of the account is another one": (changed("cup/accounts/cup-001.txt", lambda it: it.replace(b"READY", b"BUSY").replace(b"(take 1)", b"(take 2)")), "cup-001: "),
     "two accounts are exchanged": (swapped("cup/accounts/cup-001.txt", "cup/accounts/cup-002.txt"), "does not give its record again"),
     "two whole matches are exchanged": (None, "cup-001: its matchId is 'cup-002'"),
+    "calls of one account stand in another": (moved_calls, "cup-001: its account is not of one match alone"),
+    "an account has a line that replay skips": (changed("cup/accounts/cup-003.txt", lambda it: b'{"goalValues":[100,0]}\n' + it), "cup-003: its account is not of one match alone"),
     "a match is missing": (without("cup/records/cup-003.json", "cup/accounts/cup-003.txt", "cup/logs/cup-003.txt"), "cup-003: it has no record"),
     "an account is missing": (without("cup/accounts/cup-004.txt"), "cup-004: its account is missing"),
     "a log is missing": (without("cup/logs/cup-004.txt"), "cup-004: its log is missing"),
@@ -151,6 +166,12 @@ SPOILINGS = {
     "it does not say how to check it": (without("cup/CHECK.txt"), "CHECK.txt is missing"),
     "a name in the sums is no plain text": (None, "records/x?[2J?[31mn? is missing"),
     "a word of the competition is no plain text": (changed("cup/competition.toml", lambda it: it.replace(b"round_robin", b"\xc3\xa9")), "'?' is none of round_robin"),
+    "it says otherwise how to check it": (changed("cup/CHECK.txt", lambda it: it + b"All of it was checked.\n"), "CHECK.txt is not what `publish` writes"),
+    "the sums have another line": (sums_changed(lambda it: it + b"all is well\n"), "SHA256SUMS has a file twice, or a line that is no sum"),
+    "a file has two sums": (sums_changed(lambda it: b"0" * 64 + it[64 : it.index(b"\n") + 1] + it), "SHA256SUMS has a file twice"),
+    "the sums of the rules have another line": (changed("cup/rules/SHA256SUMS", lambda it: b"all is well\n" + it), "rules/SHA256SUMS is not what `ggp_competition plan` wrote"),
+    "a description has two sums": (changed("cup/rules/DESCRIPTIONS.sha256", lambda it: b"0" * 64 + it[64 : it.index(b"\n") + 1] + it), "rules/DESCRIPTIONS.sha256 is not what"),
+    "there are gaps where there are none": (beside("cup/GAPS.tsv", b"id\tgame\tstart\tplay\tplayers\n"), "GAPS.tsv is nothing of this competition"),
     "there are no sums": (without("cup/SHA256SUMS"), "SHA256SUMS is missing"),
     "a name leads out of the folder": (beside("cup/../../out.txt"), "is no plain file below one folder"),
     "a name is absolute": (beside("/tmp/out.txt"), "is no plain file below one folder"),
@@ -244,6 +265,13 @@ class Archive(unittest.TestCase):
         what = "the archive", "records and accounts"
         self.assertEqual(said.getvalue(), "".join(f"ggp_competition: {it} can't be checked: want of memory; nothing is changed\n" for it in what))
 
+    def test_an_archive_for_which_the_disk_is_full(self):
+        words, said = ["ggp_competition", "check", str(self.archive), "--program", program()], io.StringIO()
+        for place in ("competition.archive.unpacked", "tempfile.TemporaryDirectory"):
+            with mock.patch(place, side_effect=OSError(errno.ENOSPC, "full", "x")), mock.patch("sys.argv", words), mock.patch("sys.stderr", said):
+                self.assertEqual(main(), 3)
+        self.assertEqual(said.getvalue(), 2 * f"ggp_competition: the archive can't be checked in {tempfile.gettempdir()}: full; nothing is changed\n")
+
     def test_sums_that_were_made_anew_are_taken_of_what_is_right(self):
         (self.other / "again.tar.gz").write_bytes(packed(self.files()))
         self.assertEqual(run(self.other, "check", "again.tar.gz")[0], 0)
@@ -259,6 +287,60 @@ class Archive(unittest.TestCase):
         data = self.archive.read_bytes()
         self.assertEqual(run(self.folder, "publish", "--to", "again.tar.gz")[0], 0)
         self.assertEqual((self.folder / "again.tar.gz").read_bytes(), data)
+
+    def copied(self):
+        """Returns a copy of the folder of the competition."""
+        cup = self.other / "cup"
+        shutil.copytree(self.folder, cup)
+        return cup
+
+    def test_gaps_are_published_if_that_is_wanted_and_named(self):
+        cup = self.copied()
+        published = (cup / "cup.tar.gz").read_bytes()
+        self.assertEqual((run(cup, "publish", "--gaps")[0], (cup / "cup.tar.gz").read_bytes()), (0, published))
+        line = next(it for it in (cup / "schedule.tsv").read_text().splitlines() if it.startswith("cup-003"))
+        (cup / "records/cup-003.json").unlink()
+        self.assertIn("nothing is published: 1 matches have no lawful record; with `--gaps` the others are\n", run(cup, "publish")[2])
+        self.assertEqual(run(cup, "publish", "--gaps")[::2], (0, ""))
+        files = files_of(cup / "cup.tar.gz")
+        self.assertEqual(files["cup/GAPS.tsv"].decode().splitlines()[1:], [line])
+        self.assertEqual([it for it in files if "cup-003" in it], [])
+        self.assertIn(b"<h2>Matches without a record</h2><p>These count for nobody.</p>", files["cup/pages/index.html"])
+        self.assertIn("cup: 11 of 12 matches", files["cup/table.txt"].decode())
+        status, out, said = run(cup, "check", "cup.tar.gz")
+        self.assertEqual((status, said), (0, ""))
+        self.assertIn("11 records and accounts, the table and the pages are right; 1 of 12 matches have no record, GAPS.tsv names them; published", out)
+        for change, words in (
+            (without("cup/GAPS.tsv"), "cup-003: it has no record"),
+            (changed("cup/GAPS.tsv", lambda it: it.replace(b"cup-003", b"cup-004")), "GAPS.tsv does not follow from the records"),
+            (without(*(f"cup/{it}" for it in ("records/cup-004.json", "accounts/cup-004.txt", "logs/cup-004.txt"))), "GAPS.tsv does not follow from the records"),
+            (without("cup/logs/cup-004.txt"), "cup-004: its log is missing"),
+            (changed("cup/records/cup-002.json", better), "cup-002: not lawful: goals"),
+        ):
+            (self.other / "spoilt.tar.gz").write_bytes(change(dict(files)))
+            status, out, said = run(self.other, "check", "spoilt.tar.gz")
+            self.assertEqual((status, out), (1, ""))
+            self.assertIn(words, said)
+        before = (cup / "cup.tar.gz").read_bytes()
+        (cup / "records/cup-004.json").write_bytes(b"{}\n")
+        self.assertIn("nothing is published: 2 matches have no lawful record\n", run(cup, "publish", "--gaps")[2])
+        self.assertEqual((cup / "cup.tar.gz").read_bytes(), before)
+
+    def test_what_is_published_is_what_was_counted(self):
+        cup = self.copied()
+        published = (cup / "cup.tar.gz").read_bytes()
+        edit = program_but(self.other / "edit", '"$1" = verify', "sed -i 's/forfeit = true/forfeit = false/' competition.toml")
+        self.assertEqual(run(cup, "publish", "--program", edit)[0], 0)
+        self.assertIn("forfeit = false", (cup / "competition.toml").read_text())
+        self.assertEqual((cup / "cup.tar.gz").read_bytes(), published)
+        write = program_but(self.other / "write", '"$1" = --version', "touch pages/.unfinished-1-index.html; rm matches.jsonl")
+        (cup / "competition.toml").write_bytes((self.folder / "competition.toml").read_bytes())
+        self.assertEqual((run(cup, "publish", "--program", write)[0], (cup / "cup.tar.gz").read_bytes()), (0, published))
+
+    def test_no_two_publish_at_once(self):
+        with held(self.folder):
+            said = "ggp_competition: .: another run plans, plays or publishes this competition\n"
+            self.assertEqual(run(self.folder, "publish"), (2, "", said))
 
     def test_a_description_that_is_another_one_is_not_published(self):
         cup = self.other / "cup"

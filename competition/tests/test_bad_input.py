@@ -1,14 +1,18 @@
 """Bad input, through the program: it is reported with its place, and nothing is written."""
 
+import contextlib
 import os
 import shutil
 import subprocess
 import sys
+import types
 import unittest
 from unittest import mock
 
 from competition.command import COMMANDS
 from competition.descriptions import TOP, NoDescription, instantiated
+from competition.files import Refused, write_whole
+from competition.plan import faults_of_descriptions, make_plan, read_plan
 from competition.referee import NoReferee, find_program
 from competition.tests.support import COMMAND, GAMES, InFolder, call, program, program_but, run, run_into_full, toml
 
@@ -43,6 +47,13 @@ class BadInput(InFolder):
             self.assertIn(it, said)
         self.assertEqual(sorted(self.folder.rglob("*")), before)
 
+    def test_a_name_that_the_locale_lacks(self):
+        self.write(PLAYERS, [("game", "\N{GREEK SMALL LETTER BETA}.kif")])
+        environment = {**os.environ, "LC_ALL": "C", "PYTHONUTF8": "0", "PYTHONCOERCECLOCALE": "0"}
+        status, out, said = run(self.folder, "plan", env=environment)
+        self.assertEqual((status, out), (2, ""))
+        self.assertRegex(said, r"^ggp_competition: '\\u03b2\.kif' can't be the name of a file in this locale, whose encoding is \S+\n$")
+
     def test_a_plan_is_changed_only_before_a_record(self):
         (self.folder / "game.kif").write_bytes((GAMES / "countdown.kif").read_bytes())
         (self.folder / "records").mkdir()
@@ -53,6 +64,33 @@ class BadInput(InFolder):
         (self.folder / "records/cup-1.json").touch()
         self.write(PLAYERS, [("game", "game.kif")], head="play = 4\n")
         self.assert_refused("schedule.tsv would change, and matches were played", "plan")
+
+    def test_a_plan_that_is_broken_off_is_none(self):
+        game, written = self.folder / "game.kif", []
+        referee = types.SimpleNamespace(roles=lambda *_: ("a", "b"))
+        self.write(PLAYERS, [("game", "game.kif")])
+        for stop in range(5):
+            game.write_text(FACTS)
+            make_plan(self.folder, referee)
+            game.write_text(f"{FACTS}; other ones\n")
+
+            def write(path, data):
+                written.append(path)
+                if len(written) > stop:
+                    raise KeyboardInterrupt
+                write_whole(path, data)
+
+            written.clear()
+            with mock.patch("competition.plan.write_whole", write), contextlib.suppress(KeyboardInterrupt):
+                make_plan(self.folder, referee)
+            try:
+                plan = read_plan(self.folder, referee)
+            except Refused:
+                self.assertIn(stop, (1, 2))
+                continue
+            # The rules are those before, or those of the description that is there.
+            wrong = list(faults_of_descriptions(plan, plan.folder.description))
+            self.assertEqual((plan.rules["game"].text == game.read_bytes(), bool(wrong)), (stop > 0, stop == 0), written)
 
     def played(self):
         """Plans a competition, and leaves what stands for the record of a match. Returns the files of the plan, with what they hold."""

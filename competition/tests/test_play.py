@@ -111,9 +111,8 @@ class Play(InFolder):
         for it in ("competition.toml", "schedule.tsv", "rules"):
             shutil.move(self.folder / it, cup)
         said = f"ggp_competition: {self.folder}/\\udcff: the path of a competition has to be UTF-8, since the referee takes no other\n"
-        for command in ("plan", "play"):
-            self.assertEqual(run(cup, command), (2, "", said))
-        self.assertEqual(run(cup, "table")[0], 0)
+        self.assertEqual(run(cup, "play"), (2, "", said))
+        self.assertEqual(([run(cup, it)[0] for it in ("plan", "table")], list(cup.glob("open"))), ([0, 0], []))
 
     def test_files_without_a_record_are_set_aside(self):
         self.planned(["good", "good"])
