@@ -193,9 +193,9 @@ class Pages:
             f"<p>Games: {games}. In each the standings of that game, and its rules.</p>",
             *standings(tables[0]),
             f'<p class="dim">Ratings: {html.escape(METHOD)}.</p>',
+            *self.gaps(results),
             "<h2>Matches</h2>",
             self.matches(results, False),
-            *self.gaps(results),
         )
 
     def game_page(self, found, results):
