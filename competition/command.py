@@ -111,6 +111,8 @@ def run_plan(asked, referee):
         say(f"{game.name}: {said_of_game(plan, [it for it in plan.matches if it.game == game.name])}")
         for it in plan.rules[game.name].notes:
             say(f"{game.name}: {it}")
+    if plan.competition.forfeit and not plan.competition.strikes:
+        say("forfeit: without `strikes` no player is retired, so none loses a match by it")
     say(f"{plan.folder.schedule}: {len(plan.matches)} matches of {len(plan.competition.players)} players")
     return 0
 

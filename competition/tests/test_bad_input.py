@@ -47,6 +47,12 @@ class BadInput(InFolder):
             self.assertIn(it, said)
         self.assertEqual(sorted(self.folder.rglob("*")), before)
 
+    def test_a_forfeit_without_strikes_is_told(self):
+        for head, told in (("forfeit = true", 1), ("forfeit = true\nstrikes = 1", 0), ("strikes = 0", 0)):
+            self.write(PLAYERS, [("countdown", GAMES / "countdown.kif")], head=head)
+            status, out, said = run(self.folder, "plan")
+            self.assertEqual((status, said, out.count("forfeit: without `strikes` no player is retired, so none loses a match by it\n")), (0, "", told))
+
     def test_a_name_that_the_locale_lacks(self):
         self.write(PLAYERS, [("game", "\N{GREEK SMALL LETTER BETA}.kif")])
         environment = {**os.environ, "LC_ALL": "C", "PYTHONUTF8": "0", "PYTHONCOERCECLOCALE": "0"}
