@@ -154,10 +154,11 @@ def run_table(asked, referee):
     plan = read_plan(asked.folder, referee)
     results, is_faulty = known_results(plan, referee)
     tables = tables_of(plan.competition, results)
+    # It is there to be read also where it can't be written.
+    say(table_text(plan, tables), end="")
     write_matches(plan, results)
     for name, data in table_files(plan, tables).items():
         write_whole(plan.folder.path / name, data)
-    say(table_text(plan, tables), end="")
     return is_faulty
 
 

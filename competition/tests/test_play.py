@@ -586,6 +586,16 @@ class Play(InFolder):
         self.assertEqual(list((self.folder / "open").iterdir()), [])
         self.assertEqual([(it.matches, it.aborted) for it in self.players], [({}, [])] * 4)
 
+    def test_a_table_that_can_not_be_written_is_printed(self):
+        self.planned(["good", "good"])
+        run(self.folder, "play")
+        for name in ("table.json", "matches.jsonl"):
+            shutil.rmtree(self.folder / name) if (self.folder / name).is_dir() else (self.folder / name).unlink(missing_ok=True)
+            (self.folder / name).mkdir()
+            status, out, said = run(self.folder, "table")
+            self.assertEqual((status, said), (1, f"ggp_competition: {name}: Is a directory\n"))
+            self.assertTrue(out.startswith("cup: 2 of 2 matches\n"), out)
+
     def test_what_is_no_room_of_a_match_is_left_alone(self):
         self.planned(["good", "good"])
         rooms = self.folder / "open"
