@@ -33,6 +33,8 @@ class Player:
         self.seats, self.over, self.begun = {}, {}, []
         # How many messages came whole, and how many connections are open.
         self.messages = self.serving = 0
+        # What came on its connections before a request or after it.
+        self.strays = []
         self.port = None
 
     def address(self):
@@ -59,12 +61,14 @@ class Player:
         self.serving += 1
         try:
             head = await reader.readuntil(b"\r\n\r\n")
+            self.strays += [it for it in [head.partition(b"POST ")[0]] if it]
             body = await reader.readexactly(int(re.search(rb"Content-Length: (\d+)", head)[1]))
             self.messages += 1
             answer = self.answer(body.decode()) + self.padding * " "
             await asyncio.sleep(self.think)
             writer.write(f"HTTP/1.0 200 OK\r\nContent-Length: {len(answer)}\r\n\r\n{answer}".encode())
             await writer.drain()
+            self.strays += [it for it in [await reader.read()] if it]
         except (OSError, asyncio.IncompleteReadError):
             pass  # the program has closed the connection, or was killed
         finally:

@@ -7,13 +7,23 @@ use game_core::Counted;
 use ggp_commands::{Fault, Terminals, command, report};
 use match_plans::MAX_SCHEDULED;
 use network_players::{Signal, SocketPlayer, Sockets};
+use std::fs::File;
 use std::io::{ErrorKind, IsTerminal};
 use std::process::ExitCode;
-use std::{env, io};
+use std::{env, fs, io};
 
 /// The words after the program's name.
 fn command_line(rt: &HostRuntime) -> io::Result<Vec<String>> {
     Ok(env::args(rt)?.skip(1).collect(rt.alloc())?)
+}
+
+/// The number of the standard streams.
+const STREAMS: usize = 3;
+
+/// Opens as many directories as there are standard streams. They take the numbers of the streams that are closed: otherwise a connection
+/// would get one, and its player what is written to the stream. A directory can be neither read nor written, as a closed stream can't.
+fn placeholders(rt: &HostRuntime) -> [io::Result<File>; STREAMS] {
+    [fs::open(rt, "/"), fs::open(rt, "/"), fs::open(rt, "/")]
 }
 
 /// The number of places that a command's matches may have: `season` has one for each match of its schedule, every other command one.
@@ -27,6 +37,7 @@ fn places(words: &[String]) -> usize
 }
 
 fn main(rt: HostRuntime) -> ExitCode {
+    let _open = placeholders(&rt);
     let mut errors = rt.stderr();
     let output = rt.stdout();
     let terminals = Terminals {
