@@ -16,6 +16,9 @@ use std::time::Duration;
 /// The longest sleep of the thread that opened the desk, in milliseconds. Then a call that could not be made is tried again.
 const LONGEST_SLEEP: u64 = 1_000;
 
+/// The limit of rounds in a row without memory for a call.
+const MAX_SHORT_ROUNDS: u64 = 100_000;
+
 /// The desk that is put under a lock. Each match picks it, since a contract can't name what lies under a lock.
 pub trait Naming<O> {
     ghost desk: { Option (RingDeskValue O Call Reply) };
@@ -31,6 +34,8 @@ impl<O> Naming<O> for Brand {
 #[derive(Drop)]
 struct NamedDesk<O: Object<Call = Call, Reply = Reply>, N: Naming<O>> {
     desk: RingDesk<O>,
+    /// The number of rounds that had no memory for a call, since the last one that had.
+    short_rounds: u64,
     of: PhantomData<N>,
     ghost same: { ForSome N.desk (λ first. IsDeskAfter O.opening first desk) },
 }
@@ -43,7 +48,12 @@ impl<O: Object<Call = Call, Reply = Reply>, N: Naming<O>> NamedDesk<O, N> {
             (λ fault. Visits self.old.desk.journal.history self.new.desk.journal.history self.old.desk.ports self.new.desk.ports fault.line) }
     {
         desks_stay::<O>();
-        self.desk.round()
+        let served = self.desk.round();
+        self.short_rounds = match served {
+            Ok(_) => 0,
+            Err(_) => self.short_rounds.saturating_add(1),
+        };
+        served
     }
 }
 
@@ -62,6 +72,7 @@ impl<O: Object<Call = Call, Reply = Reply>, N: Naming<O>> SharedDesk<O, N> {
         desks_stay::<O>();
         let named = NamedDesk {
             desk,
+            short_rounds: 0,
             of: PhantomData,
         };
         SharedDesk {
@@ -71,14 +82,15 @@ impl<O: Object<Call = Call, Reply = Reply>, N: Naming<O>> SharedDesk<O, N> {
     }
 
     /// Serves a round, unless another thread serves one now. Returns whether it served a whole round. A call that can't be made
-    /// is tried again in the next one.
+    /// is tried again in the next one, until the history is full or `MAX_SHORT_ROUNDS` in a row had no memory for it. Then the desk stops:
+    /// otherwise threads that wait for its reply would try it for minutes, and do nothing else.
     pub fn serve(&self) -> bool {
         let Some(mut named) = self.locked.try_lock() else {
             return false;
         };
         let served = named.round();
         if let Err(DeskFault { cause, .. }) = served {
-            if cause == CallFault::Full {
+            if cause == CallFault::Full || named.short_rounds >= MAX_SHORT_ROUNDS {
                 self.stop();
             }
         }
@@ -90,7 +102,7 @@ impl<O: Object<Call = Call, Reply = Reply>, N: Naming<O>> SharedDesk<O, N> {
         self.bell.stop();
     }
 
-    /// Whether all threads over this desk are to end: a round found the history full, or the desk was stopped.
+    /// Whether all threads over this desk are to end: a round found the history full, too many found no memory, or the desk was stopped.
     pub fn has_stopped(&self) -> bool {
         self.bell.has_stopped()
     }
