@@ -1,5 +1,5 @@
 -- What an exchange with a player counts as.
-use Rattle.std.specs.Prelude.{◌≡◌, ℕ, List, Option, Some, None, Result, Ok, Err}
+use Rattle.std.specs.Prelude.{◌≡◌, ℕ, ℤ, List, Option, Some, None, Result, Ok, Err}
 use Rattle.std.specs.declared.io.ErrorKind.{ErrorKind}
 use Rattle.std.specs.declared.io.ErrorKind.TheVariants.{WouldBlock, TimedOut}
 use Rattle.desk_calls.specs.declared.answer.Answer.{Answer}
@@ -8,6 +8,7 @@ use Rattle.http_exchange.specs.declared.wire_fault.WireFault.{WireFault}
 use Rattle.http_exchange.specs.declared.wire_fault.WireFault.TheVariants as exchange_faults
 use Rattle.match_plans.specs.declared.shortages.Shortage.{Shortage}
 use Rattle.match_plans.specs.declared.shortages.Shortage.TheVariants.{Ports, Memory}
+use Rattle.network_players.specs.Shortages.{system_shortage}
 use Rattle.network_players.specs.declared.deadline.Halt.{Halt}
 use Rattle.network_players.specs.declared.deadline.Halt.TheVariants as halts
 use Rattle.network_players.specs.declared.contacting.ContactFault.{ContactFault}
@@ -41,10 +42,11 @@ abbrev pub short_fault : Option Shortage → ContactFault
 short_fault (Some shortage) = faults.Shortage shortage
 short_fault None = faults.NoConnection
 
--- the fault of an address to which no connection was made, by the kind of the system's error and the shortage that it reports
-abbrev pub address_fault : ErrorKind → Option Shortage → ContactFault
-address_fault TimedOut shortage = faults.Late
-address_fault kind shortage = short_fault shortage
+-- The fault of an address to which no connection was made, by the kind of the error and its number. It is late if the time left was over:
+-- this error has no number, as the system's own has, by which it gives a connection up.
+abbrev pub address_fault : ErrorKind → Option ℤ → ContactFault
+address_fault TimedOut None = faults.Late
+address_fault kind number = short_fault (system_shortage kind number)
 
 -- the fault of all addresses so far, by the fault of those before and of the last one; a lack of ports counts only if no address gave
 -- another fault

@@ -1,5 +1,6 @@
 //! A message to a player, on a connection of its own.
 ghost use Rattle.std.specs.Prelude.{◌≡◌};
+ghost use Rattle.std.specs.IoError.{error_kind, raw_os_error};
 ghost use Rattle.network_players.specs.Contacts.{address_fault, fault_so_far, fault_after, halt_fault, outcome_of};
 
 use crate::deadline::{Deadline, Halt, TimedStream};
@@ -13,8 +14,8 @@ use shared_text::SharedText;
 use std::alloc::Global;
 use std::io::ErrorKind;
 use std::net::{Net, SocketAddr, TcpStream};
-use std::thread;
 use std::time::{Clock, Duration};
+use std::{io, thread};
 use thiserror::Error;
 
 /// Why a message brought no answer.
@@ -23,7 +24,7 @@ pub enum ContactFault {
     /// No address of the host was found.
     #[error("the host has no address")]
     NoAddress,
-    /// None of the host's addresses takes a connection.
+    /// None of the host's addresses takes a connection. The system may also have given it up before the seconds were over.
     #[error("no connection")]
     NoConnection,
     /// The seconds were over before the connection was made, the request written or the reply read.
@@ -75,13 +76,14 @@ fn halt_fault(halt: Halt) -> ContactFault
     }
 }
 
-/// The fault of an address to which no connection was made, by the error's kind and by the shortage that it reports, if it does.
-fn address_fault(kind: ErrorKind, shortage: Option<Shortage>) -> ContactFault
-    ensures { result ≡ address_fault kind shortage }
+/// The fault of an address to which no connection was made. When the time left is over, the error is `TimedOut` and has no number. An
+/// error with a number is the system's: with `ETIMEDOUT` it gave the connection up by a limit of its own, so the address took none.
+fn address_fault(error: &io::Error) -> ContactFault
+    ensures { result ≡ address_fault (error_kind error.now) (raw_os_error error.now) }
 {
-    match kind {
-        ErrorKind::TimedOut => ContactFault::Late,
-        _ => match shortage {
+    match (error.kind(), error.raw_os_error()) {
+        (ErrorKind::TimedOut, None) => ContactFault::Late,
+        _ => match shortage_of(error) {
             Some(shortage) => ContactFault::Shortage(shortage),
             None => ContactFault::NoConnection,
         },
@@ -145,10 +147,7 @@ fn connect_once<N: Net + Clock>(
         };
         match TcpStream::connect_timeout(net, address, left) {
             Ok(stream) => return Ok(stream),
-            Err(error) => {
-                let last = address_fault(error.kind(), shortage_of(&error));
-                fault = fault_so_far(fault, last);
-            }
+            Err(error) => fault = fault_so_far(fault, address_fault(&error)),
         }
     }
     Err(fault)
