@@ -1,90 +1,84 @@
-//! The waiting and the running matches of a season, as its threads share them.
-ghost use Rattle.std.specs.Prelude.{◌≡◌, ◌+◌, ◌-◌, ◌^◌, ◌==◌, [], false, true, All, IfNone, IfSome, min};
+//! The waiting matches of a season and its threads, as these share them.
+ghost use Rattle.std.specs.Prelude.{◌≡◌, ◌+◌, ◌-◌, ◌^◌, [], false, true, All, IfNone, IfSome, min};
 ghost use Rattle.match_season.specs.Lineups.{Begins, IsBusy, StandUp};
 ghost use Rattle.match_season.specs.Floors.{Ends};
 
 use crate::lineup::{Fixture, Lineup};
+use std::sync::atomic::AtomicU64;
 use std::sync::{Condvar, Mutex, Wait};
+use std::time::Duration;
 
-/// A match that has begun.
-#[derive(Drop)]
-pub struct Begun {
-    pub fixture: Fixture,
-    /// Whether no other match was running then.
-    is_alone: bool,
-}
+/// For how many milliseconds the only thread rests. By then the system has taken back what other threads held that have ended.
+const REST: u64 = 500;
 
 /// What a thread does once its match is over.
 #[derive(Clone, Copy)]
 pub enum Next {
     /// It sends the result, and begins another match.
     HandOn,
-    /// It begins another match. Its own one waits again.
+    /// It has rested, and begins another match. Its own one waits again.
     GoOn,
     /// It ends, so one match less is played at once. Its own one waits again.
     End,
 }
 
-/// The waiting matches, the number of running ones, the number of threads, and whether no further match begins.
+/// The waiting matches and the number of threads.
 #[derive(Drop)]
 struct Table {
     lineup: Lineup,
-    under_way: usize,
     threads: usize,
+    /// Whether the only thread rests or has rested after a shortage, and no match has ended without one since.
+    has_rested: bool,
+    /// Whether no further match begins.
     is_closed: bool,
 }
 
 impl Table {
-    /// The table at the beginning: no match runs, and there is no thread yet.
+    /// The table at the beginning: there is no thread yet.
     fn of(lineup: Lineup) -> Table
         ensures lineup { result.lineup ≡ lineup }
-        ensures none_yet { (result.under_way ≡ 0) × (result.threads ≡ 0) }
+        ensures none_yet { (result.threads ≡ 0) × (result.has_rested ≡ false) }
         ensures open { result.is_closed ≡ false }
     {
         Table {
             lineup,
-            under_way: 0,
             threads: 0,
+            has_rested: false,
             is_closed: false,
         }
     }
 
-    /// Counts one more thread.
+    /// Counts one more thread. A rest of the only one before says nothing any more.
     fn enter(&mut self)
-        ensures { self.new ≡ record self.old { threads = min (self.old.threads + 1) (2 ^ 64 - 1) } }
+        ensures { self.new ≡ record self.old { threads = min (self.old.threads + 1) (2 ^ 64 - 1); has_rested = false } }
     {
         self.threads = self.threads.saturating_add(1);
+        self.has_rested = false;
     }
 
     /// Begins a match if one may begin, and otherwise counts one thread less.
-    fn begin(&mut self) -> Option<Begun>
-        ensures first { IfSome result (λ begun. Begins self.old.lineup self.new.lineup begun.fixture) }
-        ensures alone { IfSome result (λ begun. begun.is_alone ≡ (self.old.under_way == 0)) }
-        ensures under_way { IfSome result (λ begun. self.new.under_way ≡ min (self.old.under_way + 1) (2 ^ 64 - 1)) }
-        ensures same { IfSome result (λ begun. (self.new.threads ≡ self.old.threads) × (self.new.is_closed ≡ self.old.is_closed)) }
+    fn begin(&mut self) -> Option<Fixture>
+        ensures first { IfSome result (Begins self.old.lineup self.new.lineup) }
+        ensures same { IfSome result (λ fixture. self.new ≡ record self.old { lineup = self.new.lineup }) }
         ensures none { IfNone result (All (IsBusy self.old.lineup) self.old.lineup.waiting.items) }
         ensures ends { IfNone result (self.new ≡ record self.old { threads = self.old.threads - 1 }) }
     {
-        let Some(fixture) = self.lineup.take() else {
+        let begun = self.lineup.take();
+        if begun.is_none() {
             self.threads = self.threads.saturating_sub(1);
-            return None;
-        };
-        let is_alone = self.under_way == 0;
-        self.under_way = self.under_way.saturating_add(1);
-        Some(Begun { fixture, is_alone })
+        }
+        begun
     }
 
-    /// Ends a match. One without a thread or without memory waits again, unless it was the only running one or no further match begins.
-    fn end(&mut self, begun: Begun, is_short: bool) -> Next
-        ensures stand { StandUp self.old.lineup.sitting.items self.new.lineup.sitting.items begun.fixture.players.items }
-        ensures under_way { self.new.under_way ≡ self.old.under_way - 1 }
+    /// Ends a match. One without a thread or without memory waits again, unless the only thread has rested or no further match begins.
+    fn end(&mut self, fixture: Fixture, is_short: bool) -> Next
+        ensures stand { StandUp self.old.lineup.sitting.items self.new.lineup.sitting.items fixture.players.items }
         ensures same { self.new.is_closed ≡ self.old.is_closed }
-        ensures next { Ends self.old self.new begun is_short result }
+        ensures next { Ends self.old self.new fixture is_short result }
     {
-        let Begun { fixture, is_alone } = begun;
         self.lineup.leave(&fixture);
-        self.under_way = self.under_way.saturating_sub(1);
-        if !is_short || self.is_closed || is_alone && self.under_way == 0 {
+        self.has_rested = self.has_rested && is_short;
+        if !is_short || self.is_closed || self.threads <= 1 && self.has_rested {
             return Next::HandOn;
         }
         if self.lineup.put_back(fixture).is_err() {
@@ -94,6 +88,7 @@ impl Table {
             self.threads = self.threads.saturating_sub(1);
             Next::End
         } else {
+            self.has_rested = true;
             Next::GoOn
         }
     }
@@ -102,7 +97,7 @@ impl Table {
     fn close(&mut self)
         ensures none_waits { self.new.lineup.waiting.items ≡ [] }
         ensures closed { self.new.is_closed ≡ true }
-        ensures same { (self.new.under_way ≡ self.old.under_way) × (self.new.threads ≡ self.old.threads) × (self.new.lineup.sitting ≡ self.old.lineup.sitting) }
+        ensures same { (self.new.threads ≡ self.old.threads) × (self.new.has_rested ≡ self.old.has_rested) × (self.new.lineup.sitting ≡ self.old.lineup.sitting) }
     {
         self.lineup.clear();
         self.is_closed = true;
@@ -114,6 +109,8 @@ impl Table {
 pub struct Floor {
     table: Mutex<Table>,
     changed: Condvar,
+    /// What a thread sleeps on that rests: nobody wakes it.
+    rest: AtomicU64,
 }
 
 impl Floor {
@@ -122,6 +119,7 @@ impl Floor {
         Floor {
             table: Mutex::new(Table::of(lineup)),
             changed: Condvar::new(),
+            rest: AtomicU64::new(0),
         }
     }
 
@@ -131,7 +129,7 @@ impl Floor {
     }
 
     /// Begins the first waiting match with free players, as soon as there is one. `None` means that no match waits; then the thread ends.
-    pub fn begin<R: Wait>(&self, rt: &R) -> Option<Begun> {
+    pub fn begin<R: Wait>(&self, rt: &R) -> Option<Fixture> {
         let mut table = self.changed.wait_while(
             rt,
             self.table.lock(rt),
@@ -148,9 +146,12 @@ impl Floor {
     }
 
     /// Ends a match. `is_short` says that there was no thread or no memory for it. A thread that waits may begin one now.
-    pub fn end<R: Wait>(&self, rt: &R, begun: Begun, is_short: bool) -> Next {
-        let next = self.table.lock(rt).end(begun, is_short);
+    pub fn end<R: Wait>(&self, rt: &R, fixture: Fixture, is_short: bool) -> Next {
+        let next = self.table.lock(rt).end(fixture, is_short);
         self.changed.notify_one();
+        if matches!(next, Next::GoOn) {
+            self.rest.park_timeout(rt, 0, Duration::from_millis(REST));
+        }
         next
     }
 

@@ -79,12 +79,12 @@ impl<P: Player, S: Reach<P>, N: Naming> Season<'_, '_, P, S, N> {
     {
         self.floor.enter(rt);
         for _ in rt.forever() {
-            let Some(begun) = self.floor.begin(rt) else {
+            let Some(fixture) = self.floor.begin(rt) else {
                 return;
             };
-            let place = begun.fixture.place;
+            let place = fixture.place;
             let outcome = self.play(rt, place);
-            match self.floor.end(rt, begun, was_short(&outcome)) {
+            match self.floor.end(rt, fixture, was_short(&outcome)) {
                 Next::HandOn => {
                     let over = Over {
                         place,
@@ -259,8 +259,9 @@ where
 /// for that. Returns the number of matches without a record.
 ///
 /// A match begins once all matches before it in the schedule have begun, except those with a player at its limit of matches. A match
-/// that is short of memory or threads waits again until another one is over, and from then on one match less is played at once. If no
-/// other match is running, it has no record.
+/// that is short of memory or threads waits again, and from then on one match less is played at once. If only one is played at once,
+/// the season rests for half a second, and then tries again. After such a rest a match that is short has no record, until one has ended
+/// without a shortage.
 ///
 /// If there is no room to count the records, or not a single thread can be made, the result is out of memory, and no match was begun.
 /// Otherwise each match without a record is reported. After a failed write no further match begins, and the output ends with a part, maybe
