@@ -97,6 +97,11 @@ abbrev pub HasNoGame : GameSource → Fault → Type 0
 HasNoGame (OfCountdown size) fault = (fault ≡ WrongUse) × ¬ ((1 ≤ size) × (size ≤ max_heap))
 HasNoGame (Described source) fault = HasNoText source fault ⊎ ((text : List ℕ) × IsTextOf source text × IsRefused text fault)
 
+-- the fault for a source without a text of its rules for players
+abbrev pub HasNoToldText : GameSource → Fault → Type 0
+HasNoToldText (OfCountdown size) fault = (fault ≡ Memory) ⊎ HasNoGame (OfCountdown size) fault
+HasNoToldText (Described source) fault = HasNoText source fault
+
 -- the text of a game's rules for players: that of the source, or Countdown's rules
 abbrev pub IsToldText : GameSource → List ℕ → Type 0
 IsToldText (OfCountdown size) text = text ≡ countdown_text size

@@ -3,7 +3,7 @@ ghost use Rattle.std.specs.Prelude.{◌≡◌, ◌⊎◌, IfErr, IfOk};
 ghost use Rattle.std.specs.Cow.{cow_slice_items};
 ghost use Rattle.described_games.specs.Games.{IsDescribed};
 ghost use Rattle.game_commands.specs.declared.fault.Fault.TheVariants.{BadTold, Memory};
-ghost use Rattle.game_commands.specs.Commands.{HasNoText, IsRefused, IsTextOf, IsToldText};
+ghost use Rattle.game_commands.specs.Commands.{HasNoText, HasNoToldText, IsRefused, IsTextOf, IsToldText};
 
 use crate::fault::Fault;
 use crate::files::{NamedFile, file_text};
@@ -68,7 +68,8 @@ pub fn told_rules<'a, F: Files>(
     alloc: Global,
     game: GameSource<'a>,
 ) -> Result<CowSlice<'a, u8>, Fault>
-    ensures { IfOk result (λ text. IsToldText game.entry (cow_slice_items text)) }
+    ensures text { IfOk result (λ text. IsToldText game.entry (cow_slice_items text)) }
+    ensures fault { IfErr result (HasNoToldText game.entry) }
 {
     match game {
         GameSource::Described(rules) => rules_text(files, alloc, rules),

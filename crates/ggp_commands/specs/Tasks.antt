@@ -13,14 +13,17 @@ use Rattle.command_line.specs.declared.tasks.HostingPlan.{HostingPlan}
 use Rattle.command_line.specs.declared.tasks.Task.{Task}
 use Rattle.command_line.specs.declared.tasks.Task.TheVariants.{Game, Host, Info, Abort, Show}
 use Rattle.game_commands.specs.Commands.{Answers, Fails as CommandFails, HasNoGame, HoldsOfGame}
+use Rattle.game_commands.specs.Faults.{input_fault}
 use Rattle.game_commands.specs.declared.fault.Fault.{Fault}
 use Rattle.game_commands.specs.declared.fault.Fault.TheVariants.{Memory, NoAnswer, WriteFault}
 use Rattle.match_season.specs.Seasons.{AppendsPart}
+use Rattle.whole_streams.specs.Streams.{InputFails}
+use Rattle.whole_streams.specs.declared.whole.InputFault.{InputFault}
 use Rattle.player_check.specs.Checks.{EndsEarly, WritesCheck}
 use Rattle.player_check.specs.declared.check.CheckFault.{CheckFault}
 use Rattle.ggp_commands.specs.Errands.{TellsAnswers, aborted_lines, info_line}
 use Rattle.ggp_commands.specs.Faults.{check_fault, task_fault}
-use Rattle.ggp_commands.specs.Hosting.{IsHosted}
+use Rattle.ggp_commands.specs.Hosting.{IsNotHosted, IsHosted}
 use Rattle.ggp_commands.specs.Runs.{WritesRun, WritesRunUpTo}
 use Rattle.ggp_commands.specs.Schedules.{WritesSeason, WritesSeasonUpTo}
 
@@ -46,16 +49,30 @@ abbrev pub ReadsInput : {R : Type 0} → (R → Option (List ℕ)) → HostedTas
 ReadsInput remaining (Season season) input reader reader' = Consumes (remaining reader.stream) (remaining reader'.stream) input × IsAtEnd (remaining reader'.stream)
 ReadsInput remaining task input reader reader' = (input ≡ []) × (reader' ≡ reader)
 
+-- the limit of bytes of a schedule
+abbrev pub max_schedule : ℕ
+max_schedule = 16777216
+
+-- Why the input of a task can't be had: only that of a season, which is read.
+abbrev pub HasNoInput : {R : Type 0} → (R → Option (List ℕ)) → HostedTask → Fault → Counting R → Counting R → Type 0
+HasNoInput remaining (Season season) fault reader reader' = (why : InputFault) × (given : List ℕ) × (fault ≡ input_fault why)
+    × Consumes (remaining reader.stream) (remaining reader'.stream) given × InputFails max_schedule why given reader reader'
+HasNoInput remaining task fault reader reader' = ⊥
+
+-- Why a task was not begun: it has no game with rules for its players, or then no input.
+abbrev pub IsNotBegun : {R : Type 0} → (R → Option (List ℕ)) → HostingPlan → HostedTask → Fault → Counting R → Counting R → Type 0
+IsNotBegun remaining plan task fault reader reader' = (IsNotHosted plan fault × (reader' ≡ reader)) ⊎ HasNoInput remaining task fault reader reader'
+
 -- The task was performed on the game of its plan and its input. The number is that of the missing matches, or of the bad answers.
 abbrev pub Plays : (H : Type 0) → {P R W : Type 0} → (RolePlace → PlayerAddress → P → Type 0) → (P → Option (List Handed)) → (R → Option (List ℕ)) → (W → Option (List ℕ)) → HostingPlan → HostedTask → Counting R → Counting R → Counting W → Counting W → ℕ → Type 0
 Plays H is_reached handed remaining contents plan task reader reader' writer writer' count = (game : HostedGame) × (input : List ℕ)
     × IsHosted plan game.game.now game.rules.now.items × ReadsInput remaining task input reader reader'
     × WritesTask H is_reached handed game task input count (contents writer.stream) (contents writer'.stream)
 
--- Why the task was not performed, or not well: without its game or its input nothing was written; otherwise matches are missing or answers
--- bad, and the fault has their number, or it ended with the fault.
+-- Why the task was not performed, or not well: without its game or its input it was not begun, and nothing was written; otherwise matches are
+-- missing or answers bad, and the fault has their number, or it ended with the fault.
 abbrev pub FailsToPlay : (H : Type 0) → {P R W : Type 0} → (RolePlace → PlayerAddress → P → Type 0) → (P → Option (List Handed)) → (R → Option (List ℕ)) → (W → Option (List ℕ)) → HostingPlan → HostedTask → Counting R → Counting R → Counting W → Counting W → Fault → Type 0
-FailsToPlay H is_reached handed remaining contents plan task reader reader' writer writer' fault = (writer' ≡ writer)
+FailsToPlay H is_reached handed remaining contents plan task reader reader' writer writer' fault = (IsNotBegun remaining plan task fault reader reader' × (writer' ≡ writer))
     ⊎ (((count : ℕ) × (count ≢ 0) × (fault ≡ task_fault task (Ok count)) × Plays H is_reached handed remaining contents plan task reader reader' writer writer' count)
     ⊎ ((game : HostedGame) × (input : List ℕ) × IsHosted plan game.game.now game.rules.now.items × ReadsInput remaining task input reader reader'
     × EndsTask H is_reached handed game task input (contents writer.stream) (contents writer'.stream) fault))

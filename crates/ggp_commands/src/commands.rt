@@ -6,7 +6,7 @@ ghost use Rattle.match_season.specs.Seasons.{AppendsPart};
 ghost use Rattle.game_commands.specs.Faults.{status_of};
 ghost use Rattle.game_commands.specs.declared.fault.Fault.TheVariants.{WriteFault};
 ghost use Rattle.ggp_commands.specs.Hosting.{IsHosted};
-ghost use Rattle.ggp_commands.specs.Tasks.{Fails, FailsToPlay, Performs, Plays, ReadsInput};
+ghost use Rattle.ggp_commands.specs.Tasks.{Fails, FailsToPlay, IsNotBegun, Performs, Plays, ReadsInput};
 
 use crate::errands::{abort, info};
 use crate::faults::{argument_fault, task_end};
@@ -129,6 +129,7 @@ fn prepared<F: Files, R: Read>(
 ) -> Result<(Hosting, Vec<u8>), Fault>
     ensures hosted { IfOk result (λ prepared. IsHosted plan.now prepared.0.game prepared.0.rules.items) }
     ensures read { IfOk result (λ prepared. ReadsInput R.remaining task.now prepared.1.items reader.old reader.new) }
+    ensures fault { IfErr result (λ fault. IsNotBegun R.remaining plan.now task.now fault reader.old reader.new) }
 {
     let hosting = host(files, alloc, *plan, remarks)?;
     let input = input_of(alloc, task, reader)?;

@@ -1,7 +1,8 @@
 //! The game to play, and the rules for its players.
-ghost use Rattle.std.specs.Prelude.{◌≡◌, ℕ, List, IfOk};
+ghost use Rattle.std.specs.Prelude.{◌≡◌, ◌⊎◌, ℕ, List, IfErr, IfOk};
 ghost use Rattle.described_games.specs.Games.{IsDescribed};
-ghost use Rattle.ggp_commands.specs.Hosting.{AreRulesFor, AreSpelled, IsHosted};
+ghost use Rattle.game_commands.specs.Commands.{IsRefused};
+ghost use Rattle.ggp_commands.specs.Hosting.{AreRulesFor, AreSpelled, HasNoRules, IsHosted, IsNotHosted, IsToldFault};
 
 use command_line::HostingPlan;
 use game_commands::{Fault, NamedFile, Remarks, file_text, game_of, told_fault, told_rules};
@@ -38,7 +39,8 @@ fn rules_in<F: Files>(
     path: &str,
     remarks: &mut Remarks,
 ) -> Result<PrintedRules, Fault>
-    ensures { IfOk result (λ rules. (text : List ℕ) × AreSpelled text rules.items) }
+    ensures spelled { IfOk result (λ rules. (text : List ℕ) × AreSpelled text rules.items) }
+    ensures fault { IfErr result IsToldFault }
 {
     let text = file_text(files, alloc, NamedFile::Told, path)?;
     match other_rules(alloc, &text) {
@@ -55,7 +57,8 @@ fn rules_for<F: Files>(
     told: Option<&str>,
     remarks: &mut Remarks,
 ) -> Result<PrintedRules, Fault>
-    ensures { IfOk result (λ rules. AreRulesFor told.entry game.now rules.items) }
+    ensures rules { IfOk result (λ rules. AreRulesFor told.entry game.now rules.items) }
+    ensures fault { IfErr result (HasNoRules told.entry) }
 {
     match told {
         None => Ok(own_rules(alloc, game)?),
@@ -73,6 +76,7 @@ fn hosting_of<F: Files>(
 ) -> Result<Hosting, Fault>
     ensures game { IfOk result (λ hosting. IsDescribed text.now hosting.game) }
     ensures rules { IfOk result (λ hosting. AreRulesFor told.entry hosting.game hosting.rules.items) }
+    ensures fault { IfErr result (λ fault. IsRefused text.now fault ⊎ HasNoRules told.entry fault) }
 {
     let game = game_of(alloc, text, remarks)?;
     let rules = rules_for(files, alloc, &game, told, remarks)?;
@@ -86,7 +90,8 @@ pub fn host<F: Files>(
     plan: HostingPlan<'_>,
     remarks: &mut Remarks,
 ) -> Result<Hosting, Fault>
-    ensures { IfOk result (λ hosting. IsHosted plan.entry hosting.game hosting.rules.items) }
+    ensures hosted { IfOk result (λ hosting. IsHosted plan.entry hosting.game hosting.rules.items) }
+    ensures fault { IfErr result (IsNotHosted plan.entry) }
 {
     let text = told_rules(files, alloc, plan.game)?;
     hosting_of(files, alloc, &text, plan.told, remarks)

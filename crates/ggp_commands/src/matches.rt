@@ -7,7 +7,7 @@ ghost use Rattle.match_log.specs.LoggedPlayers.{is_logged_reached, logged_handed
 ghost use Rattle.player_check.specs.Checks.{EndsEarly, WritesCheck};
 ghost use Rattle.player_check.specs.declared.check.CheckFault.{CheckFault};
 ghost use Rattle.ggp_commands.specs.Schedules.{WritesSeason, WritesSeasonUpTo, has_schedule};
-ghost use Rattle.ggp_commands.specs.Tasks.{EndsTask, ReadsInput, WritesTask, WritesTaskUpTo};
+ghost use Rattle.ggp_commands.specs.Tasks.{EndsTask, HasNoInput, ReadsInput, WritesTask, WritesTaskUpTo};
 
 use crate::descriptors::allowed_form;
 use crate::faults::{check_fault, match_fault, season_fault};
@@ -104,6 +104,7 @@ pub fn input_of<R: Read>(
 ) -> Result<Vec<u8>, Fault>
     ensures unread { has_schedule task.now ≡ false → reader.new ≡ reader.old }
     ensures read { IfOk result (λ input. ReadsInput R.remaining task.now input.items reader.old reader.new) }
+    ensures fault { IfErr result (λ fault. HasNoInput R.remaining task.now fault reader.old reader.new) }
 {
     match task {
         HostedTask::Season(_) => Ok(read_to_end(alloc, reader, MAX_SCHEDULE)?),
