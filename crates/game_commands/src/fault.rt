@@ -34,6 +34,8 @@ pub enum Fault {
     WriteFault,
     /// The player can't be reached, or its answer can't be read.
     NoAnswer,
+    /// The referee was short of this, so a message was not sent, or not in time, or its answer was lost. No player is to blame.
+    NotSent(Shortage),
     /// The match was not opened.
     Refused(Refusal),
     /// The match has neither finished nor been aborted.
@@ -82,6 +84,7 @@ impl Fault {
             Fault::InputTooLong => "input too long",
             Fault::WriteFault => "write fault",
             Fault::NoAnswer => "no answer",
+            Fault::NotSent(_) => "not sent: ",
             Fault::Refused(_) => "refused ",
             Fault::MatchNotEnded => "match not ended",
             Fault::BadSchedule(_, _) => "bad schedule: line ",
@@ -102,7 +105,7 @@ impl fmt::Display for Fault {
         match *self {
             Fault::File(_, why) => f.write_str(why.words()),
             Fault::Refused(refusal) => f.write_str(refusal_word(refusal)),
-            Fault::Shortage(shortage) => write!(f, "{shortage}"),
+            Fault::NotSent(shortage) | Fault::Shortage(shortage) => write!(f, "{shortage}"),
             Fault::NotLawful(fault) => write!(f, "{fault}"),
             Fault::BadSchedule(number, why) => write!(f, "{number}: {why}"),
             Fault::NoEntry(number) => write!(f, "{number} is no entry"),

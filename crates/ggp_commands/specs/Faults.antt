@@ -14,7 +14,7 @@ use Rattle.command_line.specs.declared.tasks.HostedTask.TheVariants.{Check}
 use Rattle.command_line.specs.declared.arguments.ArgumentFault.{ArgumentFault}
 use Rattle.command_line.specs.declared.arguments.ArgumentFault.TheVariants.{Memory as ArgumentMemory}
 use Rattle.game_commands.specs.declared.fault.Fault.{Fault}
-use Rattle.game_commands.specs.declared.fault.Fault.TheVariants.{WrongUse, Memory, WriteFault, NoAnswer, Refused, MatchNotEnded, Shortage, NoRecords, BadAnswers}
+use Rattle.game_commands.specs.declared.fault.Fault.TheVariants.{WrongUse, Memory, WriteFault, NoAnswer, NotSent, Refused, MatchNotEnded, Shortage, NoRecords, BadAnswers}
 
 -- a refused command line is a wrong use
 abbrev pub argument_fault : ArgumentFault → Fault
@@ -36,9 +36,10 @@ check_fault (CheckMatch fault) = match_fault fault
 check_fault CheckWriteFault = WriteFault
 check_fault CheckMemory = Memory
 
--- out of memory is the referee's fault, everything else a missing answer
+-- a shortage is the referee's fault, everything else a missing answer
 abbrev pub contact_fault : ContactFault → Fault
 contact_fault (ContactShortage MemoryShortage) = Memory
+contact_fault (ContactShortage shortage) = NotSent shortage
 contact_fault fault = NoAnswer
 
 -- the fault of a task with this number of matches without a record, or of bad answers, or of one that ended with a fault

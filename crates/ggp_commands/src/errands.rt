@@ -102,7 +102,7 @@ fn abort_line(alloc: Global, name: &str, is_answered: bool) -> Result<String, Al
     }
 }
 
-/// Sends ABORT to a player, and writes whether it answered.
+/// Sends ABORT to a player, and writes whether it answered. Where the referee is short of something, nothing is written.
 fn abort_player<N: Net + Clock, W: Write, E: Write>(
     rt: &N,
     alloc: Global,
@@ -118,11 +118,11 @@ fn abort_player<N: Net + Clock, W: Write, E: Write>(
     let is_answered = match contact(rt, alloc, player, SECONDS, message.as_slice()) {
         Ok(_) => true,
         Err(fault) => {
-            if let Fault::Memory = contact_fault(fault) {
-                return Err(Fault::Memory);
-            }
             tell_contact(errors, terminals, player, fault);
-            false
+            match contact_fault(fault) {
+                Fault::NoAnswer => false,
+                fault => return Err(fault),
+            }
         }
     };
     let line = abort_line(alloc, player.name, is_answered)?;
@@ -130,7 +130,8 @@ fn abort_player<N: Net + Clock, W: Write, E: Write>(
     Ok(is_answered)
 }
 
-/// Sends ABORT to the players of a match, one after another, and writes for each whether it answered.
+/// Sends ABORT to the players of a match, one after another, and writes for each whether it answered. A player for which the referee is
+/// short of something has no line, and the others are sent ABORT all the same.
 pub fn abort<N: Net + Clock, W: Write, E: Write>(
     rt: &N,
     alloc: Global,
@@ -147,13 +148,23 @@ pub fn abort<N: Net + Clock, W: Write, E: Write>(
     }
     let message = abort_message(alloc, plan.id)?;
     let mut have_answered = true;
+    let mut short = None;
     for player in &plan.players {
-        let is_answered = abort_player(rt, alloc, player, &message, writer, errors, terminals)?;
+        let is_answered = match abort_player(
+            rt, alloc, player, &message, writer, errors, terminals,
+        ) {
+            Ok(is_answered) => is_answered,
+            Err(Fault::NotSent(shortage)) => {
+                short = Some(shortage);
+                continue;
+            }
+            Err(fault) => return Err(fault),
+        };
         have_answered = have_answered && is_answered;
     }
-    if have_answered {
-        Ok(())
-    } else {
-        Err(Fault::NoAnswer)
+    match short {
+        Some(shortage) => Err(Fault::NotSent(shortage)),
+        None if have_answered => Ok(()),
+        None => Err(Fault::NoAnswer),
     }
 }

@@ -59,6 +59,7 @@ pub fn contact_fault(fault: ContactFault) -> Fault
 {
     match fault {
         ContactFault::Shortage(Shortage::Memory) => Fault::Memory,
+        ContactFault::Shortage(shortage) => Fault::NotSent(shortage),
         _ => Fault::NoAnswer,
     }
 }
