@@ -11,6 +11,8 @@ from competition.kept import fault_of_files, keep
 from competition.referee import PROGRAM, is_no_answer, is_not_lawful, is_not_replayed
 from competition.results import fault_of_record, read_record, result_of
 
+# The referee ends INFO by itself after so many seconds, and soon after that it has said whether it was short of something itself.
+WHOLE, SOON = 10, 1
 THERE = ("available", "ready", "unknown")
 
 
@@ -68,7 +70,8 @@ class OpenMatch:
     def ask(self):
         """Asks each player whether it is free. Returns whether the match can begin."""
         asked = [self.child(self.referee.info_words(it), f"info-{at}") for at, it in enumerate(self.places)]
-        until = time.monotonic() + self.plan.competition.info
+        seconds = self.plan.competition.info
+        until = time.monotonic() + (seconds if seconds < WHOLE else WHOLE + SOON)
         while time.monotonic() < until and not all(it.is_over() for it in asked):
             yield
         said, faults = [], []

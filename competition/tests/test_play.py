@@ -136,6 +136,16 @@ class Play(InFolder):
             self.assertEqual((status, lines(out, "no record"), lines(out, "begin")), (1, told[:count], []), out)
             self.assertNotIn("silent", out)
 
+    def test_a_shortage_of_the_referee_is_not_the_player_s(self):
+        # It is waited for as long as INFO may take, and said after that.
+        self.planned(["good", "good"], head='start = 5\nplay = 5\ninfo = 10\nabsent = "play"\n')
+        unsent = "ggp_manager: not sent: out of ports"
+        short = program_but(self.folder / "short", '"$1" = info && "$3" = p0*', f"sleep 10.2; echo '{unsent}' >&2; exit 1")
+        status, out, _ = run(self.folder, "play", "--program", short)
+        told = [f"no record {it[0]}: p0 could not be asked: {unsent}" for it in self.schedule]
+        self.assertEqual((status, lines(out, "no record"), lines(out, "begin")), (1, told, []), out)
+        self.assertNotIn("silent", out)
+
     def test_what_becomes_of_a_match_is_told_once_all_players_are_judged(self):
         for head, first, second, words in (
             ('absent = "play"\ntries = 1', "gone", "busy", ["no record cup-001: p1 is busy"]),
