@@ -22,7 +22,7 @@ use match_plans::{MatchPlan, Reach, RolePlace, Shortage, TellsShortages};
 use match_record::record_json;
 use match_workers::{RefereeFault, Refereed, referee_shared};
 use packed_rules::PackedGame;
-use role_workers::Player;
+use role_workers::{AttendFault, Player};
 use std::alloc::{AllocError, AllocFailed, Global};
 use std::sync::Wait;
 use std::thread::Threads;
@@ -196,8 +196,17 @@ pub struct EndedMatch {
     ghost is_ended: { ∥ IsEndedMatch text ∥₁ },
 }
 
+/// Whether the match is not over since a role's worker ran out of memory.
+fn ran_out_of_memory<G: Game>(refereed: &Refereed<G>) -> bool {
+    ended_match_of(&refereed.closed.object).is_none()
+        && refereed
+            .ends
+            .iter()
+            .any(|end| matches!(end, Err(AttendFault::Memory)))
+}
+
 /// Referees a match of this game between its entrants. Returns the closed desk. The error is `Shortage` if the referee was short of
-/// something in the match.
+/// something in the match, and `Memory` also if the match did not end since a role's worker was.
 pub(crate) fn refereed_match<'g, R, P, S: TellsShortages>(
     rt: &R,
     alloc: Global,
@@ -231,6 +240,7 @@ where
         MAX_TRIES,
     )?;
     match reach.shortage(place) {
+        None if ran_out_of_memory(&refereed) => Err(MatchFault::Memory),
         None => Ok(refereed),
         Some(shortage) => Err(MatchFault::Shortage(shortage)),
     }

@@ -81,7 +81,8 @@ pub fn seat_players<'a, P: Drop, W: Drop>(
     Ok(seats)
 }
 
-/// Attends a role over its wire, and then signals its end.
+/// Attends a role over its wire, and then signals its end. If it runs out of memory the desk stops: the match can't end without the role,
+/// and the other workers would ask in vain until the history is full.
 fn attend_seat<P: Player + Drop, W: Wire<Call = Call, Reply = Reply>>(
     alloc: Global,
     brief: &SharedBrief<'_>,
@@ -97,6 +98,9 @@ fn attend_seat<P: Player + Drop, W: Wire<Call = Call, Reply = Reply>>(
     let mut player = player;
     let mut wire = wire;
     let end = attend_shared(alloc, &mut wire, &mut player, brief, role, tries);
+    if let Err(AttendFault::Memory) = end {
+        bell.stop();
+    }
     player.leave();
     bell.leave();
     Attended { wire, end, player }
