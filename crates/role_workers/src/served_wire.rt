@@ -54,7 +54,7 @@ impl<'a, O: Object<Call = Call, Reply = Reply>, N: Naming<O>> Wire for ServedWir
 
     /// Posts the call and takes one reply. This is the reply to the call if the line had taken as many replies as it posted calls.
     /// The wire stalls if no reply comes within `TURNS` looks, or if the desk has stopped. A stalled wire does nothing more,
-    /// but a call that was posted stays posted.
+    /// but a call that was posted stays posted. The fault is out of memory if the desk has stopped for that.
     fn ask(&mut self, call: Call) -> Result<Reply, AskFault>
         ensures line { SameLine self.old.line self.new.line }
         ensures call { OnOk result (Some (posted_calls self.new.line) ≡ told_with (Some (posted_calls self.old.line)) (call ∷ [])) }
@@ -63,7 +63,7 @@ impl<'a, O: Object<Call = Call, Reply = Reply>, N: Naming<O>> Wire for ServedWir
             ⊎ (Some (posted_calls self.new.line) ≡ told_with (Some (posted_calls self.old.line)) (call ∷ []))) }
         ensures no_reply { OnErr result (Some (taken_replies self.new.line) ≡ Some (taken_replies self.old.line)) }
 
-        ensures fault { IfErr result (λ fault. (fault ≡ AskFault.Stalled) × IsTrue self.new.has_stalled) }
+        ensures fault { IfErr result (λ fault. ((fault ≡ AskFault.Stalled) ⊎ (fault ≡ AskFault.Memory)) × IsTrue self.new.has_stalled) }
         ensures going { OnOk result (IsFalse self.new.has_stalled) }
         ensures stays { IsTrue self.old.has_stalled → IsErr result × (self.new ≡ self.old) }
     {
@@ -76,7 +76,11 @@ impl<'a, O: Object<Call = Call, Reply = Reply>, N: Naming<O>> Wire for ServedWir
             return Err(AskFault::Stalled);
         }
         let Some(reply) = take_served(&mut self.line, self.desk) else {
-            return Err(AskFault::Stalled);
+            return Err(if self.desk.is_short() {
+                AskFault::Memory
+            } else {
+                AskFault::Stalled
+            });
         };
         self.has_stalled = false;
         Ok(reply)

@@ -10,6 +10,7 @@ use call_history::laws::desks_stay;
 use call_history::{Bell, CallFault, DeskFault, Object, Pause, RingDesk};
 use desk_calls::{Call, Reply};
 use std::marker::{Brand, PhantomData};
+use std::sync::atomic::{AtomicU64, Ordering};
 use std::sync::{Mutex, Wait};
 use std::time::Duration;
 
@@ -17,7 +18,7 @@ use std::time::Duration;
 const LONGEST_SLEEP: u64 = 1_000;
 
 /// The limit of rounds in a row without memory for a call.
-const MAX_SHORT_ROUNDS: u64 = 100_000;
+const MAX_SHORT_ROUNDS: u64 = 10_000;
 
 /// The desk that is put under a lock. Each match picks it, since a contract can't name what lies under a lock.
 pub trait Naming<O> {
@@ -34,8 +35,6 @@ impl<O> Naming<O> for Brand {
 #[derive(Drop)]
 struct NamedDesk<O: Object<Call = Call, Reply = Reply>, N: Naming<O>> {
     desk: RingDesk<O>,
-    /// The number of rounds that had no memory for a call, since the last one that had.
-    short_rounds: u64,
     of: PhantomData<N>,
     ghost same: { ForSome N.desk (λ first. IsDeskAfter O.opening first desk) },
 }
@@ -48,12 +47,7 @@ impl<O: Object<Call = Call, Reply = Reply>, N: Naming<O>> NamedDesk<O, N> {
             (λ fault. Visits self.old.desk.journal.history self.new.desk.journal.history self.old.desk.ports self.new.desk.ports fault.line) }
     {
         desks_stay::<O>();
-        let served = self.desk.round();
-        self.short_rounds = match served {
-            Ok(_) => 0,
-            Err(_) => self.short_rounds.saturating_add(1),
-        };
-        served
+        self.desk.round()
     }
 }
 
@@ -62,6 +56,8 @@ impl<O: Object<Call = Call, Reply = Reply>, N: Naming<O>> NamedDesk<O, N> {
 pub struct SharedDesk<O: Object<Call = Call, Reply = Reply>, N: Naming<O>> {
     locked: Mutex<NamedDesk<O, N>>,
     bell: Bell,
+    /// The number of rounds that had no memory for a call, since the last one that had. It stays at its limit.
+    short_rounds: AtomicU64,
 }
 
 impl<O: Object<Call = Call, Reply = Reply>, N: Naming<O>> SharedDesk<O, N> {
@@ -72,12 +68,12 @@ impl<O: Object<Call = Call, Reply = Reply>, N: Naming<O>> SharedDesk<O, N> {
         desks_stay::<O>();
         let named = NamedDesk {
             desk,
-            short_rounds: 0,
             of: PhantomData,
         };
         SharedDesk {
             locked: Mutex::new(named),
             bell: Bell::new(),
+            short_rounds: AtomicU64::new(0),
         }
     }
 
@@ -89,12 +85,27 @@ impl<O: Object<Call = Call, Reply = Reply>, N: Naming<O>> SharedDesk<O, N> {
             return false;
         };
         let served = named.round();
+        self.count_short(served.is_err());
         if let Err(DeskFault { cause, .. }) = served {
-            if cause == CallFault::Full || named.short_rounds >= MAX_SHORT_ROUNDS {
+            if cause == CallFault::Full || self.is_short() {
                 self.stop();
             }
         }
         served.is_ok()
+    }
+
+    /// Counts a round, under the lock.
+    fn count_short(&self, was_short: bool) {
+        let count = self.short_rounds.load(Ordering::SeqCst);
+        if count < MAX_SHORT_ROUNDS {
+            let next = if was_short { count + 1 } else { 0 };
+            self.short_rounds.store(next, Ordering::SeqCst);
+        }
+    }
+
+    /// Whether the desk was stopped since too many rounds in a row had no memory for a call.
+    pub fn is_short(&self) -> bool {
+        self.short_rounds.load(Ordering::SeqCst) >= MAX_SHORT_ROUNDS
     }
 
     /// Ends the work of all threads over this desk: a wire that waits for a reply, or makes a further call, stalls.
@@ -129,7 +140,7 @@ impl<O: Object<Call = Call, Reply = Reply>, N: Naming<O>> SharedDesk<O, N> {
     pub fn into_desk(self) -> RingDesk<O>
         ensures { ForSome N.desk (λ first. IsDeskAfter O.opening first result) }
     {
-        let SharedDesk { locked, bell: _ } = self;
+        let SharedDesk { locked, .. } = self;
         locked.into_inner().desk
     }
 }
