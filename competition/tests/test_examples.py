@@ -123,6 +123,7 @@ class Examples(unittest.TestCase):
             self.assertEqual(said.splitlines()[-1], f"instantiate: {room} can't be written: Is a directory")
 
 
+ERRORS = 'for each turn of moves a list with one text for each role: "", "TO", "CE", "RT", "IL ?", or "IL " and an expression in folded canonical text of at most 8,192 bytes'
 # Changes of a lawful record of Countdown from 3, each with the words that explain its fault. A place is the keys and numbers that lead there.
 FAULTS = [
     ({("moves", 0, 0): "(take 3)"}, "illegal 0 0", "Turn 1, role red: the move is not legal.", "expected one of 2: (take 1), (take 2)", "found: (take 3)"),
@@ -144,6 +145,9 @@ FAULTS = [
     ({("playClock",): "x" * 99}, "shape playClock", "expected in playClock: a whole number of seconds, 1 to 86,400", f'found: "{"x" * 79}..'),
     ({("endMarks",): "gone"}, "shape endMarks", 'expected in endMarks: for each role a mark: null, "", "TO" or "CE"', "the roles are: red, blue", "found: no such key"),
     ({("moves", 1): ["noop"]}, "shape moves", "expected in moves: for each turn, of which there are at most 10,000, a list with one text for each role", "the roles are: red, blue", 'found as member 2 of 2: ["noop"]'),
+    ({("errors", 1): ["", 0], ("moves",): "gone"}, "shape errors", f"expected in errors: {ERRORS}", "the roles are: red, blue", 'found as member 2 of 2: ["", 0]'),
+    ({("errors", 0): [""], ("moves",): 0}, "shape errors", f"expected in errors: {ERRORS}", "the roles are: red, blue", 'found as member 1 of 2: [""]'),
+    ({("errors", 0, 1): f"IL {'(' * 65}{')' * 65}"}, "shape errors", f"expected in errors: {ERRORS}", "the roles are: red, blue", f'found as member 1 of 2: ["", "IL {"(" * 65}{")" * 6}..'),
     ({("states",): [[]]}, "shape states", "expected in states: a list of states, one more than turns in moves, each a list of texts", "found 1 member, with 2 turns in moves: [[]]"),
 ]
 

@@ -25,6 +25,7 @@ KEYS = (
 ).split()
 PHASES = "starting playing stopping finished aborting aborted".split()
 MOST_TURNS = 10000
+MOST_LISTS = 64
 
 
 class Countdown:
@@ -70,13 +71,13 @@ def is_name(value):
 
 
 def is_expression(text):
-    """Whether the text is the canonical text of one expression without capitals."""
+    """Whether the text is the canonical text of one expression without capitals, of at most 64 lists in one another."""
     level = 0
     for place, token in enumerate(re.findall(r"[()]|[^() ]+|.", text)):
         if place > 0 and level == 0:
             return False
         level += (token == "(") - (token == ")")
-        if level < 0:
+        if not 0 <= level <= MOST_LISTS:
             return False
     spaced = re.fullmatch(r"(?!.*(^ | $|  |\( | \)|[^ (]\(|\)[^ )]))[!-:<-@\[-~ ]+", text)
     return level == 0 and spaced is not None
