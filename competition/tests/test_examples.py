@@ -3,6 +3,7 @@
 import json
 import os
 import pathlib
+import resource
 import socket
 import subprocess
 import sys
@@ -90,6 +91,26 @@ class Examples(unittest.TestCase):
                 status, page, said = run(SHOW_RECORD, file)
                 wanted = (0, "") if is_read else (1, "show-record: no record: it is longer than 16 MiB\n")
                 self.assertEqual((status, said, bool(page)), (*wanted, is_read), (more, end))
+
+    def test_many_boards_in_many_states(self):
+        record = json.loads(RECORD.read_text())
+        turns, terms = 9_999, [f"(r{board} {at} {at} v)" for board in range(4) for at in (1, 3)]
+        for boards, is_drawn in ((3, True), (4, False)):
+            more = {"errors": [["", ""]] * turns, "moves": [["a", "b"]] * turns, "states": [terms[: 2 * boards], *[[]] * turns]}
+            with tempfile.TemporaryDirectory() as room:
+                file = pathlib.Path(room) / "record"
+                file.write_text(json.dumps({**record, **more}))
+                status, page, said = run(SHOW_RECORD, file)
+            self.assertEqual((status, said, page.count('<div class="board"')), (0, "", boards * (turns + 1) * is_drawn))
+
+    def test_out_of_memory(self):
+        most = 100 << 20
+        text = json.dumps({**json.loads(RECORD.read_text()), "states": [["a"] * (3 << 20)], "moves": [], "errors": []})
+        with tempfile.TemporaryDirectory() as room:
+            file = pathlib.Path(room) / "record"
+            file.write_text(text)
+            done = run(SHOW_RECORD, file, preexec_fn=lambda: resource.setrlimit(resource.RLIMIT_AS, (most, most)))
+        self.assertEqual(done, (1, "", "show-record: out of memory\n"))
 
     def test_a_match_of_no_game(self):
         with tempfile.TemporaryDirectory() as room:
