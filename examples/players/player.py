@@ -7,18 +7,26 @@ It listens on 127.0.0.1, answers INFO, START, PLAY, STOP and ABORT, and plays on
 the same moves. It needs Python's standard library alone.
 """
 
+import queue
 import random
 import re
+import select
 import sys
 import threading
 import traceback
-from http.server import BaseHTTPRequestHandler, HTTPServer
+from concurrent.futures import Future
+from http.server import BaseHTTPRequestHandler, ThreadingHTTPServer
 
-# No message of the referee is longer: START is the longest, with rules of at most 1,048,576 bytes before they are printed.
-MOST_BYTES = 4_194_304
-# Rules are looked up by recursion, and each of 8,192 sentences may ask for the next one: that is deeper than Python goes by itself. Older
-# Pythons need a larger stack for it too.
-DEEPEST, STACK = 100_000, 1 << 28
+# No message of the referee is longer, or has more lists in one another: START is the longest, with rules of at most 1,048,576 bytes before
+# they are printed.
+MOST_BYTES, MOST_LISTS = 4_194_304, 66
+# No longer answer counts.
+MOST_ANSWER = 4_096
+# A pipe that has room at all takes so many bytes at once.
+MOST_SAID = 4_000
+# Rules are looked up by recursion. Each of 8,192 sentences may ask for the next one, from within 60 lists: that is deeper than Python goes
+# by itself. Older Pythons need a larger stack for it too.
+DEEPEST, STACK = 250_000, 1 << 29
 
 
 def read(text):
@@ -26,6 +34,8 @@ def read(text):
     stack = [[]]
     for token in re.findall(r"[()]|[^\s()]+", re.sub(r";[^\n]*", "", text.lower())):
         if token == "(":
+            if len(stack) > MOST_LISTS:
+                raise ValueError("too many lists in one another")
             stack.append([])
         elif token == ")":
             done = tuple(stack.pop())
@@ -114,13 +124,14 @@ class Player:
             case "info" | ("info",):
                 return "busy" if self.match else "available"
             case ("start", match_id, role, rules, _, _):
-                self.match, self.role, self.game = match_id, role, self.make_game(rules)
-                self.state = self.game.initial()
+                game = self.make_game(rules)
+                self.match, self.role, self.game, self.state = match_id, role, game, game.initial()
                 return "ready"
             case ("play", match_id, moves) if match_id == self.match:
                 if moves not in ("nil", ()):
                     self.state = self.game.next(self.state, moves)
-                return show(self.choose(self.game.legal(self.state, self.role)))
+                moves = [show(it) for it in self.game.legal(self.state, self.role)]
+                return self.choose([it for it in moves if len(it) <= MOST_ANSWER] or moves)
             case ("stop", match_id, _) | ("abort", match_id):
                 # It may name a match that this player has not begun.
                 if match_id == self.match:
@@ -129,16 +140,27 @@ class Player:
         return "busy"
 
 
-def say(text):
-    """Prints a line on standard error, at once, since other players may print there. That nobody reads it is no reason to stop playing."""
+def is_waiting(stream):
+    """Whether a stream has no room now, as a pipe has that nobody reads."""
     try:
-        print(f"{text}\n", end="", file=sys.stderr)
+        return not select.select([], [stream], [], 0)[1]
+    except (OSError, ValueError):
+        return False
+
+
+def say(text):
+    """Prints a line on standard error, at once, since other players may print there. It has visible characters alone, since anybody may send
+    a message. That nobody reads it is no reason to stop playing: what finds no room is left out."""
+    seen = "".join(it if " " <= it <= "~" or it == "\n" else "?" for it in text[-MOST_SAID:])
+    try:
+        if sys.stderr and not is_waiting(sys.stderr):
+            print(f"{seen}\n", end="", file=sys.stderr)
     except OSError:
         pass
 
 
 class Handler(BaseHTTPRequestHandler):
-    # Connections are served one after another: one that sends nothing for so many seconds is closed, so that the next gets its turn.
+    # A connection that sends nothing for so many seconds is closed.
     timeout = 10
 
     def do_POST(self):
@@ -147,7 +169,7 @@ class Handler(BaseHTTPRequestHandler):
             self.send_error(400)
             return
         body = self.rfile.read(int(size)).decode("ascii")
-        answer = self.server.player.answer(read(body)[0])
+        answer = self.server.answer(read(body)[0])
         self.send_response(200)
         self.send_header("Content-Type", "text/acl")
         self.send_header("Content-Length", str(len(answer)))
@@ -159,7 +181,33 @@ class Handler(BaseHTTPRequestHandler):
         pass
 
 
-class Server(HTTPServer):
+class Server(ThreadingHTTPServer):
+    """Reads each message in a thread of its own, so a connection that is slow or silent holds up no other one. One thread answers, in the
+    order in which the messages came: the next one may come before a late answer is there."""
+
+    # So many connections may wait to be taken.
+    request_queue_size = 128
+
+    def __init__(self, address, player):
+        super().__init__(address, Handler)
+        self.player, self.asked = player, queue.SimpleQueue()
+        sys.setrecursionlimit(DEEPEST)
+        usual = threading.stack_size(STACK)
+        threading.Thread(target=self.work, daemon=True).start()
+        threading.stack_size(usual)
+
+    def work(self):
+        for message, answered in iter(self.asked.get, None):
+            try:
+                answered.set_result(self.player.answer(message))
+            except Exception as why:
+                answered.set_exception(why)
+
+    def answer(self, message):
+        answered = Future()
+        self.asked.put((message, answered))
+        return answered.result()
+
     def handle_error(self, request, client_address):
         """Tells what went wrong with a message; the next one is served all the same."""
         say(traceback.format_exc())
@@ -167,16 +215,11 @@ class Server(HTTPServer):
 
 def serve(port, player):
     try:
-        server = Server(("127.0.0.1", port), Handler)
+        server = Server(("127.0.0.1", port), player)
     except OSError as why:
         sys.exit(f"port {port}: {why.strerror}")
-    server.player = player
-    sys.setrecursionlimit(DEEPEST)
-    threading.stack_size(STACK)
-    serving = threading.Thread(target=server.serve_forever, daemon=True)
-    serving.start()
     try:
-        serving.join()
+        server.serve_forever()
     except KeyboardInterrupt:
         pass
 

@@ -34,8 +34,7 @@ def asked(port, body, size=None):
 @contextlib.contextmanager
 def server():
     """The port of a server inside this process, and what it says."""
-    with contextlib.redirect_stderr(io.StringIO()) as said, player.Server(("127.0.0.1", 0), player.Handler) as it:
-        it.player = player.Player(lambda moves: moves[0])
+    with contextlib.redirect_stderr(io.StringIO()) as said, player.Server(("127.0.0.1", 0), player.Player(lambda moves: moves[0])) as it:
         threading.Thread(target=it.serve_forever, daemon=True).start()
         try:
             yield it.server_port, said
@@ -78,6 +77,26 @@ class Answers(unittest.TestCase):
             self.assertEqual((self.answer(other), self.answer("(INFO)"), self.answer("(PLAY m NIL)")), ("done", "busy", "(stay 1)"))
         self.assertEqual((self.answer("(ABORT m)"), self.answer("(INFO)")), ("done", "available"))
 
+    def test_a_start_that_fails_leaves_the_match(self):
+        self.answer(f"(START m red {RULES} 1 1)")
+        for rules in "(())", "((role red) (<= (init p)) (<= (init)))":
+            with self.assertRaises(IndexError):
+                self.answer(f"(START other red {rules} 1 1)")
+            self.assertEqual(self.answer("(PLAY m NIL)"), "(stay 1)")
+
+    def test_a_move_that_is_too_long_to_be_answered(self):
+        for size, chosen in (player.MOST_ANSWER, "long"), (player.MOST_ANSWER + 1, "short"):
+            long = f"(m {'x' * (size - 4)})"
+            self.answer(f"(START m red ((role red) (legal red go) (legal red {long})) 1 1)")
+            self.assertEqual(self.answer("(PLAY m NIL)"), {"long": long, "short": "go"}[chosen])
+        self.answer(f"(START m red ((role red) (legal red {long})) 1 1)")
+        self.assertEqual(self.answer("(PLAY m NIL)"), long)
+
+    def test_lists_in_one_another(self):
+        most = player.MOST_LISTS
+        self.assertEqual(player.show(player.read("(" * most + ")" * most)[0]), "(" * most + ")" * most)
+        self.assertRaises(ValueError, player.read, "(" * (most + 1) + ")" * (most + 1))
+
 
 class Serving(unittest.TestCase):
     def test_a_length_that_is_none_or_too_large(self):
@@ -91,6 +110,40 @@ class Serving(unittest.TestCase):
             with socket.create_connection(("127.0.0.1", port), SECONDS) as silent:
                 self.assertEqual(asked(port, "(INFO)"), (200, "available"))
                 self.assertEqual(silent.recv(1), b"")
+
+    def test_connections_that_are_slow_hold_up_nobody(self):
+        with server() as (port, _), contextlib.ExitStack() as slow:
+            for part in (b"", b"POST", b"POST / HTTP/1.0\r\nContent-Length: 9\r\n\r\n(PLAY") * 3:
+                slow.enter_context(socket.create_connection(("127.0.0.1", port), SECONDS)).sendall(part)
+            began = time.monotonic()
+            self.assertEqual(asked(port, "(INFO)"), (200, "available"))
+            self.assertLess(time.monotonic() - began, player.Handler.timeout / 2)
+
+    def test_messages_are_answered_in_their_order(self):
+        first, may_go = threading.Event(), threading.Event()
+
+        def answer(message):
+            first.set()
+            may_go.wait(SECONDS)
+            heard.append(message)
+            return "done"
+
+        heard, sent = [], [f"m{it:02}" for it in range(20)]
+        with server() as (port, _), unittest.mock.patch.object(player.Player, "answer", lambda _, it: answer(it)), contextlib.ExitStack() as held:
+            for body in sent:
+                it = held.enter_context(socket.create_connection(("127.0.0.1", port), SECONDS))
+                it.sendall(f"POST / HTTP/1.0\r\nContent-Length: 3\r\n\r\n{body}".encode())
+                first.wait(SECONDS)
+                time.sleep(0.02)
+            may_go.set()
+            asked(port, "end")
+        self.assertEqual(heard, [*sent, "end"])
+
+    def test_what_is_said_is_visible(self):
+        with server() as (port, said):
+            self.assertEqual(asked(port, "\x1b[2J\x07\rx\r\n"), (200, "busy"))
+            self.assertIsNone(asked(port, ""))
+        self.assertRegex(said.getvalue(), r"\Aann: \?\[2J\?\?x\?\n -> busy\n[ -~\n]*IndexError[ -~\n]*\Z")
 
     def test_a_message_that_is_none_leaves_the_next_one(self):
         with server() as (port, said):
@@ -107,6 +160,22 @@ class Serving(unittest.TestCase):
                 self.assertEqual(asked(port, f"(START m red {RULES} 1 1)"), (200, "ready"))
                 self.assertIsNone(asked(port, ""))
                 self.assertEqual(asked(port, "(PLAY m NIL)")[0], 200)
+
+    def test_a_pipe_that_nobody_reads(self):
+        ours, theirs = os.pipe()
+        for name in "player", "interpreting":
+            with started(name, theirs) as port:
+                for _ in range(100):
+                    self.assertIsNone(asked(port, ")"))
+                self.assertEqual(asked(port, "(INFO)"), (200, "available"))
+        os.close(ours)
+        os.close(theirs)
+
+    def test_as_many_rules_and_lists_as_a_game_may_have(self):
+        chain = " ".join(f"(<= p{it} {'(or ' * 60}p{it + 1}{')' * 60})" for it in range(3_000))
+        with started("player", subprocess.DEVNULL) as port:
+            self.assertEqual(asked(port, f"(START m red ((role red) (init s) (<= (legal red go) p0) {chain} (<= p3000 (true s))) 1 1)"), (200, "ready"))
+            self.assertEqual(asked(port, "(PLAY m NIL)"), (200, "go"))
 
     def test_a_chain_of_as_many_rules_as_a_game_may_have(self):
         chain = " ".join(f"(<= (a {it + 1}) (or (b {it}) (not (not (a {it})))))" for it in range(8186))
