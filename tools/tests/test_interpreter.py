@@ -1,6 +1,7 @@
 """The interpreter of examples/games/general: what is true by rules with variables, also by those that go round."""
 import os
 import sys
+import time
 import unittest
 
 TOP = os.path.dirname(os.path.dirname(os.path.dirname(os.path.realpath(__file__))))
@@ -59,6 +60,17 @@ class Interpreter(unittest.TestCase):
     def test_a_denial_waits_for_its_variables(self):
         game = Game("(role r) (p 1) (p 2) (<= (legal r ?x) (not (true ?x)) (distinct ?x 3) (p ?x)) (p 3)")
         self.assertEqual(legal(game, ["2"]), {"1"})
+
+    def test_which_relations_go_round_and_which_no_state_changes(self):
+        game = Game("(role r) (<= a b (true s)) (<= b c) (<= c (or d b)) (<= d f) (<= e e f) (<= g (not h) e) (<= h g) (<= i (does r m))")
+        names = [{name for name, _ in it} for it in (game.timeless, *sorted(set(game.circles.values()), key=len))]
+        self.assertEqual(names, [set("bcdegh"), {"e"}, {"b", "c"}])
+
+    def test_a_chain_of_as_many_relations_as_a_game_may_have(self):
+        began = time.process_time()
+        game = Game("(role r) " + " ".join(f"(<= p{it} p{it + 1})" for it in range(8_190)) + " (<= p8190 (true s))")
+        self.assertEqual((game.roles, game.timeless, game.circles), (["r"], set(), {}))
+        self.assertLess(time.process_time() - began, 10)
 
 
 if __name__ == "__main__":

@@ -236,6 +236,35 @@ class Look:
         return bool(self.answers(sentence))
 
 
+def grouped(asks):
+    """The relations that have rules, as sets of those that depend on one another. Each set stands behind those on which it depends."""
+    # (Tarjan's way, by a list of what is open in the place of calls: a chain may be long)
+    groups, places, lowest, path, done = [], {}, {}, [], set()
+    for first in asks:
+        calls = [] if first in places else [(first, iter(asks[first]))]
+        while calls:
+            name, more = calls[-1]
+            if name not in places:
+                places[name] = lowest[name] = len(places)
+                path.append(name)
+            asked = next((it for it in more if it in asks), None)
+            if asked is None:
+                calls.pop()
+                if calls:
+                    lowest[calls[-1][0]] = min(lowest[calls[-1][0]], lowest[name])
+                if lowest[name] == places[name]:
+                    groups.append({name})
+                    while path[-1] != name:
+                        groups[-1].add(path.pop())
+                    path.pop()
+                    done |= groups[-1]
+            elif asked not in places:
+                calls.append((asked, iter(asks[asked])))
+            elif asked not in done:
+                lowest[name] = min(lowest[name], places[asked])
+    return groups
+
+
 class Game:
     """The game of a description: a state is the set of its terms, a joint move has a move for each role."""
 
@@ -255,29 +284,28 @@ class Game:
         self.asks = {
             name: {asked for _, body in rules for literal in body for asked in names_in(literal)} for name, rules in self.rules.items()
         }
-        self.timeless = {name for name in self.rules if not self.below(name) & GIVEN}
-        self.circles, self.roles = self.found_circles(), []
+        groups = grouped(self.asks)
+        self.timeless = self.rules.keys() - self.timely(groups)
+        self.circles, self.roles = self.found_circles(groups), []
         self.looping = {name for name, circle in self.circles.items() if self.can_grow(circle)}
         self.roles = [head[1] for head in self.asked((), (), lambda look: look.answers(("role", "?role")))]
 
-    def below(self, name):
-        """The relations that one depends on."""
-        found, open_ones = set(), [name]
-        while open_ones:
-            more = self.asks.get(open_ones.pop(), set()) - found
-            found |= more
-            open_ones += more
+    def timely(self, groups):
+        """The relations that depend on the state or the moves."""
+        found = set(GIVEN)
+        for group in groups:
+            if any(not found.isdisjoint(self.asks[name]) for name in group):
+                found |= group
         return found
 
-    def found_circles(self):
+    def found_circles(self, groups):
         """Of each relation that goes round the set of those that it goes round with. One that denies itself is looked up instead."""
-        below = {name: self.below(name) for name in self.rules}
         found = {}
-        for name in self.rules:
-            circle = frozenset(other for other in below[name] if name in below.get(other, ()))
+        for group in groups:
+            circle = frozenset(it for it in group if len(group) > 1 or it in self.asks[it])
             bodies = [body for one in circle for _, body in self.rules[one]]
-            if circle and not any(denied & circle for body in bodies for literal in body for denied in [set(denied_in(literal))]):
-                found[name] = circle
+            if not any(denied in circle for body in bodies for literal in body for denied in denied_in(literal)):
+                found.update(dict.fromkeys(circle, circle))
         return found
 
     def can_grow(self, circle):
