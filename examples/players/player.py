@@ -3,8 +3,8 @@
 
     player.py PORT [SEED]
 
-It listens on 127.0.0.1, answers INFO, START, PLAY, STOP and ABORT, and plays one match at a time. The same SEED, a whole number, chooses
-the same moves. It needs Python's standard library alone.
+It listens on 127.0.0.1, answers INFO, START, PLAY, STOP and ABORT, and plays one match at a time: that of the last START. The same SEED, a
+whole number, chooses the same moves. It needs Python's standard library alone.
 """
 
 import queue
