@@ -29,10 +29,14 @@ MOST_SAID = 4_000
 DEEPEST, STACK = 250_000, 1 << 29
 
 
+def tokens(text):
+    return re.findall(r"[()]|[^\s()]+", re.sub(r";[^\n]*", "", text))
+
+
 def read(text):
     """The expressions of a KIF text: an atom is a string, a list a tuple. Capitals are folded."""
     stack = [[]]
-    for token in re.findall(r"[()]|[^\s()]+", re.sub(r";[^\n]*", "", text.lower())):
+    for token in tokens(text.lower()):
         if token == "(":
             if len(stack) > MOST_LISTS:
                 raise ValueError("too many lists in one another")
@@ -43,6 +47,12 @@ def read(text):
         else:
             stack[-1].append(token)
     return stack[0]
+
+
+def read_message(text):
+    """The message that a text is. Capitals count in the id of its match alone, which stands behind the parenthesis and the keyword."""
+    message = read(text)[0]
+    return (message[0], tokens(text)[2], *message[2:]) if isinstance(message, tuple) and len(message) > 1 else message
 
 
 def show(expression):
@@ -169,7 +179,7 @@ class Handler(BaseHTTPRequestHandler):
             self.send_error(400)
             return
         body = self.rfile.read(int(size)).decode("ascii")
-        answer = self.server.answer(read(body)[0])
+        answer = self.server.answer(read_message(body))
         self.send_response(200)
         self.send_header("Content-Type", "text/acl")
         self.send_header("Content-Length", str(len(answer)))

@@ -64,7 +64,7 @@ class Answers(unittest.TestCase):
         self.player = player.Player(lambda moves: moves[-1])
 
     def answer(self, text):
-        return self.player.answer(player.read(text)[0])
+        return self.player.answer(player.read_message(text))
 
     def test_a_match(self):
         said = [self.answer(it) for it in ("(INFO)", f"(START m red {RULES} 1 1)", "INFO", "(PLAY m NIL)", "(STOP m (go))", "(INFO)")]
@@ -76,6 +76,11 @@ class Answers(unittest.TestCase):
         for other in "(ABORT other)", "(STOP other NIL)":
             self.assertEqual((self.answer(other), self.answer("(INFO)"), self.answer("(PLAY m NIL)")), ("done", "busy", "(stay 1)"))
         self.assertEqual((self.answer("(ABORT m)"), self.answer("(INFO)")), ("done", "available"))
+
+    def test_capitals_count_in_the_id_alone(self):
+        self.answer(f"(Start ; (x)\n M RED {RULES.upper()} 1 1)")
+        said = [self.answer(it) for it in ("(play m NIL)", "(PLAY M nil)", "(stop m nil)", "(Info)", "(abort M)", "info")]
+        self.assertEqual(said, ["busy", "(stay 1)", "done", "busy", "done", "available"])
 
     def test_a_start_that_fails_leaves_the_match(self):
         self.answer(f"(START m red {RULES} 1 1)")
