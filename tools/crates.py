@@ -116,15 +116,6 @@ def is_current(program, ending, parts=PARTS):
         return False
 
 
-def lines_in(name):
-    """Returns how many lines of code and proofs a crate has."""
-    count = 0
-    for file in texts_of(name):
-        with open(f"{TOP}/{file}", "rb") as it:
-            count += it.read().count(b"\n")
-    return count
-
-
 def spell(seconds):
     """Returns a time as a person reads it."""
     minutes, rest = divmod(round(seconds), 60)

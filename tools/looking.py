@@ -1,12 +1,17 @@
 """The gate's looks: commands whose status is 0 where all is well. Each is followed by a line that says what it took."""
 import contextlib
 import os
+import resource
 import signal
 import subprocess
 import threading
 import time
+import typing
 
+from counting import Tally
 from crates import spell
+
+Hear = typing.Callable[[str], None]
 
 # The looks that are being taken: each leads a session of its own, so that it can be ended with all that it started.
 TAKEN = set()
@@ -35,34 +40,65 @@ def end_looks(leaders, is_over):
             time.sleep(0.02)
 
 
-def run(look, said=None):
-    """Runs a look, what it says going to this file. Returns whether all is well, what it said where that is a pipe, and what it took. A
-    look that can't be begun is not well."""
+def hear_lines(lines: typing.Iterable[str], hear: Hear) -> threading.Thread:
+    """Has each line heard as it comes. Returns the thread that does so."""
+    hearing = threading.Thread(target=lambda: [*map(hear, lines)], daemon=True)
+    hearing.start()
+    return hearing
+
+
+def run(look: list[str], hear: Hear) -> tuple[bool, str]:
+    """Runs a look, and has each line heard that it says. Returns whether all is well, and what it took. A look that can't be begun is not
+    well. What a look has left running is ended with it."""
     began = time.monotonic()
-    how = {"stderr": subprocess.STDOUT if said else None, "text": True, "errors": "replace", "start_new_session": True}
+    how = {"stdout": subprocess.PIPE, "stderr": subprocess.STDOUT, "text": True, "errors": "replace", "start_new_session": True}
     try:
-        begun = subprocess.Popen(look, stdout=said, **how)
+        begun = subprocess.Popen(look, **how)
     except OSError as why:
-        return False, "", f"it can't be run: {why}"
-    with begun as ran:
-        TAKEN.add(ran.pid)
-        try:
-            words = ran.stdout.read() if ran.stdout else ""
-            _, status, used = os.wait4(ran.pid, 0)
-        except BaseException:
-            end_looks([ran.pid], lambda: ran.poll() is not None)
-            raise
-        finally:
-            TAKEN.discard(ran.pid)
-        ran.returncode = os.waitstatus_to_exitcode(status)
+        return False, f"it can't be run: {why}"
+    hearing = hear_lines(begun.stdout, hear)
+    try:
+        used = ended(begun)
+    finally:
+        let_go(begun, hearing)
     took = f"{spell(time.monotonic() - began)}, {spell(used.ru_utime + used.ru_stime)} of processor time"
-    return ran.returncode == 0, words, took
+    return begun.returncode == 0, took
 
 
-def is_well(looks):
-    """Returns whether each of the looks is well; after one that is not, no other is taken."""
+def ended(begun: subprocess.Popen) -> resource.struct_rusage:
+    """Waits until a look ends; ends it where this is interrupted. Returns what it used."""
+    TAKEN.add(begun.pid)
+    try:
+        _, status, used = os.wait4(begun.pid, 0)
+    except BaseException:
+        end_looks([begun.pid], lambda: begun.poll() is not None)
+        raise
+    finally:
+        TAKEN.discard(begun.pid)
+    begun.returncode = os.waitstatus_to_exitcode(status)
+    return used
+
+
+def let_go(begun: subprocess.Popen, hearing: threading.Thread) -> None:
+    """Waits until what a look said is heard. Ends what it has left running, which would hold its output."""
+    hearing.join(GRACE)
+    if hearing.is_alive():
+        end_session(begun.pid, signal.SIGKILL)
+        hearing.join(GRACE)
+    if not hearing.is_alive():
+        begun.stdout.close()
+
+
+def is_well(looks: list[list[str]], tally: Tally) -> bool:
+    """Returns whether each of the looks is well; after one that is not, no other is taken. What each counts goes to the tally."""
+
+    def hear(line: str) -> None:
+        print(line, end="", flush=True)
+        tally.read(line)
+
     for look in looks:
-        well, _, took = run(look)
+        well, took = run(look, hear)
+        tally.add(1, "looks")
         print(f"gate: {name_of(look)}: {'well' if well else 'WRONG'}, {took}", flush=True)
         if not well:
             return False
@@ -73,9 +109,9 @@ class Beside(threading.Thread):
     """Takes looks one after another while other work goes on, and has that work stopped after one that is not well. What a look says
     comes whole when it ends; what the other work says is to go through `say`, so that no line is mixed with another."""
 
-    def __init__(self, looks, stop):
+    def __init__(self, looks: list[list[str]], stop: typing.Callable[[], None], tally: Tally):
         super().__init__(daemon=True)
-        self.looks, self.stop, self.says = looks, stop, threading.Lock()
+        self.looks, self.stop, self.tally, self.says = looks, stop, tally, threading.Lock()
         # All is well only once each look was taken to its end.
         self.all_well = self.is_ended = False
 
@@ -90,13 +126,17 @@ class Beside(threading.Thread):
             if not self.all_well and not self.is_ended:
                 self.stop()
 
-    def is_well(self, look):
+    def is_well(self, look: list[str]) -> bool:
         """Takes a look, and tells of it. Returns whether it is well."""
         if self.is_ended:
             return False
         self.say(f"gate: {name_of(look)}: begins, beside the proofs\n")
-        well, words, took = run(look, subprocess.PIPE)
-        self.say(f"{words}gate: {name_of(look)}: {'well' if well else 'WRONG'}, {took}\n")
+        said: list[str] = []
+        well, took = run(look, said.append)
+        for line in said:
+            self.tally.read(line)
+        self.tally.add(1, "looks")
+        self.say(f"{''.join(said)}gate: {name_of(look)}: {'well' if well else 'WRONG'}, {took}\n")
         return well
 
     def end(self):

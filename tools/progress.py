@@ -1,5 +1,5 @@
 """Tells of crates that are worked on side by side: a line as each begins and as it ends, and about how long the rest takes. The times
-are those that earlier runs on this machine took; a crate that has none counts by its lines."""
+are those that earlier runs on this machine took; a crate that has none counts by its megabytes, or by its lines."""
 import heapq
 import json
 import os
@@ -9,8 +9,15 @@ import time
 from crates import TOP, spell
 
 TIMES = f"{TOP}/bin/times.json"
-# Of a line of code or proof, where no crate has a time yet.
+# Of a line of tests, where no crate of tests has a time yet.
 SECONDS_A_LINE = 0.06
+# Of a crate's proof, and of each megabyte that a check lays out of it: the line that is nearest to the times of a whole gate, in
+# bench/README.md, whose crates were proved up to four side by side.
+SECONDS_A_CRATE = 18.0
+SECONDS_A_MEGABYTE = 1.28
+# What the program takes beside that when it is built, of the time of all libraries below it: their code is read, compiled by LLVM and
+# linked with its own. In a build it took 205 seconds, where they took 5,300.
+PROGRAM_SHARE = 0.04
 
 
 def read_times(kind, file=TIMES):
@@ -36,12 +43,28 @@ def write_times(kind, taken, file=TIMES):
     os.replace(f"{file}.new", file)
 
 
-def expected(lines, times):
-    """Returns the seconds that each crate is expected to take: its own time, or by its lines at the rate of those that have one."""
-    known = [it for it in lines if it in times]
-    of_known = sum(lines[it] for it in known)
-    rate = sum(times[it] for it in known) / of_known if of_known else SECONDS_A_LINE
-    return {name: times.get(name, rate * count) for name, count in lines.items()}
+def by_lines(lines: dict[str, int]) -> dict[str, float]:
+    return {name: SECONDS_A_LINE * count for name, count in lines.items()}
+
+
+def by_megabytes(names: list[str], budget: dict[str, int], built: str = "") -> dict[str, float]:
+    """Returns the seconds that the proof of each crate takes by its figure; one that has none counts as the mean one. `built` is the program
+    that is built too, of which only the code counts."""
+    mean = sum(budget.values()) / max(len(budget), 1)
+    megabytes = {name: 0 if name == built else budget.get(name, mean) for name in names}
+    seconds = {name: SECONDS_A_CRATE + SECONDS_A_MEGABYTE * megabytes[name] for name in names}
+    if built in seconds:
+        seconds[built] += PROGRAM_SHARE * sum(seconds.values())
+    return seconds
+
+
+def expected(standard: dict[str, float], times: dict[str, float]) -> dict[str, float]:
+    """Returns the seconds that each crate is expected to take: its own time, or what it takes by its size, at the speed of those that have
+    a time."""
+    known = [name for name in standard if name in times]
+    of_known = sum(standard[name] for name in known)
+    speed = sum(times[name] for name in known) / of_known if of_known else 1
+    return {name: times.get(name, speed * seconds) for name, seconds in standard.items()}
 
 
 def behind(deps, seconds):
@@ -73,11 +96,12 @@ def time_left(deps, seconds, begun, ended, lanes):
 
 
 class Progress:
-    """Which crates are being worked on and which have ended. `deps` has each crate with those that it waits for, the lower ones first."""
+    """Which crates are being worked on and which have ended. `deps` has each crate with those that it waits for, the lower ones first,
+    `standard` what each takes by its size."""
 
-    def __init__(self, kind, deps, lines, lanes):
+    def __init__(self, kind, deps, standard, lanes):
         self.kind, self.deps, self.lanes, self.taken = kind, deps, lanes, {}
-        self.seconds = expected(lines, read_times(kind))
+        self.seconds = expected(standard, read_times(kind))
         self.began, self.begun, self.ended, self.alone = time.monotonic(), {}, set(), threading.Lock()
 
     def left(self):

@@ -1,49 +1,78 @@
 """The wrong edits of the crates: which there are, how each is applied, and on what the prover refuses one."""
 import os
 import re
+from typing import NamedTuple
 
 from crates import TOP
 
-PLACE = re.compile(r"^(note: )?(?:\./)?((?:src|specs|proofs)/\S+?):\d+(?::\d+)?: (.*)")
+PLACE = re.compile(r"^(note: )?(?:\./)?((?:src|specs|proofs)/\S+?):(\d+)(?::\d+)?: (.*)")
 FUNCTION = re.compile(r"fn (\S+): (?:no proof|not proved)(.*)")
 # What is said of a name in a proof file that the edited goals no longer have.
 LOST = re.compile(r"has no field|has no `|has no constructor|is not in scope|is no name|was not admitted|can be named from here")
 FALSE = re.compile(r"allow values at which this goal is false")
 
 
-def edits_of(name):
+class Pair(NamedTuple):
+    """A text of one line that stands once in a file of the crate, and what stands there once the edit is made."""
+
+    path: str
+    old: str
+    new: str
+
+
+def edits_of(name: str) -> list[str]:
     """Returns a crate's edits, by their paths from the top: those that the gate tries, and the others."""
     folders = [f"crates/{name}/must-fail", f"edits/{name}"]
     found = [f"{folder}/{it}" for folder in folders if os.path.isdir(f"{TOP}/{folder}") for it in sorted(os.listdir(f"{TOP}/{folder}"))]
     return [it for it in found if it.endswith(".edit")]
 
 
-def applied(edit, name, top=TOP):
-    """Returns the texts of the files that the edit changes, by their path in the crate, or says why it can't be applied."""
-    path, old, texts = "", None, {}
-    with open(f"{top}/{edit}", encoding="utf-8") as it:
-        lines = it.read().split("\n")
-    for line in lines:
-        word, _, text = line.partition(": ") if ": " in line else line.partition(":")
+def pairs_in(text: str) -> tuple[list[Pair], str | None]:
+    """Returns the pairs of an edit's text, or says why it has none."""
+    path, old, pairs = "", "", []
+    for line in text.split("\n"):
+        word, _, rest = line.partition(": ") if ": " in line else line.partition(":")
         if word == "file":
-            path = text.strip()
+            path = rest.strip()
         elif word == "old":
-            old = text
+            old = rest
         elif word == "new" and path and old:
-            try:
-                with open(f"{top}/crates/{name}/{path}", encoding="utf-8") as it:
-                    texts[path] = texts.get(path) or it.read()
-            except OSError:
-                return None, f"there is no file {path}"
-            if texts[path].count(old) != 1:
-                return None, f"an old text stands in {path} {texts[path].count(old)} times"
-            texts[path], old = texts[path].replace(old, text), None
+            pairs.append(Pair(path, old, rest))
+            old = ""
         elif word == "new":
-            return None, "a new text without its file and old text"
-    return (texts, None) if texts and old is None else (None, "it has no pair of an old and a new text")
+            return [], "a new text without its file and old text"
+    return (pairs, None) if pairs and not old else ([], "it has no pair of an old and a new text")
 
 
-def reason(lines):
+def pairs_of(edit: str, top: str = TOP) -> tuple[list[Pair], str | None]:
+    with open(f"{top}/{edit}", encoding="utf-8") as text:
+        return pairs_in(text.read())
+
+
+def change(pairs: list[Pair], texts: dict[str, str], folder: str) -> tuple[dict[str, str], str | None]:
+    """Returns these changed texts of a crate, by their paths, with the pairs made in them too, or says why they can't be."""
+    made = dict(texts)
+    for path, old, new in pairs:
+        if path not in made:
+            try:
+                with open(f"{folder}/{path}", encoding="utf-8") as text:
+                    made[path] = text.read()
+            except OSError:
+                return {}, f"there is no file {path}"
+        if made[path].count(old) != 1:
+            return {}, f"an old text stands in {path} {made[path].count(old)} times"
+        made[path] = made[path].replace(old, new)
+    return made, None
+
+
+def applied(edit: str, name: str, top: str = TOP) -> tuple[dict[str, str] | None, str | None]:
+    """Returns the texts of the files that the edit changes, by their path in the crate, or says why it can't be applied."""
+    pairs, why = pairs_of(edit, top)
+    texts, why = (None, why) if why else change(pairs, {}, f"{top}/crates/{name}")
+    return (None, why) if why else (texts, None)
+
+
+def reason(lines: list[str]) -> tuple[str, str]:
     """Returns why the prover refused, in a word, and the line that decides."""
     lost, unfit, opened, last = {}, [], [], ""
     for line in lines:
@@ -55,7 +84,7 @@ def reason(lines):
         last = line
         # proofs/MODULE/../FUNCTION/Answers.antt
         folder = os.path.dirname(place[2])
-        if place[2].startswith("proofs/") and place[3].startswith("error"):
+        if place[2].startswith("proofs/") and place[4].startswith("error"):
             if LOST.search(line):
                 lost.setdefault(folder, line)
             else:

@@ -3,18 +3,19 @@
 
     interpreting.py PORT [SEED | first]
 
-It interprets the rules that START carries, by the interpreter of examples/games/general, and is else as player.py. On standard error it
+It interprets the rules that START carries, by the interpreter of `oracles`, and is else as player.py. On standard error it
 says how many sentences they are, and how many have variables. With `first` in the place of a seed it plays the first of its legal moves
 in the order of their texts.
 """
 
 import pathlib
+import random
 import sys
 
 sys.dont_write_bytecode = True
-sys.path.insert(0, str(pathlib.Path(__file__).resolve().parent.parent / "games/general"))
+sys.path.insert(0, str(pathlib.Path(__file__).resolve().parents[2] / "oracles"))
 import interpreter
-from player import Player, port_and_choice, say, serve, show
+from player import Player, arguments, say, seed, serve, show
 
 
 class Game(interpreter.Game):
@@ -36,15 +37,18 @@ def make_game(sentences):
     return Game(sentences)
 
 
-def main():
-    if {"-h", "--help"} & set(sys.argv[1:]):
-        print(__doc__.strip())
-        return
-    if len(sys.argv) not in (2, 3):
-        sys.exit(__doc__)
-    is_first = sys.argv[2:] == ["first"]
-    port, choose = port_and_choice(*sys.argv[1 : 2 if is_first else 3])
-    serve(port, Player((lambda moves: moves[0]) if is_first else choose, make_game))
+def first(moves: list) -> object:
+    return moves[0]
+
+
+def seed_or_first(word: str) -> int | str:
+    return word if word == "first" else seed(word)
+
+
+def main() -> None:
+    asked = arguments(__doc__, seed_or_first)
+    choose = first if asked.seed == "first" else random.Random(asked.seed).choice
+    serve(asked.port, Player(choose, make_game))
 
 
 if __name__ == "__main__":

@@ -7,6 +7,7 @@ It listens on 127.0.0.1, answers INFO, START, PLAY, STOP and ABORT, and plays on
 whole number, chooses the same moves. It needs Python's standard library alone.
 """
 
+import argparse
 import queue
 import random
 import re
@@ -14,6 +15,7 @@ import select
 import sys
 import threading
 import traceback
+from collections.abc import Callable
 from concurrent.futures import Future
 from http.server import BaseHTTPRequestHandler, ThreadingHTTPServer
 
@@ -234,23 +236,29 @@ def serve(port, player):
         pass
 
 
-def port_and_choice(port, seed=None):
-    """The port, and how a move is chosen among the legal ones, as the words of the command line say."""
-    if not re.fullmatch("[0-9]{1,5}", port) or not 1 <= int(port) <= 65535:
-        sys.exit(f"{port!r} is no port, 1 to 65535")
-    if seed is not None and not re.fullmatch("-?[0-9]{1,18}", seed):
-        sys.exit(f"{seed!r} is no seed, a whole number of at most 18 digits")
-    return int(port), random.Random(None if seed is None else int(seed)).choice
+def port(word: str) -> int:
+    if not re.fullmatch("[0-9]{1,5}", word) or not 1 <= int(word) <= 65535:
+        raise argparse.ArgumentTypeError(f"{word!r} is no port, 1 to 65535")
+    return int(word)
 
 
-def main():
-    if {"-h", "--help"} & set(sys.argv[1:]):
-        print(__doc__.strip())
-        return
-    if len(sys.argv) not in (2, 3):
-        sys.exit(__doc__)
-    port, choose = port_and_choice(*sys.argv[1:])
-    serve(port, Player(choose))
+def seed(word: str) -> int:
+    if not re.fullmatch("-?[0-9]{1,18}", word):
+        raise argparse.ArgumentTypeError(f"{word!r} is no seed, a whole number of at most 18 digits")
+    return int(word)
+
+
+def arguments(about: str, seed_of: Callable[[str], int | str] = seed) -> argparse.Namespace:
+    """Reads the port of a player, and the seed by which it chooses its moves, if there is one."""
+    words = argparse.ArgumentParser(description=about, formatter_class=argparse.RawDescriptionHelpFormatter)
+    words.add_argument("port", metavar="PORT", type=port)
+    words.add_argument("seed", metavar="SEED", nargs="?", type=seed_of)
+    return words.parse_args()
+
+
+def main() -> None:
+    asked = arguments(__doc__)
+    serve(asked.port, Player(random.Random(asked.seed).choice))
 
 
 if __name__ == "__main__":

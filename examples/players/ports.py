@@ -1,8 +1,19 @@
-"""Ports of this computer for players that a script is about to start."""
+#!/usr/bin/env python3
+"""Ports of this computer for players that a script is about to start.
 
+    ports.py RULES-FILE
+
+prints a port that is free now for each role of a ground description.
+"""
+
+import argparse
 import random
 import socket
+import sys
 from itertools import islice
+
+sys.dont_write_bytecode = True
+from player import Game, read
 
 # Linux picks the ports of its connections from 32,768 on, unless it is told otherwise. A port below is not taken by one of them
 # before the player that is to listen there has started.
@@ -28,3 +39,28 @@ def closed_port():
     it = socket.socket()
     it.bind(("127.0.0.1", 0))
     return it
+
+
+def roles_of(file: str) -> list:
+    """Returns the roles of the game that a file describes: none where it is no ground description."""
+    try:
+        with open(file, encoding="ascii") as rules:
+            return Game(read(rules.read())).roles
+    except OSError as why:
+        sys.exit(f"play-a-match: {file} can't be read: {why.strerror}")
+    except (IndexError, ValueError):
+        return []
+
+
+def main() -> None:
+    words = argparse.ArgumentParser(description=__doc__, formatter_class=argparse.RawDescriptionHelpFormatter)
+    words.add_argument("rules", metavar="RULES-FILE")
+    file = words.parse_args().rules
+    roles = roles_of(file)
+    if not roles:
+        sys.exit(f"play-a-match: {file} is no ground description")
+    print(*free_ports(len(roles)))
+
+
+if __name__ == "__main__":
+    main()

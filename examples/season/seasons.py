@@ -16,10 +16,10 @@ GAME = EXAMPLES / "games/countdown.kif"
 BEGUN = "ggp_manager: "
 # README.md says so to its readers.
 CUT_OFF = """[ -z "$(tail -c 1 records)" ] || sed -i '$d' records"""
-PATIENCE = 600
+PATIENCE = 1800
 
 
-def schedule(pairs, clocks="20 20", name="m"):
+def schedule(pairs, clocks="600 600", name="m"):
     """Returns the text of a schedule in which these players sit, red and blue of each match, and the ids of its matches."""
     ids = [f"{name}{number}" for number in range(len(pairs))]
     return "".join(f"{it} {clocks} {red.address()} {blue.address()}\n" for it, (red, blue) in zip(ids, pairs)), ids

@@ -1,4 +1,5 @@
 """Every Python script that is called by hand says by --help what it does, and does nothing else."""
+import glob
 import os
 import subprocess
 import sys
@@ -7,16 +8,13 @@ import unittest
 sys.path.insert(0, os.path.dirname(os.path.dirname(os.path.realpath(__file__))))
 from crates import TOP
 
-FOLDERS = (".ci", "bench", "competition", "examples", "tools")
+FOLDERS = (".ci", "bench", "examples", "oracles", "python", "tools")
 # What reads the words of a command line, and prints its help.
-READERS = ("ArgumentParser(", "program_of(__doc__)", "reader(__doc__)")
-# These print what stands at their head.
-BY_THEMSELVES = "examples/explain-record", "examples/players/interpreting.py", "examples/players/player.py", "examples/show-record"
-# These hand their words on: to `competition/command.py`, and to `rt try`.
-HANDED_ON = "competition/ggp_competition", "tools/try-alone"
-# These are called by those who use the program, and say which Python they need where it is older.
-ASKING_FOR_PYTHON = "competition/ggp_competition", "examples/explain-record", "examples/instantiate", "examples/verify-records"
-OLDER = "import runpy, sys; sys.version_info = (3, 9, 18); runpy.run_path(sys.argv[1], run_name='__main__')"
+READERS = ("ArgumentParser(", "arguments(__doc__", "program_of(__doc__)", "reader(__doc__)")
+# These hand their words on: to modules of `ggp_tools`, and to `rt try`.
+COMMANDS = tuple(sorted(os.path.relpath(path, TOP) for path in glob.glob(f"{TOP}/python/ggp*") if os.path.isfile(path)))
+HANDED_ON = *COMMANDS, "tools/try-alone"
+OLDER = "import runpy, sys; sys.version_info = (3, 10, 18); runpy.run_path(sys.argv[1], run_name='__main__')"
 
 
 def scripts():
@@ -36,19 +34,20 @@ class Help(unittest.TestCase):
         found = scripts()
         self.assertGreater(len(found), 40)
         without = [file for file, text in found.items() if not any(it in text for it in READERS)]
-        self.assertEqual(sorted(without), sorted((*BY_THEMSELVES, *HANDED_ON)))
+        self.assertEqual(sorted(without), sorted(HANDED_ON))
 
-    def test_what_stands_at_the_head_is_printed(self):
-        for file in BY_THEMSELVES:
+    def test_what_a_command_is_for_is_printed(self):
+        for file in (*COMMANDS, "examples/players/player.py", "examples/players/interpreting.py"):
             said = subprocess.run([f"{TOP}/{file}", "--help"], stdin=subprocess.DEVNULL, capture_output=True, text=True)
             self.assertEqual((said.returncode, said.stderr), (0, ""), file)
             self.assertIn(f"{os.path.basename(file)} ", said.stdout)
 
     def test_an_older_python_is_named(self):
-        for file in ASKING_FOR_PYTHON:
-            said = subprocess.run([sys.executable, "-c", OLDER, f"{TOP}/{file}"], stdin=subprocess.DEVNULL, capture_output=True, text=True)
+        for file in COMMANDS:
+            words, found = [sys.executable, "-c", OLDER, f"{TOP}/{file}"], {**os.environ, "PYTHONPATH": f"{TOP}/python"}
+            said = subprocess.run(words, env=found, stdin=subprocess.DEVNULL, capture_output=True, text=True)
             name = os.path.basename(file)
-            self.assertEqual((said.returncode, said.stderr), (1, f"{name}: Python 3.9 runs it, and it needs 3.10 or later\n"))
+            self.assertEqual((said.returncode, said.stderr), (1, f"{name}: Python 3.10 runs it, and it needs 3.11 or later\n"))
 
 
 if __name__ == "__main__":

@@ -1,11 +1,11 @@
-"""The interpreter of examples/games/general: what is true by rules with variables, also by those that go round."""
+"""The interpreter of `oracles`: what is true by rules with variables, also by those that go round."""
 import os
 import sys
 import time
 import unittest
 
 TOP = os.path.dirname(os.path.dirname(os.path.dirname(os.path.realpath(__file__))))
-sys.path.insert(0, f"{TOP}/examples/games/general")
+sys.path.insert(0, f"{TOP}/oracles")
 from interpreter import Game, read
 
 # Ways over edges that no state changes, from place to place.

@@ -9,12 +9,12 @@ from needs import KITS, kit_lack, python_lack
 
 class Lacks(unittest.TestCase):
     def test_a_python_that_is_new_enough_lacks_nothing(self):
-        self.assertIsNone(python_lack((3, 10, 0)))
+        self.assertIsNone(python_lack((3, 11, 0)))
         self.assertIsNone(python_lack((4, 0, 0)))
 
     def test_an_old_python_is_told_with_where_to_get_another(self):
-        said = python_lack((3, 9, 18))
-        for part in ("Python 3.9", "3.10 or later", "https://www.python.org"):
+        said = python_lack((3, 10, 12))
+        for part in ("Python 3.10", "3.11 or later", "https://www.python.org"):
             self.assertIn(part, said)
 
     def test_each_kit_of_the_gate_serves(self):

@@ -16,7 +16,8 @@ import player
 from ports import free_ports
 
 RULES = "((role red) (init p) (legal red go) (legal red (stay 1)))"
-SECONDS = 60
+SECONDS = 600
+TRIES = 5
 
 
 def asked(port, body, size=None):
@@ -44,19 +45,26 @@ def server():
 
 @contextlib.contextmanager
 def started(name, errors):
-    """The port of a player that is a process of its own, and takes connections."""
-    port = free_ports(1)[0]
-    with subprocess.Popen([sys.executable, "-B", f"{TOP}/examples/players/{name}.py", str(port), "1"], stderr=errors) as child:
-        ends = time.monotonic() + SECONDS
-        while time.monotonic() < ends:
-            with socket.socket() as it:
-                if it.connect_ex(("127.0.0.1", port)) == 0:
-                    break
-            time.sleep(0.02)
-        try:
-            yield port
-        finally:
-            child.kill()
+    """The port of a player that is a process of its own, and takes connections. Another process may take the port before it does."""
+    for port in free_ports(TRIES):
+        with subprocess.Popen([sys.executable, "-B", f"{TOP}/examples/players/{name}.py", str(port), "1"], stderr=errors) as child:
+            try:
+                if is_there(child, port):
+                    yield port
+                    return
+            finally:
+                child.kill()
+    raise AssertionError("no player was begun")
+
+
+def is_there(child, port):
+    """Waits until a player takes connections. Returns whether it does: it may have ended."""
+    while child.poll() is None:
+        with socket.socket() as it:
+            if it.connect_ex(("127.0.0.1", port)) == 0:
+                return True
+        time.sleep(0.02)
+    return False
 
 
 class Answers(unittest.TestCase):

@@ -5,7 +5,7 @@ import tempfile
 import unittest
 
 sys.path.insert(0, os.path.dirname(os.path.dirname(os.path.realpath(__file__))))
-from progress import SECONDS_A_LINE, behind, expected, read_times, time_left, write_times
+from progress import PROGRAM_SHARE, SECONDS_A_CRATE, SECONDS_A_MEGABYTE, behind, by_megabytes, expected, read_times, time_left, write_times
 from room import at_once, free_memory, processors
 
 DEPS = {"low": [], "wide": [], "middle": ["low"], "high": ["middle", "wide"]}
@@ -13,11 +13,19 @@ SECONDS = {"low": 10.0, "wide": 30.0, "middle": 40.0, "high": 5.0}
 
 
 class Expected(unittest.TestCase):
-    def test_a_crate_without_a_time_counts_by_its_lines(self):
-        self.assertEqual(expected({"low": 100, "wide": 300}, {"low": 50.0}), {"low": 50.0, "wide": 150.0})
+    def test_a_crate_without_a_time_counts_by_its_size_at_the_speed_of_the_others(self):
+        self.assertEqual(expected({"low": 100.0, "wide": 300.0}, {"low": 50.0}), {"low": 50.0, "wide": 150.0})
 
-    def test_with_no_time_at_all_each_line_counts_the_same(self):
-        self.assertEqual(expected({"low": 100}, {}), {"low": 100 * SECONDS_A_LINE})
+    def test_with_no_time_at_all_each_takes_what_its_size_says(self):
+        self.assertEqual(expected({"low": 100.0}, {}), {"low": 100.0})
+
+    def test_a_size_is_so_many_megabytes_and_one_without_a_figure_has_the_mean(self):
+        seconds = by_megabytes(["low", "wide"], {"low": 10, "high": 30})
+        self.assertEqual(seconds, {name: SECONDS_A_CRATE + SECONDS_A_MEGABYTE * it for name, it in {"low": 10, "wide": 20}.items()})
+
+    def test_the_program_takes_its_share_of_all_that_is_built_into_it(self):
+        seconds = by_megabytes(["low", "program"], {"low": 1000}, "program")
+        self.assertAlmostEqual(seconds["program"], SECONDS_A_CRATE + PROGRAM_SHARE * (seconds["low"] + SECONDS_A_CRATE))
 
 
 class Left(unittest.TestCase):

@@ -151,6 +151,7 @@ fn season_plan<'a>(found: &ArgMatches<'a>) -> Result<SeasonPlan<'a>, WrongValue<
             has_history: found.get_flag("history"),
         },
         done: found.get_str("done"),
+        records: found.get_str("records"),
     })
 }
 

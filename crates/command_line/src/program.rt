@@ -4,7 +4,7 @@ use clap::{Arg, ArgAction, Command};
 use std::alloc::{AllocError, Global};
 
 /// The program's version.
-const VERSION: &str = "0.1.0";
+const VERSION: &str = "0.2.0";
 
 /// The program's name in its usage.
 pub const PROGRAM: &str = "ggp_manager";
@@ -143,7 +143,7 @@ const RUN: [Argument; 10] = [
     },
 ];
 
-const SEASON: [Argument; 12] = [
+const SEASON: [Argument; 13] = [
     COUNTDOWN,
     RULES,
     RULES_FILE,
@@ -172,7 +172,12 @@ const SEASON: [Argument; 12] = [
     Argument {
         name: "done",
         form: Form::Value("FILE"),
-        help: "Matches of which the file has a lawful record are not played: a season that was stopped goes on",
+        help: "Matches of which the file has a lawful record are not played",
+    },
+    Argument {
+        name: "records",
+        form: Form::Value("FILE"),
+        help: "The records are added to this file, and matches of which it has one are not played: the same command goes on with a season that was stopped",
     },
     LOG,
     Argument {

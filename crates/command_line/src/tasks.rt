@@ -50,6 +50,8 @@ pub struct SeasonPlan<'a> {
     pub form: SeasonForm,
     /// The file of the records of matches that are not played again.
     pub done: Option<&'a str>,
+    /// The file that records are added to in place of the output. Matches that it has records of are not played again.
+    pub records: Option<&'a str>,
 }
 
 /// The players that wait for the next message of a match, and the match's id.

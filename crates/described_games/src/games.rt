@@ -23,7 +23,7 @@ impl DescriptionFault {
     pub fn remedy(self) -> Option<&'static str> {
         match self {
             DescriptionFault::Unfit(LoadFault::Variable(_)) => {
-                Some("examples/instantiate makes ground rules of rules with variables")
+                Some("ggp-instantiate makes ground rules of rules with variables")
             }
             _ => None,
         }

@@ -20,9 +20,11 @@ pub enum Fault {
     WrongUse,
     /// Out of memory.
     Memory,
+    /// A standard stream is closed, and nothing can be opened in its place.
+    ClosedStream,
     /// The text of the rules is not KIF, or is no ground description.
     BadDescription,
-    /// The file that the command line names for this could not be read.
+    /// The file that the command line names for this could not be read or added to.
     File(NamedFile, FileFault),
     /// The file of the players' rules is not KIF.
     BadTold,
@@ -77,6 +79,7 @@ impl Fault {
         match self {
             Fault::WrongUse => "wrong use",
             Fault::Memory => "want of memory",
+            Fault::ClosedStream => "a standard stream is closed",
             Fault::BadDescription => "bad description",
             Fault::File(named, _) => named.words(),
             Fault::BadTold => "bad told description",

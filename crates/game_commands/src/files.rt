@@ -35,13 +35,21 @@ impl NamedFile {
     }
 }
 
-/// Why a file could not be read.
+/// Why a file could not be read or added to.
 #[derive(Clone, Copy)]
 pub enum FileFault {
     NoFile,
     Unopened,
     Unread,
     TooLong,
+    /// It is a directory, a pipe or a device.
+    NotRegular,
+    /// Another program adds to it.
+    InUse,
+    /// Its last line is cut off, and can't be moved to another file.
+    Unmended,
+    /// Standard output goes to it, and it is empty.
+    IsOutput,
 }
 
 impl FileFault {
@@ -51,6 +59,11 @@ impl FileFault {
             FileFault::Unopened => "the file can't be opened",
             FileFault::Unread => "the file can't be read",
             FileFault::TooLong => "the file is too long",
+            FileFault::NotRegular => "it is no regular file",
+            FileFault::InUse => "another program adds to the file",
+            FileFault::Unmended => "its last line is cut off, and can't be moved",
+            FileFault::IsOutput =>
+                "the output goes there and has emptied it; --records FILE adds to it",
         }
     }
 }

@@ -1,7 +1,7 @@
 -- The end of a season.
-use Rattle.std.proofs.Common.{◌≡◌, ℕ, List, length, Option, subst}
+use Rattle.std.proofs.Common.{◌≡◌, ◌⊎◌, ℕ, List, length, Option, Some, Result, Ok, Err, IfOk, IfErr, true, inl, inr, refl, subst, sym}
+use Rattle.std.specs.Prelude.{is_some}
 use Rattle.role_workers.specs.Handing.{Handed}
-use Rattle.command_line.specs.declared.tasks.SeasonPlan.{SeasonPlan}
 use Rattle.match_plans.specs.declared.addresses.PlayerAddress.{PlayerAddress}
 use Rattle.match_plans.specs.declared.plan.MatchPlan.{MatchPlan}
 use Rattle.match_plans.specs.declared.reach.RolePlace.{RolePlace}
@@ -9,11 +9,53 @@ use Rattle.match_plans.specs.declared.season_form.SeasonForm.{SeasonForm}
 use Rattle.match_play.specs.declared.hosting.HostedGame.{HostedGame}
 use Rattle.match_season.specs.Outputs.{IsOutputOf}
 use Rattle.match_season.specs.Seasons.{WritesAllBut}
-use Rattle.ggp_commands.specs.Schedules.{AreToPlay, WritesSeason}
+use Rattle.command_line.specs.declared.tasks.SeasonPlan.{SeasonPlan}
+use Rattle.game_commands.specs.Faults.{IsFileFault}
+use Rattle.game_commands.specs.declared.fault.Fault.{Fault}
+use Rattle.game_commands.specs.declared.files.NamedFile.TheVariants.{Records}
+use Rattle.ggp_commands.specs.Schedules.{AreLeft, AreToPlay, AreUndone, GoesTo, HasNoPlans, WritesPlans, WritesPlansUpTo}
 
 -- Fewer matches at once change nothing of what is written.
-pub season_written : {P : Type 0} (is_reached : RolePlace → PlayerAddress → P → Type 0) (handed : P → Option (List Handed)) (game : HostedGame) (season : SeasonPlan) (form : SeasonForm) (schedule : List ℕ) (plans : List MatchPlan) (missing : ℕ) (old new : Option (List ℕ))
-    → form ≡ record season.form { at_once = form.at_once } → AreToPlay game.game.now season.strikes season.done schedule plans
-    → WritesAllBut (IsOutputOf is_reached handed game plans form.has_history) form.order missing (length plans) old new → WritesSeason is_reached handed game season schedule missing old new
-season_written is_reached handed game season form schedule plans missing old new same planned written =
-    (plans, planned, subst (λ (f : SeasonForm). WritesAllBut (IsOutputOf is_reached handed game plans f.has_history) f.order missing (length plans) old new) same written)
+pub same_output : {P : Type 0} (is_reached : RolePlace → PlayerAddress → P → Type 0) (handed : P → Option (List Handed)) (game : HostedGame) (whole form : SeasonForm) (plans : List MatchPlan) (missing : ℕ) (old new : Option (List ℕ))
+    → form ≡ record whole { at_once = form.at_once }
+    → WritesAllBut (IsOutputOf is_reached handed game plans form.has_history) form.order missing (length plans) old new → WritesPlans is_reached handed game whole plans missing old new
+same_output is_reached handed game whole form plans missing old new same written =
+    subst (λ (f : SeasonForm). WritesAllBut (IsOutputOf is_reached handed game plans f.has_history) f.order missing (length plans) old new) same written
+
+-- The matches of a file of records were written to that file, and the output stays as it is.
+pub written_to_file : {P F : Type 0} (is_reached : RolePlace → PlayerAddress → P → Type 0) (handed : P → Option (List Handed)) (game : HostedGame) (season : SeasonPlan) (schedule : List ℕ) (records : Option F) (path : F) (plans : List MatchPlan) (missing : ℕ) (old : Option (List ℕ))
+    → records ≡ Some path → AreUndone game.game.now season.strikes season.done schedule plans
+    → ((left : List MatchPlan) × AreLeft game.game.now (Some path) plans left × ((before : Option (List ℕ)) × (after : Option (List ℕ)) × WritesPlans is_reached handed game season.form left missing before after))
+    → (played : List MatchPlan) × AreToPlay game.game.now season.strikes season.done records schedule played × GoesTo records (WritesPlans is_reached handed game season.form played missing) old old
+written_to_file is_reached handed game season schedule records path plans missing old is undone found =
+    subst (λ r. (played : List MatchPlan) × AreToPlay game.game.now season.strikes season.done r schedule played × GoesTo r (WritesPlans is_reached handed game season.form played missing) old old)
+    (sym is) (found.0, (plans, undone, found.1), (refl, found.2))
+
+-- The season's own end is that of the call that plays its matches into the file.
+pub season_into_file : {P F : Type 0} (is_reached : RolePlace → PlayerAddress → P → Type 0) (handed : P → Option (List Handed)) (game : HostedGame) (season : SeasonPlan) (schedule : List ℕ) (records : Option F) (path : F) (plans : List MatchPlan) (old : Option (List ℕ))
+    → records ≡ Some path → AreUndone game.game.now season.strikes season.done schedule plans
+    → (result : Result ℕ Fault)
+    → IfOk result (λ missing. (left : List MatchPlan) × AreLeft game.game.now (Some path) plans left × ((before : Option (List ℕ)) × (after : Option (List ℕ)) × WritesPlans is_reached handed game season.form left missing before after))
+    → IfOk result (λ missing. (played : List MatchPlan) × AreToPlay game.game.now season.strikes season.done records schedule played × GoesTo records (WritesPlans is_reached handed game season.form played missing) old old)
+season_into_file is_reached handed game season schedule records path plans old is undone (Ok missing) found = written_to_file is_reached handed game season schedule records path plans missing old is undone found
+season_into_file is_reached handed game season schedule records path plans old is undone (Err fault) found = found
+
+pub stopped_in_file : {P F : Type 0} (is_reached : RolePlace → PlayerAddress → P → Type 0) (handed : P → Option (List Handed)) (game : HostedGame) (season : SeasonPlan) (schedule : List ℕ) (records : Option F) (path : F) (plans : List MatchPlan) (fault : Fault) (old : Option (List ℕ))
+    → records ≡ Some path → AreUndone game.game.now season.strikes season.done schedule plans
+    → (IsFileFault Records fault ⊎ ((left : List MatchPlan) × AreLeft game.game.now (Some path) plans left × ((before : Option (List ℕ)) × (after : Option (List ℕ)) × WritesPlansUpTo is_reached handed game season.form left fault before after)))
+    → (HasNoPlans game.game.now season.strikes season.done records schedule fault × (old ≡ old))
+    ⊎ ((played : List MatchPlan) × AreToPlay game.game.now season.strikes season.done records schedule played × GoesTo records (WritesPlansUpTo is_reached handed game season.form played fault) old old)
+stopped_in_file is_reached handed game season schedule records path plans fault old is undone found = elim found [
+  | inl bad ↦ inl (inr (subst (λ r. is_some r ≡ true) (sym is) refl, bad), refl)
+  | inr part ↦ inr (subst (λ r. (played : List MatchPlan) × AreToPlay game.game.now season.strikes season.done r schedule played × GoesTo r (WritesPlansUpTo is_reached handed game season.form played fault) old old)
+      (sym is) (part.0, (plans, undone, part.1), (refl, part.2)))
+]
+
+pub season_stops_in_file : {P F : Type 0} (is_reached : RolePlace → PlayerAddress → P → Type 0) (handed : P → Option (List Handed)) (game : HostedGame) (season : SeasonPlan) (schedule : List ℕ) (records : Option F) (path : F) (plans : List MatchPlan) (old : Option (List ℕ))
+    → records ≡ Some path → AreUndone game.game.now season.strikes season.done schedule plans
+    → (result : Result ℕ Fault)
+    → IfErr result (λ fault. IsFileFault Records fault ⊎ ((left : List MatchPlan) × AreLeft game.game.now (Some path) plans left × ((before : Option (List ℕ)) × (after : Option (List ℕ)) × WritesPlansUpTo is_reached handed game season.form left fault before after)))
+    → IfErr result (λ fault. (HasNoPlans game.game.now season.strikes season.done records schedule fault × (old ≡ old))
+    ⊎ ((played : List MatchPlan) × AreToPlay game.game.now season.strikes season.done records schedule played × GoesTo records (WritesPlansUpTo is_reached handed game season.form played fault) old old))
+season_stops_in_file is_reached handed game season schedule records path plans old is undone (Ok missing) found = found
+season_stops_in_file is_reached handed game season schedule records path plans old is undone (Err fault) found = stopped_in_file is_reached handed game season schedule records path plans fault old is undone found

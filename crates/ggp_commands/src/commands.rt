@@ -19,6 +19,7 @@ use game_core::Counted;
 use match_log::Outlet;
 use match_plans::{Reach, TellsShortages};
 use network_players::Explains;
+use process_streams::LockedFiles;
 use role_workers::Player;
 use std::alloc::{AllocError, Global};
 use std::fmt::Write as _;
@@ -44,7 +45,7 @@ pub fn command<H, P, S, R: Read, W: Write, E: Write + Send>(
     terminals: Terminals,
 ) -> u8
 where
-    H: Net + Clock + Files + Threads + Wait + Sync,
+    H: Net + Clock + LockedFiles + Threads + Wait + Sync,
     P: Player + Explains + Drop + Send,
     S: Reach<P> + TellsShortages + Sync,
 {
@@ -150,7 +151,7 @@ fn play<'w, N: Outlet, H, P, S, R: Read, W: Write, E: Write + Send>(
     remarks: &mut Remarks,
 ) -> (Result<(), Fault>, &'w mut Counted<W>)
 where
-    H: Net + Clock + Files + Threads + Wait + Sync,
+    H: Net + Clock + LockedFiles + Threads + Wait + Sync,
     P: Player + Explains + Drop + Send,
     S: Reach<P> + TellsShortages + Sync,
     requires picked { N.name ≡ writer.ghost_name }
@@ -190,7 +191,7 @@ fn perform_task<'w, N: Outlet, H, P, S, R: Read, W: Write, E: Write + Send>(
     remarks: &mut Remarks,
 ) -> (Result<(), Fault>, &'w mut Counted<W>)
 where
-    H: Net + Clock + Files + Threads + Wait + Sync,
+    H: Net + Clock + LockedFiles + Threads + Wait + Sync,
     P: Player + Explains + Drop + Send,
     S: Reach<P> + TellsShortages + Sync,
     requires picked { N.name ≡ writer.ghost_name }
@@ -233,7 +234,7 @@ fn perform<H, P, S, R: Read, W: Write, E: Write + Send>(
     remarks: &mut Remarks,
 ) -> Result<(), Fault>
 where
-    H: Net + Clock + Files + Threads + Wait + Sync,
+    H: Net + Clock + LockedFiles + Threads + Wait + Sync,
     P: Player + Explains + Drop + Send,
     S: Reach<P> + TellsShortages + Sync,
 {

@@ -2,39 +2,16 @@
 ghost use Rattle.std.specs.Prelude.{◌≡◌, ◌⊎◌, ◌<◌, ℕ, IfNone, IfSome, min};
 ghost use Rattle.ggp_commands.specs.Descriptors.{Allows, IsLargest};
 
-use game_core::Counted;
-use match_plans::{SeasonForm, decimal};
+use match_plans::SeasonForm;
+use process_streams::{DESCRIPTORS, limit_of};
 use std::alloc::Global;
 use std::fmt::Write as _;
 use std::io::Write;
 use std::rt::Files;
-use std::{fs, str};
-use whole_streams::{Pieces, read_to_end};
-
-/// The file with the limits of a process under Linux.
-const LIMITS: &str = "/proc/self/limits";
-
-/// The limit of bytes that are read of this file.
-const MAX_LIMITS: usize = 65_536;
+use whole_streams::Pieces;
 
 /// The number of descriptors for everything but the players' connections: the streams, the files, the look-ups of hosts.
 const KEPT: u64 = 16;
-
-/// The limit of descriptors in a text of limits, the soft one. `None` if it has none.
-pub fn descriptors_in(limits: &str) -> Option<u64> {
-    let line = limits
-        .lines()
-        .find_map(|line| line.strip_prefix("Max open files"))?;
-    let word = line.split(' ').find(|word| !word.is_empty())?;
-    decimal(word, u64::MAX)
-}
-
-/// The number of descriptors that the program may have open. `None` if the system does not say it.
-fn allowed_descriptors<F: Files>(files: &F, alloc: Global) -> Option<u64> {
-    let file = fs::open(files, LIMITS).ok()?;
-    let limits = read_to_end(alloc, &mut Counted::new(file), MAX_LIMITS).ok()?;
-    descriptors_in(str::from_utf8(&limits).ok()?)
-}
 
 /// The largest number of matches of `players` players that the descriptors allow at once, with one connection for each player: at
 /// least 1.
@@ -84,7 +61,7 @@ pub fn allowed_form<F: Files, E: Write>(
     ensures allowed { (result ≡ form) ⊎ ((descriptors : ℕ) × IsLargest descriptors players result.at_once × (result.at_once < min form.at_once matches)) }
     ensures same { result ≡ record form { at_once = result.at_once } }
 {
-    let Some(descriptors) = allowed_descriptors(files, alloc) else {
+    let Some(descriptors) = limit_of(files, alloc, DESCRIPTORS) else {
         return form;
     };
     let Some(smaller) = smaller_form(form, descriptors, players, matches) else {

@@ -1,14 +1,17 @@
 //! The program's fault where a part of its work fails.
 ghost use Rattle.std.specs.Prelude.{◌≡◌, ◌≢◌, IfErr, Ok, OnErr, OnOk};
+ghost use Rattle.game_commands.specs.Faults.{IsFileFault};
+ghost use Rattle.game_commands.specs.declared.files.NamedFile.TheVariants.{Records};
 ghost use Rattle.ggp_commands.specs.Faults.{argument_fault, check_fault, contact_fault, match_fault, season_fault, task_fault};
 
 use command_line::{ArgumentFault, HostedTask};
-use game_commands::Fault;
+use game_commands::{Fault, FileFault, NamedFile};
 use match_plans::Shortage;
 use match_play::MatchFault;
 use match_season::SeasonFault;
 use network_players::ContactFault;
 use player_check::CheckFault;
+use process_streams::RecordsFault;
 
 /// The program's fault where a command line is refused.
 pub fn argument_fault(fault: ArgumentFault<'_>) -> Fault
@@ -40,6 +43,20 @@ pub fn season_fault(fault: SeasonFault) -> Fault
         SeasonFault::WriteFault => Fault::WriteFault,
         SeasonFault::Memory => Fault::Memory,
     }
+}
+
+/// The program's fault where records can't be added to a file.
+pub fn records_fault(fault: RecordsFault) -> Fault
+    ensures { IsFileFault Records result }
+{
+    let why = match fault {
+        RecordsFault::Unopened => FileFault::Unopened,
+        RecordsFault::NotRegular => FileFault::NotRegular,
+        RecordsFault::InUse => FileFault::InUse,
+        RecordsFault::Unmended => FileFault::Unmended,
+        RecordsFault::Memory => return Fault::Memory,
+    };
+    Fault::File(NamedFile::Records, why)
 }
 
 /// The program's fault where the check of a player fails.

@@ -25,10 +25,7 @@ impl Hosting {
         ensures game { result.game.now ≡ self.now.game }
         ensures rules { result.rules.now ≡ self.now.rules }
     {
-        HostedGame {
-            game: &self.game,
-            rules: &self.rules,
-        }
+        HostedGame::new(&self.game, &self.rules)
     }
 }
 

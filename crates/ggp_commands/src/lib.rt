@@ -14,12 +14,12 @@ mod errands;
 mod faults;
 mod hosting;
 mod matches;
+mod records_file;
 mod schedules;
 mod terminals;
 
 pub use command_line::AbortPlan;
 pub use commands::{command, report};
-pub use descriptors::descriptors_in;
 pub use errands::{abort, info};
 pub use faults::contact_fault;
 pub use game_commands::{Fault, FileFault, NamedFile, ScriptFault};

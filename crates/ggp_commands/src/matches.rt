@@ -1,17 +1,21 @@
 //! The matches of a game, and the reports on them.
-ghost use Rattle.std.specs.Prelude.{◌≡◌, false, IfErr, IfOk, OnOk};
+ghost use Rattle.std.specs.Prelude.{◌≡◌, ◌⊎◌, ℕ, List, Option, Some, false, IfErr, IfOk, OnOk};
 ghost use denote.Param.Send.{IsSend, IsSync};
 ghost use Rattle.ggp_commands.specs.Faults.{check_fault};
 ghost use Rattle.ggp_commands.specs.Runs.{WritesRun, WritesRunUpTo};
 ghost use Rattle.match_log.specs.LoggedPlayers.{is_logged_reached, logged_handed};
 ghost use Rattle.player_check.specs.Checks.{EndsEarly, WritesCheck};
 ghost use Rattle.player_check.specs.declared.check.CheckFault.{CheckFault};
-ghost use Rattle.ggp_commands.specs.Schedules.{WritesSeason, WritesSeasonUpTo, has_schedule};
+ghost use Rattle.match_plans.specs.declared.plan.MatchPlan.{MatchPlan};
+ghost use Rattle.game_commands.specs.Faults.{IsFileFault};
+ghost use Rattle.game_commands.specs.declared.files.NamedFile.TheVariants.{Records};
+ghost use Rattle.ggp_commands.specs.Schedules.{AreLeft, WritesPlans, WritesPlansUpTo, WritesSeason, WritesSeasonUpTo, has_schedule};
 ghost use Rattle.ggp_commands.specs.Tasks.{EndsTask, HasNoInput, ReadsInput, WritesTask, WritesTaskUpTo};
 
 use crate::descriptors::allowed_form;
 use crate::faults::{check_fault, match_fault, season_fault};
-use crate::schedules::plans_of;
+use crate::records_file::records_file;
+use crate::schedules::{plans_of, undone};
 use crate::terminals::Terminals;
 use command_line::{HostedTask, RunPlan, SeasonPlan};
 use game_commands::Fault;
@@ -20,11 +24,12 @@ use match_log::{
     ClearedOutput, LoggedPlayer, Logging, Notices, Outlet, Progress, ReportStream, StatusStream,
     Telling,
 };
-use match_plans::{CheckPlan, Reach, TellsShortages};
+use match_plans::{CheckPlan, MatchPlan, Reach, SeasonForm, TellsShortages};
 use match_play::{Entrants, HostedGame, ended_match, entrants_of};
 use match_season::play_season;
 use network_players::Explains;
 use player_check::check_player;
+use process_streams::{LockedFiles, RecordsFile};
 use role_workers::Player;
 use std::alloc::Global;
 use std::io::{Read, Write};
@@ -85,7 +90,7 @@ where
     ensures written { OnOk result (WritesRun (S.is_reached reach.now) P.handed game.entry run.now (W.contents writer.old.stream) (W.contents writer.new.stream)) }
     ensures at_fault { IfErr result (WritesRunUpTo (S.is_reached reach.now) P.handed game.entry run.now (W.contents writer.old.stream) (W.contents writer.new.stream)) }
 {
-    let entrants: Entrants<P> = entrants_of(alloc, reach, 0, &run.plan)?;
+    let entrants: Entrants<P> = entrants_of(alloc, reach, game, 0, &run.plan)?;
     let ended = match ended_match(rt, alloc, reach, entrants, game, run.has_history) {
         Ok(ended) => ended,
         Err(fault) => return Err(match_fault(fault)),
@@ -112,8 +117,68 @@ pub fn input_of<R: Read>(
     }
 }
 
+/// Plays matches of a season, and writes their records. Returns the number of those without a record.
+#[tactic(auto, using(crate::proofs::SeasonEnds::same_output))]
+fn play_plans<H, P, S, W: Write>(
+    rt: &H,
+    alloc: Global,
+    reach: &S,
+    form: SeasonForm,
+    game: HostedGame<'_>,
+    plans: &[MatchPlan<'_>],
+    writer: &mut Counted<W>,
+    console: &Console,
+) -> Result<u64, Fault>
+where
+    H: Files + Threads + Wait + Sync,
+    P: Player + Drop + Send,
+    S: Reach<P> + TellsShortages + Sync,
+    ensures written { IfOk result (λ missing. WritesPlans (S.is_reached reach.now) P.handed game.entry form plans.now missing (W.contents writer.old.stream) (W.contents writer.new.stream)) }
+    ensures at_fault { IfErr result (λ fault. WritesPlansUpTo (S.is_reached reach.now) P.handed game.entry form plans.now fault (W.contents writer.old.stream) (W.contents writer.new.stream)) }
+{
+    console.plan(rt, plans.len());
+    let mut errors = ReportStream::new(rt, &console.notices);
+    let form = allowed_form(rt, alloc, form, game.game.roles(), plans.len(), &mut errors);
+    let errors = Mutex::new(errors);
+    let played = play_season::<H, P, S, W, ReportStream<'_, H>>(
+        rt, alloc, reach, game, plans, form, writer, &errors,
+    );
+    match played {
+        Ok(missing) => Ok(missing),
+        Err(fault) => Err(season_fault(fault)),
+    }
+}
+
+/// Plays the matches of a season that the file at this path has no records of, and adds theirs to it. Returns the number of those without a
+/// record.
+fn play_into_file<H, P, S>(
+    rt: &H,
+    alloc: Global,
+    reach: &S,
+    form: SeasonForm,
+    game: HostedGame<'_>,
+    plans: Vec<MatchPlan<'_>>,
+    path: &str,
+    console: &Console,
+) -> Result<u64, Fault>
+where
+    H: LockedFiles + Threads + Wait + Sync,
+    P: Player + Drop + Send,
+    S: Reach<P> + TellsShortages + Sync,
+    ensures written { IfOk result (λ missing. (left : List MatchPlan) × AreLeft game.entry.game.now (Some path.entry) plans.entry.items left
+        × ((before : Option (List ℕ)) × (after : Option (List ℕ)) × WritesPlans (S.is_reached reach.now) P.handed game.entry form left missing before after)) }
+    ensures at_fault { IfErr result (λ fault. IsFileFault Records fault ⊎ ((left : List MatchPlan) × AreLeft game.entry.game.now (Some path.entry) plans.entry.items left
+        × ((before : Option (List ℕ)) × (after : Option (List ℕ)) × WritesPlansUpTo (S.is_reached reach.now) P.handed game.entry form left fault before after))) }
+{
+    let mut errors = ReportStream::new(rt, &console.notices);
+    let mut file = Counted::new(records_file(rt, alloc, path, &mut errors)?);
+    let left = undone(rt, alloc, game.game, Some(path), plans)?;
+    play_plans::<H, P, S, RecordsFile<<H as Files>::File>>(
+        rt, alloc, reach, form, game, &left, &mut file, console,
+    )
+}
+
 /// Plays the matches of a schedule, and writes their records. Returns the number of those without a record.
-#[tactic(auto, using(crate::proofs::SeasonEnds::season_written))]
 fn season<H, P, S, W: Write>(
     rt: &H,
     alloc: Global,
@@ -125,30 +190,35 @@ fn season<H, P, S, W: Write>(
     console: &Console,
 ) -> Result<u64, Fault>
 where
-    H: Files + Threads + Wait + Sync,
+    H: LockedFiles + Threads + Wait + Sync,
     P: Player + Drop + Send,
     S: Reach<P> + TellsShortages + Sync,
     ensures written { IfOk result (λ missing. WritesSeason (S.is_reached reach.now) P.handed game.entry season.entry schedule.now missing (W.contents writer.old.stream) (W.contents writer.new.stream)) }
     ensures at_fault { IfErr result (WritesSeasonUpTo (S.is_reached reach.now) P.handed game.entry season.entry schedule.now (W.contents writer.old.stream) (W.contents writer.new.stream)) }
 {
-    let plans = plans_of(rt, alloc, game.game, season, schedule)?;
-    console.plan(rt, plans.len());
     let mut errors = ReportStream::new(rt, &console.notices);
-    let form = allowed_form(
-        rt,
-        alloc,
-        season.form,
-        game.game.roles(),
-        plans.len(),
-        &mut errors,
-    );
-    let errors = Mutex::new(errors);
-    let played = play_season::<H, P, S, W, ReportStream<'_, H>>(
-        rt, alloc, reach, game, &plans, form, writer, &errors,
-    );
-    match played {
-        Ok(missing) => Ok(missing),
-        Err(fault) => Err(season_fault(fault)),
+    let plans = plans_of(rt, alloc, game.game, season, schedule, &mut errors)?;
+    match season.records {
+        None => play_plans::<H, P, S, W>(
+            rt,
+            alloc,
+            reach,
+            season.form,
+            game,
+            &plans,
+            writer,
+            console,
+        ),
+        Some(path) => play_into_file::<H, P, S>(
+            rt,
+            alloc,
+            reach,
+            season.form,
+            game,
+            plans,
+            path,
+            console,
+        ),
     }
 }
 
@@ -187,7 +257,7 @@ fn perform_hosted<H, P, S, W: Write>(
     console: &Console,
 ) -> Result<u64, Fault>
 where
-    H: Clock + Files + Threads + Wait + Sync,
+    H: Clock + LockedFiles + Threads + Wait + Sync,
     P: Player + Explains + Drop + Send,
     S: Reach<P> + TellsShortages + Sync,
     ensures written { IfOk result (λ count. WritesTask H (is_logged_reached H (S.is_reached reach.now)) (logged_handed H P.handed) game.entry task.now input.now count (W.contents writer.old.stream) (W.contents writer.new.stream)) }
@@ -229,7 +299,7 @@ fn perform_beside_notices<H, P, S, W: Write, E: Write + Send>(
     stream: &Mutex<StatusStream<&mut E>>,
 ) -> Result<u64, Fault>
 where
-    H: Clock + Files + Threads + Wait + Sync,
+    H: Clock + LockedFiles + Threads + Wait + Sync,
     P: Player + Explains + Drop + Send,
     S: Reach<P> + TellsShortages + Sync,
     ensures written { IfOk result (λ count. WritesTask H (is_logged_reached H (S.is_reached reach.now)) (logged_handed H P.handed) game.entry task.now input.now count (W.contents writer.old.stream) (W.contents writer.new.stream)) }
@@ -277,7 +347,7 @@ pub fn hold_matches<'w, N: Outlet, H, P, S, W: Write, E: Write + Send>(
     terminals: Terminals,
 ) -> (Result<u64, Fault>, &'w mut Counted<W>)
 where
-    H: Clock + Files + Threads + Wait + Sync,
+    H: Clock + LockedFiles + Threads + Wait + Sync,
     P: Player + Explains + Drop + Send,
     S: Reach<P> + TellsShortages + Sync,
     requires picked { N.name ≡ writer.ghost_name }

@@ -7,23 +7,15 @@ use game_core::Counted;
 use ggp_commands::{Fault, Terminals, command, report};
 use match_plans::MAX_SCHEDULED;
 use network_players::{Signal, SocketPlayer, Sockets};
-use std::fs::File;
-use std::io::{ErrorKind, IsTerminal};
+use process_streams::{ERRORS, FILE_SIZE, INPUT, OUTPUT, Standard, hold_closed, limit_of};
+use std::io::{ErrorKind, IsTerminal, Write};
+use std::os::fd::AsFd;
 use std::process::ExitCode;
-use std::{env, fs, io};
+use std::{env, io};
 
 /// The words after the program's name.
 fn command_line(rt: &HostRuntime) -> io::Result<Vec<String>> {
     Ok(env::args(rt)?.skip(1).collect(rt.alloc())?)
-}
-
-/// The number of the standard streams.
-const STREAMS: usize = 3;
-
-/// Opens as many directories as there are standard streams. They take the numbers of the streams that are closed: otherwise a connection
-/// would get one, and its player what is written to the stream. A directory can be neither read nor written, as a closed stream can't.
-fn placeholders(rt: &HostRuntime) -> [io::Result<File>; STREAMS] {
-    [fs::open(rt, "/"), fs::open(rt, "/"), fs::open(rt, "/")]
 }
 
 /// The number of places that a command's matches may have: `season` has one for each match of its schedule, every other command one.
@@ -36,10 +28,17 @@ fn places(words: &[String]) -> usize
     }
 }
 
+/// Reports a fault before any command. Returns the program's status.
+fn ended<E: Write>(errors: &mut E, fault: Fault) -> ExitCode {
+    report(errors, fault);
+    ExitCode::from(fault.status())
+}
+
 fn main(rt: HostRuntime) -> ExitCode {
-    let _open = placeholders(&rt);
-    let mut errors = rt.stderr();
-    let output = rt.stdout();
+    let (input, output, errors) = (rt.stdin(), rt.stdout(), rt.stderr());
+    let Ok(_held) = hold_closed(&rt, input.as_fd(), output.as_fd(), errors.as_fd()) else {
+        return ended(&mut rt.stderr(), Fault::ClosedStream);
+    };
     let terminals = Terminals {
         errors: errors.is_terminal(),
         output: output.is_terminal(),
@@ -51,22 +50,23 @@ fn main(rt: HostRuntime) -> ExitCode {
                 ErrorKind::OutOfMemory => Fault::Memory,
                 _ => Fault::WrongUse,
             };
-            report(&mut errors, fault);
-            return ExitCode::from(fault.status());
+            return ended(&mut rt.stderr(), fault);
         }
     };
-    let mut reader = Counted::new(rt.stdin());
-    let mut writer = Counted::new(output);
     let Ok(signals) = Signal::many(rt.alloc(), places(&words)) else {
-        report(&mut errors, Fault::Memory);
-        return ExitCode::from(Fault::Memory.status());
+        return ended(&mut rt.stderr(), Fault::Memory);
     };
+    let limit = limit_of(&rt, rt.alloc(), FILE_SIZE);
+    let host = &rt;
     let reach = Sockets {
-        rt: &rt,
+        rt: host,
         signals: signals.as_slice(),
     };
+    let mut reader = Counted::new(Standard::new(host, input, INPUT, None));
+    let mut writer = Counted::new(Standard::new(host, output, OUTPUT, limit));
+    let mut errors = Standard::new(host, errors, ERRORS, limit);
     let status = command::<_, SocketPlayer<'_, HostRuntime>, _, _, _, _>(
-        &rt,
+        host,
         rt.alloc(),
         &reach,
         &words,

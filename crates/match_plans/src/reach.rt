@@ -12,6 +12,8 @@ pub struct RolePlace<'a> {
     /// The match's id.
     pub id: &'a str,
     pub role: usize,
+    /// The bytes that the text of a legal move of the match's game has at most, if an answer can name it.
+    pub longest_move: usize,
 }
 
 /// Reaches players.

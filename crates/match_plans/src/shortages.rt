@@ -17,6 +17,15 @@ pub enum Shortage {
     /// The clock can't be read.
     #[error("no clock")]
     Clock,
+    /// A host's name could not be looked up, and this says nothing of the host.
+    #[error("no answer from the resolver")]
+    Resolver,
+    /// This computer's network is down, has no route to the player or no addresses of its family, or forbids the connection.
+    #[error("no network")]
+    Network,
+    /// The program did not run as a message's seconds ended, so it can't know what the player had answered by then.
+    #[error("the referee was not running")]
+    NotRunning,
 }
 
 /// Reports what the referee was short of in a match. A match with a shortage has no record, since an answer in it is not the player's.

@@ -1,3 +1,4 @@
 mod EndedMatches
 mod HeldGames
+pub mod LongestMoves
 mod Places

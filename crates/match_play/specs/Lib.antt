@@ -1,5 +1,6 @@
 pub mod EndedMatches
 pub mod Limits
+pub mod LongestMoves
 pub mod Matches
 pub mod PlayedMatches
 pub mod RoleTurns

@@ -32,14 +32,14 @@ pub record IsSetupOf (plan : MatchPlan) (setup : Setup) : Type 0 where
   pub strikes : setup.strikes ≡ plan.strikes
   pub names : setup.players ≡ map (λ p. p.name.now) plan.players.items
 
--- the role of a planned match at this place of its season
-abbrev pub role_place : ℕ → MatchPlan → ℕ → RolePlace
-role_place place plan role = record { place = place; id = plan.id; role = role }
+-- the role of a planned match at this place of its season, in a game whose longest move has so many bytes
+abbrev pub role_place : ℕ → ℕ → MatchPlan → ℕ → RolePlace
+role_place longest place plan role = record { place = place; id = plan.id; role = role; longest_move = longest }
 
 -- There is a player for each address of the plan, and each is reached at the address of its role.
-pub record AreReached {P : Type 0} (is_reached : RolePlace → PlayerAddress → P → Type 0) (place : ℕ) (plan : MatchPlan) (players : List P) : Type 0 where
+pub record AreReached {P : Type 0} (is_reached : RolePlace → PlayerAddress → P → Type 0) (longest place : ℕ) (plan : MatchPlan) (players : List P) : Type 0 where
   pub count : length players ≡ length plan.players.items
-  pub each : EachAt (λ role player. IfSome (slice_get plan.players.items role) (λ address. is_reached (role_place place plan role) address player)) players
+  pub each : EachAt (λ role player. IfSome (slice_get plan.players.items role) (λ address. is_reached (role_place longest place plan role) address player)) players
 
 -- why no match of this game is opened with this setup: none if one is
 abbrev pub packed_refusal : PackedGame → Setup → Option Refusal
@@ -59,7 +59,7 @@ pub record IsPlayedMatch {P : Type 0} (handed : P → Option (List Handed)) (gam
 -- A match with this plan, at this place of its season, is of this game. It was played by players that were reached at the addresses of
 -- their roles, and they got the game's rules. Its record is this text, and its desk has this history.
 abbrev pub IsPlannedMatch : {P : Type 0} → (RolePlace → PlayerAddress → P → Type 0) → (P → Option (List Handed)) → HostedGame → ℕ → MatchPlan → List ℕ → List (Entry Call Reply) → Type 0
-IsPlannedMatch {P} is_reached handed game place plan text history = (setup : _) × IsSetupOf plan setup × (players : List P) × AreReached is_reached place plan players
+IsPlannedMatch {P} is_reached handed game place plan text history = (setup : _) × IsSetupOf plan setup × (players : List P) × AreReached is_reached game.longest_move place plan players
     × IsPlayedMatch handed game.game.now game.rules.now.items max_tries setup players text history
 
 -- A match of this game was opened with this setup and played by these players, who got these rules. These are the role's turns in it.

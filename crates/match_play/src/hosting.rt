@@ -4,9 +4,12 @@ ghost use Rattle.kif_text.specs.Faults.{IsFault, any_number};
 ghost use Rattle.game_core.specs.Expression.{Expressions, all_folded};
 ghost use Rattle.kif_text.specs.Spelling.{SpellsAll};
 ghost use Rattle.kif_text.specs.View.{view, views};
-ghost use Rattle.packed_rules.specs.PackedGames.{sentences_of};
+ghost use Rattle.packed_rules.specs.PackedGames.{sentences_of, tables_of};
+ghost use Rattle.ground_rules.specs.LoadedGame.{loaded_game};
+ghost use Rattle.match_play.specs.LongestMoves.{IsLongestMove};
 
 use kif_text::{Expr, KifFault, copy, read_all};
+use match_book::MAX_ANSWER;
 use match_messages::PrintedRules;
 use packed_rules::PackedGame;
 use std::alloc::{AllocError, Global};
@@ -16,6 +19,41 @@ use std::alloc::{AllocError, Global};
 pub struct HostedGame<'g> {
     pub game: &'g PackedGame,
     pub rules: &'g PrintedRules,
+    /// The bytes of the longest move that an answer can name, and 64 at least.
+    pub(crate) longest_move: usize,
+}
+
+impl<'g> HostedGame<'g> {
+    /// The game with the rules for its players, and the length of its longest move.
+    pub fn new(game: &'g PackedGame, rules: &'g PrintedRules) -> HostedGame<'g>
+        ensures game { result.game.now ≡ game.now }
+        ensures rules { result.rules.now ≡ rules.now }
+        ensures longest { IsLongestMove (loaded_game (tables_of game.now)) result.longest_move }
+    {
+        HostedGame {
+            game,
+            rules,
+            longest_move: longest_move(game),
+        }
+    }
+}
+
+/// The length of a short move. A game of shorter ones has it, too, so that an answer has room for some spaces.
+const SHORT_MOVE: usize = 64;
+
+/// The length of the longest move of a game that an answer can name, and `SHORT_MOVE` at least.
+fn longest_move(game: &PackedGame) -> usize
+    ensures { IsLongestMove (loaded_game (tables_of game.now)) result }
+{
+    let texts = game.move_texts();
+    let mut longest = SHORT_MOVE;
+    for text in texts {
+        let length = text.as_slice().len();
+        if longest < length && length <= MAX_ANSWER {
+            longest = length;
+        }
+    }
+    longest
 }
 
 fn copies(alloc: Global, sentences: &[Expr]) -> Result<Vec<Expr>, AllocError>

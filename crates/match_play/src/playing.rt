@@ -1,5 +1,5 @@
 //! A match between players on the network, from its plan to its record.
-ghost use Rattle.std.specs.Prelude.{◌≡◌, ◌≢◌, ℕ, List, None, IfOk, IfErr, IfSome, OnOk, MatchOption, length, vec_len};
+ghost use Rattle.std.specs.Prelude.{◌≡◌, ◌≢◌, ℕ, List, None, Err, All, IfOk, IfErr, IfSome, IsFalse, IsTrue, ◌↔◌, OnOk, MatchOption, length, vec_len};
 ghost use Rattle.call_history.specs.declared.journal.Entry.{Entry};
 ghost use Rattle.desk_calls.specs.Names.{IsLawfulSetup};
 ghost use Rattle.desk_calls.specs.declared.call.Call.{Call as DeskCall};
@@ -105,11 +105,12 @@ fn setup_of(alloc: Global, plan: &MatchPlan<'_>) -> Result<Setup, AllocError>
 fn players_of<P: Drop, S: Reach<P>>(
     alloc: Global,
     reach: &S,
+    longest_move: usize,
     place: usize,
     plan: &MatchPlan<'_>,
 ) -> Result<Vec<P>, AllocError>
     ensures count { IfOk result (λ v. vec_len v ≡ vec_len plan.now.players) }
-    ensures reached { IfOk result (λ v. AreReached (S.is_reached reach.now) place plan.now v.items) }
+    ensures reached { IfOk result (λ v. AreReached (S.is_reached reach.now) longest_move place plan.now v.items) }
 {
     let mut players = Vec::with_capacity(alloc, plan.players.len())?;
     for (role, address) in plan.players.iter().enumerate() {
@@ -117,6 +118,7 @@ fn players_of<P: Drop, S: Reach<P>>(
             place,
             id: plan.id,
             role,
+            longest_move,
         };
         players.push(reach.player(alloc, at, address)?)?;
     }
@@ -132,19 +134,20 @@ pub struct Entrants<P> {
     ghost one_each: { vec_len players ≡ length setup.players },
 }
 
-/// Makes the entrants of the match at this place of its season. The error is out of memory.
+/// Makes the entrants of the match of this game at this place of its season. The error is out of memory.
 pub fn entrants_of<P: Drop, S: Reach<P>>(
     alloc: Global,
     reach: &S,
+    game: HostedGame<'_>,
     place: usize,
     plan: &MatchPlan<'_>,
 ) -> Result<Entrants<P>, AllocError>
     ensures setup { IfOk result (λ e. IsSetupOf plan.now e.setup) }
     ensures place { IfOk result (λ e. e.place ≡ place) }
-    ensures reached { IfOk result (λ e. AreReached (S.is_reached reach.now) place plan.now e.players.items) }
+    ensures reached { IfOk result (λ e. AreReached (S.is_reached reach.now) game.entry.longest_move place plan.now e.players.items) }
 {
     let setup = setup_of(alloc, plan)?;
-    let players = players_of(alloc, reach, place, plan)?;
+    let players = players_of(alloc, reach, game.longest_move, place, plan)?;
     Ok(Entrants {
         place,
         setup,
@@ -196,13 +199,20 @@ pub struct EndedMatch {
     ghost is_ended: { ∥ IsEndedMatch text ∥₁ },
 }
 
-/// Whether the match is not over since a role's worker ran out of memory.
-fn ran_out_of_memory<G: Game>(refereed: &Refereed<G>) -> bool {
-    ended_match_of(&refereed.closed.object).is_none()
-        && refereed
-            .ends
-            .iter()
-            .any(|end| matches!(end, Err(AttendFault::Memory)))
+/// Whether no role's worker ran out of memory.
+fn had_memory(ends: &[Result<u64, AttendFault>]) -> bool
+    ensures { IsTrue result ↔ All (λ end. end ≢ Err AttendFault.Memory) ends.now }
+{
+    ends.iter()
+        .all(|end| !matches!(end, Err(AttendFault::Memory)))
+}
+
+/// Whether the match is not over and some role's worker ran out of memory.
+fn ran_out_of_memory<G: Game>(refereed: &Refereed<G>) -> bool
+    ensures short { IsTrue result → HasNoEndedMatch G.rules refereed.now.closed.object × (¬ (All (λ end. end ≢ Err AttendFault.Memory) refereed.now.ends.items)) }
+    ensures whole { IsFalse result → HasNoEndedMatch G.rules refereed.now.closed.object → All (λ end. end ≢ Err AttendFault.Memory) refereed.now.ends.items }
+{
+    ended_match_of(&refereed.closed.object).is_none() && !had_memory(&refereed.ends)
 }
 
 /// Referees a match of this game between its entrants. Returns the closed desk. The error is `Shortage` if the referee was short of
@@ -220,6 +230,9 @@ where
     ensures clear { IfOk result (λ r. S.is_clear reach.now entrants.place) }
     ensures refereed { IfOk result (λ r. (left : List _) × IsRefereed ⟦<PackedGame as Game>⟧.rules P.handed game.entry.game.now entrants.setup game.entry.rules.now.items max_tries entrants.players.items left
         r.closed.object r.closed.history.items r.closed.made_by_line.items r.ends.items) }
+
+    // A match that did not end for want of memory is told as such.
+    ensures whole { IfOk result (λ r. HasNoEndedMatch ⟦<PackedGame as Game>⟧.rules r.closed.object → All (λ end. end ≢ Err AttendFault.Memory) r.ends.items) }
 
     // If the match is refused, so is this call, for the same reason, unless memory runs out. No other fault is a refusal.
     ensures opens { OnOk result (packed_refusal game.entry.game.now entrants.setup ≡ None) }

@@ -59,7 +59,7 @@ impl<P: Player, S: Reach<P>, N: Naming> Season<'_, '_, P, S, N> {
         let Some(plan) = self.plans.get(place) else {
             return Err(MatchFault::NotEnded);
         };
-        let entrants = entrants_of(self.alloc, self.reach, place, plan)?;
+        let entrants = entrants_of(self.alloc, self.reach, self.game, place, plan)?;
         ended_match(
             rt,
             self.alloc,

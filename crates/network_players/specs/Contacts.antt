@@ -7,16 +7,12 @@ use Rattle.desk_calls.specs.declared.answer.Answer.TheVariants.{Text, Silent, Br
 use Rattle.http_exchange.specs.declared.wire_fault.WireFault.{WireFault}
 use Rattle.http_exchange.specs.declared.wire_fault.WireFault.TheVariants as exchange_faults
 use Rattle.match_plans.specs.declared.shortages.Shortage.{Shortage}
-use Rattle.match_plans.specs.declared.shortages.Shortage.TheVariants.{Ports, Memory}
+use Rattle.match_plans.specs.declared.shortages.Shortage.TheVariants.{Ports, Memory, Network, NotRunning}
 use Rattle.network_players.specs.Shortages.{system_shortage}
 use Rattle.network_players.specs.declared.deadline.Halt.{Halt}
 use Rattle.network_players.specs.declared.deadline.Halt.TheVariants as halts
 use Rattle.network_players.specs.declared.contacting.ContactFault.{ContactFault}
 use Rattle.network_players.specs.declared.contacting.ContactFault.TheVariants as faults
-
--- the answer is a text
-abbrev pub IsText : Answer → Type 0
-IsText answer = (text : List ℕ) × (answer ≡ Text text)
 
 -- no answer in time is a silence, every other fault a broken answer
 abbrev pub answer_of : Result (List ℕ) WireFault → Answer
@@ -25,8 +21,8 @@ answer_of (Err (exchange_faults.ReadFault WouldBlock)) = Silent
 answer_of (Err (exchange_faults.ReadFault TimedOut)) = Silent
 answer_of (Err fault) = Broken
 
--- It is a silence if the time was over, and a broken answer without a connection. A shortage of the referee counts as broken too, and
--- its match has no record.
+-- An exchange counts as `answer_of` says. It is a silence if the time was over, and a broken answer for every other fault. A shortage of the
+-- referee counts as broken too, and its match has no record.
 abbrev pub contact_answer : Result (List ℕ) ContactFault → Answer
 contact_answer (Ok text) = answer_of (Ok text)
 contact_answer (Err (faults.Exchange fault)) = answer_of (Err fault)
@@ -38,6 +34,18 @@ abbrev pub halt_fault : Halt → ContactFault
 halt_fault halts.Late = faults.Late
 halt_fault (halts.Short shortage) = faults.Shortage shortage
 
+-- The fault of a message whose seconds are over after a try with this fault. It stays, unless it is the player's and the referee is short of
+-- something.
+abbrev pub fault_at_end : ContactFault → Halt → ContactFault
+fault_at_end (faults.Shortage shortage) halt = faults.Shortage shortage
+fault_at_end fault halts.Late = fault
+fault_at_end fault (halts.Short shortage) = faults.Shortage shortage
+
+-- The program waited while the host was looked up. So that it did not run is no reason there, and the message is late.
+abbrev pub lookup_fault : Halt → ContactFault
+lookup_fault (halts.Short NotRunning) = faults.Late
+lookup_fault halt = halt_fault halt
+
 abbrev pub short_fault : Option Shortage → ContactFault
 short_fault (Some shortage) = faults.Shortage shortage
 short_fault None = faults.NoConnection
@@ -48,13 +56,15 @@ abbrev pub address_fault : ErrorKind → Option ℤ → ContactFault
 address_fault TimedOut None = faults.Late
 address_fault kind number = short_fault (system_shortage kind number)
 
--- the fault of all addresses so far, by the fault of those before and of the last one; a lack of ports counts only if no address gave
--- another fault
+-- The fault of all addresses so far, by the fault of those before and of the last one. A lack of ports or of a network counts only if no
+-- address gave another fault.
 abbrev pub fault_so_far : ContactFault → ContactFault → ContactFault
 fault_so_far (faults.Shortage Ports) last = last
+fault_so_far (faults.Shortage Network) last = last
 fault_so_far (faults.Shortage shortage) last = faults.Shortage shortage
 fault_so_far faults.NoAddress last = last
 fault_so_far before (faults.Shortage Ports) = before
+fault_so_far before (faults.Shortage Network) = before
 fault_so_far before last = last
 
 -- a message that had to wait for a shortage and then had no time has the shortage for its fault

@@ -1,4 +1,5 @@
 pub mod Shortages
 pub mod Contacts
 pub mod Fronts
+pub mod Budgets
 pub mod Players

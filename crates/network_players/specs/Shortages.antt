@@ -1,9 +1,9 @@
 -- Shortages of the referee.
-use Rattle.std.specs.Prelude.{◌≡◌, ◌⊎◌, ℕ, ℤ, unsigned_abs, ◌==◌, if◌then◌else◌, List, [], ◌∷◌, Option, Some, None}
+use Rattle.std.specs.Prelude.{◌≡◌, ◌⊎◌, ℕ, ℤ, unsigned_abs, ◌==◌, if◌then◌else◌, Bool, true, false, List, [], ◌∷◌, Option, Some, None, unwrap_or, Result, Ok, Err}
 use Rattle.std.specs.declared.io.ErrorKind.{ErrorKind}
-use Rattle.std.specs.declared.io.ErrorKind.TheVariants.{WouldBlock, TimedOut, AddrNotAvailable, OutOfMemory}
+use Rattle.std.specs.declared.io.ErrorKind.TheVariants.{WouldBlock, TimedOut, AddrNotAvailable, OutOfMemory, NetworkDown, NetworkUnreachable, PermissionDenied}
 use Rattle.match_plans.specs.declared.shortages.Shortage.{Shortage}
-use Rattle.match_plans.specs.declared.shortages.Shortage.TheVariants.{Descriptors, Ports, Memory, Clock}
+use Rattle.match_plans.specs.declared.shortages.Shortage.TheVariants.{Descriptors, Ports, Memory, Clock, Resolver, Network, NotRunning}
 use Rattle.network_players.specs.declared.deadline.Halt.{Halt}
 use Rattle.network_players.specs.declared.deadline.Halt.TheVariants.{Late, Short}
 
@@ -11,9 +11,9 @@ abbrev pub shortage_in : List (ℕ × Shortage) → ℕ → Option Shortage
 shortage_in [] number = None
 shortage_in (row ∷ rows) number = if number == row.0 then Some row.1 else shortage_in rows number
 
--- the errors of the system that have no kind of their own: ENFILE, EMFILE and ENOBUFS of Linux
+-- the errors of the system that have no kind of their own: ENFILE, EMFILE, EAFNOSUPPORT and ENOBUFS of Linux
 abbrev pub error_shortages : List (ℕ × Shortage)
-error_shortages = (23, Descriptors) ∷ (24, Descriptors) ∷ (105, Memory) ∷ []
+error_shortages = (23, Descriptors) ∷ (24, Descriptors) ∷ (97, Network) ∷ (105, Memory) ∷ []
 
 -- numbers of errors are above 0
 abbrev pub number_shortage : Option ℤ → Option Shortage
@@ -25,25 +25,53 @@ abbrev pub system_shortage : ErrorKind → Option ℤ → Option Shortage
 system_shortage OutOfMemory number = Some Memory
 system_shortage AddrNotAvailable number = Some Ports
 system_shortage WouldBlock number = Some Ports
+system_shortage NetworkDown number = Some Network
+system_shortage NetworkUnreachable number = Some Network
+system_shortage PermissionDenied number = Some Network
 system_shortage kind number = number_shortage number
+
+-- What the referee was short of as the lookup of a host failed. It is the resolver's answer, and no shortage, only if it says that there is no
+-- such name. The system's own error has a number.
+abbrev pub lookup_shortage : ErrorKind → Option ℤ → Bool → Option Shortage
+lookup_shortage OutOfMemory number is_unknown = Some Memory
+lookup_shortage kind (Some number) is_unknown = Some (unwrap_or (number_shortage (Some number)) Resolver)
+lookup_shortage kind None true = None
+lookup_shortage kind None false = Some Resolver
 
 abbrev pub short_halt : Option Shortage → Option Halt
 short_halt (Some shortage) = Some (Short shortage)
 short_halt None = None
 
--- a read or a write that ran out of time fails so
-abbrev pub IsTimeOut : ErrorKind → Type 0
-IsTimeOut kind = (kind ≡ TimedOut) ⊎ (kind ≡ WouldBlock)
+-- A read or a write that ran out of time fails so. With a number `TimedOut` is the system's own: it gave the connection up.
+abbrev pub IsTimeOut : ErrorKind → Option ℤ → Type 0
+IsTimeOut kind number = (kind ≡ WouldBlock) ⊎ ((kind ≡ TimedOut) × (number ≡ None))
 
--- a read or a write that ran out of time is late, and one that failed by a shortage is short of it; otherwise the player was the cause
-abbrev pub failed_halt : ErrorKind → Option Shortage → Option Halt
-failed_halt TimedOut shortage = Some Late
-failed_halt WouldBlock shortage = Some Late
-failed_halt kind shortage = short_halt shortage
+-- A read or a write that ran out of time has the halt of one that was late, and one that failed by a shortage is short of it. Otherwise the
+-- player was the cause.
+abbrev pub failed_halt : Halt → ErrorKind → Option ℤ → Option Halt
+failed_halt over WouldBlock number = Some over
+failed_halt over TimedOut None = Some over
+failed_halt over kind number = short_halt (system_shortage kind number)
+
+-- The limit of a read, by the time left. If the referee was not running as the time ended, the read has this long for what is there.
+abbrev pub read_limit : {D : Type 0} → D → Result D Halt → Result D Halt
+read_limit at_once (Err (Short NotRunning)) = Ok at_once
+read_limit at_once left = left
+
+-- The halt of a read that gave bytes, by the time left after it. They count also if the referee was not running as the time ended.
+abbrev pub given_halt : {D : Type 0} → Result D Halt → Option Halt
+given_halt (Err (Short NotRunning)) = None
+given_halt (Err halt) = Some halt
+given_halt (Ok left) = None
+
+-- the halt of a read that ran out of time, by the time left before it
+abbrev pub late_halt : {D : Type 0} → Result D Halt → Halt
+late_halt (Ok left) = Late
+late_halt (Err halt) = halt
 
 -- the codes of shortages, by which threads share one
 abbrev pub shortage_codes : List (ℕ × Shortage)
-shortage_codes = (1, Descriptors) ∷ (2, Ports) ∷ (3, Memory) ∷ (4, Clock) ∷ []
+shortage_codes = (1, Descriptors) ∷ (2, Ports) ∷ (3, Memory) ∷ (4, Clock) ∷ (5, Resolver) ∷ (6, Network) ∷ (7, NotRunning) ∷ []
 
 abbrev pub coded_shortage : ℕ → Option Shortage
 coded_shortage code = shortage_in shortage_codes code

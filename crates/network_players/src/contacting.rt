@@ -1,7 +1,7 @@
 //! A message to a player, on a connection of its own.
 ghost use Rattle.std.specs.Prelude.{◌≡◌};
 ghost use Rattle.std.specs.IoError.{error_kind, raw_os_error};
-ghost use Rattle.network_players.specs.Contacts.{address_fault, fault_so_far, fault_after, halt_fault, outcome_of};
+ghost use Rattle.network_players.specs.Contacts.{address_fault, fault_at_end, fault_so_far, fault_after, halt_fault, lookup_fault, outcome_of};
 
 use crate::deadline::{Deadline, Halt, TimedStream};
 use crate::lookup::Lookup;
@@ -13,7 +13,7 @@ use match_plans::{PlayerAddress, Shortage};
 use shared_text::SharedText;
 use std::alloc::Global;
 use std::io::ErrorKind;
-use std::net::{Net, SocketAddr, TcpStream};
+use std::net::{Ipv4Addr, Ipv6Addr, Net, SocketAddr, TcpStream, UdpSocket};
 use std::time::{Clock, Duration};
 use std::{io, thread};
 use thiserror::Error;
@@ -21,7 +21,7 @@ use thiserror::Error;
 /// Why a message brought no answer.
 #[derive(Clone, Copy, Debug, PartialEq, Eq, Error)]
 pub enum ContactFault {
-    /// No address of the host was found.
+    /// The resolver says that there is no such host.
     #[error("the host has no address")]
     NoAddress,
     /// None of the host's addresses takes a connection. The system may also have given it up before the seconds were over.
@@ -33,6 +33,9 @@ pub enum ContactFault {
     /// The referee was short of this. The message was not sent, or it was sent too late for an answer in time, or its answer was lost.
     #[error("{0}")]
     Shortage(Shortage),
+    /// The player's answers of the match have more bytes than they may have together.
+    #[error("the answers of the match are too long")]
+    OverBudget,
     /// The reply has this status, which is not 200.
     #[error("the status is {0}{note}", note = status_note(*.0))]
     Status(u16),
@@ -58,7 +61,10 @@ pub trait Explains {
     }
 }
 
-/// The pause before another try after a shortage, in milliseconds.
+/// For so many seconds connections that fail are tried again. A player that restarts meanwhile has lost nothing.
+const RETRY_SECONDS: u32 = 2;
+
+/// The pause before another try to connect, in milliseconds.
 const PAUSE_MILLIS: u64 = 50;
 
 /// The limit of tries to connect for one message. With their pauses these take longer than any clock.
@@ -72,6 +78,27 @@ fn halt_fault(halt: Halt) -> ContactFault
 {
     match halt {
         Halt::Late => ContactFault::Late,
+        Halt::Short(shortage) => ContactFault::Shortage(shortage),
+    }
+}
+
+/// The fault of a message whose seconds are over after a try with this fault. It stays, unless it is the player's and the referee is short of
+/// something.
+fn fault_at_end(fault: ContactFault, halt: Halt) -> ContactFault
+    ensures { result ≡ fault_at_end fault halt }
+{
+    match (fault, halt) {
+        (ContactFault::Shortage(_), _) | (_, Halt::Late) => fault,
+        (_, Halt::Short(shortage)) => ContactFault::Shortage(shortage),
+    }
+}
+
+/// The fault of a message whose host was looked up until its seconds were over. The program waited for this, so it is late.
+fn lookup_fault(halt: Halt) -> ContactFault
+    ensures { result ≡ lookup_fault halt }
+{
+    match halt {
+        Halt::Late | Halt::Short(Shortage::NotRunning) => ContactFault::Late,
         Halt::Short(shortage) => ContactFault::Shortage(shortage),
     }
 }
@@ -90,16 +117,37 @@ fn address_fault(error: &io::Error) -> ContactFault
     }
 }
 
-/// The fault of all addresses so far. `before` is that of the earlier ones, `last` that of the last one. A lack of ports counts only if
-/// no address gave another fault.
+/// Whether this computer has a route to the address. Without one the system refuses even a socket that sends nothing.
+fn has_route<N: Net>(net: &N, address: &SocketAddr) -> bool {
+    let any = match address {
+        SocketAddr::V4(_) => SocketAddr::from((Ipv4Addr::UNSPECIFIED, 0)),
+        SocketAddr::V6(_) => SocketAddr::from((Ipv6Addr::UNSPECIFIED, 0)),
+    };
+    match UdpSocket::bind(net, any) {
+        Ok(socket) => socket.connect(*address).is_ok(),
+        Err(_) => false,
+    }
+}
+
+/// The fault of an address to which no connection was made. If this computer has a route there and the network is said to be unreachable, a
+/// router on the way says so: that is no lack of the referee's.
+fn fault_of<N: Net>(net: &N, address: &SocketAddr, error: &io::Error) -> ContactFault {
+    match error.kind() {
+        ErrorKind::NetworkUnreachable if has_route(net, address) => ContactFault::NoConnection,
+        _ => address_fault(error),
+    }
+}
+
+/// The fault of all addresses so far. `before` is that of the earlier ones, `last` that of the last one. A lack of ports or of a network
+/// counts only if no address gave another fault.
 fn fault_so_far(before: ContactFault, last: ContactFault) -> ContactFault
     ensures { result ≡ fault_so_far before last }
 {
     match (before, last) {
-        (ContactFault::Shortage(Shortage::Ports), last) => last,
+        (ContactFault::Shortage(Shortage::Ports | Shortage::Network), last) => last,
         (ContactFault::Shortage(shortage), _) => ContactFault::Shortage(shortage),
         (ContactFault::NoAddress, last) => last,
-        (before, ContactFault::Shortage(Shortage::Ports)) => before,
+        (before, ContactFault::Shortage(Shortage::Ports | Shortage::Network)) => before,
         (_, last) => last,
     }
 }
@@ -147,7 +195,7 @@ fn connect_once<N: Net + Clock>(
         };
         match TcpStream::connect_timeout(net, address, left) {
             Ok(stream) => return Ok(stream),
-            Err(error) => fault = fault_so_far(fault, address_fault(&error)),
+            Err(error) => fault = fault_so_far(fault, fault_of(net, address, &error)),
         }
     }
     Err(fault)
@@ -160,7 +208,43 @@ struct Errand<'a> {
     deadline: Deadline,
 }
 
-/// Connects to the player within the time left. Tries again while the referee is short of something, and notes this in `waited`.
+/// Looks up the player's host, unless it is known already. Its addresses count only if the message has time left for them.
+fn find_host<N: Net + Clock>(
+    net: &N,
+    alloc: Global,
+    errand: Errand<'_>,
+    lookup: &mut Lookup,
+) -> Result<(), ContactFault> {
+    if lookup.is_known() {
+        return Ok(());
+    }
+    if let Err(shortage) = lookup.look_up(net, alloc, errand.player) {
+        return Err(ContactFault::Shortage(shortage));
+    }
+    match errand.deadline.left(net) {
+        Ok(_) => Ok(()),
+        Err(halt) => Err(lookup_fault(halt)),
+    }
+}
+
+/// Pauses before another try to connect. The error is the fault of the message if it has no time left for one; `fault` is that of this try.
+fn pause<N: Clock>(net: &N, deadline: Deadline, fault: ContactFault) -> Result<(), ContactFault> {
+    let pause = Duration::from_millis(PAUSE_MILLIS);
+    let paused = match deadline.left(net) {
+        Ok(left) => {
+            thread::sleep(net, left.min(pause));
+            deadline.left(net)
+        }
+        Err(halt) => Err(halt),
+    };
+    match paused {
+        Ok(_) => Ok(()),
+        Err(halt) => Err(fault_at_end(fault, halt)),
+    }
+}
+
+/// Connects to the player within the time left. Tries again while the referee is short of something, and notes this in `waited`. Where the
+/// player takes no connection it is tried again for some seconds, since the message began or since such a shortage.
 fn connect<N: Net + Clock>(
     net: &N,
     alloc: Global,
@@ -168,22 +252,31 @@ fn connect<N: Net + Clock>(
     lookup: &mut Lookup,
     waited: &mut Option<Shortage>,
 ) -> Result<N::Stream, ContactFault> {
-    let Errand { player, deadline } = errand;
+    let mut patience = Deadline::within(net, RETRY_SECONDS).map_err(ContactFault::Shortage)?;
+    let mut before = ContactFault::Late;
     for _ in 0..MAX_CONNECTS {
-        let connected = match lookup.look_up(net, alloc, player) {
-            Ok(()) => connect_once(net, lookup.addresses(), deadline),
-            Err(shortage) => Err(ContactFault::Shortage(shortage)),
+        let connected = match find_host(net, alloc, errand, lookup) {
+            Ok(()) => connect_once(net, lookup.addresses(), errand.deadline),
+            Err(fault) => Err(fault),
         };
-        let Err(ContactFault::Shortage(shortage)) = connected else {
-            return connected;
+        let fault = match connected {
+            Ok(stream) => return Ok(stream),
+            Err(fault) => fault,
         };
-        *waited = Some(shortage);
-        match deadline.left(net) {
-            Ok(left) => thread::sleep(net, left.min(Duration::from_millis(PAUSE_MILLIS))),
-            Err(halt) => return Err(halt_fault(halt)),
+        match fault {
+            ContactFault::Shortage(shortage) => {
+                *waited = Some(shortage);
+                patience = Deadline::within(net, RETRY_SECONDS).map_err(ContactFault::Shortage)?;
+            }
+            ContactFault::NoConnection if patience.left(net).is_ok() => {}
+            // There was no time left for this try.
+            ContactFault::Late => return Err(before),
+            _ => return Err(fault),
         }
+        pause(net, errand.deadline, fault)?;
+        before = fault;
     }
-    Err(ContactFault::Late)
+    Err(before)
 }
 
 /// Sends the player the message and reads its answer, over the connection.

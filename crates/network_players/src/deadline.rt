@@ -1,16 +1,16 @@
 //! One deadline for all steps of a message.
-ghost use Rattle.std.specs.Prelude.{◌≡◌, ◌+◌, ◌-◌, ◌*◌, ◌<◌, ◌≤◌, ◌↔◌, ◌⊎◌, ◌++◌, Err, IfErr, IfOk, IfSome, IsOkAnd, IsSome, MatchResult, None, OnErr, OnOk, take};
+ghost use Rattle.std.specs.Prelude.{◌≡◌, ◌+◌, ◌-◌, ◌*◌, ◌<◌, ◌≤◌, ◌↔◌, ◌⊎◌, ◌++◌, Err, IfErr, IfOk, IfSome, IsOkAnd, IsSome, IsTrue, MatchResult, None, OnErr, OnOk, take};
 ghost use Rattle.std.specs.Duration.{as_nanos};
 ghost use Rattle.std.specs.Io.{ReadsAtMost, WritesAtMost};
 ghost use Rattle.std.specs.Io.KnownBytes.{ReadConsumes, WriteAppends};
-ghost use Rattle.std.specs.IoError.{error_kind};
-ghost use Rattle.match_plans.specs.declared.shortages.Shortage.TheVariants.{Clock};
+ghost use Rattle.std.specs.IoError.{error_kind, raw_os_error};
+ghost use Rattle.match_plans.specs.declared.shortages.Shortage.TheVariants.{Clock, NotRunning};
 ghost use Rattle.network_players.specs.Fronts.{reply_status};
-ghost use Rattle.network_players.specs.Shortages.{IsTimeOut, failed_halt};
+ghost use Rattle.network_players.specs.Shortages.{IsTimeOut, failed_halt, given_halt, late_halt, read_limit};
 ghost use Rattle.network_players.specs.declared.deadline.Halt.TheVariants.{Late, Short};
 
 use crate::reply_front::ReplyFront;
-use crate::shortage::shortage_of;
+use crate::shortage::system_shortage;
 use match_plans::Shortage;
 use std::io;
 use std::io::{ErrorKind, Read, Write};
@@ -28,6 +28,22 @@ fn left_of(limit: Duration, passed: Duration) -> Option<Duration>
     }
 }
 
+/// For so long after the end of its limit a step may still be woken, in milliseconds. If it is woken later, the program was not running.
+const WAKING_MILLIS: u64 = 100;
+
+/// The limit of a read that takes only what is there, in milliseconds.
+const AT_ONCE_MILLIS: u64 = 1;
+
+/// Whether more than a tenth of a second has passed since the end of the limit.
+fn is_long_over(limit: Duration, passed: Duration) -> bool
+    ensures { IsTrue result ↔ (as_nanos limit + 100_000_000 < as_nanos passed) }
+{
+    match passed.checked_sub(limit) {
+        Some(over) => over > Duration::from_millis(WAKING_MILLIS),
+        None => false,
+    }
+}
+
 /// Why a step of a message does not count, whatever its result is.
 #[derive(Clone, Copy, PartialEq, Eq)]
 pub enum Halt {
@@ -37,18 +53,21 @@ pub enum Halt {
     Short(Shortage),
 }
 
-/// The rest of a limit after the time `passed`. The error is `Late` if nothing is left, and `Short` if that time is not known.
+/// The rest of a limit after the time `passed`. Without any the error is `Late`, or `NotRunning` if the limit has long been over. The error is
+/// `Clock` if that time is not known.
 fn left_in(limit: Duration, passed: io::Result<Duration>) -> Result<Duration, Halt>
     ensures some { IfOk result (λ left. 0 < as_nanos left) }
     ensures within { IfOk result (λ left. as_nanos left ≤ as_nanos limit) }
-    ensures halts { IfErr result (λ halt. (halt ≡ Late) ⊎ (halt ≡ Short Clock)) }
+    ensures halts { IfErr result (λ halt. (halt ≡ Late) ⊎ (halt ≡ Short Clock) ⊎ (halt ≡ Short NotRunning)) }
     ensures left { IfOk passed (λ passed. IfOk result (λ left. as_nanos left + as_nanos passed ≡ as_nanos limit)) }
-    ensures late { IfOk passed (λ passed. (result ≡ Err Late) ↔ (as_nanos limit ≤ as_nanos passed)) }
+    ensures late { IfOk passed (λ passed. (result ≡ Err Late) ↔ ((as_nanos limit ≤ as_nanos passed) × (as_nanos passed ≤ as_nanos limit + 100_000_000))) }
+    ensures asleep { IfOk passed (λ passed. (result ≡ Err (Short NotRunning)) ↔ (as_nanos limit + 100_000_000 < as_nanos passed)) }
     ensures unknown { OnErr passed (result ≡ Err (Short Clock)) }
 {
     match passed {
         Ok(passed) => match left_of(limit, passed) {
             Some(left) => Ok(left),
+            None if is_long_over(limit, passed) => Err(Halt::Short(Shortage::NotRunning)),
             None => Err(Halt::Late),
         },
         Err(_) => Err(Halt::Short(Shortage::Clock)),
@@ -85,32 +104,63 @@ impl Deadline {
         deadline_from(Instant::now(clock), seconds)
     }
 
-    /// The time left, which is above 0. The error is `Late` if none is left, and `Short` if the clock can't be read.
+    /// The time left, which is above 0. Without any the error is `Late`, or `NotRunning` if the deadline is more than a tenth of a second ago.
+    /// It is `Clock` if the clock can't be read.
     pub fn left(&self, clock: &impl Clock) -> Result<Duration, Halt>
         ensures some { IfOk result (λ left. 0 < as_nanos left) }
         ensures within { IfOk result (λ left. as_nanos left ≤ as_nanos self.now.limit) }
-        ensures halts { IfErr result (λ halt. (halt ≡ Late) ⊎ (halt ≡ Short Clock)) }
+        ensures halts { IfErr result (λ halt. (halt ≡ Late) ⊎ (halt ≡ Short Clock) ⊎ (halt ≡ Short NotRunning)) }
     {
         left_in(self.limit, self.start.elapsed(clock))
     }
 }
 
-/// The halt of a failed read or write, by the error's kind and by the shortage that it reports, if it does. `None` if the player caused
-/// the failure.
-fn failed_halt(kind: ErrorKind, shortage: Option<Shortage>) -> Option<Halt>
-    ensures { result ≡ failed_halt kind shortage }
+/// The halt of a failed read or write, by the error's kind and its number; `late` is that of one which ran out of time. `None` if the player
+/// caused the failure. A connection that the system gave up by a limit of its own counts as closed by the player.
+fn failed_halt(late: Halt, kind: ErrorKind, number: Option<i32>) -> Option<Halt>
+    ensures { result ≡ failed_halt late kind number }
 {
-    match kind {
-        ErrorKind::TimedOut | ErrorKind::WouldBlock => Some(Halt::Late),
-        _ => match shortage {
+    match (kind, number) {
+        (ErrorKind::WouldBlock, _) | (ErrorKind::TimedOut, None) => Some(late),
+        _ => match system_shortage(kind, number) {
             Some(shortage) => Some(Halt::Short(shortage)),
             None => None,
         },
     }
 }
 
+/// The limit of a read, by the time left. If the referee was not running as the time ended, the read takes what is there at once.
+fn read_limit(left: Result<Duration, Halt>) -> Result<Duration, Halt>
+    ensures { (at_once : Duration) → as_nanos at_once ≡ 1_000_000 → result ≡ read_limit at_once left }
+{
+    match left {
+        Err(Halt::Short(Shortage::NotRunning)) => Ok(Duration::from_millis(AT_ONCE_MILLIS)),
+        left => left,
+    }
+}
+
+/// The halt of a read that gave bytes, by the time left after it. What is there once the referee runs again counts.
+fn given_halt(left: Result<Duration, Halt>) -> Option<Halt>
+    ensures { result ≡ given_halt left }
+{
+    match left {
+        Ok(_) | Err(Halt::Short(Shortage::NotRunning)) => None,
+        Err(halt) => Some(halt),
+    }
+}
+
+/// The halt of a read that ran out of time, by the time left before it. The referee was not running if nothing was there at once.
+fn late_halt(left: Result<Duration, Halt>) -> Halt
+    ensures { result ≡ late_halt left }
+{
+    match left {
+        Ok(_) => Halt::Late,
+        Err(halt) => halt,
+    }
+}
+
 /// A stream with one deadline for all its reads and writes. The limit of each read and write is the time left. The bytes of a read count
-/// only if it ended before the deadline.
+/// only if it ended before the deadline, or if the program was not running as the deadline passed and found them once it ran again.
 #[derive(Drop)]
 pub struct TimedStream<'a, C, S> {
     clock: &'a C,
@@ -135,13 +185,13 @@ impl<'a, C: Clock, S: OpenStream> TimedStream<'a, C, S> {
         }
     }
 
-    /// The time left for a read or a write. Without any the error is `TimedOut`, and the halt is noted.
-    fn time_left(&mut self) -> io::Result<Duration>
+    /// The limit of a read or a write. Without any the error is `TimedOut`, and the halt is noted.
+    fn limit(&mut self, limit: Result<Duration, Halt>) -> io::Result<Duration>
         ensures kept { (self.new.stream ≡ self.old.stream) × (self.new.front ≡ self.old.front) }
         ensures halted { OnErr result (IsSome self.new.halt) }
     {
-        match self.deadline.left(self.clock) {
-            Ok(left) => Ok(left),
+        match limit {
+            Ok(limit) => Ok(limit),
             Err(halt) => {
                 self.halt = Some(halt);
                 Err(io::Error::from(ErrorKind::TimedOut))
@@ -171,19 +221,22 @@ impl<C: Clock, S: Read + OpenStream> Read for TimedStream<'_, C, S> {
         ensures bound { ReadsAtMost result buf.new }
         ensures bytes { ReadConsumes (S.remaining self.old.stream) (S.remaining self.new.stream) result buf.new }
         ensures front { IfOk result (λ count. take self.new.front.count self.new.front.bytes ≡ take self.old.front.count self.old.front.bytes ++ take (64 - self.old.front.count) (take count buf.new)) }
-        ensures late { IfErr result (λ error. IsTimeOut (error_kind error) → IsSome self.new.halt) }
+        ensures late { IfErr result (λ error. IsTimeOut (error_kind error) (raw_os_error error) → IsSome self.new.halt) }
     {
-        let left = self.time_left()?;
-        let given = match self.stream.set_read_timeout(Some(left)) {
+        let left = self.deadline.left(self.clock);
+        let limit = self.limit(read_limit(left))?;
+        let given = match self.stream.set_read_timeout(Some(limit)) {
             Ok(()) => self.stream.read(buf),
             Err(error) => Err(error),
         };
         match &given {
             Ok(count) => {
-                self.halt = self.deadline.left(self.clock).err();
+                self.halt = given_halt(self.deadline.left(self.clock));
                 self.front.note(&buf[..*count]);
             }
-            Err(error) => self.halt = failed_halt(error.kind(), shortage_of(error)),
+            Err(error) => {
+                self.halt = failed_halt(late_halt(left), error.kind(), error.raw_os_error());
+            }
         }
         given
     }
@@ -196,16 +249,17 @@ impl<C: Clock, S: Write + OpenStream> Write for TimedStream<'_, C, S> {
         ensures bound { WritesAtMost result buf.now }
         ensures bytes { WriteAppends (S.contents self.old.stream) (S.contents self.new.stream) result buf.now }
         ensures counts { OnOk result (self.new.halt ≡ None) }
-        ensures late { IfErr result (λ error. IsTimeOut (error_kind error) → IsSome self.new.halt) }
+        ensures late { IfErr result (λ error. IsTimeOut (error_kind error) (raw_os_error error) → IsSome self.new.halt) }
     {
-        let left = self.time_left()?;
-        let taken = match self.stream.set_write_timeout(Some(left)) {
+        let left = self.deadline.left(self.clock);
+        let limit = self.limit(left)?;
+        let taken = match self.stream.set_write_timeout(Some(limit)) {
             Ok(()) => self.stream.write(buf),
             Err(error) => Err(error),
         };
         self.halt = match &taken {
             Ok(_) => None,
-            Err(error) => failed_halt(error.kind(), shortage_of(error)),
+            Err(error) => failed_halt(Halt::Late, error.kind(), error.raw_os_error()),
         };
         taken
     }

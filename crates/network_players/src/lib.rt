@@ -5,6 +5,7 @@
 //! Free functions take the allocator first, after a handle for waiting or the network.
 #![tactic(auto)]
 
+mod answer_budget;
 mod contacting;
 mod deadline;
 mod lookup;

@@ -1,7 +1,7 @@
 //! The errors of the system that are shortages of the referee.
 ghost use Rattle.std.specs.Prelude.{◌≡◌, Some};
 ghost use Rattle.std.specs.IoError.{error_kind, raw_os_error};
-ghost use Rattle.network_players.specs.Shortages.{coded_shortage, error_shortages, shortage_in, system_shortage};
+ghost use Rattle.network_players.specs.Shortages.{coded_shortage, error_shortages, lookup_shortage, shortage_in, system_shortage};
 
 use match_plans::Shortage;
 use std::io;
@@ -14,6 +14,8 @@ fn error_shortage(number: u32) -> Option<Shortage>
     match number {
         // ENFILE and EMFILE.
         23 | 24 => Some(Shortage::Descriptors),
+        // EAFNOSUPPORT.
+        97 => Some(Shortage::Network),
         // ENOBUFS.
         105 => Some(Shortage::Memory),
         _ => None,
@@ -21,12 +23,15 @@ fn error_shortage(number: u32) -> Option<Shortage>
 }
 
 /// The shortage of an error with this kind, and with this number if it has one.
-fn system_shortage(kind: ErrorKind, number: Option<i32>) -> Option<Shortage>
+pub(crate) fn system_shortage(kind: ErrorKind, number: Option<i32>) -> Option<Shortage>
     ensures { result ≡ system_shortage kind number }
 {
     match kind {
         ErrorKind::OutOfMemory => Some(Shortage::Memory),
         ErrorKind::AddrNotAvailable | ErrorKind::WouldBlock => Some(Shortage::Ports),
+        ErrorKind::NetworkDown | ErrorKind::NetworkUnreachable | ErrorKind::PermissionDenied => {
+            Some(Shortage::Network)
+        }
         _ => match number {
             Some(number) => error_shortage(number.unsigned_abs()),
             None => None,
@@ -41,6 +46,26 @@ pub fn shortage_of(error: &io::Error) -> Option<Shortage>
     system_shortage(error.kind(), error.raw_os_error())
 }
 
+/// What the referee was short of as the lookup of a host failed, by the error's kind and its number. `None` if the resolver says that there
+/// is no such name, `is_unknown`: this has no number. Every other failure says nothing of the host.
+pub(crate) fn lookup_shortage(
+    kind: ErrorKind,
+    number: Option<i32>,
+    is_unknown: bool,
+) -> Option<Shortage>
+    ensures { result ≡ lookup_shortage kind number is_unknown }
+{
+    match (kind, number) {
+        (ErrorKind::OutOfMemory, _) => Some(Shortage::Memory),
+        (_, Some(number)) => {
+            let known = error_shortage(number.unsigned_abs());
+            Some(known.unwrap_or(Shortage::Resolver))
+        }
+        (_, None) if is_unknown => None,
+        (_, None) => Some(Shortage::Resolver),
+    }
+}
+
 /// The code of a shortage, by which threads share it.
 pub(crate) fn code_of(shortage: Shortage) -> u64
     ensures { coded_shortage result ≡ Some shortage }
@@ -50,6 +75,9 @@ pub(crate) fn code_of(shortage: Shortage) -> u64
         Shortage::Ports => 2,
         Shortage::Memory => 3,
         Shortage::Clock => 4,
+        Shortage::Resolver => 5,
+        Shortage::Network => 6,
+        Shortage::NotRunning => 7,
     }
 }
 
@@ -62,6 +90,9 @@ pub(crate) fn coded(code: u64) -> Option<Shortage>
         2 => Some(Shortage::Ports),
         3 => Some(Shortage::Memory),
         4 => Some(Shortage::Clock),
+        5 => Some(Shortage::Resolver),
+        6 => Some(Shortage::Network),
+        7 => Some(Shortage::NotRunning),
         _ => None,
     }
 }

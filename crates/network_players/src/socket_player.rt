@@ -1,7 +1,10 @@
 //! Players that are reached over the network.
-ghost use Rattle.std.specs.Prelude.{◌≡◌, ◌<◌, Err, IsOkAnd, IsTrue, MatchOption, None, length};
-ghost use Rattle.network_players.specs.Contacts.{IsText, answer_of, contact_answer};
+ghost use Rattle.std.specs.Prelude.{◌≡◌, ◌<◌, Err, IfErr, IfOk, IsOkAnd, IsTrue, MatchOption, MatchResult, None, OnErr, length};
+ghost use Rattle.network_players.specs.Budgets.{IsPaidBy, IsPaidText};
+ghost use Rattle.network_players.specs.Contacts.{answer_of, contact_answer};
+ghost use Rattle.network_players.specs.declared.contacting.ContactFault.TheVariants.{OverBudget};
 
+use crate::answer_budget::AnswerBudget;
 use crate::contacting::{ContactFault, Explains, contact_found};
 use crate::lookup::Lookup;
 use crate::signal::{Pace, Signal};
@@ -39,6 +42,7 @@ pub struct SocketPlayer<'a, H> {
     host: String,
     port: u16,
     lookup: Lookup,
+    budget: AnswerBudget,
     /// Why the last message brought no answer. `None` if it brought one.
     fault: Option<ContactFault>,
 }
@@ -62,7 +66,7 @@ impl<H> TellsShortages for Sockets<'_, H> {
 impl<'a, H: Net + Clock> Reach<SocketPlayer<'a, H>> for Sockets<'a, H> {
     ghost use Rattle.network_players.specs.Players.{IsPlayerAt};
 
-    ghost is_reached = { λ s at address p. IsPlayerAt address p };
+    ghost is_reached = { λ s at address p. IsPlayerAt at address p };
 
     fn player(
         &self,
@@ -82,6 +86,7 @@ impl<'a, H: Net + Clock> Reach<SocketPlayer<'a, H>> for Sockets<'a, H> {
             host,
             port: address.port,
             lookup: Lookup::new(),
+            budget: AnswerBudget::new(at.longest_move),
             fault: None,
         })
     }
@@ -110,9 +115,28 @@ fn contact_answer(reached: Result<Text, ContactFault>) -> Answer
         Err(
             ContactFault::NoAddress
             | ContactFault::NoConnection
+            | ContactFault::OverBudget
             | ContactFault::Shortage(_)
             | ContactFault::Status(_),
         ) => Answer::Broken,
+    }
+}
+
+/// What a message came to once its answer is paid for. An answer for which the budget is not enough is a fault.
+fn paid(
+    budget: &mut AnswerBudget,
+    reached: Result<Text, ContactFault>,
+) -> Result<Text, ContactFault>
+    ensures kept { budget.new.free ≡ budget.old.free }
+    ensures fault { IfErr reached (λ fault. result ≡ Err fault) }
+    ensures spent { OnErr reached (budget.new.spent ≡ budget.old.spent) }
+    ensures paid { IfOk reached (λ text. MatchResult result (λ answer. (answer ≡ text) × IsPaidBy budget.old budget.new answer) (λ fault. (fault ≡ OverBudget) × ¬ (IsPaidBy budget.old budget.new text))) }
+{
+    let text = reached?;
+    if budget.pay(text.as_slice().len()) {
+        Ok(text)
+    } else {
+        Err(ContactFault::OverBudget)
     }
 }
 
@@ -127,7 +151,7 @@ impl<H> Explains for SocketPlayer<'_, H> {
 impl<H: Net + Clock> SocketPlayer<'_, H> {
     /// Hands the message over, and notes why it brought no answer.
     fn hand_over(&mut self, seconds: u32, message: &SharedText<'_>) -> Answer
-        ensures { MatchOption self.new.fault (IsText result) (λ fault. result ≡ contact_answer (Err fault)) }
+        ensures { MatchOption self.new.fault (IsPaidText self.old.budget self.new.budget result) (λ fault. result ≡ contact_answer (Err fault)) }
     {
         self.pace.begin();
         let address = PlayerAddress {
@@ -144,6 +168,7 @@ impl<H: Net + Clock> SocketPlayer<'_, H> {
             message,
         );
         self.pace.end();
+        let reached = paid(&mut self.budget, reached);
         self.fault = reached.as_ref().err().copied();
         if let Some(ContactFault::Shortage(shortage)) = self.fault {
             self.signal.note(shortage);
@@ -157,7 +182,7 @@ impl<H: Net + Clock + Wait> Player for SocketPlayer<'_, H> {
     ghost handed = { λ p. None };
 
     fn ask(&mut self, seconds: u32, body: &[u8]) -> Answer
-        ensures { MatchOption self.new.fault (IsText result) (λ fault. result ≡ contact_answer (Err fault)) }
+        ensures { MatchOption self.new.fault (IsPaidText self.old.budget self.new.budget result) (λ fault. result ≡ contact_answer (Err fault)) }
     {
         self.hand_over(seconds, &SharedText::lent(self.alloc, body))
     }
@@ -168,7 +193,7 @@ impl<H: Net + Clock + Wait> Player for SocketPlayer<'_, H> {
         seconds: u32,
         message: &SharedText<'_>,
     ) -> Result<Answer, AllocError>
-        ensures { IsOkAnd result (λ answer. MatchOption self.new.fault (IsText answer) (λ fault. answer ≡ contact_answer (Err fault))) }
+        ensures { IsOkAnd result (λ answer. MatchOption self.new.fault (IsPaidText self.old.budget self.new.budget answer) (λ fault. answer ≡ contact_answer (Err fault))) }
     {
         Ok(self.hand_over(seconds, message))
     }

@@ -6,7 +6,7 @@ use crate::bits::BitRow;
 use crate::lookups::{choose, find_goal, mark, pick};
 use crate::packed_rules::PackedRules;
 use crate::state::PackedState;
-use game_core::Game;
+use game_core::{Game, Text};
 use ground_rules::tables::Mention;
 use ground_rules::vocabulary::Vocabulary;
 use ground_rules::{GroundGame, GroundMove};
@@ -140,6 +140,13 @@ impl PackedGame {
         ensures { map expression result.now ≡ sentences_of self.now }
     {
         self.vocabulary.description.as_slice()
+    }
+
+    /// The texts of the moves in the heads of `legal`, each once, by the numbers of their terms.
+    pub fn move_texts(&self) -> &[Text]
+        ensures { result.now ≡ (tables_of self.now).moves }
+    {
+        self.vocabulary.moves.as_slice()
     }
 
     /// The game of this vocabulary and these rules.

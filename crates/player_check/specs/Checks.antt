@@ -45,7 +45,7 @@ pub record AreTurnsIn (H : Type 0) {P : Type 0} (is_reached : RolePlace → Play
   pub setup : Setup
   pub is_setup : IsSetupOf made setup
   pub participants : List (Participant H P)
-  pub reached : AreReached (is_watched H is_reached role) 0 made participants
+  pub reached : AreReached (is_watched H is_reached role) game.longest_move 0 made participants
   pub played : ArePlayedTurns (watched_handed H handed) game.game.now game.rules.now.items max_tries setup participants role turns
 
 -- These are the rows, and this is the number of bad answers, of some exchanges and turns of a role. Which exchanges there were is not

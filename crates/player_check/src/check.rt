@@ -185,7 +185,13 @@ where
         exchanges: &exchanges,
     };
     let match_plan = match_plan(alloc, plan, id.as_str(), role, game.game.roles())?;
-    let entrants: Entrants<Participant<'_, H, P>> = entrants_of(alloc, &watching, 0, &match_plan)?;
+    let entrants: Entrants<Participant<'_, H, P>> = entrants_of(
+        alloc,
+        &watching,
+        game,
+        0,
+        &match_plan,
+    )?;
     let turns = played_turns(rt, alloc, &watching, entrants, game, role)?;
     let exchanges = exchanges.lock(rt);
     Ok(push_rows(alloc, table, game.game.role_name(role), &exchanges, &turns)?)

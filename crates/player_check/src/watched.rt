@@ -1,5 +1,6 @@
 //! A watched player, among players that answer nothing.
-ghost use Rattle.std.specs.Prelude.{◌≡◌, ◌==◌, ◌↔◌, ◌⊎◌, ◌++◌, ◌∷◌, [], IfOk, IfSome, IsTrue, OnErr, is_some, string_bytes};
+ghost use Rattle.std.specs.Prelude.{◌≡◌, ◌==◌, ◌↔◌, ◌⊎◌, ◌++◌, ◌∷◌, ◌+◌, ◌-◌, ◌^◌, ◌/◌, [], IfOk, IfSome, IsFalse, IsTrue, min, OnErr, is_some, string_bytes};
+ghost use Rattle.std.specs.Duration.{as_nanos};
 ghost use mathlib.Core.List.{IsPrefix};
 ghost use Rattle.match_log.specs.ShownTexts.{shown_text};
 ghost use Rattle.match_messages.specs.MessageKinds.{kind_word};
@@ -15,7 +16,7 @@ use role_workers::Player;
 use shared_text::SharedText;
 use std::alloc::{AllocError, Global};
 use std::sync::{Mutex, Wait};
-use std::time::{Clock, Instant};
+use std::time::{Clock, Duration, Instant};
 
 /// What a message brought.
 #[derive(Clone, Copy)]
@@ -105,12 +106,12 @@ fn exchange_of(
     message: &SharedText<'_>,
     answer: &Answer,
     fault: Option<ContactFault>,
-    millis: u128,
+    took: Duration,
 ) -> Result<Exchange, AllocError>
     ensures asks { IfOk result (λ exchange. IsTrue exchange.is_play ↔ IsPrefix (kind_word Play) message.now) }
     ensures brought { IfOk result (λ exchange. exchange.brought ≡ brought_by answer.now) }
     ensures shown { IfOk result (λ exchange. (string_bytes exchange.message ≡ shown_text message.now) × (string_bytes exchange.answer ≡ shown_text (answer_text answer.now))) }
-    ensures given { IfOk result (λ exchange. (exchange.fault ≡ fault) × (exchange.millis ≡ millis)) }
+    ensures given { IfOk result (λ exchange. (exchange.fault ≡ fault) × (exchange.millis ≡ as_nanos took / 1_000_000)) }
 {
     let (brought, text) = brought_of(answer);
     Ok(Exchange {
@@ -119,7 +120,7 @@ fn exchange_of(
         answer: format!(in alloc; "{}", Shown::text(text))?,
         brought,
         fault,
-        millis,
+        millis: took.as_millis(),
     })
 }
 
@@ -178,11 +179,24 @@ impl<H, S: TellsShortages> TellsShortages for Watching<'_, H, S> {
 }
 
 impl<H: Clock + Wait, P: Explains> Participant<'_, H, P> {
-    /// Keeps the exchange of a message that was handed over at the time `began`, if the player is watched.
-    fn keep(&self, message: &SharedText<'_>, answer: &Answer, began: Option<Instant>) {
+    /// Notes that a message is handed over now. Returns the present time, if the clock can be read.
+    fn begin(&mut self) -> Option<Instant>
+        ensures begun { self.new.pace.messages ≡ min (2 ^ 64 - 1) (self.old.pace.messages + 1) }
+        ensures watched { self.new.watched ≡ self.old.watched }
+    {
+        self.pace.begin();
+        Instant::now(self.rt).ok()
+    }
+
+    /// Notes the answer to a message that was handed over at the time `began`. Keeps the exchange, if the player is watched.
+    fn end(&mut self, message: &SharedText<'_>, answer: &Answer, began: Option<Instant>)
+        ensures ended { IsFalse self.new.pace.has_rested }
+        ensures watched { self.new.watched ≡ self.old.watched }
+    {
+        self.pace.end();
         if let Some(player) = &self.watched {
-            let millis = time_since(self.rt, began).as_millis();
-            let exchange = exchange_of(self.alloc, message, answer, player.why(), millis);
+            let took = time_since(self.rt, began);
+            let exchange = exchange_of(self.alloc, message, answer, player.why(), took);
             self.exchanges.lock(self.rt).keep(exchange);
         }
     }
@@ -194,14 +208,12 @@ impl<H: Clock + Wait, P: Player + Explains> Player for Participant<'_, H, P> {
     ghost handed = { λ p. watched_handed H P.handed p };
 
     fn ask(&mut self, seconds: u32, body: &[u8]) -> Answer {
-        self.pace.begin();
-        let began = Instant::now(self.rt).ok();
+        let began = self.begin();
         let answer = match &mut self.watched {
             Some(player) => player.ask(seconds, body),
             None => Answer::Silent,
         };
-        self.pace.end();
-        self.keep(&SharedText::lent(self.alloc, body), &answer, began);
+        self.end(&SharedText::lent(self.alloc, body), &answer, began);
         answer
     }
 
@@ -211,15 +223,13 @@ impl<H: Clock + Wait, P: Player + Explains> Player for Participant<'_, H, P> {
         seconds: u32,
         message: &SharedText<'_>,
     ) -> Result<Answer, AllocError> {
-        self.pace.begin();
-        let began = Instant::now(self.rt).ok();
+        let began = self.begin();
         let asked = match &mut self.watched {
             Some(player) => player.ask_shared(alloc, seconds, message),
             None => Ok(Answer::Silent),
         };
-        self.pace.end();
         let answer = asked?;
-        self.keep(message, &answer, began);
+        self.end(message, &answer, began);
         Ok(answer)
     }
 

@@ -247,9 +247,9 @@ where
     ensures { OnOk result (AreGivenUp W.Wire others.now own.old own.new) }
 {
     let given_up = give_up_all(alloc, own, others);
-    if given_up.is_err() {
+    if let Err(fault) = given_up {
         // Roles that are not given up hold the match up for good, so the other workers are stopped.
-        desk.stop();
+        desk.stop(fault);
     }
     desk.serve_until(rt, handles.len() as u64);
     for handle in handles {

@@ -5,12 +5,14 @@ ghost use Rattle.call_history.specs.Rounds.{RingDeskValue, Visits};
 ghost use Rattle.desk_calls.specs.declared.call.Call.{Call};
 ghost use Rattle.desk_calls.specs.declared.call.Reply.{Reply};
 ghost use Rattle.role_workers.specs.SharedDesks.{IsDeskAfter};
+ghost use Rattle.role_workers.specs.Internal.ShortRounds.{rounds_left, stops_for};
 
+use crate::attend_fault::AttendFault;
 use call_history::laws::desks_stay;
-use call_history::{Bell, CallFault, DeskFault, Object, Pause, RingDesk};
+use call_history::{AskFault, Bell, CallFault, DeskFault, Object, Pause, RingDesk};
 use desk_calls::{Call, Reply};
 use std::marker::{Brand, PhantomData};
-use std::sync::atomic::{AtomicU64, Ordering};
+use std::sync::atomic::{AtomicBool, Ordering};
 use std::sync::{Mutex, Wait};
 use std::time::Duration;
 
@@ -35,19 +37,47 @@ impl<O> Naming<O> for Brand {
 #[derive(Drop)]
 struct NamedDesk<O: Object<Call = Call, Reply = Reply>, N: Naming<O>> {
     desk: RingDesk<O>,
+    /// How many more rounds in a row may have no memory for a call.
+    rounds_left: u64,
     of: PhantomData<N>,
     ghost same: { ForSome N.desk (λ first. IsDeskAfter O.opening first desk) },
 }
 
 impl<O: Object<Call = Call, Reply = Reply>, N: Naming<O>> NamedDesk<O, N> {
-    /// Serves a round. No line before the one at which it stops is left out.
+    /// Serves a round, and counts it. No line before the one at which it stops is left out.
     fn round(&mut self) -> Result<u64, DeskFault>
         ensures visits { MatchResult result
             (λ _. Visits self.old.desk.journal.history self.new.desk.journal.history self.old.desk.ports self.new.desk.ports (length self.old.desk.ports))
             (λ fault. Visits self.old.desk.journal.history self.new.desk.journal.history self.old.desk.ports self.new.desk.ports fault.line) }
+        ensures counted { self.new.rounds_left ≡ rounds_left self.old.rounds_left result }
     {
         desks_stay::<O>();
-        self.desk.round()
+        let served = self.desk.round();
+        self.rounds_left = rounds_left(self.rounds_left, &served);
+        served
+    }
+
+    /// Whether the desk stops after a round with this fault.
+    fn stops_for(&self, cause: CallFault) -> bool
+        ensures { result ≡ stops_for self.now.rounds_left cause }
+    {
+        match cause {
+            CallFault::Full => true,
+            CallFault::Memory => self.rounds_left == 0,
+        }
+    }
+}
+
+/// How many more rounds in a row may have no memory for a call, after a round with this result.
+fn rounds_left(before: u64, served: &Result<u64, DeskFault>) -> u64
+    ensures { result ≡ rounds_left before served.now }
+{
+    match served {
+        Ok(_) => MAX_SHORT_ROUNDS,
+        Err(fault) => match fault.cause {
+            CallFault::Full => MAX_SHORT_ROUNDS,
+            CallFault::Memory => before.saturating_sub(1),
+        },
     }
 }
 
@@ -56,8 +86,8 @@ impl<O: Object<Call = Call, Reply = Reply>, N: Naming<O>> NamedDesk<O, N> {
 pub struct SharedDesk<O: Object<Call = Call, Reply = Reply>, N: Naming<O>> {
     locked: Mutex<NamedDesk<O, N>>,
     bell: Bell,
-    /// The number of rounds that had no memory for a call, since the last one that had. It stays at its limit.
-    short_rounds: AtomicU64,
+    /// Whether the desk was stopped for want of memory.
+    is_short: AtomicBool,
 }
 
 impl<O: Object<Call = Call, Reply = Reply>, N: Naming<O>> SharedDesk<O, N> {
@@ -68,12 +98,13 @@ impl<O: Object<Call = Call, Reply = Reply>, N: Naming<O>> SharedDesk<O, N> {
         desks_stay::<O>();
         let named = NamedDesk {
             desk,
+            rounds_left: MAX_SHORT_ROUNDS,
             of: PhantomData,
         };
         SharedDesk {
             locked: Mutex::new(named),
             bell: Bell::new(),
-            short_rounds: AtomicU64::new(0),
+            is_short: AtomicBool::new(false),
         }
     }
 
@@ -85,32 +116,25 @@ impl<O: Object<Call = Call, Reply = Reply>, N: Naming<O>> SharedDesk<O, N> {
             return false;
         };
         let served = named.round();
-        self.count_short(served.is_err());
         if let Err(DeskFault { cause, .. }) = served {
-            if cause == CallFault::Full || self.is_short() {
-                self.stop();
+            if named.stops_for(cause) {
+                self.stop(AttendFault::from(AskFault::from(cause)));
             }
         }
         served.is_ok()
     }
 
-    /// Counts a round, under the lock.
-    fn count_short(&self, was_short: bool) {
-        let count = self.short_rounds.load(Ordering::SeqCst);
-        if count < MAX_SHORT_ROUNDS {
-            let next = if was_short { count + 1 } else { 0 };
-            self.short_rounds.store(next, Ordering::SeqCst);
+    /// Ends the work of all threads over this desk because of this fault: a wire that waits for a reply, or makes a further call, stalls.
+    pub fn stop(&self, fault: AttendFault) {
+        if fault == AttendFault::Memory {
+            self.is_short.store(true, Ordering::SeqCst);
         }
-    }
-
-    /// Whether the desk was stopped since too many rounds in a row had no memory for a call.
-    pub fn is_short(&self) -> bool {
-        self.short_rounds.load(Ordering::SeqCst) >= MAX_SHORT_ROUNDS
-    }
-
-    /// Ends the work of all threads over this desk: a wire that waits for a reply, or makes a further call, stalls.
-    pub fn stop(&self) {
         self.bell.stop();
+    }
+
+    /// Whether the desk was stopped for want of memory.
+    pub fn is_short(&self) -> bool {
+        self.is_short.load(Ordering::SeqCst)
     }
 
     /// Whether all threads over this desk are to end: a round found the history full, too many found no memory, or the desk was stopped.

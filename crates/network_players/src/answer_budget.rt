@@ -1,0 +1,43 @@
+//! How many bytes the answers of a player may have in a match.
+ghost use Rattle.std.specs.Prelude.{◌≡◌, ◌↔◌, max, IsTrue};
+ghost use Rattle.network_players.specs.Budgets.{IsPaid, spent_after};
+
+use std::cmp;
+
+/// The bytes that the answers of a player may have in a match, beyond the free part of each.
+const BUDGET: usize = 1_048_576;
+
+/// Each answer has at least so many bytes free.
+const LEAST_FREE: usize = 64;
+
+/// The bytes of a player's answers in a match that are not free.
+#[derive(Drop)]
+pub struct AnswerBudget {
+    /// So many bytes of each answer are free.
+    free: usize,
+    spent: usize,
+}
+
+impl AnswerBudget {
+    /// The budget of a player that has answered nothing. An answer as long as the longest move is free.
+    pub fn new(longest_move: usize) -> AnswerBudget
+        ensures free { result.free ≡ max 64 longest_move }
+        ensures spent { result.spent ≡ 0 }
+    {
+        AnswerBudget {
+            free: cmp::max(LEAST_FREE, longest_move),
+            spent: 0,
+        }
+    }
+
+    /// Spends what an answer of this length has beyond its free part. Returns whether the answer counts: one that is free does, and each other
+    /// one for which the budget is enough.
+    pub fn pay(&mut self, length: usize) -> bool
+        ensures free { self.new.free ≡ self.old.free }
+        ensures spent { self.new.spent ≡ spent_after self.old.spent self.old.free length }
+        ensures paid { IsTrue result ↔ IsPaid self.new.spent self.new.free length }
+    {
+        self.spent = self.spent.saturating_add(length.saturating_sub(self.free));
+        length <= self.free || self.spent <= BUDGET
+    }
+}

@@ -1,0 +1,15 @@
+//! What the system gives the process: its limits; its standard streams, of which one may be closed, may block, or may go to a file with a
+//! limit of its size; and a file that records are added to.
+#![tactic(auto)]
+
+mod limits;
+mod placeholders;
+mod records_file;
+mod standard;
+
+pub use limits::{DESCRIPTORS, FILE_SIZE, limit_in, limit_of};
+pub use placeholders::{Placeholders, hold_closed};
+pub use records_file::{
+    LockedFiles, OpenRecords, RecordsFault, RecordsFile, is_emptied_output, open_records,
+};
+pub use standard::{ERRORS, INPUT, OUTPUT, Standard};

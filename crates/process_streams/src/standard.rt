@@ -1,0 +1,96 @@
+//! Standard streams that would block, or that go to a file with a limit of its size.
+
+use std::io::{Error, ErrorKind, Read, Result, Write};
+use std::rt::Files;
+use std::sync::Wait;
+use std::time::{Clock, Duration};
+use std::{fs, thread};
+
+/// The names under which Linux shows what the standard streams go to.
+pub const INPUT: &str = "/proc/self/fd/0";
+
+pub const OUTPUT: &str = "/proc/self/fd/1";
+
+pub const ERRORS: &str = "/proc/self/fd/2";
+
+/// For how many milliseconds a stream rests that would block.
+const REST: u64 = 5;
+
+/// A standard stream. Where it would block, it rests until it does not: a reader may take as long as it likes.
+#[derive(Drop)]
+pub struct Standard<'a, R, S> {
+    rt: &'a R,
+    stream: S,
+    /// The name under which the system shows what the stream goes to.
+    place: &'static str,
+    /// The limit of a file's size in bytes.
+    limit: Option<u64>,
+}
+
+impl<'a, R: Files, S> Standard<'a, R, S> {
+    pub fn new(
+        rt: &'a R,
+        stream: S,
+        place: &'static str,
+        limit: Option<u64>,
+    ) -> Standard<'a, R, S> {
+        Standard {
+            rt,
+            stream,
+            place,
+            limit,
+        }
+    }
+
+    /// Whether the stream goes to a file as large as the limit. One more byte there would end the process by a signal.
+    fn is_full(&self) -> bool {
+        let Some(limit) = self.limit else {
+            return false;
+        };
+        match fs::metadata(self.rt, self.place) {
+            Ok(place) => place.is_file() && place.len() >= limit,
+            Err(_) => false,
+        }
+    }
+}
+
+impl<R: Clock + Wait, S: Read> Read for Standard<'_, R, S> {
+    ghost remaining = { λ standard. S.remaining standard.stream };
+
+    #[tactic(auto, using(crate::proofs::Waited::kept_at_first, crate::proofs::Waited::kept_again, crate::proofs::Waited::reads_in_the_end))]
+    fn read(&mut self, bytes: &mut [u8]) -> Result<usize> {
+        for _ in self.rt.forever() {
+            match self.stream.read(bytes) {
+                Err(error) if error.kind() == ErrorKind::WouldBlock => {
+                    thread::sleep(self.rt, Duration::from_millis(REST));
+                }
+                read => return read,
+            }
+        }
+        Err(Error::from(ErrorKind::WouldBlock))
+    }
+}
+
+impl<R: Clock + Files + Wait, S: Write> Write for Standard<'_, R, S> {
+    ghost contents = { λ standard. S.contents standard.stream };
+
+    #[tactic(auto, using(crate::proofs::Waited::kept_at_first, crate::proofs::Waited::kept_again, crate::proofs::Waited::writes_in_the_end))]
+    fn write(&mut self, bytes: &[u8]) -> Result<usize> {
+        if self.is_full() {
+            return Err(Error::from(ErrorKind::FileTooLarge));
+        }
+        for _ in self.rt.forever() {
+            match self.stream.write(bytes) {
+                Err(error) if error.kind() == ErrorKind::WouldBlock => {
+                    thread::sleep(self.rt, Duration::from_millis(REST));
+                }
+                written => return written,
+            }
+        }
+        Err(Error::from(ErrorKind::WouldBlock))
+    }
+
+    fn flush(&mut self) -> Result<()> {
+        self.stream.flush()
+    }
+}

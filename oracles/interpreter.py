@@ -1,0 +1,362 @@
+"""A plain interpreter of GDL with variables, for `compare` and for a player of examples/players. It makes no instances: it looks a
+question up from the question down, rule by rule, as the standard says what is true. It is an oracle, and shares nothing with the
+program, nor with what stands in `python`.
+
+A question is an atomic sentence that may have variables, and its answers are the sentences without variables that it fits and
+that are true. Rules are safe, so each answer of a rule has a value for each of its variables. Where a question comes up again while it is
+being answered, its relation goes round: from then on that is derived as a whole, from the facts up. So it is from the beginning where
+a question could come up again with more in it.
+"""
+
+import re
+
+# What a state and the moves of a turn say.
+GIVEN = {("true", 2), ("does", 3)}
+
+
+def read(text):
+    """The expressions of a KIF text, in lower case: an atom is a text, a list a tuple."""
+    levels = [[]]
+    for word in re.sub(r";.*", "", text.lower()).replace("(", " ( ").replace(")", " ) ").split():
+        if word == "(":
+            levels.append([])
+        elif word == ")":
+            done = tuple(levels.pop())
+            levels[-1].append(done)
+        else:
+            levels[-1].append(word)
+    (whole,) = levels
+    return whole
+
+
+def is_variable(term):
+    return isinstance(term, str) and term[0] == "?"
+
+
+def is_ground(term):
+    return not is_variable(term) if isinstance(term, str) else all(map(is_ground, term))
+
+
+def with_values(term, values):
+    if isinstance(term, str):
+        return values.get(term, term) if term[0] == "?" else term
+    return tuple([with_values(one, values) for one in term])
+
+
+def fitted(pattern, term, values):
+    """The values with which the pattern is the term, which has no variables: None where there are none."""
+    if isinstance(pattern, str):
+        if pattern[0] != "?":
+            return values if pattern == term else None
+        if pattern in values:
+            return values if values[pattern] == term else None
+        return {**values, pattern: term}
+    if isinstance(term, str) or len(term) != len(pattern):
+        return None
+    for one, other in zip(pattern, term):
+        values = fitted(one, other, values)
+        if values is None:
+            return None
+    return values
+
+
+def narrowed(head, question, values):
+    """What the question says of the variables of a rule's head: None where the head is no answer whatever they are."""
+    if is_variable(question):
+        return values
+    if isinstance(head, str):
+        return fitted(head, question, values) if not is_variable(head) or is_ground(question) else values
+    if isinstance(question, str) or len(question) != len(head):
+        return None
+    for one, other in zip(head, question):
+        values = narrowed(one, other, values)
+        if values is None:
+            return None
+    return values
+
+
+def key_of(question, names):
+    """The question with its variables numbered, so that two that ask the same are equal."""
+    if isinstance(question, str):
+        return names.setdefault(question, f"?{len(names)}") if question[0] == "?" else question
+    return tuple([key_of(one, names) for one in question])
+
+
+def name_of(sentence):
+    """The relation of a sentence, which is a name with a number of places: none for an atom."""
+    return (sentence, 0) if isinstance(sentence, str) else (sentence[0], len(sentence))
+
+
+def asked_in(literal):
+    """The sentences that a literal asks for."""
+    match literal:
+        case ("not", inner):
+            yield from asked_in(inner)
+        case ("or" | "and", *inners):
+            for inner in inners:
+                yield from asked_in(inner)
+        case ("distinct", _, _):
+            pass
+        case _:
+            yield literal
+
+
+def names_in(literal):
+    """The relations that a literal asks for."""
+    return map(name_of, asked_in(literal))
+
+
+def leaves(term, path=()):
+    """The atoms of a term that are no variables, each with its place."""
+    if isinstance(term, str):
+        if term[0] != "?":
+            yield path, term
+    else:
+        for place, one in enumerate(term):
+            yield from leaves(one, (*path, place))
+
+
+def leaf_at(term, path):
+    for place in path:
+        if isinstance(term, str) or place >= len(term):
+            return None
+        term = term[place]
+    return term if isinstance(term, str) else None
+
+
+class Facts:
+    """Sentences without variables, found by the atoms at their places."""
+
+    def __init__(self, facts):
+        self.all, self.by_name, self.by_place = set(), {}, {}
+        for fact in facts:
+            if fact not in self.all:
+                self.all.add(fact)
+                self.by_name.setdefault(name_of(fact), []).append(fact)
+
+    def fitting(self, question):
+        """The facts that a question fits."""
+        if is_ground(question):
+            return [question] if question in self.all else []
+        some = self.by_name.get(name_of(question), ())
+        for path, leaf in leaves(question):
+            fewer = self.at(name_of(question), path).get(leaf, ()) if path != (0,) else some
+            some = fewer if len(fewer) < len(some) else some
+        return [fact for fact in some if fitted(question, fact, {}) is not None]
+
+    def at(self, name, path):
+        if (name, path) not in self.by_place:
+            found = self.by_place[name, path] = {}
+            for fact in self.by_name.get(name, ()):
+                found.setdefault(leaf_at(fact, path), []).append(fact)
+        return self.by_place[name, path]
+
+
+class GoesRound(Exception):
+    """A question of this relation came up again while it was being answered."""
+
+
+class Look:
+    """What is true in one state, with the moves of one turn."""
+
+    def __init__(self, game, facts):
+        self.game, self.known, self.facts, self.open = game, {}, Facts(facts), set()
+
+    def answers(self, question):
+        """The answers to a question, each once."""
+        name = name_of(question)
+        if name in GIVEN:
+            return self.facts.fitting(question)
+        if name not in self.game.rules:
+            return self.game.facts.fitting(question)
+        known = self.game.fixed if name in self.game.timeless else self.known
+        if name in self.game.looping:
+            return self.whole(self.game.circles[name], known).fitting(question)
+        key = key_of(question, {})
+        if key in known:
+            return known[key]
+        if key in self.open:
+            raise GoesRound(name)
+        self.open.add(key)
+        known[key] = list(dict.fromkeys(self.derived(key, name)))
+        self.open.discard(key)
+        return known[key]
+
+    def whole(self, circle, known):
+        """All that is true of relations that go round, derived again and again until there is no more."""
+        if circle not in known:
+            known[circle], count = Facts(fact for name in sorted(circle) for fact in self.game.facts.by_name.get(name, ())), -1
+            try:
+                while len(known[circle].all) > count:
+                    count = len(known[circle].all)
+                    asked = [(name, head) for name in sorted(circle) for head, _ in self.game.rules[name]]
+                    more = [answer for name, head in asked for answer in self.derived(head, name)]
+                    known[circle] = Facts([*known[circle].all, *more])
+            except GoesRound:
+                # What is not complete may not stay: a circle on which no state bears outlives this look.
+                del known[circle]
+                raise
+        return known[circle]
+
+    def derived(self, question, name):
+        yield from self.game.facts.fitting(question)
+        for head, body in self.game.rules.get(name, ()):
+            values = narrowed(head, question, {})
+            if values is not None:
+                for each in self.all_values(body, values):
+                    answer = with_values(head, each)
+                    if fitted(question, answer, {}) is not None:
+                        yield answer
+
+    def all_values(self, body, values):
+        """The values of the variables with which each literal of a body is true. What is denied waits for its variables."""
+        if not body:
+            yield values
+            return
+        literal, rest = with_values(body[0], values), body[1:]
+        match literal:
+            case ("or", *inners):
+                for inner in inners:
+                    yield from self.all_values((inner, *rest), values)
+            case ("and", *inners):
+                yield from self.all_values((*inners, *rest), values)
+            case ("not", _) | ("distinct", _, _) if not is_ground(literal):
+                yield from self.all_values((*rest, literal), values)
+            case ("not", inner):
+                if not any(True for _ in self.all_values((inner,), {})):
+                    yield from self.all_values(rest, values)
+            case ("distinct", one, other):
+                if one != other:
+                    yield from self.all_values(rest, values)
+            case _:
+                for answer in self.answers(literal):
+                    yield from self.all_values(rest, fitted(literal, answer, values))
+
+    def holds(self, sentence):
+        return bool(self.answers(sentence))
+
+
+def grouped(asks):
+    """The relations that have rules, as sets of those that depend on one another. Each set stands behind those on which it depends."""
+    # (Tarjan's way, by a list of what is open in the place of calls: a chain may be long)
+    groups, places, lowest, path, done = [], {}, {}, [], set()
+    for first in asks:
+        calls = [] if first in places else [(first, iter(asks[first]))]
+        while calls:
+            name, more = calls[-1]
+            if name not in places:
+                places[name] = lowest[name] = len(places)
+                path.append(name)
+            asked = next((it for it in more if it in asks), None)
+            if asked is None:
+                calls.pop()
+                if calls:
+                    lowest[calls[-1][0]] = min(lowest[calls[-1][0]], lowest[name])
+                if lowest[name] == places[name]:
+                    groups.append({name})
+                    while path[-1] != name:
+                        groups[-1].add(path.pop())
+                    path.pop()
+                    done |= groups[-1]
+            elif asked not in places:
+                calls.append((asked, iter(asks[asked])))
+            elif asked not in done:
+                lowest[name] = min(lowest[name], places[asked])
+    return groups
+
+
+class Game:
+    """The game of a description: a state is the set of its terms, a joint move has a move for each role."""
+
+    def __init__(self, text):
+        self.rules, self.fixed, self.legals, facts = {}, {}, [], []
+        for number, sentence in enumerate(read(text) if isinstance(text, str) else text):
+            is_rule = sentence[0] == "<="
+            head, body = (sentence[1], sentence[2:]) if is_rule else (sentence, ())
+            head, *body = map(as_atom, (head, *body))
+            if head[0] == "legal":
+                self.legals.append((number, head, tuple(body)))
+            if is_rule and body:
+                self.rules.setdefault(name_of(head), []).append((head, tuple(body)))
+            else:
+                facts.append(head)
+        self.facts = Facts(facts)
+        self.asks = {
+            name: {asked for _, body in rules for literal in body for asked in names_in(literal)} for name, rules in self.rules.items()
+        }
+        groups = grouped(self.asks)
+        self.timeless = self.rules.keys() - self.timely(groups)
+        self.circles, self.roles = self.found_circles(groups), []
+        self.looping = {name for name, circle in self.circles.items() if self.can_grow(circle)}
+        self.roles = [head[1] for head in self.asked((), (), lambda look: look.answers(("role", "?role")))]
+
+    def timely(self, groups):
+        """The relations that depend on the state or the moves."""
+        found = set(GIVEN)
+        for group in groups:
+            if any(not found.isdisjoint(self.asks[name]) for name in group):
+                found |= group
+        return found
+
+    def found_circles(self, groups):
+        """Of each relation that goes round the set of those that it goes round with. One that denies itself is looked up instead."""
+        found = {}
+        for group in groups:
+            circle = frozenset(it for it in group if len(group) > 1 or it in self.asks[it])
+            bodies = [body for one in circle for _, body in self.rules[one]]
+            if not any(denied in circle for body in bodies for literal in body for denied in denied_in(literal)):
+                found.update(dict.fromkeys(circle, circle))
+        return found
+
+    def can_grow(self, circle):
+        """Whether a question could come up again with more in the place of a variable, and so without an end."""
+        asked = [it for name in circle for _, body in self.rules[name] for literal in body for it in asked_in(literal)]
+        return any(not (is_variable(one) or is_ground(one)) for it in asked if name_of(it) in circle for one in it[1:])
+
+    def asked(self, state, joint, work):
+        """What a question comes to in a state, asked anew where a relation is seen to go round."""
+        does = [("does", role, move) for role, move in zip(self.roles, joint)] if joint else []
+        while True:
+            try:
+                return work(Look(self, [("true", term) for term in state] + does))
+            except GoesRound as round_one:
+                (name,) = round_one.args
+                if name not in self.circles:
+                    raise
+                self.looping |= self.circles[name]
+
+    def initial(self):
+        return self.asked((), (), lambda look: frozenset(term for _, term in look.answers(("init", "?term"))))
+
+    def next(self, state, joint):
+        return self.asked(state, joint, lambda look: frozenset(term for _, term in look.answers(("next", "?term"))))
+
+    def view(self, state, more=None):
+        """The legal moves and the goals of each role, as sets, and whether the game has ended; and what `more` says, where it is there."""
+
+        def seen(look):
+            legal = [{move for _, _, move in look.answers(("legal", role, "?move"))} for role in self.roles]
+            goals = [{value for _, _, value in look.answers(("goal", role, "?value"))} for role in self.roles]
+            found = legal, goals, look.holds("terminal")
+            return (*found, more(look)) if more else found
+
+        return self.asked(state, (), seen)
+
+
+def as_atom(literal):
+    """`(terminal)` is another way to write `terminal`."""
+    if literal == ("terminal",):
+        return "terminal"
+    return (literal[0], *map(as_atom, literal[1:])) if literal[0] in ("not", "or", "and") else literal
+
+
+def denied_in(literal, is_denied=False):
+    """The relations that stand in a denial, and not in a denial of it."""
+    match literal:
+        case ("not", inner):
+            yield from denied_in(inner, not is_denied)
+        case ("or" | "and", *inners):
+            for inner in inners:
+                yield from denied_in(inner, is_denied)
+        case _ if is_denied:
+            yield from names_in(literal)

@@ -1,0 +1,11 @@
+"""What is delivered in Python beside the referee `ggp_manager`: games are instantiated, competitions held, records shown, explained and
+checked by many processes. All of it needs the standard library alone, and the grounder gringo for descriptions with variables."""
+
+import os
+import sys
+
+# That of the referee with which this is delivered.
+VERSION = "0.2.0"
+
+if sys.version_info < (3, 11):
+    sys.exit("%s: Python %d.%d runs it, and it needs 3.11 or later" % (os.path.basename(sys.argv[0]), *sys.version_info[:2]))

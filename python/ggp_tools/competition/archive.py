@@ -1,0 +1,321 @@
+"""One archive of a competition, from which anyone can check it: what is in it, how it is written, and how it is checked."""
+
+import errno
+import gzip
+import hashlib
+import io
+import os
+import pathlib
+import re
+import shutil
+import tarfile
+import tempfile
+import zlib
+
+from ggp_tools.competition.described import DIFFERS, IS_SAME, held_records
+from ggp_tools.competition.files import UNFINISHED, Refused, written_whole
+from ggp_tools.competition.kept import look_at_records, strangers
+from ggp_tools.competition.pages import made_anew
+from ggp_tools.competition.plan import faults_of_descriptions, read_plan, read_sums, sums_text
+from ggp_tools.descriptions.loading import has_variables
+from ggp_tools.referee import VERSION_LINE, Unchecked
+from ggp_tools.competition.results import match_line
+from ggp_tools.competition.schedule import schedule_text
+from ggp_tools.competition.table import tables_of
+from ggp_tools.competition.table_text import TABLE_FILES, in_order, table_files, without_record
+
+SUMS, VERSION, HOW, GAPS = "SHA256SUMS", "VERSION", "CHECK.txt", "GAPS.tsv"
+NAME = re.compile(r"[A-Za-z0-9_.-]+(/[A-Za-z0-9_.-]+){1,3}")
+FOLDER_NAME = re.compile(r"[A-Za-z0-9_.-]+(/[A-Za-z0-9_.-]+){0,2}")
+NOT_PLAIN = re.compile(r"[^\x20-\x7e]")
+MOST_BYTES = 8 << 30
+# These are faults of this computer, and tell nothing of an archive.
+SHORTAGES = errno.ENOSPC, errno.EDQUOT, errno.EIO, errno.EMFILE, errno.ENFILE, errno.ENOMEM
+HOW_TO = """How to check this competition.
+
+    ggp_competition check {name}.tar.gz
+
+checks all that follows. By hand, in this folder:
+
+    sha256sum --check SHA256SUMS                                          each file is the one that was published
+    ggp_manager verify --rules-file rules/GAME.kif < records/ID.json      the match was played by the rules
+    ggp_manager replay --rules-file rules/GAME.kif < accounts/ID.txt      each call got its reply, and the record comes of them
+    ggp-hold-against games/GAME.kif records/ID.json                       the match is one of the description, where that has variables
+    ggp_competition table                                                 the schedule follows from competition.toml, the table from the records
+
+The rules are ground descriptions; games has the descriptions that they were made from, whose sums when the plan was made are in
+rules/DESCRIPTIONS.sha256. Where rules/GAME.told is there, the players of that game were told this in place of rules/GAME.kif. The
+version of the referee with which this was published is in VERSION. Where GAPS.tsv is there, it has the matches of the schedule that
+have no record.
+What this does not show: that the players of these names sent these answers, and when. Keep the sum of the archive as you got it.
+"""
+
+
+class Spoilt(Refused):
+    """What is wrong with an archive, in lines."""
+
+
+class TooLarge(Exception):
+    """What there is to publish is more than `check` would take."""
+
+
+def sum_of_file(path):
+    found = hashlib.sha256()
+    with open(path, "rb") as file:
+        while data := file.read(1 << 20):
+            found.update(data)
+    return found.hexdigest()
+
+
+def files_below(folder):
+    """Returns the files below a folder, by their names from there, in order."""
+    return {str(file.relative_to(folder)): file for file in sorted(folder.rglob("*")) if file.is_file()}
+
+
+def how_to(plan):
+    """Returns the file that says how the archive is checked."""
+    return HOW_TO.format(name=plan.competition.name).encode("ascii")
+
+
+def matches_text(plan, results):
+    """Returns matches.jsonl."""
+    return b"".join(match_line(result, plan.rules[result.match.game].sum, plan.folder.read_log(result.match.id)) for result in results)
+
+
+def gaps_files(plan, results):
+    """Returns the file that names the matches without a record, by its name; none where there are no such matches."""
+    missing = without_record(plan, results)
+    return {GAPS: schedule_text(missing)} if missing else {}
+
+
+def contents(plan, referee, results):
+    """Gives what is published: names, and bytes or the file that has them."""
+    folder = plan.folder
+    yield "competition.toml", plan.text
+    yield "schedule.tsv", folder.schedule
+    for file in (folder.rule_sums(), folder.description_sums()):
+        yield f"rules/{file.name}", file
+    for game in plan.competition.games:
+        for file in folder.rule_files(game):
+            yield f"rules/{file.name}", file
+        yield f"games/{game.name}.kif", folder.description(game)
+    for result in results:
+        for file in (folder.record(result.match.id), folder.account(result.match.id)):
+            yield str(file.relative_to(folder.path)), file
+        yield str(folder.log(result.match.id).relative_to(folder.path)), folder.read_log(result.match.id)
+    yield "matches.jsonl", matches_text(plan, results)
+    yield from gaps_files(plan, results).items()
+    for name, data in table_files(plan, tables_of(plan.competition, results)).items():
+        yield name, data
+    for name, file in files_below(folder.pages).items():
+        # What another run is writing there is none of these pages.
+        if not file.name.startswith(UNFINISHED):
+            yield f"pages/{name}", file
+    yield VERSION, f"{referee.version()}\n".encode("ascii")
+    yield HOW, how_to(plan)
+
+
+def own_files(plan):
+    """Returns the files of the competition that stand directly in its folder, and the descriptions of its games."""
+    folder = plan.folder
+    # The last four are there where the folder comes out of an archive.
+    others = (folder.path / name for name in (*TABLE_FILES, SUMS, VERSION, HOW, GAPS))
+    descriptions = (file for game in plan.competition.games for file in (folder.description(game), folder.given(game)))
+    return [folder.competition, folder.schedule, folder.matches, *others, *descriptions]
+
+
+def publish(plan, referee, results, path):
+    """Writes the archive, the same for the same files, and returns its sum."""
+    made_anew(plan, results)
+    with written_whole(path) as file:
+        with gzip.GzipFile(filename="", mode="wb", fileobj=file, mtime=0) as packed, tarfile.open(fileobj=packed, mode="w|") as archive:
+            size = 0
+            for name, data in with_sums(contents(plan, referee, results)):
+                size += len(data)
+                if size > MOST_BYTES:
+                    raise TooLarge(f"it has more than {MOST_BYTES:,} bytes, which are the most of an archive")
+                add(archive, f"{plan.competition.name}/{name}", data)
+    return sum_of_file(path)
+
+
+def with_sums(contents):
+    """Gives the names and bytes of what is published, and the sums last."""
+    sums = {}
+    for name, data in contents:
+        data = data if isinstance(data, bytes) else data.read_bytes()
+        sums[name] = hashlib.sha256(data).hexdigest()
+        yield name, data
+    yield SUMS, sums_text(sums)
+
+
+def add(archive, name, data):
+    it = tarfile.TarInfo(name)
+    it.size, it.mode = len(data), 0o644
+    archive.addfile(it, io.BytesIO(data))
+
+
+def unpacked(path, room):
+    """Unpacks an archive into an empty folder, and returns the folder of the competition. It takes plain files alone, below one folder,
+    each once, and entries for their folders, as `tar` writes them."""
+    top, size, known = None, 0, set()
+    try:
+        with tarfile.open(path, "r:gz") as archive:
+            for member in archive:
+                size += member.size
+                parts, form = member.name.split("/"), FOLDER_NAME if member.isdir() else NAME
+                if not (member.isreg() or member.isdir()) or not form.fullmatch(member.name) or {".", ".."} & set(parts):
+                    raise Spoilt(f"{member.name!r} is no plain file below one folder")
+                if member.name in known:
+                    raise Spoilt(f"{member.name!r} is there twice")
+                if size > MOST_BYTES:
+                    raise Spoilt(f"with {member.name!r} it has more than {MOST_BYTES:,} bytes, which are the most of an archive")
+                top = top or parts[0]
+                if parts[0] != top:
+                    raise Spoilt(f"{member.name!r} is not below {top}")
+                if member.isdir():
+                    continue  # Each folder is made with its first file.
+                known.add(member.name)
+                (room / member.name).parent.mkdir(parents=True, exist_ok=True)
+                with open(room / member.name, "wb") as file:
+                    shutil.copyfileobj(archive.extractfile(member), file)
+    except (tarfile.TarError, EOFError, zlib.error, gzip.BadGzipFile, ValueError, RecursionError) as why:
+        # The last two come of headers with numbers that are none, and of headers for headers.
+        raise Spoilt(f"it can't be unpacked: {why}") from None
+    if not top:
+        raise Spoilt("it is empty")
+    return room / top
+
+
+def faults_of_sums(folder):
+    """Gives each file that is not the one of the sums."""
+    files = files_below(folder)
+    if SUMS not in files:
+        yield f"{SUMS} is missing"
+        return
+    sums = read_sums(files.pop(SUMS).read_bytes())
+    if sums is None:
+        yield f"{SUMS} has a file twice, or a line that is no sum"
+        return
+    for name in sorted(sums.keys() - files.keys()):
+        yield f"{name} is missing"
+    for name in sorted(files.keys() - sums.keys()):
+        yield f"{name} has no sum"
+    for name in sorted(files.keys() & sums.keys()):
+        if sum_of_file(files[name]) != sums[name]:
+            yield f"{name} is not the one of its sum"
+
+
+def faults_of_files(folder, plan, results, wanted):
+    """Gives each file that does not follow from the records, and each that should not be there."""
+    for name, data in wanted.items():
+        file = folder / name
+        if not file.is_file():
+            yield f"{name} is missing"
+        elif file.read_bytes() != data:
+            yield f"{name} does not follow from the records"
+    said = folder / "pages.said"
+    os.rename(plan.folder.pages, said) if plan.folder.pages.is_dir() else said.mkdir()
+    made_anew(plan, results)
+    pages, said = files_below(plan.folder.pages), files_below(said)
+    for name in sorted(pages.keys() | said.keys()):
+        if name not in pages or name not in said or pages[name].read_bytes() != said[name].read_bytes():
+            yield f"pages/{name} does not follow from the records"
+    known = {SUMS, VERSION, HOW, "competition.toml", "schedule.tsv", *wanted}
+    known |= {f"rules/{sums.name}" for sums in (plan.folder.rule_sums(), plan.folder.description_sums())}
+    for game in plan.competition.games:
+        known |= {f"games/{game.name}.kif", *(f"rules/{file.name}" for file in plan.folder.rule_files(game))}
+    for result in results:
+        known |= {f"records/{result.match.id}.json", f"accounts/{result.match.id}.txt", f"logs/{result.match.id}.txt"}
+    for name in files_below(folder):
+        if name not in known and not name.startswith(("pages/", "pages.said/")):
+            yield f"{name} is nothing of this competition"
+
+
+def faults_of_matches(plan, referee):
+    """Returns the results, and what is wrong with the records and the accounts."""
+    results, faults, misfits = look_at_records(plan, referee)
+    faults |= misfits
+    found = [f"{match}: {why}" for match, why in faults.items()]
+    # What GAPS.tsv has to say is looked at later.
+    wanted = [match for match in plan.matches if match.id in results or match.id in faults or not (plan.folder.path / GAPS).is_file()]
+    found += [f"{match.id}: it has no record" for match in wanted if match.id not in results and match.id not in faults]
+    found += [f"{match.id}: its log is missing" for match in wanted if not plan.folder.has_log(match.id)]
+    found += [f"records/{name}: it is of no match of the schedule" for name in strangers(plan)]
+    return in_order(plan, results), found
+
+
+def plain(words):
+    """Returns words of an archive as they may reach a terminal: what is no printable ASCII becomes a question mark."""
+    return NOT_PLAIN.sub("?", words)
+
+
+def faults_of_words(folder):
+    """Gives what is wrong with the files that say how the archive is checked, and with which program it was published."""
+    if not (folder / HOW).is_file():
+        yield f"{HOW} is missing"
+    if not (folder / VERSION).is_file():
+        yield f"{VERSION} is missing"
+    elif not VERSION_LINE.fullmatch((folder / VERSION).read_bytes()):
+        yield f"{VERSION} is not one line `ggp_manager N.N.N`"
+
+
+def check_archive(path, referee):
+    """Returns what is wrong with an archive, in printable ASCII, and, where nothing is, what was found right."""
+    try:
+        faults, said = looked_at(path, referee)
+    except OSError as why:
+        if why.errno not in SHORTAGES:
+            raise
+        raise Unchecked(f"the archive can't be checked in {tempfile.gettempdir()}: {why.strerror}") from None
+    return list(map(plain, faults)), said
+
+
+def held_matches(plan, results, folder):
+    """Holds the matches of each game with variables against its description. Returns what is said of that, and the differences."""
+    count, late, faults = 0, [], []
+    for game in plan.competition.games:
+        file, matches = folder / f"games/{game.name}.kif", [result.match for result in results if result.match.game == game.name]
+        if not matches or not has_variables(file.read_bytes()):
+            continue
+        for match, words in zip(matches, held_records(file, [plan.folder.record(match.id).read_bytes() for match in matches])):
+            count += words.startswith(IS_SAME)
+            if words.startswith(DIFFERS):
+                faults.append(f"{match.id}: by games/{game.name}.kif it {words}")
+            elif not words.startswith(IS_SAME):
+                late.append(f"{match.id} {words}")
+    said = f"; {count} matches are those of descriptions with variables" if count or late else ""
+    return f"{said}, and {len(late)} could not be followed: {', '.join(late)}" if late else said, faults
+
+
+def looked_at(path, referee):
+    """Returns the same in whatever characters the archive has."""
+    with tempfile.TemporaryDirectory() as room:
+        try:
+            folder = unpacked(path, pathlib.Path(room))
+            faults = list(faults_of_sums(folder))
+            faults += faults_of_words(folder)
+            if faults:
+                return faults, ""
+            plan = read_plan(folder, referee)
+            results, faults = faults_of_matches(plan, referee)
+            faults += [fault.replace(f"{folder}/", "") for fault in faults_of_descriptions(plan, lambda it: folder / f"games/{it.name}.kif")]
+            if faults:
+                return faults, ""
+            held, faults = held_matches(plan, results, folder)
+            if faults:
+                return faults, ""
+            wanted = table_files(plan, tables_of(plan.competition, results))
+            wanted |= {"matches.jsonl": matches_text(plan, results), **gaps_files(plan, results)}
+            faults = list(faults_of_files(folder, plan, results, wanted))
+            faults += [] if (folder / HOW).read_bytes() == how_to(plan) else [f"{HOW} is not what `publish` writes"]
+            made_by = (folder / VERSION).read_text("ascii").strip()
+        except Refused as why:
+            return why.words.replace(f"{room}/", "").splitlines(), ""
+        except Unchecked as why:
+            raise Unchecked(str(why).replace(f"{room}/", "")) from None
+        except MemoryError:
+            raise Unchecked("the archive can't be checked: want of memory") from None
+    missing = len(plan.matches) - len(results)
+    gaps = f"; {missing} of {len(plan.matches)} matches have no record, {GAPS} names them" if missing else ""
+    said = f"the sums, the schedule, {len(results)} records and accounts, the table and the pages are right{gaps}"
+    return faults, f"{said}{held}; published with {made_by}, checked by {referee.version()}"

@@ -1,0 +1,261 @@
+"""The command line of `ggp_competition`."""
+
+import argparse
+import collections
+import os
+import pathlib
+import sys
+from collections.abc import Callable
+
+from ggp_tools import VERSION
+from ggp_tools.competition.archive import TooLarge, check_archive, matches_text, own_files, publish
+from ggp_tools.competition.files import Refused, held, write_whole
+from ggp_tools.competition.game import add_game, run_game
+from ggp_tools.competition.kept import look_at_records
+from ggp_tools.competition.pages import Pages
+from ggp_tools.competition.plan import WRITES, faults_of_descriptions, make_plan, read_plan
+from ggp_tools.competition.playing import Playing, play
+from ggp_tools.referee import NoReferee, Referee, Unchecked, find_program
+from ggp_tools.competition.seats import Seats
+from ggp_tools.competition.table import tables_of
+from ggp_tools.competition.table_text import in_order, table_files, table_text
+from ggp_tools.reporting import Reporter, ready_streams, say
+
+MOST_AT_ONCE = 1_024
+HELP = "A competition in one folder, of which competition.toml says what is played."
+COMMANDS = {
+    "plan": "writes the rules and schedule.tsv, as competition.toml says",
+    "play": "plays the matches that have no lawful record yet",
+    "table": "prints the table, and writes it as table.txt, table.csv, crosstable.csv and table.json",
+    "pages": "writes the folder `pages`, to be opened in a browser",
+    "publish": "writes one archive of the whole competition, with sums",
+    "check": "checks an archive that `publish` has written, by what is in it alone",
+}
+STATUS = """status 0: all is well; of `play`, each match has a lawful record. 1: it is not. 2: the command or competition.toml is wrong. 3: the
+referee could not check what is there, as where memory is short; no file of a match was touched.
+"""
+
+
+def count(text: str) -> int:
+    found = int(text)
+    if not 1 <= found <= MOST_AT_ONCE:
+        raise argparse.ArgumentTypeError(f"{found} is not from 1 to {MOST_AT_ONCE:,}")
+    return found
+
+
+def add_program(parser: argparse.ArgumentParser, **more: object) -> None:
+    text = "the referee, ggp_manager (the one beside this program, in bin of the repository, or on the path of the shell)"
+    parser.add_argument("--program", metavar="FILE", help=text, **more)
+
+
+def arguments(words: list[str]) -> argparse.Namespace:
+    parser = argparse.ArgumentParser("ggp_competition", description=HELP, epilog=STATUS)
+    parser.add_argument("--version", action="version", version=f"%(prog)s {VERSION}")
+    add_program(parser)
+    commands = parser.add_subparsers(dest="command", required=True, metavar="COMMAND", title="commands")
+    for name, text in COMMANDS.items():
+        command = commands.add_parser(name, help=text, description=f"{text[0].upper()}{text[1:]}.")
+        add_program(command, default=argparse.SUPPRESS)
+        if name == "check":
+            command.add_argument("archive", metavar="ARCHIVE", help="the file of the archive")
+            continue
+        text = "the folder of the competition, with competition.toml (the present one)"
+        command.add_argument("folder", nargs="?", default=".", metavar="FOLDER", help=text)
+        if name == "play":
+            command.add_argument("--at-once", type=count, default=4, metavar="N", help="at most N matches at once (4)")
+            command.add_argument("--watch", action="store_true", help="write the pages anew as matches end")
+        if name == "publish":
+            command.add_argument("--to", metavar="FILE", help="the archive (NAME.tar.gz in the folder)")
+            command.add_argument("--gaps", action="store_true", help="also if matches have no record; the archive names them")
+    add_program(add_game(commands), default=argparse.SUPPRESS)
+    return parser.parse_args(words)
+
+
+def write_matches(plan, results):
+    """Writes matches.jsonl. Says which matches have no log, and so no times."""
+    for result in results:
+        if not plan.folder.has_log(result.match.id):
+            print(f"ggp_competition: {result.match.id} counts without its times: its log is missing", file=sys.stderr)
+    write_whole(plan.folder.matches, matches_text(plan, results))
+
+
+def known_results(plan, referee):
+    """Returns the results that count, in the schedule's order; says of each record that does not."""
+    results, faults, misfits = look_at_records(plan, referee)
+    for match, why in {**faults, **misfits}.items():
+        print(f"ggp_competition: {match} does not count: {why}", file=sys.stderr)
+    return in_order(plan, results), bool(faults or misfits)
+
+
+def spread(counts):
+    """Returns the least and the greatest of numbers, as text."""
+    return " to ".join(str(number) for number in sorted({min(counts), max(counts)})) if counts else "0"
+
+
+def said_of_game(plan, matches):
+    """Returns how many matches of a game there are, how often a player sits in each seat, and how often two players meet."""
+    if not matches:
+        return "no match"
+    names = [player.name for player in plan.competition.players]
+    seats = collections.Counter((seat, player) for match in matches for seat, player in enumerate(match.players))
+    met = collections.Counter((one, other) for match in matches for one in match.players for other in match.players if one < other)
+    roles = plan.roles(matches[0].game)
+    times = spread([seats[seat, name] for seat in range(len(roles)) for name in names])
+    said = f"{len(matches)} matches, roles {' '.join(roles)}; each player in each seat: {times}"
+    pairs = [met[one, other] for one in names for other in names if one < other]
+    return f"{said}; each two players: {spread(pairs)}" if len(roles) > 1 else said
+
+
+def run_plan(asked: argparse.Namespace, referee: Referee) -> int:
+    plan = make_plan(asked.folder, referee)
+    for game in plan.competition.games:
+        say(f"{game.name}: {said_of_game(plan, [match for match in plan.matches if match.game == game.name])}")
+        for note in plan.rules[game.name].notes:
+            say(f"{game.name}: {note}")
+    if plan.competition.forfeit and not plan.competition.strikes:
+        say("forfeit: without `strikes` no player is retired, so none loses a match by it")
+    say(f"{plan.folder.schedule}: {len(plan.matches)} matches of {len(plan.competition.players)} players")
+    return 0
+
+
+def run_play(asked: argparse.Namespace, referee: Referee) -> int:
+    # From before the plan is read until what follows from it is written no other run may change it.
+    with held(asked.folder):
+        return run_held_play(asked, referee)
+
+
+def are_written(write, results, reporter):
+    """Returns whether the pages of the results are written. Where they can't be that is told, and matches go on."""
+    try:
+        write(results)
+        return True
+    except OSError as why:
+        reporter.line(f"pages are not written: {why.filename or 'a file'}: {why.strerror}")
+        return False
+
+
+def run_held_play(asked: argparse.Namespace, referee: Referee) -> int:
+    plan, reporter = read_plan(asked.folder, referee), Reporter()
+    playing = Playing(plan, referee, Seats(plan.competition), reporter, asked.at_once)
+    if asked.watch:
+        pages = Pages(plan)
+        playing.ended = lambda _: are_written(pages.write_now_and_then, lambda: in_order(plan, playing.results), reporter)
+    missing = play(playing)
+    write_matches(plan, in_order(plan, playing.results))
+    lacks_pages = asked.watch and not are_written(pages.write, in_order(plan, playing.results), reporter)
+    for match, why in missing.items():
+        reporter.line(f"missing {match}: {why}")
+    reporter.line(f"{len(playing.results)} of {len(plan.matches)} matches have a lawful record")
+    if reporter.fault:
+        raise reporter.fault
+    return bool(missing) or lacks_pages
+
+
+def run_table(asked: argparse.Namespace, referee: Referee) -> int:
+    plan = read_plan(asked.folder, referee)
+    results, is_faulty = known_results(plan, referee)
+    tables = tables_of(plan.competition, results)
+    # It is there to be read also where it can't be written.
+    say(table_text(plan, tables), end="")
+    write_matches(plan, results)
+    for name, data in table_files(plan, tables).items():
+        write_whole(plan.folder.path / name, data)
+    return is_faulty
+
+
+def run_pages(asked: argparse.Namespace, referee: Referee) -> int:
+    plan = read_plan(asked.folder, referee)
+    results, is_faulty = known_results(plan, referee)
+    pages = Pages(plan)
+    pages.write(results)
+    say(pages.folder / "index.html")
+    return is_faulty
+
+
+def archive_path(plan, to):
+    """Returns where the archive is to stand. Refuses what it can't replace, a folder that is not there, and the places of the
+    competition's own files."""
+    path = pathlib.Path(to or plan.folder.path / f"{plan.competition.name}.tar.gz")
+    if path.exists() and not path.is_file():
+        raise Refused(f"{path} is no plain file: `--to` names the file of the archive")
+    if not path.parent.is_dir():
+        raise Refused(f"{path} can't be written: {path.parent} is no folder")
+    top, parent = os.path.realpath(plan.folder.path), os.path.realpath(path.parent)
+    if parent.startswith(os.path.join(top, "")):
+        place = f"directly in {plan.folder.path}, or outside of it"
+        raise Refused(f"{path} stands among the files of the competition: `--to` names a file {place}")
+    if os.path.realpath(path) in map(os.path.realpath, own_files(plan)):
+        raise Refused(f"{path} is a file of the competition: `--to` names the file of the archive")
+    return path
+
+
+def run_publish(asked: argparse.Namespace, referee: Referee) -> int:
+    # Until all is written no other run may change what is published.
+    with held(asked.folder):
+        return run_held_publish(asked, referee)
+
+
+def run_held_publish(asked: argparse.Namespace, referee: Referee) -> int:
+    plan = read_plan(asked.folder, referee)
+    path, pages = archive_path(plan, asked.to), plan.folder.pages
+    if pages.is_symlink():
+        raise Refused(f"{pages} is a link, and `publish` makes that folder anew", "take the link away, and publish again")
+    results, is_faulty = known_results(plan, referee)
+    missing = len(plan.matches) - len(results)
+    faults = []
+    if missing and (is_faulty or not asked.gaps):
+        # What is wrong is not a gap: it is played again, or put right.
+        faults = [f"{missing} matches have no lawful record{'' if is_faulty else '; with `--gaps` the others are'}"]
+    faults = faults or list(faults_of_descriptions(plan, plan.folder.description, f", and {WRITES}"))
+    if not faults:
+        write_matches(plan, results)
+        try:
+            say(f"{publish(plan, referee, results, path)}  {path}")
+        except TooLarge as why:
+            faults = [str(why)]
+    for fault in faults:
+        print(f"ggp_competition: nothing is published: {fault}", file=sys.stderr)
+    return bool(faults)
+
+
+def run_check(asked: argparse.Namespace, referee: Referee) -> int:
+    faults, said = check_archive(pathlib.Path(asked.archive), referee)
+    for fault in faults:
+        print(f"ggp_competition: {asked.archive}: {fault}", file=sys.stderr)
+    if not faults:
+        say(said)
+    return bool(faults)
+
+
+RUNS: dict[str, Callable[[argparse.Namespace, Referee], int]] = {
+    "plan": run_plan,
+    "play": run_play,
+    "table": run_table,
+    "pages": run_pages,
+    "publish": run_publish,
+    "check": run_check,
+    "game": run_game,
+}
+
+
+def main() -> int:
+    ready_streams()
+    asked = arguments(sys.argv[1:])
+    try:
+        referee = Referee(find_program(asked.program))
+        return int(RUNS[asked.command](asked, referee))
+    except (Refused, NoReferee) as why:
+        print(f"ggp_competition: {why}" if "\n" not in str(why) else why, file=sys.stderr)
+        return 2
+    except Unchecked as why:
+        print(f"ggp_competition: {why}; nothing is changed", file=sys.stderr)
+        return 3
+    except KeyboardInterrupt:
+        print("ggp_competition: interrupted", file=sys.stderr)
+        return 1
+    except OSError as why:
+        print(f"ggp_competition: {why.filename or 'a file'}: {why.strerror}", file=sys.stderr)
+        return 1
+    except UnicodeEncodeError as why:
+        print(f"ggp_competition: {why.object!r} can't be the name of a file in this locale, whose encoding is {why.encoding}", file=sys.stderr)
+        return 2

@@ -1,0 +1,362 @@
+"""Reads competition.toml: what is played, by whom, and in which form. Each mistake is reported with its line and key."""
+
+import ipaddress
+import re
+from collections.abc import Iterable
+from dataclasses import dataclass
+from typing import Any
+
+from ggp_tools.competition.toml_lines import Path, TomlFault, read_toml
+
+NAME = re.compile(r"[A-Za-z0-9][A-Za-z0-9_.-]{0,39}")
+FIRST = ", a letter or a digit first"
+PLAYER_NAME = re.compile(r"[A-Za-z0-9_.-]{1,64}")
+ADDRESS = re.compile(r"(\[[0-9A-Fa-f:.]+(?:%[A-Za-z0-9_.-]+)?\]|[A-Za-z0-9_.-]+):([0-9]{1,5})")
+MARK = b"\xef\xbb\xbf"
+CONTROL = re.compile(r"[\x00-\x1f\x7f-\x9f]")
+# What ssh reaches: a name with or without a port, or an IPv6 address. A `:` alone is for parallel this machine, without ssh, and what runs
+# there does not end with it.
+HOST = re.compile(r"(?:[A-Za-z0-9_][A-Za-z0-9_.-]*@)?(?:[A-Za-z0-9_][A-Za-z0-9_.-]*(?::[0-9]{1,5})?|([0-9A-Fa-f:]*:[0-9A-Fa-f:]*))")
+# Numbers from here on are not shown.
+MOST_SHOWN = 10**20
+MOST_SECONDS, MOST_STRIKES, MOST_PLAYERS, MOST_ROUNDS, MOST_PORT = 86_400, 255, 1_000, 1_000, 65_535
+# The seconds in which a description is instantiated.
+INSTANTIATING, MOST_INSTANTIATING = 60, 1_000_000
+KINDS = ("round_robin", "gauntlet", "schedule")
+ABSENT = ("leave", "play")
+# What START carries: the rules that the referee plays, or the description that they were made from.
+TOLD = ("ground", "variables")
+ROOT_KEYS = ("name", "start", "play", "strikes", "tries", "wait", "info", "absent", "forfeit", "hosts", "form", "games", "players")
+
+
+@dataclass(frozen=True)
+class Mistake:
+    """What is wrong in the file, with the line and the key."""
+
+    line: int
+    key: str
+    words: str
+
+
+class Mistaken(Exception):
+    """All mistakes of a file."""
+
+    def __init__(self, mistakes: list[Mistake]) -> None:
+        super().__init__(f"{len(mistakes)} mistakes")
+        self.mistakes = mistakes
+
+
+@dataclass(frozen=True)
+class Game:
+    """A game that is played: its name, the file of its description, its clocks in seconds, and which rules its players get, with the line
+    that says so; the file of the description with variables, where it stands beside ground rules (else empty); and the seconds in which
+    it is instantiated."""
+
+    name: str
+    file: str
+    described: str
+    seconds: int
+    start: int
+    play: int
+    told: str
+    told_line: int
+    line: int
+
+    def tells_variables(self) -> bool:
+        """Returns whether players get the description with variables."""
+        return self.told == TOLD[1]
+
+
+@dataclass(frozen=True)
+class Player:
+    """A player, where it is reached, and in how many matches it may sit at a time."""
+
+    name: str
+    address: str
+    concurrent: int
+    line: int
+
+    def place(self) -> str:
+        return f"{self.name}@{self.address}"
+
+
+@dataclass(frozen=True)
+class Text:
+    """A text in quotes, with its line in the file."""
+
+    text: str
+    line: int
+
+
+@dataclass(frozen=True)
+class Form:
+    """The pairing: round robin, gauntlet of one against all, or the lines of a schedule, each of a game and its players."""
+
+    kind: str
+    rounds: int
+    one: str
+    lines: tuple[Text, ...]
+    line: int
+
+
+@dataclass(frozen=True)
+class Competition:
+    """All that competition.toml says."""
+
+    name: str
+    strikes: int
+    tries: int
+    wait: int
+    info: int
+    absent: str
+    forfeit: bool
+    hosts: tuple[str, ...]
+    form: Form
+    games: tuple[Game, ...]
+    players: tuple[Player, ...]
+
+    def player(self, name: str) -> Player:
+        return next(player for player in self.players if player.name == name)
+
+
+class Section:
+    """A table that is read key by key; what is wrong is kept with its line and key."""
+
+    def __init__(self, table: dict, path: Path, lines: dict[Path, int], mistakes: list[Mistake]) -> None:
+        self.table, self.path, self.lines, self.mistakes = table, path, lines, mistakes
+        self.prefix = "".join(f"{name}." for name in path if isinstance(name, str))
+        self.first = lines.get(path, 1)
+
+    def line(self, key: str, *members: int) -> int:
+        """Returns the line of the key, or of a member of its array; that of the table where it is missing."""
+        own = self.lines.get((*self.path, key), self.first)
+        return self.lines.get((*self.path, key, *members), own)
+
+    def mistake(self, key: str, words: str, line: int | None = None) -> None:
+        self.mistakes.append(Mistake(line or self.line(key), f"{self.prefix}{key}", words))
+
+    def refuse_others(self, keys: Iterable[str]) -> None:
+        for key in self.table:
+            if key not in keys:
+                self.mistake(key, f"no such key; there are {', '.join(keys)}")
+
+    def value(self, key: str, kind: type, words: str, default: Any) -> Any:
+        """Returns the value of the key, or the default where it is missing or of another kind."""
+        if key not in self.table:
+            if default is None:
+                self.mistake(key, "the key is missing")
+            return default
+        if type(self.table[key]) is not kind:
+            self.mistake(key, f"{words} is wanted")
+            return default
+        return self.table[key]
+
+    def text(self, key: str, default: str | None = None) -> str | None:
+        return self.value(key, str, "a text in quotes", default)
+
+    def path_of_file(self, key: str) -> str | None:
+        """Returns a text that can name a file."""
+        found = self.text(key)
+        if found is not None and (not found or CONTROL.search(found)):
+            self.mistake(key, f"{found!r} is no path of a file")
+        return found
+
+    def flag(self, key: str) -> bool:
+        return self.value(key, bool, "true or false", False)
+
+    def number(self, key: str, least: int, most: int, default: int | None = None) -> int | None:
+        found = self.value(key, int, "a whole number", default)
+        if found is not None and not least <= found <= most:
+            shown = found if abs(found) < MOST_SHOWN else "the number"
+            self.mistake(key, f"{shown} is not from {least:,} to {most:,}")
+            return default
+        return found
+
+    def word(self, key: str, words: tuple[str, ...], default: str) -> str:
+        found = self.text(key, default)
+        if found not in words:
+            self.mistake(key, f"{found!r} is none of {', '.join(words)}")
+            return default
+        return found
+
+    def name(self, key: str, form: re.Pattern, longest: int, more: str = "") -> str | None:
+        found = self.text(key)
+        if found is not None and not form.fullmatch(found):
+            self.mistake(key, f"{found!r} is no name: 1 to {longest} letters, digits, `-`, `_` and `.` are wanted{more}")
+        return found
+
+    def texts(self, key: str) -> list[Text]:
+        """Returns the texts of an array."""
+        found = []
+        for number, member in enumerate(self.value(key, list, "an array of texts", [])):
+            line = self.line(key, number)
+            if type(member) is str:
+                found.append(Text(member, line))
+            else:
+                self.mistake(key, "a text in quotes is wanted", line)
+        return found
+
+    def sections(self, key: str) -> list["Section"]:
+        """Returns a section for each table of an array of tables, of which there has to be one."""
+        tables = self.table.get(key)
+        if not isinstance(tables, list) or not tables or not all(isinstance(table, dict) for table in tables):
+            self.mistake(key, f"at least one [[{key}]] is wanted, and nothing else by that name")
+            return []
+        return [Section(table, (*self.path, key, number), self.lines, self.mistakes) for number, table in enumerate(tables)]
+
+    def section(self, key: str) -> "Section":
+        table = self.table.get(key)
+        if not isinstance(table, dict):
+            self.mistake(key, f"one [{key}] is wanted")
+            return Section({}, (*self.path, key), {(*self.path, key): self.line(key)}, [])
+        return Section(table, (*self.path, key), self.lines, self.mistakes)
+
+
+def refuse_twice(sections: list[Section], key: str) -> None:
+    """Refuses a value of the key that a section before has."""
+    known = {}
+    for section in sections:
+        value = section.table.get(key)
+        if type(value) is str:
+            if value in known:
+                section.mistake(key, f"{value!r} stands in line {known[value]} already")
+            known.setdefault(value, section.line(key))
+
+
+def games_of(root: Section, clocks: list[int]) -> list[Game]:
+    found, sections = [], root.sections("games")
+    for section in sections:
+        section.refuse_others(("name", "file", "described", "seconds", "start", "play", "told"))
+        name = section.name("name", NAME, 40, FIRST)
+        start, play = (section.number(key, 1, MOST_SECONDS, clock) for key, clock in zip(("start", "play"), clocks))
+        described = section.path_of_file("described") if "described" in section.table else ""
+        seconds = section.number("seconds", 1, MOST_INSTANTIATING, INSTANTIATING)
+        told = section.word("told", TOLD, TOLD[0])
+        found.append(Game(name, section.path_of_file("file"), described, seconds, start, play, told, section.line("told"), section.first))
+    refuse_twice(sections, "name")
+    return found
+
+
+def is_place(text: str) -> bool:
+    """Returns whether a text is the NAME@HOST:PORT of a player."""
+    name, _, address = text.partition("@")
+    found = ADDRESS.fullmatch(address)
+    return bool(PLAYER_NAME.fullmatch(name) and found and 1 <= int(found[2]) <= MOST_PORT)
+
+
+def address_of(section: Section) -> str | None:
+    address = section.text("address")
+    found = ADDRESS.fullmatch(address or "")
+    if address is not None and not found:
+        section.mistake("address", f"{address!r} is no HOST:PORT")
+    elif found and not 1 <= int(found[2]) <= MOST_PORT:
+        section.mistake("address", f"the port {found[2]} is not from 1 to 65,535")
+    return address
+
+
+def players_of(root: Section) -> list[Player]:
+    found, sections = [], root.sections("players")
+    for section in sections:
+        section.refuse_others(("name", "address", "concurrent"))
+        name = section.name("name", PLAYER_NAME, 64)
+        found.append(Player(name, address_of(section), section.number("concurrent", 1, 1_024, 1), section.first))
+    refuse_twice(sections, "name")
+    refuse_twice(sections, "address")
+    if len(found) > MOST_PLAYERS:
+        root.mistake("players", f"there are {len(found):,} players, and at most {MOST_PLAYERS:,} are taken")
+    return found
+
+
+def form_of(root: Section, games: list[Game], players: list[Player]) -> Form:
+    section = root.section("form")
+    section.refuse_others(("kind", "rounds", "one", "lines"))
+    kind = section.word("kind", KINDS, "round_robin")
+    rounds = section.number("rounds", 1, MOST_ROUNDS, 1)
+    one = section.text("one") if kind == "gauntlet" else ""
+    if one and all(player.name != one for player in players):
+        section.mistake("one", f"there is no player {one!r}")
+    lines = lines_of_schedule(section, games, players) if kind == "schedule" else []
+    for key, kinds in (("rounds", KINDS[:2]), ("one", KINDS[1:2]), ("lines", KINDS[2:])):
+        if key in section.table and kind not in kinds:
+            section.mistake(key, f"the kind {kind} has no such key")
+    return Form(kind, rounds, one, tuple(lines), section.first)
+
+
+def lines_of_schedule(section: Section, games: list[Game], players: list[Player]) -> list[Text]:
+    lines = section.texts("lines")
+    if not lines:
+        section.mistake("lines", "at least one line is wanted: a game, and its players in the order of the roles")
+    known = {game.name for game in games}, {player.name for player in players}
+    for line in lines:
+        refuse_line(section, line, *known)
+    return lines
+
+
+def refuse_line(section: Section, line: Text, games: set[str | None], players: set[str | None]) -> None:
+    """Refuses a line of a schedule that names no game, or what is no player, or a player twice."""
+    game, *names = line.text.split() or [""]
+    if game not in games:
+        section.mistake("lines", f"there is no game {game!r}", line.line)
+    for number, name in enumerate(names):
+        if name not in players:
+            section.mistake("lines", f"there is no player {name!r}", line.line)
+        if name in names[:number]:
+            section.mistake("lines", f"the player {name!r} stands there twice", line.line)
+
+
+def is_host(text: str) -> bool:
+    found = HOST.fullmatch(text)
+    try:
+        return bool(found and (found[1] is None or ipaddress.IPv6Address(found[1]) != ipaddress.IPv6Address("::")))
+    except ValueError:
+        return False
+
+
+def hosts_of(root: Section) -> tuple[str, ...]:
+    hosts, known = root.texts("hosts"), set()
+    for host in hosts:
+        if not is_host(host.text):
+            root.mistake("hosts", f"{host.text!r} is no host: NAME or USER@NAME is wanted", host.line)
+        if host.text in known:
+            root.mistake("hosts", f"the host {host.text!r} stands there twice", host.line)
+        known.add(host.text)
+    return tuple(host.text for host in hosts)
+
+
+def root_of(data: bytes, mistakes: list[Mistake]) -> Section:
+    """Returns what the bytes of a file say, or raises why they say nothing."""
+    if data.startswith(MARK):
+        raise Mistaken([Mistake(1, "", "the file begins with a byte order mark, the bytes EF BB BF: leave them out")])
+    try:
+        table, lines = read_toml(data.decode("utf-8"))
+        return Section(table, (), lines, mistakes)
+    except UnicodeDecodeError as why:
+        raise Mistaken([Mistake(data.count(b"\n", 0, why.start) + 1, "", "the file is no UTF-8")]) from None
+    except TomlFault as why:
+        raise Mistaken([Mistake(why.line, why.key, why.words)]) from None
+
+
+def read_competition(data: bytes) -> Competition:
+    """Returns the competition that the bytes of a file say, or raises all of their mistakes."""
+    mistakes: list[Mistake] = []
+    root = root_of(data, mistakes)
+    root.refuse_others(ROOT_KEYS)
+    name = root.name("name", NAME, 40, FIRST)
+    clocks = [root.number(key, 1, MOST_SECONDS, 10) for key in ("start", "play")]
+    games, players = games_of(root, clocks), players_of(root)
+    found = Competition(
+        name,
+        root.number("strikes", 0, MOST_STRIKES, 0),
+        root.number("tries", 1, 1_000, 5),
+        root.number("wait", 0, MOST_SECONDS, 10),
+        root.number("info", 1, 10, 10),
+        root.word("absent", ABSENT, "leave"),
+        root.flag("forfeit"),
+        hosts_of(root),
+        form_of(root, games, players),
+        tuple(games),
+        tuple(players),
+    )
+    if mistakes:
+        raise Mistaken(sorted(mistakes, key=lambda mistake: mistake.line))
+    return found

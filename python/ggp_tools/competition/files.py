@@ -1,0 +1,165 @@
+"""The files of a competition's folder: where each stands, and how each is written whole."""
+
+import contextlib
+import fcntl
+import os
+import pathlib
+
+UNFINISHED = ".unfinished-"
+
+
+class Refused(Exception):
+    """Why there is nothing to go on with, in lines, and what helps in the folder of a competition, though not where it is unpacked."""
+
+    def __init__(self, words, advice=None):
+        super().__init__(f"{words}: {advice}" if advice else words)
+        self.words = words
+
+
+@contextlib.contextmanager
+def held(path):
+    """Holds a competition's folder for this run alone. Where the run is killed the system lets it go."""
+    path = pathlib.Path(path)
+    try:
+        found = os.open(path, os.O_RDONLY)
+    except OSError as why:
+        raise Refused(f"{path} can't be read: {why.strerror}") from None
+    try:
+        try:
+            fcntl.flock(found, fcntl.LOCK_EX | fcntl.LOCK_NB)
+        except BlockingIOError:
+            raise Refused(f"{path}: another run plans, plays or publishes this competition") from None
+        except OSError as why:
+            # As on some network file systems, where another run would not be seen.
+            raise Refused(f"{path} can't be held for one run alone: {why.strerror}") from None
+        yield
+    finally:
+        os.close(found)
+
+
+def sync(folder):
+    """Has the names in a folder on the disk."""
+    found = os.open(folder, os.O_RDONLY)
+    try:
+        os.fsync(found)
+    finally:
+        os.close(found)
+
+
+@contextlib.contextmanager
+def written_whole(path, is_lasting=True):
+    """Gives a file to be written, so that at each moment it is there whole or not at all: under another name first, then renamed. Where
+    it is to be lasting it is on the disk before this ends; else it may be lost, where the machine is. A fault leaves nothing behind."""
+    path = pathlib.Path(path)
+    # Two runs may write the same file, each under a name of its own.
+    other = path.with_name(f"{UNFINISHED}{os.getpid()}-{path.name}")
+    try:
+        with open(other, "wb") as it:
+            yield it
+            it.flush()
+            if is_lasting:
+                os.fsync(it.fileno())
+        os.replace(other, path)
+    except BaseException as why:
+        with contextlib.suppress(OSError):
+            other.unlink()
+        if isinstance(why, OSError) and why.filename in (None, str(other)):
+            # Writes do not tell which file it was, and the other name tells nobody anything.
+            raise OSError(why.errno, why.strerror, str(path)) from None
+        raise
+    if is_lasting:
+        sync(path.parent)
+
+
+def write_whole(path, data, is_lasting=True):
+    """Writes a file whole or not at all."""
+    with written_whole(path, is_lasting) as it:
+        it.write(data)
+
+
+def is_being_written(path):
+    """Returns whether another process that is alive may be at work on an unfinished file, by the number in its name."""
+    number = path.name.removeprefix(UNFINISHED).partition("-")[0]
+    return number.isdecimal() and number != str(os.getpid()) and os.path.exists(f"/proc/{number}")
+
+
+def drop_unfinished(folder):
+    """Takes away what writes that were broken off have left in a folder. Nothing is being written there by this process."""
+    for file in folder.glob(f"{UNFINISHED}*"):
+        if not is_being_written(file):
+            file.unlink(missing_ok=True)
+
+
+class Folder:
+    """The folder of a competition."""
+
+    def __init__(self, path):
+        self.path = pathlib.Path(path)
+        self.competition = self.path / "competition.toml"
+        self.schedule = self.path / "schedule.tsv"
+        self.rules, self.open = self.path / "rules", self.path / "open"
+        self.records, self.accounts, self.logs = (self.path / name for name in ("records", "accounts", "logs"))
+        self.matches, self.pages = self.path / "matches.jsonl", self.path / "pages"
+
+    def rules_of(self, game):
+        return self.rules / f"{game}.kif"
+
+    def told_of(self, game):
+        """The file of what players are told of the rules. All rules end in .kif, so those of no game have this name."""
+        return self.rules / f"{game}.told"
+
+    def rule_files(self, game):
+        """The files that `plan` writes of a game of competition.toml: its rules, and what players are told in their place."""
+        return [self.rules_of(game.name), *([self.told_of(game.name)] if game.tells_variables() else [])]
+
+    def rule_sums(self):
+        return self.rules / "SHA256SUMS"
+
+    def description(self, game):
+        """The file of a game's description, as competition.toml names it: that with variables, where it stands beside ground rules."""
+        return self.path / (game.described or game.file)
+
+    def given(self, game):
+        """The file that a game's rules are made from, as competition.toml names it."""
+        return self.path / game.file
+
+    def description_sums(self):
+        """The file of the sums of the descriptions that `plan` made the rules from. All rules end in .kif or .told."""
+        return self.rules / "DESCRIPTIONS.sha256"
+
+    def record(self, match):
+        return self.records / f"{match}.json"
+
+    def account(self, match):
+        return self.accounts / f"{match}.txt"
+
+    def log(self, match):
+        return self.logs / f"{match}.txt"
+
+    def has_log(self, match):
+        return self.log(match).is_file()
+
+    def read_log(self, match):
+        """Returns the log of a match. Where it is missing it is empty: the match counts all the same, and its times are unknown."""
+        return self.log(match).read_bytes() if self.has_log(match) else b""
+
+    def must_be_text(self):
+        """Refuses a folder whose path the referee would not take as a word."""
+        try:
+            os.fsencode(self.path.absolute()).decode("utf-8")
+        except UnicodeDecodeError:
+            raise Refused(f"{self.path.absolute()}: the path of a competition has to be UTF-8, since the referee takes no other") from None
+
+    def make(self, *folders):
+        """Makes folders that are not there, so that they last as long as what is written into them."""
+        for place in (self.path, *folders):
+            if not place.is_dir():
+                place.mkdir(parents=True, exist_ok=True)
+                sync(place.parent)
+
+    def drop_unfinished(self):
+        """Takes away what a write that was broken off has left. Below the folder nobody writes but who holds it."""
+        drop_unfinished(self.path)
+        for folder in (self.rules, self.records, self.accounts, self.logs):
+            for file in folder.glob(f"{UNFINISHED}*"):
+                file.unlink()

@@ -1,0 +1,195 @@
+"""Looks at the description of a game: whether the referee accepts it, what is suspicious in it, and how random matches of it end."""
+
+import argparse
+import pathlib
+import re
+import shutil
+import sys
+from collections import Counter
+
+from ggp_tools.descriptions.loading import MOST_BYTES, SECONDS, NoDescription, Stopped, has_variables, load_description, sentence_starts
+from ggp_tools.competition.files import Refused
+from ggp_tools.descriptions.random_matches import RandomMatches, counted
+from ggp_tools.referee import Unchecked
+from ggp_tools.descriptions.suspicious import NOT_ALL, Suspicions, suspicions
+from ggp_tools.reporting import Reporter
+
+HELP = "says whether the description of a game is accepted, what is suspicious in it, and how random matches of it end"
+STATUS = """status 0: nothing is wrong, though something may be suspicious. 1: the description is not accepted, a match is aborted, none
+ends within the seconds, or a record is another one than it has to be. 2: the command is wrong, or the file can't be read. 3: there is no
+verdict, as where the referee or the grounder is missing something or was ended, or no temporary file can be written.
+"""
+MOST_MATCHES, MOST_SECONDS, MOST_SEED, MOST_DIGITS = 10_000, 1_000_000, 10**18, 20
+# So many seeds are listed, and so many bytes of a state.
+LISTED, MOST_STATE = 10, 500
+INTERPRETER = "the interpreter of ggp_competition"
+# How `ggp-instantiate` ends where it says nothing of the description.
+NO_VERDICT = re.compile(
+    r"ggp-instantiate ended with status .*|ggp-instantiate: (error: |gringo is not installed|gringo took ).*|.*: can't open file .*"
+    r"|([a-z_]+\.)*[A-Z]\w*(Error|Exception|Interrupt)\b.*"
+)
+
+
+def number_of(text, least, most):
+    """Returns the whole number that a word says. It has to be a number from the least to the most."""
+    if not (len(text) <= MOST_DIGITS and text.isascii() and text.isdigit() and least <= int(text) <= most):
+        shown = text if text and text.isprintable() else repr(text)
+        shown = shown if len(shown) <= MOST_DIGITS else f"{shown[:MOST_DIGITS]}.."
+        raise argparse.ArgumentTypeError(f"{shown} is no number from {least:,} to {most:,}")
+    return int(text)
+
+
+def matches(text):
+    return number_of(text, 0, MOST_MATCHES)
+
+
+def seed(text):
+    return number_of(text, 0, MOST_SEED)
+
+
+def seconds(text):
+    return number_of(text, 1, MOST_SECONDS)
+
+
+def add_game(commands):
+    """Adds the command `game` to those of the command line, and returns it."""
+    command = commands.add_parser("game", help=HELP, description=f"{HELP[0].upper()}{HELP[1:]}.", epilog=STATUS)
+    command.add_argument("file", metavar="FILE", help="the description, with or without variables")
+    command.add_argument("--matches", type=matches, default=20, metavar="N", help="play N random matches (20)")
+    command.add_argument("--seed", type=seed, default=1, metavar="S", help="the seed of the first match; each further one has the next (1)")
+    text = "the seconds in which a description with variables is instantiated (60)"
+    command.add_argument("--instantiate", type=seconds, default=SECONDS, metavar="T", help=text)
+    text = "search for T seconds at most, and begin no turn after T seconds of matches (60)"
+    command.add_argument("--seconds", type=seconds, default=60, metavar="T", help=text)
+    return command
+
+
+def read_description(path):
+    try:
+        if path.exists() and not path.is_file():
+            raise Refused(f"{path} is no plain file")
+        with open(path, "rb") as it:
+            return it.read(MOST_BYTES + 1)
+    except OSError as why:
+        raise Refused(f"{path} can't be read: {why.strerror}") from None
+
+
+def run_game(asked, referee):
+    """Tells what there is to tell of a description, and returns the status."""
+    path, reporter = pathlib.Path(asked.file), Reporter()
+    text, why = read_description(path), None
+    try:
+        status = int(report_game(reporter, asked, referee, path, text))
+    except Unchecked as it:
+        status, why = 3, it
+    except OSError as it:
+        status, why = 3, f"{it.filename or 'a temporary file'}: {it.strerror}"
+    finally:
+        reporter.clear()
+    if why:
+        print(f"ggp_competition: {why}", file=sys.stderr)
+    if reporter.fault:
+        raise reporter.fault
+    return status
+
+
+def load(path, text, referee, limit):
+    """Returns the rules of a description. Where it has to be instantiated, and that came to no verdict, this is no fault of its own."""
+    if len(text) <= MOST_BYTES and has_variables(text) and not shutil.which("gringo"):
+        raise Unchecked(f"{path} can't be instantiated: the grounder gringo is not installed")
+    try:
+        return load_description(path, referee, False, limit)
+    except Stopped as why:
+        raise Unchecked(f"{path}: {'; '.join(str(why).splitlines())}; `--instantiate T` gives it more time") from None
+    except NoDescription as why:
+        *more, said = str(why).splitlines()
+        if NO_VERDICT.fullmatch(said):
+            # It tells the end of a grounder that was killed in the same words.
+            said = f"{said}, or was ended" if "gringo took" in said else said
+            raise Unchecked(f"ggp-instantiate came to no verdict with {path}: {'; '.join([said, *more])}") from None
+        raise
+
+
+def report_game(reporter, asked, referee, path, text):
+    """Tells all that there is to tell of a description. Returns whether it is not accepted, or something is wrong with its matches."""
+    reporter.draw("the description")
+    try:
+        rules = load(path, text, referee, asked.instantiate)
+    except NoDescription as why:
+        for line in str(why).splitlines():
+            reporter.line(f"{path} is not accepted: {line}")
+        report_suspicions(reporter, text, None, asked.seconds)
+        return True
+    reporter.line(f"{path} is accepted: {said_of_rules(text, rules)}")
+    for note in rules.notes:
+        reporter.line(f"its ground rules: {note}")
+    report_suspicions(reporter, text, rules.text, asked.seconds)
+    return bool(asked.matches) and report_matches(reporter, asked, referee, rules)
+
+
+def said_of_rules(text, rules):
+    count, ground = len(sentence_starts(text)), len(sentence_starts(rules.text))
+    became = f", which became {counted(ground, 'ground one')}" if has_variables(text) else ""
+    return f"{counted(count, 'sentence')}{became}; roles {' '.join(rules.roles)}"
+
+
+def report_suspicions(reporter, text, ground, seconds):
+    reporter.draw("what is suspicious")
+    found = suspicions(text, ground, seconds) if len(text) <= MOST_BYTES else Suspicions([], NOT_ALL)
+    for line in found.lines:
+        reporter.line(f"suspicious: {line}")
+    if found.cut:
+        reporter.line(found.cut)
+    elif not found.lines:
+        reporter.line("nothing else is suspicious" if ground is None else "nothing is suspicious")
+
+
+# ---- Matches -------------------------------------------------------------------------------------
+
+
+def report_matches(reporter, asked, referee, rules):
+    """Plays random matches, and tells how they ended. Returns whether anything is wrong with one, or none came to its end."""
+    played = RandomMatches(rules.text, referee, asked.file, reporter, asked.seconds)
+    played.run(asked.seed, asked.matches)
+    ended, aborted = played.ended, Counter(match.cause for match in played.ended if match.cause)
+    for note in played.notes:
+        reporter.line(note)
+    if ended:
+        seeds = f"seeds {ended[0].seed} to {ended[-1].seed}" if len(ended) > 1 else f"seed {ended[0].seed}"
+        reporter.line(f"random matches, {seeds}: {len(ended) - aborted.total():,} finished, {aborted.total():,} aborted")
+        for cause in aborted:
+            reporter.line(said_of_cause(cause, [match for match in ended if match.cause == cause]))
+        report_figures(reporter, rules.roles, ended)
+    if played.uncompared:
+        reporter.line(f"the program had not played {played.uncompared:,} of them after {asked.seconds:,} s: their records are not compared")
+    if played.too_long:
+        have = "has" if played.too_long == 1 else "have"
+        reporter.line(f"{played.too_long:,} of them {have} a move that no player can make: their records are not compared")
+    for number, keys in played.differing:
+        reporter.line(f"seed {number}: the program's record is not that of {INTERPRETER}, by {' and '.join(keys)}: please report it")
+    return bool(aborted or played.differing or not (ended or played.is_too_deep))
+
+
+def said_of_cause(cause, ended):
+    """Returns what there is to say of the matches that were aborted for a cause."""
+    first = ended[0]
+    seeds = ", ".join(str(match.seed) for match in ended[:LISTED]) + (", .." if len(ended) > LISTED else "")
+    state = " ".join(first.state) or "empty"
+    state = state if len(state) <= MOST_STATE else f"{state[:MOST_STATE]}.."
+    said = f"aborted with `{cause}`: {len(ended):,}, {'seeds' if len(ended) > 1 else 'seed'} {seeds}"
+    return f"{said}; after turn {first.turns:,} of seed {first.seed} the state is {state}"
+
+
+def spread(numbers):
+    """Returns the least, the greatest and the mean of numbers, as text."""
+    if min(numbers) == max(numbers):
+        return f"always {numbers[0]:,}"
+    return f"{min(numbers):,} to {max(numbers):,}, on average {sum(numbers) / len(numbers):,.1f}"
+
+
+def report_figures(reporter, roles, ended):
+    reporter.line(f"turns of a match: {spread([match.turns for match in ended])}")
+    for role, name in enumerate(roles):
+        goals = [match.goals[role] for match in ended if match.goals]
+        most = max(match.choices[role] for match in ended)
+        reporter.line(f"{name}: goals {spread(goals) if goals else 'none'}; most legal moves at once: {most:,}")

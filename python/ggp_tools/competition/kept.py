@@ -1,0 +1,173 @@
+"""The matches of a competition that count: those with a lawful record and an account that gives it again."""
+
+import contextlib
+import itertools
+import os
+import re
+
+from ggp_tools.competition.files import write_whole
+from ggp_tools.referee import Unchecked
+from ggp_tools.competition.results import fault_of_record, read_record, result_of
+
+# So many matches are checked together, and so many bytes of their files unless one match has more, since all of these are in memory.
+TOGETHER, BYTES_TOGETHER = 250, 1 << 27
+# What the referee reads of a record, before its line's end, and of an account.
+MOST_OF_RECORD, MOST_OF_ACCOUNT = 16_777_216, 268_435_456
+# A line of an account: its line of the desk, the word of its call, and the match.
+CALL = re.compile(rb"[0-9]+\t[a-z]+ ([^ \t\n]+)[ \t]")
+
+
+def read_at_most(path, most):
+    """Returns the bytes of a file; of one that has more than these, no more than show it."""
+    with open(path, "rb") as file:
+        return file.read(most + 1)
+
+
+def read_or_none(path, most):
+    try:
+        return read_at_most(path, most)
+    except FileNotFoundError:
+        return None
+
+
+def size_of(path):
+    return path.stat().st_size if path.exists() else 0
+
+
+def batches(folder, matches):
+    """Gives the matches in order, so many at a time as are checked together."""
+    batch, size = [], 0
+    for match in matches:
+        more = min(size_of(folder.record(match.id)), MOST_OF_RECORD) + min(size_of(folder.account(match.id)), MOST_OF_ACCOUNT)
+        if batch and (len(batch) == TOGETHER or size + more > BYTES_TOGETHER):
+            yield batch
+            batch, size = [], 0
+        batch.append(match)
+        size += more
+    if batch:
+        yield batch
+
+
+def is_of_one_match(account):
+    """Returns whether each line of an account is a call on the match of its first line. Many accounts are replayed as one, where it makes no
+    difference in which of them a call stands."""
+    first = CALL.match(account)
+    if not first:
+        return False
+    calls = re.finditer(rb"^[0-9]+\t[a-z]+ %s[ \t]" % re.escape(first[1]), account, re.MULTILINE)
+    return sum(1 for _ in calls) == account.count(b"\n")
+
+
+def fault_of_files(record, account):
+    """Returns why files are not even handed to the referee, or none. What it would skip, or end at, is here."""
+    if account is None:
+        return "its account is missing"
+    if len(account) > MOST_OF_ACCOUNT:
+        return f"its account has more than {MOST_OF_ACCOUNT:,} bytes"
+    if not account.endswith(b"\n"):
+        return "its account is cut off"
+    if not is_of_one_match(account):
+        return "its account is not of one match alone"
+    if len(record) - 1 > MOST_OF_RECORD:
+        return f"its record has more than {MOST_OF_RECORD:,} bytes"
+    if record.count(b"\n") != 1 or not record.endswith(b"\n"):
+        return "its record is not one line"
+    if not record.startswith(b"{"):
+        return "its record does not begin with `{`"
+    return None
+
+
+def looked_at(plan, referee, game, matches):
+    """Gives for each of these matches of a game, which have records, its result, or why it does not count: because its files are wrong,
+    or though they are right, since they are of another match. Where the referee can't tell, this ends with `Unchecked`."""
+    rules = plan.folder.rules_of(game)
+    records = [read_at_most(plan.folder.record(match.id), MOST_OF_RECORD + 1) for match in matches]
+    accounts = [read_or_none(plan.folder.account(match.id), MOST_OF_ACCOUNT) for match in matches]
+    faults = list(map(fault_of_files, records, accounts))
+    whole = [at for at, fault in enumerate(faults) if not fault]
+    verdicts = dict(zip(whole, referee.verdicts(rules, [records[at] for at in whole])))
+    lawful = [at for at in whole if verdicts[at] == "lawful"]
+    replays = dict(zip(lawful, referee.replays(rules, [accounts[at] for at in lawful], [records[at] for at in lawful])))
+    for at, match in enumerate(matches):
+        fault = faults[at] or (None if at in replays else verdicts[at])
+        if not fault and not replays[at]:
+            fault = "its account does not give its record again"
+        if fault:
+            yield match, fault, None, None
+            continue
+        record = read_record(records[at])
+        misfit = fault_of_record(record, match, plan.competition.strikes)
+        yield match, None, misfit, None if misfit else result_of(record, match)
+
+
+def look_at_records(plan, referee):
+    """Returns the results of the matches that count, by their ids; of the others that have records why their files are wrong; and of
+    those whose files are right in what they are not those of the match."""
+    try:
+        return all_looked_at(plan, referee)
+    except MemoryError:
+        raise Unchecked("records and accounts can't be checked: want of memory") from None
+
+
+def all_looked_at(plan, referee):
+    results, faults, misfits, by_game = {}, {}, {}, {}
+    for match in plan.matches:
+        if plan.folder.record(match.id).exists():
+            by_game.setdefault(match.game, []).append(match)
+    for game, matches in by_game.items():
+        for batch in batches(plan.folder, matches):
+            for match, fault, misfit, result in looked_at(plan, referee, game, batch):
+                if fault:
+                    faults[match.id] = fault
+                elif misfit:
+                    misfits[match.id] = misfit
+                else:
+                    results[match.id] = result
+    return results, faults, misfits
+
+
+def strangers(plan):
+    """Returns the records of the folder that are of no match of the schedule."""
+    known = {plan.folder.record(match.id).name for match in plan.matches}
+    found = os.listdir(plan.folder.records) if plan.folder.records.is_dir() else []
+    return sorted(name for name in found if name.endswith(".json") and name not in known)
+
+
+def free_ending(files, word):
+    """Returns the first of the endings `.word`, `.word.2` and so on under which none of the files is there already."""
+    endings = itertools.chain([f".{word}"], (f".{word}.{count}" for count in itertools.count(2)))
+    return next(candidate for candidate in endings if not any(file.with_name(file.name + candidate).exists() for file in files))
+
+
+def files_of(folder, match):
+    """Returns the files of a match, in the order in which they are written: the record last."""
+    return folder.log(match), folder.account(match), folder.record(match)
+
+
+def set_aside(plan, match):
+    """Keeps the files of a match that do not count under another name, out of the way of those that are to come. Files that were set
+    aside before stay as they are. Returns whether there are any."""
+    files = files_of(plan.folder, match)
+    there = [file for file in files if file.exists()]
+    ending = free_ending(files, "refused") if there else ""
+    for file in there:
+        os.replace(file, file.with_name(file.name + ending))
+    return bool(there)
+
+
+def keep(folder, match, record, account, log, word=None):
+    """Writes the files of a match, the record last, so that what has a record has the others. With a word they get it as an ending, and
+    do not count; what has this ending already stays. Returns the file of the record. Where one can't be written those before it go."""
+    files = files_of(folder, match)
+    ending = free_ending(files, word) if word else ""
+    named = [file.with_name(file.name + ending) for file in files]
+    try:
+        for file, data in zip(named, (log, account, record)):
+            write_whole(file, data)
+    except OSError:
+        # Once the record has its name the match counts.
+        with contextlib.suppress(OSError):
+            for file in named if not named[-1].exists() else ():
+                file.unlink(missing_ok=True)
+        raise
+    return named[-1]

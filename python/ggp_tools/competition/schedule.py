@@ -1,0 +1,113 @@
+"""The matches of a competition: who meets whom in which game, and the file that says it. The same competition gives the same ones."""
+
+from dataclasses import dataclass
+
+from ggp_tools.competition.competition_file import Mistake, Mistaken
+
+HEAD = "id\tgame\tstart\tplay\tplayers\n"
+MOST_MATCHES = 100_000
+
+
+@dataclass(frozen=True)
+class Match:
+    """A match: its id, its game, its clocks, and its players' names in the order of the roles."""
+
+    id: str
+    game: str
+    start: int
+    play: int
+    players: tuple
+
+    def line(self):
+        return f"{self.id}\t{self.game}\t{self.start}\t{self.play}\t{' '.join(self.players)}\n"
+
+
+def circle_steps(count, roles, rounds):
+    """Gives, block by block, how far the player of each seat stands behind that of the first seat, where all players stand in a circle.
+    A block has a match for each place of the circle, so in it each player sits in each seat once. Between two seats each step comes as
+    often as can be: with two roles exactly once a round, else the step of which the players have met least."""
+    if roles == 1:
+        yield from [(0,)] * rounds
+        return
+    if roles == 2:
+        yield from [(0, step) for step in range(1, count)] * rounds
+        return
+    blocks, met = -(-2 * (count - 1) // (roles * (roles - 1))), [0] * count
+    for _ in range(blocks * rounds):
+        steps = [0]
+        for _ in range(1, roles):
+            free = (step for step in range(1, count) if step not in steps)
+            steps.append(min(free, key=lambda it: (sum(met[(it - other) % count] for other in steps), it)))
+            for other in steps[:-1]:
+                met[(steps[-1] - other) % count] += 1
+                met[(other - steps[-1]) % count] += 1
+        yield tuple(steps)
+
+
+def round_robin(players, roles, rounds):
+    """Gives the players of each match: with two roles each pair in both orders, with one each player alone."""
+    for steps in circle_steps(len(players), roles, rounds):
+        for first in range(len(players)):
+            yield tuple(players[(first + step) % len(players)] for step in steps)
+
+
+def gauntlet(players, one, roles, rounds):
+    """Gives the players of each match of one against all: the one sits in each seat in turn, the others in the seats beside it."""
+    if roles == 1:
+        yield from round_robin(players, 1, rounds)
+        return
+    others = [player for player in players if player != one]
+    for seat in [*range(roles)] * rounds:
+        for first in range(len(others)):
+            beside = [others[(first + offset) % len(others)] for offset in range(roles - 1)]
+            yield (*beside[:seat], one, *beside[seat:])
+
+
+def mistakes_of_numbers(competition, roles):
+    """Gives where the number of players does not fit the roles of a game."""
+    form, games = competition.form, {game.name: game for game in competition.games}
+    if form.kind == "schedule":
+        for line in form.lines:
+            name, *players = line.text.split()
+            if len(players) != roles[name]:
+                yield Mistake(line.line, "form.lines", f"{name} has {roles[name]} roles, and the line names {len(players)} players")
+        return
+    for name, game in games.items():
+        if roles[name] > len(competition.players):
+            words = f"{name} has {roles[name]} roles, and there are {len(competition.players)} players"
+            yield Mistake(game.line, "games.file", words)
+
+
+def seatings(competition, roles):
+    """Gives each match's game and players."""
+    form, players = competition.form, [player.name for player in competition.players]
+    if form.kind == "schedule":
+        for line in form.lines:
+            name, *players = line.text.split()
+            yield name, players
+        return
+    for game in competition.games:
+        seats = roles[game.name]
+        found = gauntlet(players, form.one, seats, form.rounds) if form.kind == "gauntlet" else round_robin(players, seats, form.rounds)
+        yield from ((game.name, seated) for seated in found)
+
+
+def planned(competition, roles):
+    """Returns the matches of a competition, where the numbers of roles of its games are known by their names."""
+    mistakes = list(mistakes_of_numbers(competition, roles))
+    if mistakes:
+        raise Mistaken(mistakes)
+    games, found = {game.name: game for game in competition.games}, []
+    for name, players in seatings(competition, roles):
+        found.append((games[name], players))
+        if len(found) > MOST_MATCHES:
+            raise Mistaken([Mistake(competition.form.line, "form", f"there are more than {MOST_MATCHES:,} matches")])
+    width = max(3, len(str(len(found))))
+    return [
+        Match(f"{competition.name}-{number:0{width}}", game.name, game.start, game.play, tuple(players))
+        for number, (game, players) in enumerate(found, 1)
+    ]
+
+
+def schedule_text(matches):
+    return (HEAD + "".join(match.line() for match in matches)).encode("ascii")

@@ -1,0 +1,160 @@
+"""The table as text, as CSV and as JSON."""
+
+import csv
+import io
+import json
+
+from ggp_tools.competition.ratings import MOST_STEPS
+
+HEADS = ("player", "matches", "goals", "won", "drawn", "lost", "moves", "replaced", "absent", "retired", "rating", "half", "group")
+TABLE_FILES = "table.txt", "table.csv", "crosstable.csv", "table.json"
+METHOD = (
+    "Bradley and Terry's model, by Hunter's MM iteration (The Annals of Statistics 32, 2004); a draw is half a win; "
+    "intervals of 95% from the observed information; 400 points are odds of 10 to 1"
+)
+
+
+def in_order(plan, results):
+    """Returns the results in the schedule's order."""
+    return [results[match.id] for match in plan.matches if match.id in results]
+
+
+def without_record(plan, results):
+    """Returns the matches that are not among the results, in the schedule's order."""
+    known = {result.match.id for result in results}
+    return [match for match in plan.matches if match.id not in known]
+
+
+def rounded(number, places):
+    """Returns the number for a file: the last places may differ from one machine to another, and are left away."""
+    return None if number is None else round(number, places) + 0.0
+
+
+def fields(line):
+    """Returns what a line says, in the order of the heads."""
+    rating = line.rating
+    rest = (rounded(rating.rating, 1), rounded(rating.half, 1), rating.group) if rating else (None, None, None)
+    return line.player, line.matches, line.mean(), line.won, line.drawn, line.lost, line.moves, line.replaced, line.absent, line.retired, *rest
+
+
+def points_text(points):
+    return f"{points:.1f}".removesuffix(".0")
+
+
+def rating_text(table, line, sign="+-"):
+    """Returns the rating with its interval, and the group where there are more than one."""
+    if not line.rating or line.rating.rating is None:
+        return "none"
+    several = max(line.rating.group or 0 for line in table.lines.values() if line.rating) > 1
+    return f"{round(line.rating.rating)} {sign} {round(line.rating.half)}" + (f" in {line.rating.group}" if several else "")
+
+
+def goals_text(line):
+    return "none" if line.mean() is None else f"{line.mean():.2f}"
+
+
+def columns(rows):
+    """Returns rows of texts as lines: the first two columns to the left, the others to the right."""
+    widths = [max(map(len, column)) for column in zip(*rows)]
+    for row in rows:
+        cells = [cell.ljust(width) if at == 1 else cell.rjust(width) for at, (cell, width) in enumerate(zip(row, widths))]
+        yield "  ".join(cells).rstrip()
+
+
+def standings_rows(table, sign="+-"):
+    """Gives the rows of the standings, the heads first."""
+    yield ["", "player", "matches", "goals", "won", "drawn", "lost", "replaced", "absent", "retired", "rating"]
+    for place, line in zip(table.places(), table.standings()):
+        counts = [line.won, line.drawn, line.lost, f"{line.replaced} of {line.moves}", line.absent, line.retired]
+        name = f"{line.player} (no move of its own)" if line.absent == line.matches else line.player
+        yield [str(place), name, str(line.matches), goals_text(line), *map(str, counts), rating_text(table, line, sign)]
+
+
+def crosstable_rows(table):
+    """Gives the rows of the crosstable, the heads first: points, and behind a stroke the meetings. Players are numbered in the order of
+    the standings."""
+    order = [line.player for line in table.standings()]
+    yield ["", "player", *map(str, range(1, len(order) + 1))]
+    for number, one in enumerate(order, 1):
+        cells = ((table.points.get((one, other), 0), table.met.get((one, other), 0)) for other in order)
+        yield [str(number), one, *(f"{points_text(points)}/{met}" if met else "." for points, met in cells)]
+
+
+def notes(table):
+    """Gives what a reader of the standings has to know."""
+    for line in table.standings():
+        if line.absent == line.matches:
+            yield f"{line.player} made no move of its own: all of its moves were replaced"
+        elif line.absent:
+            yield f"{line.player} made no move of its own in {line.absent} of its {line.matches} matches"
+    unrated = [line.player for line in table.standings() if line.rating and line.rating.rating is None] if table.is_of_pairs() else []
+    if unrated:
+        yield f"no rating: {', '.join(unrated)} (no chain of points leads to and from the others)"
+    if unsettled := [line.player for line in table.standings() if line.rating and not line.rating.is_close]:
+        yield f"rating not settled: {', '.join(unsettled)} (after {MOST_STEPS:,} steps it was still changing)"
+
+
+def table_text(plan, tables):
+    """Returns the tables as text."""
+    lines = [f"{plan.competition.name}: {tables[0].matches} of {len(plan.matches)} matches"]
+    if plan.competition.forfeit:
+        lines.append("A match in which a player was retired is lost for it.")
+    for table in tables:
+        lines += ["", table.game, "", *columns(list(standings_rows(table)))]
+        if table.is_of_pairs():
+            lines += ["", "points / meetings", *columns(list(crosstable_rows(table)))]
+        lines += [f"* {note}" for note in notes(table)]
+    return "\n".join([*lines, "", f"Ratings: {METHOD}.", ""])
+
+
+def csv_text(tables):
+    """Returns the lines of all tables as CSV, each with its game."""
+    text = io.StringIO()
+    writer = csv.writer(text, lineterminator="\n")
+    writer.writerow(("game", *HEADS))
+    for table in tables:
+        writer.writerows((table.game, *fields(line)) for line in table.standings())
+    return text.getvalue()
+
+
+def crosstable_csv(tables):
+    text = io.StringIO()
+    writer = csv.writer(text, lineterminator="\n")
+    writer.writerow(("game", "player", "opponent", "meetings", "points"))
+    for table in tables:
+        order = [line.player for line in table.standings()]
+        for one in order:
+            for other in order:
+                if table.met.get((one, other)):
+                    writer.writerow((table.game, one, other, table.met[one, other], points_text(table.points[one, other])))
+    return text.getvalue()
+
+
+def json_text(plan, tables):
+    said = {
+        "name": plan.competition.name,
+        "matches": tables[0].matches,
+        "planned": len(plan.matches),
+        "forfeit": plan.competition.forfeit,
+        "ratings": METHOD,
+        "tables": [
+            {
+                "game": table.game,
+                "matches": table.matches,
+                "lines": [dict(zip(HEADS, fields(line))) for line in table.standings()],
+                "crosstable": [
+                    {"player": one, "opponent": other, "meetings": met, "points": table.points[one, other]}
+                    for (one, other), met in sorted(table.met.items())
+                ],
+                "notes": list(notes(table)),
+            }
+            for table in tables
+        ],
+    }
+    return json.dumps(said, indent=1) + "\n"
+
+
+def table_files(plan, tables):
+    """Returns the files of the table by their names, each as bytes."""
+    texts = table_text(plan, tables), csv_text(tables), crosstable_csv(tables), json_text(plan, tables)
+    return {name: text.encode("ascii") for name, text in zip(TABLE_FILES, texts)}

@@ -1,0 +1,164 @@
+"""The descriptions of games: read, looked at, instantiated where they have variables, and tried on the referee."""
+
+import hashlib
+import itertools
+import os
+import pathlib
+import re
+import subprocess
+import sys
+import tempfile
+from dataclasses import dataclass
+
+from ggp_tools import kif
+from ggp_tools.descriptions import kept
+from ggp_tools.instantiating.relations import Relations
+from ggp_tools.instantiating.sentences import Rule, all_rules, as_read
+from ggp_tools.instantiating.told import told as told_text
+from ggp_tools.referee import BadRules
+
+# The folder of this package, where a process that instantiates finds it.
+FOLDER = pathlib.Path(__file__).resolve().parents[2]
+INSTANTIATE = [sys.executable, "-B", "-P", "-m", "ggp_tools.instantiating"]
+MOST_BYTES = 1 << 20
+SENTENCE = re.compile(r"sentence (\d+), ")
+# So many seconds a description gets to be instantiated, where no others are given.
+SECONDS = 60
+STOPPED = re.compile(r"ggp-instantiate: stopped after ")
+
+
+class NoDescription(Exception):
+    """Why a text is no description, with the place where that is known, in lines."""
+
+
+class Stopped(NoDescription):
+    """Why nothing is known of a description yet: its seconds were over before."""
+
+
+@dataclass(frozen=True)
+class Rules:
+    """The ground description of a game: its bytes, their sum, and the names of its roles; the bytes of the description with variables
+    that players get, or none if they get the rules themselves; the sum of the file that all of this was made from, where known; and what
+    `ggp-instantiate` has to say of the rules."""
+
+    text: bytes
+    sum: str
+    roles: tuple
+    told: bytes | None = None
+    description_sum: str | None = None
+    notes: tuple = ()
+
+
+def sum_of(data: bytes) -> str:
+    return hashlib.sha256(data).hexdigest()
+
+
+def sentence_starts(text: bytes) -> list[int]:
+    """Returns the index at which each sentence begins. Refuses a text that is no KIF, or has no sentence."""
+    description = text.decode("latin-1")
+    try:
+        found = kif.starts(description)
+    except kif.KifFault as why:
+        raise NoDescription(f"{kif.place_of(description, why.index)}: {why}") from None
+    if not found:
+        raise NoDescription("line 1, column 1: there is no sentence")
+    return found
+
+
+def look_at_sentences(text: bytes, starts: list[int]) -> None:
+    """Refuses a description with a sentence that is none, by the tests that `ggp-instantiate` has before it grounds."""
+    description = text.decode("latin-1")
+    try:
+        Relations(all_rules(kif.expressions(description))).refuse_dependence()
+    except kif.Refused as why:
+        found = SENTENCE.match(str(why))
+        raise NoDescription(f"{kif.place_of(description, starts[int(found[1])])}: {why}" if found else str(why)) from None
+
+
+def has_variables(text: bytes) -> bool:
+    return any(token.startswith("?") for token in kif.TOKEN.findall(kif.blanked(text.decode("latin-1"))))
+
+
+def why_not(made):
+    """Returns why a run of `ggp-instantiate` made nothing: its last line, and before it which sentences cost most where it is past a limit."""
+    lines = made.stderr.decode(errors="replace").strip().splitlines() or [f"ggp-instantiate ended with status {made.returncode}"]
+    return "\n".join([*(line.strip() for line in lines[:-1] if line.startswith("  dear: ")), lines[-1]])
+
+
+def instantiated(path, text, tells_variables, seconds):
+    """Returns the ground description that `ggp-instantiate` makes of a file with this text, and the description for players where it is
+    asked for."""
+    key = kept.sum_of_work(text, ["--told"] if tells_variables else [])
+    if found := kept.kept(key):
+        return found[0], found[1] if tells_variables else None
+    with tempfile.TemporaryDirectory() as room:
+        told = pathlib.Path(room) / "told"
+        words = [f"--seconds={seconds}", *(["--told", str(told)] if tells_variables else [])]
+        # A name that begins with a hyphen would be an option.
+        environment = {**os.environ, "PYTHONPATH": str(FOLDER)}
+        made = subprocess.run([*INSTANTIATE, *words, os.path.abspath(path)], env=environment, capture_output=True)
+        if made.returncode:
+            raise (Stopped if STOPPED.match(why_not(made).splitlines()[-1]) else NoDescription)(why_not(made))
+        found = made.stdout, told.read_bytes() if tells_variables else None
+    kept.keep(key, found[0], found[1] or b"")
+    return found
+
+
+def notes_of(ground):
+    """Returns what `ggp-instantiate` says at the head of what it made: how it was folded or unrolled, and what is left out."""
+    return tuple(note[2:].decode() for note in itertools.takewhile(lambda it: it.startswith(b"; "), ground.splitlines()))
+
+
+def rules_of(text, name, referee, told=None, description_sum=None, notes=()):
+    """Returns the rules that a ground description says, as the referee reads it, with the text that players get. Refuses what the
+    referee refuses, in its words."""
+    try:
+        roles = referee.roles(text, name)
+    except BadRules as why:
+        raise NoDescription(str(why)) from None
+    return Rules(text, sum_of(text), roles, told, description_sum, notes)
+
+
+def read_text(path):
+    """Returns the bytes of a description."""
+    try:
+        with open(path, "rb") as it:
+            text = it.read(MOST_BYTES + 1)
+    except OSError as why:
+        raise NoDescription(f"it can't be read: {why.strerror}") from None
+    if len(text) > MOST_BYTES:
+        raise NoDescription(f"it has more than {MOST_BYTES:,} bytes")
+    return text
+
+
+def load_description(path, referee, tells_variables, seconds=SECONDS):
+    """Returns the rules of the game that a file describes, with the text that its players get. If the file has no variables that is
+    nothing beside the rules, whatever is asked for."""
+    text = read_text(path)
+    starts, description_sum = sentence_starts(text), sum_of(text)
+    if not has_variables(text):
+        return rules_of(text, path, referee, None, description_sum)
+    look_at_sentences(text, starts)
+    ground, told = instantiated(path, text, tells_variables, seconds)
+    try:
+        return rules_of(ground, path, referee, told, description_sum, notes_of(ground))
+    except NoDescription as why:
+        raise NoDescription(f"its ground rules, by ggp-instantiate: {why}") from None
+
+
+def load_described(path, described, referee, tells_variables):
+    """Returns the rules that a file has, with the text that its players get, by the description with variables that stands beside it."""
+    ground, text = read_text(path), read_text(described)
+    if has_variables(ground):
+        raise NoDescription("it has variables, and so needs no description beside it")
+    sentence_starts(ground)
+    look_at_sentences(text, sentence_starts(text))
+    if not has_variables(text):
+        raise NoDescription(f"{described} has no variables")
+    told = None
+    if tells_variables:
+        heads = [Rule(0, one[1] if one[0] == "<=" else one, ()) for one in kif.expressions(ground.decode("latin-1"))]
+        told = told_text(list(map(as_read, kif.expressions(text.decode("latin-1")))), heads).encode("ascii")
+        if len(told) > MOST_BYTES:
+            raise NoDescription(f"the text for players has more than {MOST_BYTES:,} bytes")
+    return rules_of(ground, path, referee, told, sum_of(text))

@@ -1,0 +1,446 @@
+"""What in the description of a game is suspicious, though the referee accepts it, each with its place. Nothing is reported that may be
+right: where variables leave open what a sentence comes to, it counts as right."""
+
+import difflib
+import itertools
+import math
+import time
+from collections import Counter
+from typing import NamedTuple
+
+from ggp_tools.descriptions.loading import NoDescription, sentence_starts
+from ggp_tools.instantiating.sentences import ARITIES, GAME, SECRET, as_read, must_be_atomic, must_be_literal
+from ggp_tools.instantiating.told import head_of
+from ggp_tools.kif import TOKEN, Refused, blanked, expressions, place_of, relation, spelled, variables
+
+# The relations that need no rule to ask for them, and those whose first argument is a role.
+OWN = {*((name, ARITIES[name]) for name in GAME), ("base", 1), ("input", 2)}
+OF_ROLES = {("legal", 2), ("does", 2), ("goal", 2)}
+# What is looked up in the ground rules.
+KNOWN = {("role", 1), ("legal", 2), ("goal", 2), ("terminal", None)}
+# The words of GDL with the numbers of their arguments: none for an atom alone, "any" for any number.
+HEADS = {**{name: ARITIES[name] for name in GAME}, "base": 1, "input": 2, "<=": "any"}
+CONDITIONS = {"role": 1, "true": 1, "does": 2, "legal": 2, "goal": 2, "terminal": None, "not": 1, "distinct": 2, "or": "any"}
+# What is written in their places, beside what is misspelt.
+OFTEN = {
+    "<=": "=> <- -> :- <== ==> =< >= <=> < = if".split(),
+    "init": "initial initially start".split(),
+    "role": "player players".split(),
+    "terminal": "end final".split(),
+    "true": "holds is".split(),
+    "does": "do did move".split(),
+    "distinct": "different differ neq != /= <>".split(),
+    "not": "~ ! no".split(),
+    "or": "| ||".split(),
+}
+# How alike two words have to be; so many bytes of a sentence are shown, and so many lines; so many names are compared, all together.
+ALIKE, MOST_SHOWN, MOST_LINES, MOST_COMPARED = 0.75, 80, 100, 20_000
+MOST_LISTED = 3
+# The desk takes no answer that is longer.
+MOST_ANSWER = 4_096
+TOO_LONG = f"no player can make this move: its text is longer than {MOST_ANSWER:,} bytes"
+
+
+NOT_ALL = "the rest was not looked at"
+
+
+class TimeIsOver(Exception):
+    """The seconds are over."""
+
+
+class Part(NamedTuple):
+    """An atomic sentence of a description: the number of its sentence, and the way to it there, by the numbers of members."""
+
+    sentence: int
+    way: tuple
+    atom: object
+
+
+class Finding(NamedTuple):
+    """What is suspicious at a part, and what it has in common with others that are told in one line."""
+
+    part: Part
+    words: str
+    kind: tuple
+
+
+def conditions(literal, way):
+    """Gives each atomic sentence of a literal, with the way to it."""
+    match literal:
+        case ("not", inner):
+            yield from conditions(inner, (*way, 1))
+        case ("or" | "and", *inners):
+            for number, inner in enumerate(inners, 1):
+                yield from conditions(inner, (*way, number))
+        case ("distinct", _, _):
+            pass
+        case _:
+            yield way, literal
+
+
+def may_be(one, other):
+    """Returns whether two terms may be equal, with some values for their variables."""
+    if isinstance(one, str) or isinstance(other, str):
+        return one == other or any(isinstance(term, str) and term.startswith("?") for term in (one, other))
+    return len(one) == len(other) and all(map(may_be, one, other))
+
+
+def places(atom, way=()):
+    """Gives each place in an atomic sentence with what stands there: an atom, the length of a list, or None for a variable."""
+    if isinstance(atom, str):
+        yield way, None if atom.startswith("?") else atom
+        return
+    yield way, len(atom)
+    for number, member in enumerate(atom):
+        yield from places(member, (*way, number))
+
+
+def without_names(term):
+    """Returns the term with the same variable in the place of each."""
+    if isinstance(term, str):
+        return "?" if term.startswith("?") else term
+    return tuple(map(without_names, term))
+
+
+class Index:
+    """Atomic sentences, found by what stands at one place of them."""
+
+    def __init__(self, atoms):
+        self.table = {}
+        for atom in atoms:
+            for place in places(atom):
+                self.table.setdefault(place, []).append(atom)
+
+    def alike(self, atom):
+        """Returns those that may have what this one has at one place: at that one where they are fewest."""
+        best, least = (), None
+        for way, word in places(atom):
+            if word is not None:
+                # What has a variable there, or where a list stands that has this place in it, may have all.
+                found = [self.table.get((way[:length], None), ()) for length in range(len(way) + 1)] + [self.table.get((way, word), ())]
+                count = sum(map(len, found))
+                if least is None or count < least:
+                    best, least = found, count
+        return itertools.chain(*best)
+
+
+class Atoms:
+    """Atomic sentences, found by their relations."""
+
+    def __init__(self, atoms):
+        self.plain, self.open = {}, {}
+        for atom in dict.fromkeys(atoms):
+            (self.open if variables(atom) else self.plain).setdefault(relation(atom), {})[atom] = None
+        self.indexes, self.answers = {}, {}
+
+    def relations(self):
+        return {*self.plain, *self.open}
+
+    def like(self, atom):
+        """Gives those that may be this one: itself first."""
+        one, is_open = relation(atom), bool(variables(atom))
+        if not is_open and atom in self.plain.get(one, ()):
+            yield atom
+        for name, atoms in (("open", self.open), ("plain", self.plain))[: 1 + is_open]:
+            if one in atoms:
+                if (name, one) not in self.indexes:
+                    self.indexes[name, one] = Index(atoms[one])
+                yield from (candidate for candidate in self.indexes[name, one].alike(atom) if may_be(candidate, atom))
+
+    def may_give(self, atom):
+        """Returns whether one of them may be this one."""
+        asked = without_names(atom)
+        if asked not in self.answers:
+            self.answers[asked] = next(self.like(asked), None) is not None
+        return self.answers[asked]
+
+
+class Description:
+    """A text with the atomic sentences that stand in it: its heads, and its conditions with the relations that ask for them."""
+
+    def __init__(self, text):
+        self.text = blanked(text.decode("latin-1"))
+        self.starts, self.is_well_formed = sentence_starts(text), True
+        self.heads, self.conditions, self.asks, self.secrets = [], [], {}, {}
+        for number, sentence in enumerate(expressions(text.decode("latin-1"))):
+            self.read(number, as_read(sentence))
+
+    def read(self, number, sentence):
+        is_rule = sentence[:1] == ("<=",)
+        if not sentence or (is_rule and len(sentence) < 2):
+            self.is_well_formed = False
+            return
+        part = Part(number, (1,) if is_rule else (), head_of(sentence))
+        asked = [Part(number, *found) for at, literal in enumerate(sentence[2:] if is_rule else (), 2) for found in conditions(literal, (at,))]
+        try:
+            for literal in sentence[2:] if is_rule else ():
+                must_be_literal(literal)
+            must_be_atomic(part.atom, True)
+        except Refused as why:
+            # A ground description may have these, but they don't mean there what they mean in GDL-II.
+            if SECRET not in str(why):
+                self.is_well_formed = False
+                return
+            self.secrets[part] = str(why)
+        self.heads.append(part)
+        self.conditions += asked
+        self.asks.setdefault(relation(part.atom), set()).update(relation(part.atom) for part in asked)
+
+    def needed(self):
+        """Returns the relations of the game, and those that they ask for."""
+        found, open_ones = set(), list(OWN)
+        while open_ones:
+            one = open_ones.pop()
+            if one not in found:
+                found.add(one)
+                open_ones += self.asks.get(one, ())
+        return found
+
+    def told_places(self, parts):
+        """Returns the places of parts, by their sentences and ways, in the words that tell them."""
+        wanted, found = {}, {}
+        for part in parts:
+            wanted.setdefault(part.sentence, set()).add(part.way)
+        for number, ways in wanted.items():
+            for way, at in member_starts(self.text, self.starts[number], ways).items():
+                found[number, way] = place_of(self.text, at)
+        return found
+
+
+def member_starts(text: str, at: int, ways: set[tuple]) -> dict[tuple, int]:
+    """Returns where the members begin that these ways lead to, of the sentence that begins there."""
+    found, way = {}, []
+    for token in TOKEN.finditer(text, at):
+        if token[0] == ")":
+            way.pop()
+        elif tuple(way) in ways:
+            found[tuple(way)] = token.start()
+        if token[0] == "(":
+            way.append(0)
+        elif way:
+            way[-1] += 1
+        if not way or len(found) == len(ways):
+            break
+    return found
+
+
+def meant(atom, words, names=()):
+    """Returns the word that may be meant by the relation of an atomic sentence, by its look and the number of its arguments: one of GDL,
+    or one of these names. None if there is none."""
+    name, count = relation(atom)
+    if len(name) > MOST_SHOWN:
+        return None
+    fits = [word for word, wanted in words.items() if wanted in (count, "any") or (wanted, count) == (None, 0)]
+    fits = [word for word in fits if word != name]
+    for word in fits:
+        if name in OFTEN.get(word, ()):
+            return word
+    found = difflib.get_close_matches(name, [*(word for word in fits if word.isalpha()), *names], 1, ALIKE)
+    return found[0] if found else None
+
+
+def cut(text):
+    return text if len(text) <= MOST_SHOWN else f"{text[:MOST_SHOWN]}.."
+
+
+def form(name, count):
+    """Returns how an atomic sentence of a relation looks."""
+    return cut(name if count is None else f"({' '.join([name] + ['_'] * count)})")
+
+
+def listed(name, counts):
+    """Returns how a relation looks with these numbers of arguments: with the first of them, where there are many."""
+    return " and ".join([f"`{form(name, count)}`" for count in counts[:MOST_LISTED]] + ["others"] * (len(counts) > MOST_LISTED))
+
+
+def shown(atom):
+    return cut(spelled(atom))
+
+
+def is_too_long(move):
+    """Returns whether no player can make a move, since the desk takes no answer that is as long."""
+    return len(spelled(move)) > MOST_ANSWER
+
+
+def by_name(relations):
+    """Returns the numbers of arguments of relations, by their names."""
+    found = {}
+    for name, count in sorted(relations, key=str):
+        found.setdefault(name, []).append(count)
+    return found
+
+
+class Search:
+    """The search for what is suspicious in a description; `ground` is the text of its ground rules, where it is accepted."""
+
+    def __init__(self, description, ground, until):
+        self.description, self.until, self.said, self.parts = description, until, {}, {}
+        for head in description.heads:
+            self.parts.setdefault(head.atom, []).append(head)
+        self.heads = Atoms(head.atom for head in description.heads)
+        self.asked = Atoms(part.atom for part in description.conditions)
+        self.terms = Atoms(("true", head.atom[1]) for head in description.heads if relation(head.atom) in (("init", 1), ("next", 1)))
+        self.needed, self.known, self.compared = description.needed(), self.heads, 0
+        self.counts, self.needed_counts, self.names = by_name(self.heads.relations()), by_name(self.needed), {}
+        for name, count in sorted(self.heads.relations(), key=str):
+            if len(name) <= MOST_SHOWN:
+                self.names.setdefault(count, []).append(name)
+        self.facts = set()
+        if ground is not None:
+            sentences = expressions(ground.decode("latin-1"))
+            heads = (sentence for sentence in map(head_of, sentences) if relation(sentence) in KNOWN)
+            self.known, self.facts = Atoms(heads), {sentence for sentence in sentences if sentence[:1] != ("<=",)}
+
+    def findings(self):
+        """Gives what is suspicious. Where a sentence has not its form, only misspelt heads are told: it may be what others ask for."""
+        for part, why in self.description.secrets.items():
+            yield Finding(part, why, ("secret", relation(part.atom)))
+        for part in self.description.heads:
+            found = self.of_head(part)
+            if found and (self.description.is_well_formed or found.kind[0] == "misspelt"):
+                yield found
+        if self.description.is_well_formed:
+            yield from filter(None, map(self.of_condition, self.description.conditions))
+            yield from self.of_instances()
+            yield from self.of_roles()
+
+    def look_at_clock(self):
+        if time.monotonic() > self.until:
+            raise TimeIsOver
+
+    def of_head(self, part):
+        self.look_at_clock()
+        one = relation(part.atom)
+        if one in OWN:
+            return self.of_role(part) or self.of_move(part) or self.of_term(part)
+        if one in self.needed or part in self.description.secrets:
+            return None
+        if one not in self.said:
+            self.said[one] = self.of_unneeded(part)
+        return self.said[one]._replace(part=part)
+
+    def of_unneeded(self, part):
+        """Returns what is to be said of a head that the game does not need."""
+        one = relation(part.atom)
+        word = meant(part.atom, HEADS)
+        if word:
+            words = f"`{one[0]}` is no word of GDL, and nothing of the game asks for it; is `{word}` meant?"
+            return Finding(part, words, ("misspelt", one[0]))
+        words, others = f"nothing of the game asks for `{form(*one)}`", self.needed_counts.get(one[0])
+        return Finding(part, words + (f", only for {listed(one[0], others)}" if others else ""), ("unused", one))
+
+    def of_role(self, part):
+        if relation(part.atom) not in OF_ROLES or self.known.may_give(("role", part.atom[1])):
+            return None
+        return Finding(part, f"{shown(part.atom[1])} is no role", ("role", part.atom[1]))
+
+    def of_move(self, part):
+        if relation(part.atom) != ("legal", 2) or not is_too_long(part.atom[2]):
+            return None
+        return Finding(part, TOO_LONG, ("long", relation(part.atom[2])))
+
+    def of_term(self, part):
+        if relation(part.atom) not in (("init", 1), ("next", 1)) or self.asked.may_give(("true", part.atom[1])):
+            return None
+        return Finding(part, f"no condition asks for the term {shown(part.atom[1])}", ("unasked", relation(part.atom[1])))
+
+    def of_condition(self, part):
+        self.look_at_clock()
+        one, atom = relation(part.atom), part.atom
+        if found := self.of_role(part):
+            return found
+        if one == ("true", 1):
+            is_given, words = self.terms.may_give(atom), f"no `init` and no `next` gives the term {shown(atom[1])}"
+            return None if is_given else Finding(part, words, ("true", relation(atom[1])))
+        if one == ("does", 2):
+            is_given, words = self.heads.may_give(("legal", *atom[1:])), "no `legal` gives this move"
+            return None if is_given else Finding(part, words, ("does", atom[1], relation(atom[2])))
+        if self.heads.may_give(atom):
+            return None
+        if ("as a condition", one) not in self.said:
+            self.said["as a condition", one] = self.of_missing(part)
+        return self.said["as a condition", one]._replace(part=part)
+
+    def of_missing(self, part):
+        """Returns what is to be said of a condition that no head may be."""
+        name, count = one = relation(part.atom)
+        counts, words = self.counts.get(name, ()), f"`{form(*one)}` has no rule and no fact"
+        if count in counts:
+            return Finding(part, "no rule and no fact gives this", ("never", one))
+        if counts:
+            words += f", only {listed(name, counts)}"
+        elif word := meant(part.atom, CONDITIONS, self.names_like(count)):
+            words += f"; is `{word}` meant?"
+        return Finding(part, words, ("undefined", one))
+
+    def names_like(self, count):
+        """Returns the names of relations with as many arguments: none where many were compared, since this takes its time."""
+        lists = [self.names.get(number, []) for number in ((count,) if count else (None, 0))]
+        self.compared += sum(map(len, lists))
+        return sum(lists, []) if self.compared <= MOST_COMPARED else []
+
+    def of_instances(self):
+        """Gives the instances with a move that is too long, and those that hold always and are of what is no role. Others may never
+        hold: this is left open."""
+        for name in ("legal", "goal"):
+            for atom in self.known.plain.get((name, 2), ()):
+                self.look_at_clock()
+                if name == "legal" and is_too_long(atom[2]):
+                    yield from self.of_instance(atom, TOO_LONG, ("long", relation(atom[2])))
+                if atom in self.facts and not self.known.may_give(("role", atom[1])):
+                    words = f"{shown(atom[1])} is no role, and a fact of the ground rules has it"
+                    yield from self.of_instance(atom, words, ("role", atom[1]))
+
+    def of_instance(self, atom, words, kind):
+        """Gives what there is to say of an instance, at the head that it is of: at none where it may be of several."""
+        parts = [] if atom in self.parts else [part for head in self.heads.like(atom) for part in self.parts[head]]
+        if parts:
+            is_sure = len(parts) == 1
+            yield Finding(parts[0]._replace(atom=atom) if is_sure else None, words if is_sure else f"{words}: {shown(atom)}", kind)
+
+    def of_roles(self):
+        """Gives what a role lacks, and whether the end does."""
+        for atom in self.known.plain.get(("role", 1), ()):
+            self.look_at_clock()
+            for name in ("legal", "goal"):
+                if not self.known.may_give((name, atom[1], "?it")):
+                    part = next((self.parts[head][0] for head in self.heads.like(atom)), None)
+                    yield Finding(part, f"nothing gives the role {shown(atom[1])} a `{name}`", ("lacks", name, atom))
+        if not self.known.may_give("terminal"):
+            yield Finding(None, "nothing gives `terminal`, so no match is finished", ("terminal",))
+
+
+class Suspicions(NamedTuple):
+    """What is suspicious, in lines, and why not all was looked at: nothing where all was."""
+
+    lines: list
+    cut: str = ""
+
+
+def suspicions(text, ground=None, seconds=math.inf):
+    """Returns what is suspicious in a description, in the order of the text; `ground` is the text of its ground rules, where it is
+    accepted. After the seconds the search is cut."""
+    found, why = [], ""
+    try:
+        description = Description(text)
+        search = Search(description, ground, time.monotonic() + seconds)
+        for finding in search.findings():
+            found.append(finding)
+    except (Refused, NoDescription):
+        return Suspicions([], NOT_ALL)
+    except TimeIsOver:
+        why = f"the search for what is suspicious was cut after {seconds:,} s: {NOT_ALL}"
+    return Suspicions(lines_of(description, found), why or ("" if description.is_well_formed else NOT_ALL))
+
+
+def lines_of(description, found):
+    """Returns the lines that tell findings, those of one kind in one line, at the place of the first."""
+    counts, firsts = Counter(finding.kind for finding in found), {}
+    for finding in sorted(found, key=lambda it: it.part[:2] if it.part else (len(description.starts), ())):
+        firsts.setdefault(finding.kind, finding)
+    shown_ones = list(firsts.values())[:MOST_LINES]
+    told, lines = description.told_places([finding.part for finding in shown_ones if finding.part]), []
+    for finding in shown_ones:
+        more = f" (and {counts[finding.kind] - 1:,} more like this)" if counts[finding.kind] > 1 else ""
+        lines.append(f"{told[finding.part[:2]]}: {finding.words}: {shown(finding.part.atom)}{more}" if finding.part else finding.words)
+    return lines + ([f"and so many more such lines: {len(firsts) - MOST_LINES:,}"] if len(firsts) > MOST_LINES else [])

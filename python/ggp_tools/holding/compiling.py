@@ -1,0 +1,443 @@
+"""Rules become Python functions, one for each relation and each set of its arguments that are known where it is asked for.
+
+Where all are known the function says whether the sentence is true, and else it gives the arguments that are not known, each answer
+once. What it has found of a position it keeps. Relations that depend on themselves are derived as a whole, from the facts up.
+"""
+
+from . import positions
+from .planning import is_known, is_test
+from .reading import Asked, Either, NotFollowed, Same, is_variable, spelled, variables, variables_of
+from .relations import DOES, TRUE
+
+# Python takes twenty blocks in one another.
+MOST_DEPTH = 12
+
+
+class GoesRound(NotFollowed):
+    """A sentence depends on itself through a denial."""
+
+
+def tuple_text(members):
+    members = list(members)
+    return "(" + ", ".join(members) + ("," if len(members) == 1 else "") + ")"
+
+
+def key_text(members):
+    return members[0] if len(members) == 1 else tuple_text(members)
+
+
+def term_text(term, bound):
+    """The expression that makes a term whose variables are bound."""
+    if isinstance(term, str):
+        return bound[term] if term.startswith("?") else repr(term)
+    return tuple_text(term_text(one, bound) for one in term)
+
+
+class Program:
+    """The functions of a description, each made where it is first asked for."""
+
+    def __init__(self, relations, sizes):
+        self.relations, self.sizes = relations, sizes
+        self.made, self.waiting, self.fixed, self.count = {}, [], [], 0
+        self.space = {"NONE": (), "ONE": (0,), "Whole": positions.Whole, "BUSY": object(), "GoesRound": GoesRound}
+
+    def function(self, relation, known):
+        """The function of a relation where these of its arguments are known."""
+        name = self.name(relation, known)
+        while self.waiting:
+            source = self.waiting.pop()()
+            exec(compile(source, "<rules>", "exec"), self.space)
+        return self.space[name]
+
+    def name(self, relation, known):
+        if (relation, known) not in self.made:
+            self.made[relation, known] = name = self.fresh("f")
+            self.waiting.append(lambda: Asking(self, name, relation, known).source())
+        return self.made[relation, known]
+
+    def circle(self, relation):
+        """The function that derives a circle of relations, and the relation's number there."""
+        circle = self.relations.circles[relation]
+        if circle not in self.made:
+            self.made[circle] = name = self.fresh("c")
+            self.waiting.append(lambda: Circle(self, name, circle).source())
+        return self.made[circle], circle.index(relation)
+
+    def fresh(self, letter):
+        self.count += 1
+        return f"{letter}{self.count}"
+
+    def constant(self, value):
+        name = self.fresh("k")
+        self.space[name] = value
+        return name
+
+    def table(self, is_timely):
+        """The number of a new table: one that stays, or one that each position has anew."""
+        self.fixed.append(None if is_timely else {})
+        return len(self.fixed) - 1
+
+    def facts(self, relation, places):
+        """The name of the facts of a relation: all of them, or an index by these places."""
+        key = "facts", relation, places
+        if key not in self.made:
+            rows = self.relations.facts.get(relation, {})
+            value = positions.Index(rows, places).get if places else rows if places is None else list(rows)
+            self.made[key] = self.constant(value)
+        return self.made[key]
+
+    def position(self, state, pairs):
+        return positions.Position(state, pairs, [{} if it is None else it for it in self.fixed])
+
+
+class Lines:
+    """Lines of Python that are being written. `place` is how far they stand in, `depth` in how many loops."""
+
+    def __init__(self, program, extra=""):
+        self.program, self.lines, self.helpers, self.extra = program, [], [], extra
+
+    def put(self, place, text):
+        self.lines.append("    " * place + text)
+
+    def fresh(self):
+        return self.program.fresh("v")
+
+    def text(self):
+        return "\n".join([*(line for helper in self.helpers for line in helper), *self.lines]) + "\n"
+
+    # ---- Terms -----------------------------------------------------------------------------------
+
+    def match(self, place, pattern, value, bound):
+        """Goes on with the next answer where the value does not fit the pattern, and binds its variables."""
+        if is_variable(pattern) and pattern not in bound:
+            bound[pattern] = value
+        elif is_known(pattern, bound):
+            self.put(place, f"if {value} != {term_text(pattern, bound)}: continue")
+        else:
+            functor = "" if is_variable(pattern[0]) else f" or {value}[0] != {pattern[0]!r}"
+            self.put(place, f"if type({value}) is not tuple or len({value}) != {len(pattern)}{functor}: continue")
+            for at, one in enumerate(pattern):
+                if at or is_variable(one):
+                    self.part(place, one, f"{value}[{at}]", bound)
+
+    def part(self, place, pattern, value, bound):
+        """The same for a part of a term, which gets a name where it is looked at more than once."""
+        if not is_known(pattern, bound):
+            name = self.fresh()
+            self.put(place, f"{name} = {value}")
+            value = name
+        self.match(place, pattern, value, bound)
+
+    def targets(self, patterns, bound):
+        """The names that the parts of an answer get, and what is still to be looked at: names and patterns."""
+        names, rest = [], []
+        for pattern in patterns:
+            names.append(self.fresh())
+            if is_variable(pattern) and pattern not in bound:
+                bound[pattern] = names[-1]
+            else:
+                rest.append((pattern, names[-1]))
+        return names, rest
+
+    # ---- Conditions whose variables are all bound ------------------------------------------------
+
+    def test(self, condition, bound):
+        """The expression that says whether a condition holds."""
+        if isinstance(condition, Either):
+            return "(" + " or ".join("(" + (" and ".join(self.test(one, bound) for one in way) or "True") + ")" for way in condition.ways) + ")"
+        if isinstance(condition, Same):
+            one, other = (term_text(it, bound) for it in condition.arguments)
+            return f"{one} {'==' if condition.positive else '!='} {other}"
+        found = self.asked(condition.relation, condition.arguments, bound)
+        return found if condition.positive else f"not {found}"
+
+    def cost(self, condition):
+        """What a test costs: those that look something up stand behind those that compare."""
+        if isinstance(condition, Asked):
+            return 3 if condition.relation in self.program.relations.rules else 1
+        return 2 if isinstance(condition, Either) else 0
+
+    def asked(self, relation, arguments, bound):
+        texts = [term_text(one, bound) for one in arguments]
+        if relation == TRUE:
+            return f"({texts[0]} in D.state)"
+        if relation == DOES:
+            return f"(D.does.get({texts[0]}) == {texts[1]})"
+        if relation in self.program.relations.circles:
+            whole, number = self.whole(relation)
+            return f"({tuple_text(texts)} in {whole}.sets[{number}])"
+        if relation in self.program.relations.rules:
+            return f"{self.program.name(relation, (True,) * len(texts))}({', '.join(['D', *texts])})"
+        return f"({tuple_text(texts)} in {self.program.facts(relation, None)})"
+
+    def whole(self, relation):
+        """The expression of all that is true of a circle of relations, and the relation's number there."""
+        name, number = self.program.circle(relation)
+        return ("W" if self.extra == f"W{name}" else f"{name}(D)"), number
+
+    # ---- Conditions that bind variables ----------------------------------------------------------
+
+    def loop(self, place, condition, bound):
+        """Begins a loop over the answers of a condition."""
+        relation, arguments = condition.relation, condition.arguments
+        if relation == TRUE:
+            self.loop_over_terms(place, arguments[0], bound)
+        elif relation == DOES:
+            self.loop_over_moves(place, arguments, bound)
+        else:
+            self.loop_over_answers(place, relation, arguments, bound)
+
+    def loop_over_terms(self, place, pattern, bound):
+        if is_variable(pattern):
+            bound[pattern] = self.fresh()
+            self.put(place, f"for {bound[pattern]} in D.state:")
+            return
+        if is_variable(pattern[0]):
+            raise NotFollowed(f"{spelled(pattern)} is no term")
+        functor = pattern[0], len(pattern)
+        places = tuple(at for at, one in enumerate(pattern) if at and is_known(one, bound))
+        rows = f"D.rows.get({functor!r}, NONE)"
+        if places:
+            key = ("index", functor, places)
+            number = self.program.made.setdefault(key, len(self.program.made))
+            rows = f"D.index({number}, {functor!r}, {places!r})({key_text([term_text(pattern[at], bound) for at in places])}, NONE)"
+        self.loop_over_rows(place, rows, pattern, (0, *places), bound)
+
+    def loop_over_rows(self, place, rows, patterns, known, bound):
+        """Begins a loop over rows, of which the parts at some places are known to fit."""
+        names, rest = self.targets([one for at, one in enumerate(patterns) if at not in known], bound)
+        left = iter(names)
+        self.put(place, f"for {tuple_text('_' if at in known else next(left) for at in range(len(patterns)))} in {rows}:")
+        for pattern, name in rest:
+            self.match(place + 1, pattern, name, bound)
+
+    def loop_over_moves(self, place, arguments, bound):
+        role, move = arguments
+        name = self.fresh()
+        if is_known(role, bound):
+            self.put(place, f"for {name} in (D.does.get({term_text(role, bound)}),):")
+            self.put(place + 1, f"if {name} is None: continue")
+        else:
+            other = self.fresh()
+            self.put(place, f"for {other}, {name} in D.pairs:")
+            self.match(place + 1, role, other, bound)
+        self.match(place + 1, move, name, bound)
+
+    def loop_over_answers(self, place, relation, arguments, bound):
+        known = tuple(at for at, one in enumerate(arguments) if is_known(one, bound))
+        texts = [term_text(arguments[at], bound) for at in known]
+        relations = self.program.relations
+        if relation in relations.circles:
+            whole, number = self.whole(relation)
+            rows = f"{whole}.index({number}, {known!r})({key_text(texts)}, NONE)" if known else f"{whole}.lists[{number}]"
+        elif relation in relations.rules:
+            name = self.program.name(relation, tuple(at in known for at in range(len(arguments))))
+            free = [one for at, one in enumerate(arguments) if at not in known]
+            names, rest = self.targets(free, bound)
+            self.put(place, f"for {names[0] if len(names) == 1 else tuple_text(names)} in {name}({', '.join(['D', *texts])}):")
+            for pattern, name in rest:
+                self.match(place + 1, pattern, name, bound)
+            return
+        else:
+            rows = f"{self.program.facts(relation, known)}({key_text(texts)}, NONE)" if known else self.program.facts(relation, ())
+        self.loop_over_rows(place, rows, arguments, known, bound)
+
+    # ---- Bodies ----------------------------------------------------------------------------------
+
+    def body(self, place, conditions, bound, finish, depth=0):
+        """Meets all conditions, in the order that costs least, and finishes each way of it."""
+        left = list(conditions)
+        while True:
+            for test in sorted((one for one in left if is_test(one, bound)), key=self.cost):
+                self.put(place, f"if not {self.test(test, bound)}: continue")
+                left.remove(test)
+            if not left:
+                finish.write(self, place, bound)
+                return
+            is_done = depth and not finish.is_test and all(name in bound for name in finish.names)
+            if is_done or depth == MOST_DEPTH:
+                self.apart(place, left, bound, finish, is_done)
+                return
+            binding = [one for one in left if isinstance(one, Asked) and one.positive]
+            best = min(binding, key=lambda one: self.program.sizes.answers(one, bound))
+            left.remove(best)
+            self.loop(place, best, bound)
+            place, depth = place + 1, depth + 1
+
+    def apart(self, place, left, bound, finish, is_done):
+        """Meets the other conditions in a function of its own: whether they can be met, where that is all that is left to know."""
+        name, needed = self.program.fresh("h"), {one for it in left for one in variables_of(it)} | set(finish.names)
+        live = {one: text for one, text in bound.items() if one in needed}
+        inner, test = Lines(self.program, self.extra), is_done or finish.is_test
+        names = {one: self.program.fresh("v") for one in live}
+        words = [*finish.parameters(self.extra, is_done), *names.values()]
+        inner.put(0, f"def {name}({', '.join(words)}):")
+        inner.put(1, "for _ in ONE:")
+        inner.body(2, left, dict(names), TRUTH if test else finish)
+        if test:
+            inner.put(1, "return False")
+        self.helpers += [*inner.helpers, inner.lines]
+        call = f"{name}({', '.join([*finish.parameters(self.extra, is_done), *live.values()])})"
+        self.put(place, f"if {call}:" if test else call)
+        if is_done:
+            finish.write(self, place + 1, bound)
+        elif test:
+            self.put(place + 1, "return True")
+
+
+class Truth:
+    """What is asked is whether it is so."""
+
+    is_test, names = True, ()
+
+    def parameters(self, extra, is_done):
+        return ["D", "W"] if extra else ["D"]
+
+    def write(self, lines, place, bound):
+        lines.put(place, "return True")
+
+
+TRUTH = Truth()
+
+
+class Answer:
+    """An answer has these terms."""
+
+    is_test = False
+
+    def __init__(self, terms):
+        self.terms, self.names = terms, list(variables(terms))
+
+    def parameters(self, extra, is_done):
+        return ["D"] if is_done else ["D", "F"]
+
+    def write(self, lines, place, bound):
+        lines.put(place, f"F[{key_text([term_text(one, bound) for one in self.terms])}] = None")
+
+
+class Derived:
+    """A row of a relation of a circle has these terms."""
+
+    is_test = False
+
+    def __init__(self, number, terms):
+        self.number, self.terms, self.names = number, terms, list(variables(terms))
+
+    def parameters(self, extra, is_done):
+        return ["D", "W"]
+
+    def write(self, lines, place, bound):
+        lines.put(place, f"W.add({self.number}, {tuple_text(term_text(one, bound) for one in self.terms)})")
+
+
+class Asking:
+    """The function of a relation where some of its arguments are known."""
+
+    def __init__(self, program, name, relation, known):
+        self.program, self.name, self.relation, self.known = program, name, relation, known
+        self.parameters = [f"p{at}" for at, one in enumerate(known) if one]
+        self.is_test = all(known)
+
+    def source(self):
+        relations, lines = self.program.relations, Lines(self.program)
+        lines.put(0, f"def _{self.name}({', '.join(['D', *([] if self.is_test else ['F']), *self.parameters])}):")
+        if self.relation in relations.circles:
+            names = tuple(f"?{at}" for at in range(len(self.known)))
+            self.put_rule(lines, names, [Asked(True, self.relation, names)])
+        else:
+            if self.relation in relations.facts:
+                self.put_facts(lines)
+            for rule in relations.rules.get(self.relation, ()):
+                self.put_rule(lines, rule.arguments, rule.body)
+        lines.put(1, "return False" if self.is_test else "return F")
+        return lines.text() + "\n".join(self.kept()) + "\n"
+
+    def put_facts(self, lines):
+        """The lines that give the facts of the relation."""
+        if self.is_test:
+            lines.put(1, f"if {tuple_text(self.parameters)} in {self.program.facts(self.relation, None)}: return True")
+            return
+        places = tuple(at for at, one in enumerate(self.known) if one)
+        rows = self.program.facts(self.relation, places)
+        lines.put(1, f"for R in {f'{rows}({key_text(self.parameters)}, NONE)' if places else rows}:")
+        lines.put(2, f"F[{key_text([f'R[{at}]' for at, one in enumerate(self.known) if not one])}] = None")
+
+    def put_rule(self, lines, arguments, body):
+        """The lines of one rule: its head has the known arguments."""
+        bound = {}
+        lines.put(1, "for _ in ONE:")
+        for at, one in enumerate(arguments):
+            if self.known[at]:
+                lines.match(2, one, f"p{at}", bound)
+        free = tuple(one for at, one in enumerate(arguments) if not self.known[at])
+        lines.body(2, body, bound, TRUTH if self.is_test else Answer(free))
+
+    def kept(self):
+        """The function that looks first at what was found before."""
+        number = self.program.table(self.relation in self.program.relations.timely)
+        words, key = ["D", *self.parameters], key_text(self.parameters) if self.parameters else "0"
+        yield f"def {self.name}({', '.join(words)}):"
+        yield f"    T = D.tables[{number}]"
+        yield f"    R = T.get({key})"
+        yield "    if R is None:"
+        if self.relation in self.program.relations.denying:
+            yield f"        T[{key}] = BUSY"
+        call = f"_{self.name}({', '.join(words)})" if self.is_test else f"list(_{self.name}({', '.join(['D', '{}', *self.parameters])}))"
+        yield f"        T[{key}] = R = {call}"
+        if self.relation in self.program.relations.denying:
+            yield f"    if R is BUSY: raise GoesRound({spelled_relation(self.relation)!r})"
+        yield "    return R"
+
+
+def spelled_relation(relation):
+    return f"a sentence of `{relation[0]}` depends on itself, through a denial"
+
+
+class Circle:
+    """The function that derives all that is true of a circle of relations."""
+
+    def __init__(self, program, name, circle):
+        self.program, self.name, self.circle = program, name, circle
+
+    def source(self):
+        relations, lines = self.program.relations, Lines(self.program, f"W{self.name}")
+        variants = [[] for _ in self.circle]
+        lines.put(0, f"def _{self.name}(D, W):")
+        lines.put(1, "pass")
+        for number, relation in enumerate(self.circle):
+            for row in relations.facts.get(relation, ()):
+                lines.put(1, f"W.add({number}, {tuple_text(term_text(one, {}) for one in row)})")
+            for rule in relations.rules[relation]:
+                if not self.asked_in(rule.body):
+                    lines.put(1, "for _ in ONE:")
+                    lines.body(2, rule.body, {}, Derived(number, rule.arguments))
+        for number, relation in enumerate(self.circle):
+            for rule in relations.rules[relation]:
+                for at in self.asked_in(rule.body):
+                    self.put_variant(lines, number, rule, at, variants)
+        return lines.text() + "\n".join(self.kept(variants)) + "\n"
+
+    def asked_in(self, body):
+        return [at for at, one in enumerate(body) if isinstance(one, Asked) and one.relation in self.circle]
+
+    def put_variant(self, lines, number, rule, at, variants):
+        """The function that derives what follows by a rule from one row of what it asks for at this place."""
+        name, asked, bound = self.program.fresh("d"), rule.body[at], {}
+        variants[self.circle.index(asked.relation)].append(name)
+        lines.put(0, f"def {name}(D, W, R):")
+        lines.put(1, "for _ in ONE:")
+        for place, one in enumerate(asked.arguments):
+            lines.part(2, one, f"R[{place}]", bound)
+        lines.body(2, [*rule.body[:at], *rule.body[at + 1 :]], bound, Derived(number, rule.arguments))
+
+    def kept(self, variants):
+        number = self.program.table(any(one in self.program.relations.timely for one in self.circle))
+        lists = ", ".join("[" + ", ".join(f"lambda W, R: {name}(D, W, R)" for name in names) + "]" for names in variants)
+        yield f"def {self.name}(D):"
+        yield f"    T = D.tables[{number}]"
+        yield "    W = T.get(0)"
+        yield "    if W is None:"
+        yield f"        T[0] = W = Whole({len(self.circle)})"
+        yield f"        _{self.name}(D, W)"
+        yield f"        W.close([{lists}])"
+        yield "    return W"

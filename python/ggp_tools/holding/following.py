@@ -1,0 +1,199 @@
+"""A record is followed by the published description: whether its roles, states, moves, errors, end and goals are those of the game."""
+
+from typing import NamedTuple
+
+from .reading import NotFollowed, is_variable, spelled, term_of
+from .relations import GOAL, INIT, LEGAL, NEXT, TERMINAL
+
+# So many of each kind are told.
+MOST_TOLD = 5
+KEYS = {"roles": list, "states": list, "moves": list, "errors": list, "goalValues": list, "phase": str}
+ILLEGAL, UNREADABLE = "IL ", "IL ?"
+
+
+class Differs(Exception):
+    """Where the record and the description differ, in lines."""
+
+
+class Following:
+    """The game, and the texts of terms as a record has them. `seen` has the first sentence that was seen to give a move of a role."""
+
+    def __init__(self, game):
+        self.game, self.texts, self.terms, self.seen = game, {}, {}, {}
+        self.in_order = list(game.roles)
+
+    def text(self, term):
+        if term not in self.texts:
+            self.texts[term] = spelled(term)
+        return self.texts[term]
+
+    def term(self, text):
+        if text not in self.terms:
+            self.terms[text] = term_of(text)
+        return self.terms[text]
+
+    def follow(self, record):
+        """Follows a record to its end. Returns how many turns it has."""
+        must_be_record(record)
+        self.look_at_roles(record["roles"])
+        state = self.game.initial
+        self.look_at_state("the first state", state, record["states"][0], lambda term: self.cited(INIT, (term,), frozenset()))
+        for turn, (moves, errors) in enumerate(zip(record["moves"], record["errors"])):
+            state = self.turn(f"turn {turn + 1}", state, moves, errors, record["states"][turn + 1])
+        self.look_at_end(record, state)
+        return len(record["moves"])
+
+    # ---- Roles and states ------------------------------------------------------------------------
+
+    def look_at_roles(self, roles):
+        own = list(map(self.text, self.game.roles))
+        # Roles that a rule gives have no order in the description.
+        if own != roles and (self.game.has_fixed_order or sorted(own) != sorted(roles)):
+            raise Differs(f"the roles are {' '.join(own)} by the description, and {' '.join(roles)} in the record")
+        self.in_order = list(map(self.term, roles))
+
+    def look_at_state(self, when, state, texts, cited):
+        """Refuses another state than the record's."""
+        own = {self.text(term): term for term in state}
+        if own.keys() == set(texts) and len(texts) == len(own):
+            return
+        said = []
+        for text in sorted(own.keys() - set(texts))[:MOST_TOLD]:
+            said.append(f"{when} lacks {text}, which {cited(own[text])}")
+        for text in sorted(set(texts) - own.keys())[:MOST_TOLD]:
+            said.append(f"{when} has {text}, which no sentence of the description gives there")
+        raise Differs("\n".join(said or [f"{when} has a term twice"]))
+
+    def cited(self, relation, arguments, state, moves=()):
+        """Words for what gives this in a state."""
+        found = self.game.sources(relation, arguments, state, self.own_order(moves))
+        return " and ".join(f"{self.game.cited(number)} gives" for number in found[:MOST_TOLD]) or "the description gives"
+
+    def own_order(self, moves):
+        """The moves in the order in which the game has its roles."""
+        by_role = dict(zip(self.in_order, moves))
+        return tuple(by_role[role] for role in self.game.roles) if moves else ()
+
+    # ---- Turns -----------------------------------------------------------------------------------
+
+    def turn(self, when, state, texts, errors, following):
+        """Follows one turn. Returns the state after it."""
+        moves = list(map(self.term, texts))
+        position = self.game.position(state, self.own_order(moves))
+        if self.game.is_over(position):
+            raise Differs(f"{when} is played, and the match has ended before it: {self.cited(TERMINAL, (), state)} `terminal`")
+        for role, move, error in zip(self.in_order, moves, errors):
+            self.look_at_move(f"{when}, {self.text(role)}", position, role, move, error)
+        after = frozenset(self.game.following(position))
+        self.look_at_state(f"after {when} the record", after, following, lambda term: self.cited(NEXT, (term,), state, moves))
+        return after
+
+    def look_at_move(self, when, position, role, move, error):
+        """Refuses a move that is not legal, and one in the place of an answer that is, or that is not the first legal one."""
+        if not self.game.is_legal(position, role, move):
+            raise Differs(f"{when}: the record plays {self.text(move)}, which is not legal by the description")
+        if error.startswith(ILLEGAL) and error != UNREADABLE:
+            answer = self.term(error.removeprefix(ILLEGAL))
+            if self.game.is_legal(position, role, answer):
+                given = self.cited(LEGAL, (role, answer), position.state)
+                raise Differs(f"{when}: the answer {self.text(answer)} was taken for illegal, and {given} it")
+        if error:
+            self.look_at_first(when, position, role, move)
+
+    def look_at_first(self, when, position, role, first):
+        """Refuses a first legal move that another stands before. The instances of a sentence stand in the order of their heads, behind
+        those of the sentences before it, whatever the state: where several sentences have instances of a move its place may be open."""
+        least = self.least_place(role, first)
+        for move in self.game.moves(position, role):
+            greatest = self.greatest_place(position, role, move)
+            if greatest < least:
+                words = f"the record plays {self.text(first)} in the place of an answer, and {self.text(move)} stands before it"
+                raise Differs(f"{when}: {words}, by {self.game.cited(greatest[0])}")
+
+    def least_place(self, role, move):
+        """The place that a move has where the first sentence that could give it does so in some state."""
+        for number, rules in self.game.by_sentence(LEGAL).items():
+            if any(fits(rule.arguments, (role, move), {}) for rule in rules):
+                return number, place_of(move)
+        raise NotFollowed(f"no head of a sentence fits the legal move {self.text(move)}")
+
+    def greatest_place(self, position, role, move):
+        """The place that a move has at the latest: by the first sentence that was seen to give it."""
+        numbers = self.game.sources(LEGAL, (role, move), position.state)
+        found = min([*numbers, self.seen.get((role, move), numbers[0])])
+        self.seen[role, move] = found
+        return found, place_of(move)
+
+    # ---- The end ---------------------------------------------------------------------------------
+
+    def look_at_end(self, record, state):
+        if None in record.get("startMarks", ()):
+            return
+        position, cause = self.game.position(state), record.get("cause")
+        kind = cause.split()[0] if isinstance(cause, str) and cause else None
+        is_at_end = record["phase"] in ("finished", "stopping") or kind == "nogoal"
+        is_over = self.game.is_over(position)
+        if is_at_end and not is_over:
+            raise Differs("the record ends as at the end of the game, and the description has no end there: nothing gives `terminal`")
+        if not is_at_end and is_over:
+            raise Differs(f"the record goes on, and the match has ended by the description: {self.cited(TERMINAL, (), state)} `terminal`")
+        if kind == "nogoal":
+            self.look_at_missing_goal(position, int(cause.split()[1]))
+        elif is_at_end:
+            for role, value in zip(self.in_order, record["goalValues"]):
+                self.look_at_goal(position, role, value)
+        elif kind in ("nolegal", "allretired", None):
+            self.look_at_legal(position, int(cause.split()[1]) if kind == "nolegal" else None)
+
+    def look_at_goal(self, position, role, value):
+        found = self.game.goals(position, role)
+        if found != [value]:
+            given = [f"{self.cited(GOAL, (role, str(one)), position.state)} {one}" for one in found]
+            raise Differs(f"{self.text(role)} has the goal {value} in the record, and by the description {'; '.join(given) or 'none'}")
+
+    def look_at_missing_goal(self, position, at):
+        """Refuses a match that was given up for the goals of a role that is not the first without a single one."""
+        counts = [len(self.game.goals(position, role)) for role in self.in_order]
+        without = next((place for place, count in enumerate(counts) if count != 1), None)
+        if without != at:
+            words = "no role lacks its goal" if without is None else f"{self.text(self.in_order[without])} does"
+            raise Differs(f"the record is given up since {self.text(self.in_order[at])} has no single goal, and by the description {words}")
+
+    def look_at_legal(self, position, at):
+        """Refuses a role without a legal move that has one, and the other way round."""
+        without = next((place for place, role in enumerate(self.in_order) if not self.game.moves(position, role)), None)
+        if without != at:
+            stuck = "no role" if without is None else self.text(self.in_order[without])
+            said = "no role" if at is None else self.text(self.in_order[at])
+            raise Differs(f"after the last turn {said} has no legal move in the record, and by the description {stuck}")
+
+
+def must_be_record(record):
+    """Refuses what lacks a part of a record that is followed."""
+    if not isinstance(record, dict):
+        raise NotFollowed("it is no record: one object of JSON is wanted")
+    for key, kind in KEYS.items():
+        if not isinstance(record.get(key), kind):
+            raise NotFollowed(f"it is no record: {key} is missing, or of another kind")
+    turns = len(record["moves"])
+    if len(record["errors"]) != turns or len(record["states"]) != turns + 1:
+        raise NotFollowed("it is no record: moves, errors and states do not fit together")
+    if any(len(one) != len(record["roles"]) for one in (*record["moves"], *record["errors"])):
+        raise NotFollowed("it is no record: a turn has not one move for each role")
+
+
+def fits(pattern, term, values):
+    """Whether a pattern is the term for some values of its variables."""
+    if is_variable(pattern):
+        return values.setdefault(pattern, term) == term
+    if isinstance(pattern, str) or isinstance(term, str):
+        return pattern == term
+    return len(pattern) == len(term) and all(fits(one, other, values) for one, other in zip(pattern, term))
+
+
+def place_of(term):
+    """The place of a term among those of one sentence: numbers by value, then other atoms by their bytes, then lists, member by member."""
+    if isinstance(term, tuple):
+        return 2, tuple(map(place_of, term))
+    digits = term.lstrip("0")
+    return (0, len(digits), digits, term) if term.isdigit() else (1, term)

@@ -1,0 +1,70 @@
+"""What is looked up while a state is asked about: its terms and the moves by what is known of them, and what was found so far."""
+
+from operator import itemgetter
+
+NONE = ()
+
+
+def index_of(rows, places):
+    """Rows by what they have at these places: by one value, or by a tuple of several."""
+    found, key = {}, itemgetter(*places)
+    for row in rows:
+        found.setdefault(key(row), []).append(row)
+    return found
+
+
+class Index:
+    """An index of facts that stay."""
+
+    def __init__(self, rows, places):
+        self.get = index_of(rows, places).get
+
+
+class Position:
+    """A state, with the moves of a turn where there are some."""
+
+    def __init__(self, state, pairs, tables):
+        self.state, self.pairs, self.does, self.tables = state, pairs, dict(pairs), tables
+        self.rows, self.indexes = {}, {}
+        for term in state:
+            key = (term, 0) if isinstance(term, str) else (term[0], len(term))
+            self.rows.setdefault(key, []).append(term)
+
+    def index(self, number, functor, places):
+        """The terms of a functor by what they have at these places."""
+        found = self.indexes.get(number)
+        if found is None:
+            found = self.indexes[number] = index_of(self.rows.get(functor, NONE), places).get
+        return found
+
+
+class Whole:
+    """All that is true of relations that depend on themselves."""
+
+    def __init__(self, count):
+        self.sets, self.lists, self.indexes = [set() for _ in range(count)], [[] for _ in range(count)], {}
+        self.queue, self.keys = [], [[] for _ in range(count)]
+
+    def add(self, number, row):
+        if row in self.sets[number]:
+            return
+        self.sets[number].add(row)
+        self.lists[number].append(row)
+        self.queue.append((number, row))
+        for found, key in self.keys[number]:
+            found.setdefault(key(row), []).append(row)
+
+    def index(self, number, places):
+        """The rows of a relation by what they have at these places: it grows with them."""
+        found = self.indexes.get((number, places))
+        if found is None:
+            found = self.indexes[number, places] = index_of(self.lists[number], places)
+            self.keys[number].append((found, itemgetter(*places)))
+        return found.get
+
+    def close(self, variants):
+        """Derives until there is no more: each row is put where it is asked for, once."""
+        while self.queue:
+            number, row = self.queue.pop()
+            for variant in variants[number]:
+                variant(self, row)

@@ -1,0 +1,189 @@
+"""A description as it was published: its sentences with their lines, and the rules that they come to.
+
+A term is a text or a tuple. A condition of a rule is one of the classes below; denials stand only before what is derived, and an `or`
+only where each of its variables is bound by other conditions of the rule.
+"""
+
+import itertools
+import re
+from typing import NamedTuple
+
+TOKEN = re.compile(r"[()]|[^\s();]+|;[^\n]*|\n")
+OWN = {"role": 1, "init": 1, "true": 1, "next": 1, "does": 2, "legal": 2, "goal": 2, "terminal": None}
+CONNECTIVES = "<=", "not", "or", "and", "distinct"
+MOST_WAYS = 4_096
+
+
+class NotFollowed(Exception):
+    """Why a record could not be followed: nothing is said of the game."""
+
+
+class Sentence(NamedTuple):
+    """A sentence of the description, counted from 0, and the line, counted from 1, in which it begins."""
+
+    number: int
+    line: int
+    term: object
+
+    def cited(self):
+        text = spelled(self.term)
+        return f"sentence {self.number}, line {self.line}: {text[:160]}" + (".." if len(text) > 160 else "")
+
+
+class Asked(NamedTuple):
+    """That a sentence of a relation is true, or that it is not."""
+
+    positive: bool
+    relation: tuple
+    arguments: tuple
+
+
+class Same(NamedTuple):
+    """That two terms are the same, or that they are not."""
+
+    positive: bool
+    arguments: tuple
+
+
+class Either(NamedTuple):
+    """That one of several lists of conditions holds."""
+
+    ways: tuple
+
+
+class Rule(NamedTuple):
+    """What is derived where all conditions hold."""
+
+    sentence: int
+    relation: tuple
+    arguments: tuple
+    body: tuple
+
+
+def spelled(term):
+    """The canonical text of a term."""
+    return term if isinstance(term, str) else "(" + " ".join(map(spelled, term)) + ")"
+
+
+def sentences_of(text):
+    """The sentences that a text spells, in small letters."""
+    found, levels, line, begun = [], [[]], 1, 1
+    for token in TOKEN.findall(text):
+        if token == "\n":
+            line += 1
+        elif token == "(":
+            begun = line if len(levels) == 1 else begun
+            levels.append([])
+        elif token == ")":
+            if len(levels) == 1:
+                raise NotFollowed(f"line {line}: a `)` with no open list")
+            levels[-2].append(tuple(levels.pop()))
+        elif not token.startswith(";"):
+            begun = line if len(levels) == 1 else begun
+            levels[-1].append(token.lower())
+        if len(levels) == 1 and levels[0]:
+            found.append(Sentence(len(found), begun, levels[0].pop()))
+    if len(levels) > 1:
+        raise NotFollowed(f"line {begun}: a list that is not closed")
+    return found
+
+
+def term_of(text):
+    """The term that a text spells, as a move or a term of a state."""
+    (sentence,) = sentences_of(text)
+    return sentence.term
+
+
+def is_variable(term):
+    return isinstance(term, str) and term.startswith("?")
+
+
+def variables(term):
+    """The variables of a term or of a list of terms, each once, in their order."""
+    if isinstance(term, str):
+        return {term: None} if term.startswith("?") else {}
+    return {name: None for member in term for name in variables(member)}
+
+
+def variables_of(condition):
+    """The variables of a condition."""
+    if isinstance(condition, Either):
+        return {name: None for way in condition.ways for one in way for name in variables_of(one)}
+    return variables(condition.arguments)
+
+
+def relation_of(atom):
+    """The relation of an atomic sentence, with the number of its arguments (none for an atom alone), and these."""
+    if isinstance(atom, str):
+        found = (atom, None), ()
+    elif atom == ("terminal",):
+        found = ("terminal", None), ()
+    else:
+        found = (atom[0], len(atom) - 1), atom[1:]
+    (name, count), arguments = found
+    if not isinstance(name, str) or name.startswith("?") or name in CONNECTIVES or OWN.get(name, count) != count:
+        raise NotFollowed(f"{spelled(atom)} is no sentence of GDL")
+    return (name, count), arguments
+
+
+def conditions_of(literal, positive=True):
+    """The ways in which a literal can hold: each a list of conditions."""
+    match literal:
+        case ("not", inner):
+            return conditions_of(inner, not positive)
+        case ("or" | "and", *inners):
+            ways = [conditions_of(inner, positive) for inner in inners]
+            return products(ways) if (literal[0] == "and") == positive else list(itertools.chain(*ways))
+        case ("distinct", one, other):
+            return [[Same(not positive, (one, other))]]
+    relation, arguments = relation_of(literal)
+    return [[Asked(positive, relation, arguments)]]
+
+
+def products(ways):
+    """The ways in which all of these can hold together."""
+    count = 1
+    for one in ways:
+        count *= len(one)
+    if count > MOST_WAYS:
+        raise NotFollowed(f"its `or`s can hold in more than {MOST_WAYS:,} ways")
+    return [list(itertools.chain(*way)) for way in itertools.product(*ways)]
+
+
+def rules_of(sentence):
+    """The rules of a sentence."""
+    term = sentence.term
+    is_rule = isinstance(term, tuple) and term[:1] == ("<=",)
+    if is_rule and len(term) < 2:
+        raise NotFollowed(f"{sentence.cited()}: a rule without a head")
+    relation, arguments = relation_of(term[1] if is_rule else term)
+    literals = [conditions_of(literal) for literal in (term[2:] if is_rule else ())]
+    bound = {name for ways in literals if len(ways) == 1 for one in ways[0] if is_binding(one) for name in variables_of(one)}
+    tests = [Either(tuple(map(tuple, ways))) for ways in literals if len(ways) > 1 and is_bound(ways, bound)]
+    others = [ways for ways in literals if len(ways) == 1 or not is_bound(ways, bound)]
+    return [Rule(sentence.number, relation, arguments, tuple([*body, *tests])) for body in products(others)]
+
+
+def is_binding(condition):
+    return isinstance(condition, Asked) and condition.positive
+
+
+def is_bound(ways, bound):
+    return all(name in bound for way in ways for one in way for name in variables_of(one))
+
+
+def all_rules(sentences):
+    """The rules of all sentences. Each variable of one is bound by a condition that is no denial."""
+    found = []
+    for sentence in sentences:
+        try:
+            rules = rules_of(sentence)
+        except NotFollowed as why:
+            raise NotFollowed(f"{sentence.cited()}: {why}") from None
+        for rule in rules:
+            bound = {name for one in rule.body if is_binding(one) for name in variables_of(one)}
+            named = [*variables(rule.arguments), *(name for one in rule.body for name in variables_of(one))]
+            if free := [name for name in named if name not in bound]:
+                raise NotFollowed(f"{sentence.cited()}: nothing binds {free[0]}")
+        found += rules
+    return found

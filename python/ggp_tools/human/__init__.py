@@ -1,0 +1,1 @@
+"""A player whose moves a person makes in a browser."""

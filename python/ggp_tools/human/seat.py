@@ -1,0 +1,227 @@
+"""A person's seat in one match at a time: what the referee says to it, and what the person answers."""
+
+import re
+import threading
+import time
+
+from ggp_tools.holding.game import Game
+from ggp_tools.holding.reading import NotFollowed, sentences_of, spelled
+from ggp_tools.human.game import Shown
+
+# The keyword of a message, and the id of its match as it is written.
+HEAD = re.compile(r"\s*\(\s*([A-Za-z]+)\s+([^\s()]+)")
+# The referee has to get the answer before its clock is over.
+SPARE = 0.5
+# A referee that is so many seconds late with its next message is taken for lost: another one's START is then answered.
+PATIENCE = 10.0
+NO_MOVES = ("nil", ())
+CLOCK = re.compile("[0-9]{1,5}")
+# What the reading of rules that are none may end with.
+BAD_RULES = (NotFollowed, RecursionError, IndexError, KeyError, TypeError, ValueError)
+
+
+class Unread(Exception):
+    """A text that is no message."""
+
+
+def read_message(text: str) -> tuple[str, str, tuple]:
+    """Returns a message's keyword, its match, and its further members."""
+    if text.strip().lower() in ("info", "(info)"):
+        return "info", "", ()
+    head = HEAD.match(text)
+    try:
+        terms = [sentence.term for sentence in sentences_of(text)]
+    except NotFollowed as why:
+        raise Unread(str(why)) from None
+    if not head or len(terms) != 1:
+        raise Unread("it is not one list with a keyword and a match")
+    return head[1].lower(), head[2], terms[0][2:]
+
+
+def game_of(rules: object) -> Game:
+    """Returns the game of a START's rules."""
+    if not isinstance(rules, tuple):
+        raise NotFollowed("they are no list")
+    return Game("\n".join(map(spelled, rules)))
+
+
+def clock_of(text: object) -> int:
+    """Returns the seconds of a clock."""
+    if not isinstance(text, str) or not CLOCK.fullmatch(text):
+        raise Unread("a clock is no number of seconds")
+    return int(text)
+
+
+def joint_move(moves: object, count: int) -> tuple:
+    """Returns the moves of a message, none where it has `NIL`."""
+    if moves in NO_MOVES:
+        return ()
+    if not isinstance(moves, tuple) or len(moves) != count:
+        raise Unread("it does not have one move for each role")
+    return moves
+
+
+class Seat:
+    """What the person sees, and what waits for the person's move. Each change raises `version`, and wakes those who wait for one."""
+
+    def __init__(self, waits_for_page: bool = True) -> None:
+        self.changed = threading.Condition()
+        self.version, self.pages, self.waits_for_page = 0, 0, waits_for_page
+        self.match, self.receiver = "", ""
+        # Which message of a match is in hand, counted over all matches: whoever waits for an earlier one gives up.
+        self.asked = 0
+        # Until then the next message of the match has to come.
+        self.expected = 0.0
+        self.shown: Shown | None = None
+        self.view: dict = {"phase": "waiting", "note": "No match yet: the referee has not sent START."}
+        self.roles: list[str] = []
+        self.role: object = None
+        self.legal: list[str] = []
+        self.sent: str | None = None
+        self.deadline = 0.0
+        self.play_clock = 0
+
+    # ---- what the referee says
+
+    def answer(self, text: str, receiver: str = "") -> str | None:
+        """Answers a message to a receiver. None: the person made no move in time, or a later message came."""
+        keyword, match, more = read_message(text)
+        is_own = match == self.match and receiver == self.receiver
+        match keyword:
+            case "info":
+                return "busy" if self.match else "available"
+            case "start" if len(more) == 4 and (is_own or self.is_free()):
+                return self.start(match, receiver, *more)
+            case "play" if is_own and len(more) == 1:
+                return self.play(*more)
+            case "stop" if is_own and len(more) == 1:
+                return self.stop(*more)
+            case "abort" if is_own:
+                self.next_message()
+                self.end("aborted", "The referee has given the match up.")
+                return "aborted"
+        return "busy"
+
+    def is_free(self) -> bool:
+        """Returns whether another match may begin: there is none, or its referee is lost."""
+        return not self.match or time.monotonic() > self.expected
+
+    def next_message(self, seconds: int = 0) -> int:
+        """Notes that a message of a match has come whose clock has so many seconds. Returns its number. No move is awaited now."""
+        with self.changed:
+            self.asked += 1
+            self.expected = time.monotonic() + seconds + PATIENCE
+            self.legal = []
+            self.changed.notify_all()
+            return self.asked
+
+    def start(self, match: str, receiver: str, role: object, rules: object, start: object, play: object) -> str:
+        """Begins a match, once a page is open."""
+        deadline, play_clock = time.monotonic() + clock_of(start) - SPARE, clock_of(play)
+        asked = self.next_message(clock_of(start))
+        try:
+            game, own = game_of(rules), spelled(role)
+            roles = [spelled(one) for one in game.roles]
+            if own not in roles:
+                raise NotFollowed(f"they have no role {own}")
+        except BAD_RULES as why:
+            self.refuse(asked, f"A match was refused, since its rules can't be followed: {why}")
+            return "busy"
+        with self.changed:
+            if self.asked != asked:
+                return "busy"
+            self.match, self.receiver, self.role, self.play_clock, self.sent = match, receiver, role, play_clock, None
+            self.shown, self.roles = Shown(game), roles
+            self.show("ready", [], f"Match {match}: you are {own}.")
+            self.changed.wait_for(lambda: self.pages or not self.waits_for_page or self.asked != asked, max(0.0, deadline - time.monotonic()))
+        return "ready"
+
+    def refuse(self, asked: int, note: str) -> None:
+        """Says why a START was refused, and leaves the match of which it was a second one."""
+        with self.changed:
+            if self.asked == asked:
+                self.match = ""
+                self.say(phase="waiting", note=note)
+
+    def play(self, moves: object) -> str | None:
+        """Shows the state and waits for the person's move. A single legal move is made without asking."""
+        deadline, made = time.monotonic() + self.play_clock - SPARE, joint_move(moves, len(self.roles))
+        asked = self.next_message(self.play_clock)
+        note = self.advance(made)
+        legal = self.shown.legal(self.role) if self.shown else []
+        with self.changed:
+            if self.asked != asked:
+                return None
+            self.sent, self.legal, self.deadline = legal[0] if len(legal) == 1 else None, legal, deadline
+            self.show("sent" if self.sent else "moving", legal, note)
+            self.changed.wait_for(lambda: self.sent is not None or self.asked != asked, max(0.0, deadline - time.monotonic()))
+            if self.asked != asked:
+                return None
+            self.legal = []
+            if self.sent is None:
+                self.show("late", [], "Your time is over: the referee plays your first legal move.")
+            return self.sent
+
+    def stop(self, moves: object) -> str:
+        made = joint_move(moves, len(self.roles))
+        self.next_message()
+        note = self.advance(made)
+        goals = self.shown.goals() if self.shown else {}
+        said = ", ".join(f"{role} {'no goal' if goal is None else goal}" for role, goal in goals.items())
+        self.end("over", f"{note} The match is over: {said}.".strip())
+        return "done"
+
+    def advance(self, moves: tuple) -> str:
+        """Makes the joint move of a message. Returns what is to be said of it."""
+        if not moves or self.shown is None:
+            return ""
+        texts = [spelled(move) for move in moves]
+        self.shown.advance(moves)
+        own = texts[self.roles.index(spelled(self.role))]
+        said = ", ".join(f"{role} {text}" for role, text in zip(self.roles, texts))
+        return f"Last turn: {said}." + (f" Your move was replaced by {own}." if own != self.sent else "")
+
+    # ---- what the person sees and does
+
+    def show(self, phase: str, legal: list[str], note: str) -> None:
+        """Shows the present state."""
+        picture = self.shown.picture(legal) if self.shown else {}
+        turn = len(self.shown.states) if self.shown else 0
+        named = {"match": self.match, "role": spelled(self.role), "roles": self.roles, "turn": turn, "sent": self.sent}
+        self.say(phase=phase, note=note, asked=self.asked, **named, **picture)
+
+    def say(self, **view: object) -> None:
+        with self.changed:
+            self.view, self.version = view, self.version + 1
+            self.changed.notify_all()
+
+    def end(self, phase: str, note: str) -> None:
+        with self.changed:
+            self.show(phase, [], note)
+            self.match, self.receiver = "", ""
+
+    def move(self, text: str, asked: int) -> str | None:
+        """Takes the person's move, which was chosen when so many messages had come. Returns why it is not taken."""
+        with self.changed:
+            if not self.legal or self.sent is not None:
+                return "no move is awaited"
+            if asked != self.asked:
+                return "that move was chosen for an earlier turn"
+            if text not in self.legal:
+                return "that move is not legal"
+            self.sent, self.legal = text, []
+            self.say(**{**self.view, "phase": "sent", "legal": [], "sent": text, "note": f"You play {text}."})
+        return None
+
+    def page_opens(self, count: int) -> None:
+        """Notes that a page is open (1), or no longer (-1)."""
+        with self.changed:
+            self.pages += count
+            self.changed.notify_all()
+
+    def next_view(self, version: int, seconds: float) -> tuple[int, dict]:
+        """Returns the view once it is another one than that of a version, or after some seconds, with the seconds that the person has left."""
+        with self.changed:
+            self.changed.wait_for(lambda: self.version != version, seconds)
+            left = max(0.0, self.deadline - time.monotonic()) if self.view["phase"] == "moving" else None
+            return self.version, {**self.view, "left": left}

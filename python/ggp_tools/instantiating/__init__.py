@@ -1,0 +1,1 @@
+"""The ground description of a game, made from its description with variables."""

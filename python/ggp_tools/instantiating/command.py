@@ -1,0 +1,99 @@
+"""Instantiates a game: reads a description with variables, and writes the ground description of the same game, for --rules-file.
+
+    ggp-instantiate [--seconds N] [--folded | --unfolded] [--split] [--told TOLD] [FILE]
+
+Reads FILE, or standard input. What was done is said on standard error, beside the limits of the program, and where more was done
+than to find the instances a comment at the head says so. N is the seconds for the whole run, above 0 and up to 1,000,000 (60 if not
+given). The work is that of the grounder gringo, which has to be installed, and of the modules beside this one.
+
+A description that is past the program's limits is folded: fewer and shorter sentences for the same game. With --folded every
+description is, with --unfolded none. One that has many instances, or is past the limits all the same, has its rules split, with --split
+any: parts of them get relations of their own, so that fewer variables stand in one rule. With --told the description with variables is
+written to TOLD for players, one sentence a line, with its `base` and `input`.
+
+Each sentence becomes rules without `or`, and each rule tells the grounder which of its instances there can be: those whose
+`true` sentences speak of what some `init` or `next` derives, and whose `does` sentences of what some `legal` derives, whatever
+the state. What depends on no state is settled by the grounder, and left out. Sentences that depend on each other in one state are
+unrolled in rounds. The order of what is written depends on the description alone: by sentences as they stand there; the instances
+of one sentence by head, then by body; numbers by their value before other atoms by their bytes, atoms before lists, lists member by
+member.
+"""
+
+import argparse
+import os
+import sys
+
+from ggp_tools.instantiating.limits import MOST
+from ggp_tools.instantiating.making import ALWAYS, NEVER, WHERE_NEEDED, Making, say
+from ggp_tools.kif import Refused
+
+SECONDS, MOST_SECONDS = 60, 1_000_000
+HELP = (
+    "Reads the description of a game with variables, and writes the ground description of the same game, for --rules-file of ggp_manager. "
+    "What was done is said on standard error. The grounder gringo has to be installed."
+)
+
+
+def seconds(text):
+    """Returns the seconds that a word says."""
+    found = float(text)
+    if not 0 < found <= MOST_SECONDS:
+        raise argparse.ArgumentTypeError(f"{text} is not above 0 and up to {MOST_SECONDS:,}")
+    return found
+
+
+def put(text):
+    """Writes the ground description. Where that fails, nothing of it is written at the end either."""
+    if not sys.stdout:
+        raise Refused("standard output can't be written: it is closed")
+    try:
+        print(text, end="", flush=True)
+    except OSError as error:
+        os.dup2(os.open(os.devnull, os.O_WRONLY), sys.stdout.fileno())
+        raise Refused(f"standard output can't be written: {error.strerror}") from None
+
+
+def write_told(made, file):
+    """Writes the description with variables, and says how long it is."""
+    text = made.told()
+    if len(text) > MOST["bytes"]:
+        raise Refused(f"nothing is written, since the text for players is past the limit: bytes ({len(text):,} of {MOST['bytes']:,})")
+    try:
+        with open(file, "w", encoding="ascii") as it:
+            it.write(text)
+    except OSError as error:
+        raise Refused(f"{file} can't be written: {error.strerror}") from None
+    say(f"  for players {len(text):,} bytes with variables in {file}")
+
+
+def arguments():
+    usage = "ggp-instantiate [--seconds N] [--folded | --unfolded] [--split] [--told TOLD] [FILE]"
+    words = argparse.ArgumentParser("ggp-instantiate", usage=usage, description=HELP, epilog="More is said in examples/games/general/README.md.")
+    told = f"the seconds for the whole run, above 0 and up to {MOST_SECONDS:,} ({SECONDS})"
+    words.add_argument("--seconds", type=seconds, default=SECONDS, metavar="N", help=told)
+    how = words.add_mutually_exclusive_group()
+    told = "fold the description: fewer and shorter sentences for the same game (done where it is past the limits of ggp_manager)"
+    how.add_argument("--folded", dest="folding", action="store_const", const=ALWAYS, default=WHERE_NEEDED, help=told)
+    how.add_argument("--unfolded", dest="folding", action="store_const", const=NEVER, help="do not fold it")
+    told = "split the rules into parts with relations of their own (done where there are many instances)"
+    words.add_argument("--split", action="store_true", help=told)
+    words.add_argument("--told", metavar="TOLD", help="write the description with variables to TOLD, for players")
+    told = "the description with variables (standard input)"
+    words.add_argument("file", nargs="?", type=argparse.FileType("rb"), metavar="FILE", help=told)
+    given = words.parse_args()
+    if not given.file and not sys.stdin:
+        words.error("standard input is closed")
+    return given
+
+
+def main():
+    asked = arguments()
+    try:
+        made = Making((asked.file or sys.stdin.buffer).read().decode("latin-1"), asked.seconds, asked.folding, asked.split)
+        text = made.run()
+        if asked.told:
+            write_told(made, asked.told)
+        put(text)
+    except Refused as why:
+        sys.exit(f"ggp-instantiate: {why}")
+

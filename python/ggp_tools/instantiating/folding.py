@@ -1,0 +1,379 @@
+"""Folding: fewer and shorter sentences for the same game.
+
+Rules of one head that differ in one literal become one with an `or`, again and again. A sentence that is asked for once, or that
+only gives another a name, goes where it is asked for, and a formula that stands in many sentences becomes a sentence of its own,
+where that makes the text smaller. Where there are still too many sentences, those of one head become one, and what is asked for
+goes where it is asked for, what costs the fewest bytes first.
+
+What a sentence says never changes, and so does no state, move, goal or end. The first sentence with a head stays where the first
+one was, so the order of roles and of legal moves stays too.
+"""
+
+from collections import Counter, defaultdict
+
+from .formulas import FALSE, TRUE, Formulas
+from ggp_tools.kif import Refused, atoms, fresh_before_digits, relation
+from .sentences import GAME
+
+# Lists stand in one another this deep at most, in sentences that are made of several.
+MOST_DEEP = 48
+ROUNDS = 30
+# No sentence with a condition has fewer bytes, where its names are as short as those of parts.
+LEAST_BYTES = 24
+
+
+class Hopeless(Refused):
+    """What is past a limit, however it is folded."""
+
+
+class Folded:
+    """The game as formulas: of each head its bodies, each a set of formulas that all have to be true. `origins` has for each body of a head
+    how many ground rules of which sentences it comes from, and `shares`, once it is known, what part of a head's cost is whose."""
+
+    def __init__(self, rules):
+        self.formulas, self.bodies, self.sources = Formulas(), {}, {}
+        self.origins, self.shares = defaultdict(lambda: defaultdict(Counter)), {}
+        moves = {}
+        for rule in rules:
+            if relation(rule.head) == ("legal", 2):
+                moves.setdefault(rule.head[1], {})[("does", *rule.head[1:])] = None
+        roles = [rule.head[1] for rule in rules if relation(rule.head) == ("role", 1)]
+        self.formulas.set_moves({role: moves.get(role, {}) for role in roles})
+        made = self.formulas
+        for rule in rules:
+            head = made.atom(rule.head)
+            self.sources.setdefault(head, rule.sentence)
+            literals = [made.atom(literal.atom) if literal.positive else made.no(made.atom(literal.atom)) for literal in rule.body]
+            body = made.body(literals)
+            self.bodies.setdefault(head, [])
+            if body is not None:
+                self.bodies[head].append(body)
+                self.origins[head][body][rule.sentence] += 1
+        self.own = {head for head in self.bodies if relation(made.nodes[head][1])[0] in GAME}
+        self.word = fresh_before_digits("part", {name for rule in rules for name in atoms(rule.head)})
+        self.part_count = 0
+
+    # ---- What it comes to ------------------------------------------------------------------------
+
+    def sentence_size(self, head, body):
+        size = self.formulas.sizes[head]
+        return size + 1 if not body else size + 6 + sum(self.formulas.sizes[formula] + 1 for formula in body)
+
+    def sentences(self):
+        return sum(map(len, self.bodies.values()))
+
+    def bytes(self):
+        return sum(self.sentence_size(head, body) for head, bodies in self.bodies.items() for body in bodies)
+
+    def share_costs(self):
+        """Notes what part of the cost of each head is whose: its bodies' bytes, by the sentences that they come from."""
+        for head, bodies in self.bodies.items():
+            self.shares[head] = shares = Counter()
+            for body in bodies:
+                origins = self.origins[head][body] or Counter([self.sources[head]])
+                for sentence, count in origins.items():
+                    shares[sentence] += self.sentence_size(head, body) * count / origins.total()
+
+    def costs(self, is_bytes):
+        """What the sentences of the description cost in what is written."""
+        found = Counter()
+        for head, bodies in self.bodies.items():
+            cost = sum(self.sentence_size(head, body) for body in bodies) if is_bytes else len(bodies)
+            shares = self.shares.get(head) or Counter([self.sources[head]])
+            for sentence, share in shares.items():
+                found[sentence] += cost * share / shares.total()
+        return found
+
+    # ---- Sentences of one head -------------------------------------------------------------------
+
+    def merge(self):
+        for head, bodies in self.bodies.items():
+            if len(bodies) > 1:
+                self.bodies[head] = merged(bodies, self.formulas, self.origins[head])
+
+    def settle(self):
+        """Puts what is always or never true into its place."""
+        while True:
+            known = {head: TRUE for head, bodies in self.bodies.items() if frozenset() in bodies and head not in self.own}
+            known |= {head: FALSE for head, bodies in self.bodies.items() if not bodies}
+            if not known:
+                return
+            self.put(known)
+
+    def put(self, by):
+        """Puts formulas in the place of heads that are no longer there."""
+        for head in by:
+            del self.bodies[head]
+            self.own.discard(head)
+            self.origins.pop(head, None)
+        known = {}
+        for head, bodies in self.bodies.items():
+            found = {}
+            for body in bodies:
+                parts = [self.formulas.replaced(formula, by, known) for formula in body]
+                new = body if all(one == other for one, other in zip(parts, body)) else self.formulas.body(parts)
+                if new is not None:
+                    found[new] = None
+                    if new != body:
+                        self.origins[head][new] += self.origins[head][body]
+            self.bodies[head] = [frozenset()] if frozenset() in found else list(found)
+
+    def factored(self, bodies, depth=0):
+        """One formula that is true where all of some body is: what most bodies share stands once."""
+        if frozenset() in bodies:
+            return TRUE
+        if len(bodies) == 1:
+            return self.formulas.all(bodies[0])
+        counts = Counter(formula for body in bodies for formula in body)
+        shared, count = max(counts.items(), key=lambda it: (it[1] * self.formulas.sizes[it[0]] if it[1] > 1 else 0, -it[0]))
+        if count == 1 or depth > 6:
+            return self.formulas.any([self.formulas.all(body) for body in bodies])
+        rest = self.factored([body - {shared} for body in bodies if shared in body], depth + 1)
+        found = self.formulas.all([shared, rest])
+        others = [body for body in bodies if shared not in body]
+        return self.formulas.any([found, self.factored(others, depth + 1)]) if others else found
+
+    def join(self, most):
+        """Makes one sentence of those of a head, where that costs least first, until there are as few sentences as that."""
+        costs = []
+        for head, bodies in self.bodies.items():
+            if len(bodies) > 1:
+                formula = self.factored(bodies)
+                size = self.sentence_size(head, self.formulas.body([formula]) or ())
+                grown = size - sum(self.sentence_size(head, body) for body in bodies)
+                if self.formulas.depths[formula] < MOST_DEEP:
+                    costs.append((grown / (len(bodies) - 1), head, formula))
+        count = self.sentences()
+        for grown, head, formula in sorted(costs):
+            if grown > 0 and count <= most:
+                break
+            count -= len(self.bodies[head]) - 1
+            self.bodies[head] = [self.formulas.body([formula])]
+
+    # ---- What is asked for -----------------------------------------------------------------------
+
+    def uses(self):
+        """How often each formula stands in the text."""
+        counts = [0] * len(self.formulas.nodes)
+        for bodies in self.bodies.values():
+            for body in bodies:
+                for formula in body:
+                    counts[formula] += 1
+        for number in range(len(counts) - 1, -1, -1):
+            node = self.formulas.nodes[number]
+            if counts[number] and node[0] in ("not", "or"):
+                for member in (node[1],) if node[0] == "not" else node[1]:
+                    counts[member] += counts[number]
+        return counts
+
+    def below(self, head):
+        """The heads that a head's sentences ask for."""
+        found, seen, open_ones = set(), set(), [formula for body in self.bodies[head] for formula in body]
+        while open_ones:
+            it = open_ones.pop()
+            if it in seen:
+                continue
+            seen.add(it)
+            node = self.formulas.nodes[it]
+            if node[0] == "atom":
+                found.add(it)
+            else:
+                open_ones += (node[1],) if node[0] == "not" else node[1]
+        return found
+
+    def place_in(self, most):
+        """Puts what is asked for in its place where that makes the text smaller, and while there are more sentences than that."""
+        for _ in range(ROUNDS):
+            costs = sorted(self.costs_of_placing())
+            count, by, taken = self.sentences(), {}, set()
+            for grown, head, formula, below in costs:
+                if grown > 0 and count <= most:
+                    break
+                if head not in taken and taken.isdisjoint(below & self.bodies.keys()) and by.keys().isdisjoint(below):
+                    by[head] = formula
+                    taken |= {head, *below}
+                    count -= len(self.bodies[head])
+            if not by:
+                return
+            self.put(by)
+            self.merge()
+            self.settle()
+
+    def must_have_room(self, most_sentences, most_bytes):
+        """Refuses what is past a limit before it is folded for long. Each sentence of the game's own relations stays, and of the others
+        those that are too many have to be put where they are asked for: now that costs so many bytes, and later it costs more."""
+        if len(self.own) > most_sentences:
+            raise Hopeless(f"sentences (at least {len(self.own):,} of {most_sentences:,})")
+        many = len(self.bodies) - most_sentences
+        costs = sorted(cost for cost, *_ in self.costs_of_placing()) if many > 0 else []
+        if len(costs) < many:
+            raise Hopeless(f"sentences (at least {len(self.bodies) - len(costs):,} of {most_sentences:,})")
+        least = sum(costs[:many]) + LEAST_BYTES * most_sentences
+        if many > 0 and least > most_bytes:
+            raise Hopeless(f"bytes (at least {least:,} of {most_bytes:,}, since {many:,} of {len(self.bodies):,} sentences have to stand in others)")
+
+    def costs_of_placing(self):
+        """For each head that is only asked for, how many bytes it costs to put its formula there."""
+        uses, sizes, depths = self.uses(), self.formulas.sizes, self.formulas.depths
+        deepest = max((depths[formula] for bodies in self.bodies.values() for body in bodies for formula in body), default=0)
+        for head, bodies in self.bodies.items():
+            if head not in self.own:
+                formula = self.factored(bodies)
+                if deepest + depths[formula] < MOST_DEEP:
+                    gone = sum(self.sentence_size(head, body) for body in bodies)
+                    yield uses[head] * (sizes[formula] - sizes[head]) - gone, head, formula, self.below(head)
+
+    # ---- Common parts ----------------------------------------------------------------------------
+
+    def shorten(self):
+        """Puts each formula into its shortest form."""
+        known = {}
+        for head, bodies in self.bodies.items():
+            self.bodies[head] = [self.shortest_body(body, known) for body in bodies]
+
+    def shortest_body(self, body, known):
+        for formula in body:
+            if formula not in known:
+                known[formula] = self.formulas.shortest(formula)
+        found = {known[formula] for formula in body}
+        denied = [self.formulas.nodes[formula][1] for formula in found if self.formulas.nodes[formula][0] == "not"]
+        if len(denied) > 1:
+            found = {formula for formula in found if self.formulas.nodes[formula][0] != "not"}
+            members = set()
+            for formula in denied:
+                node = self.formulas.nodes[formula]
+                members.update(node[1] if node[0] == "or" else (formula,))
+            found.add(self.formulas.no(self.formulas.listed(members)))
+        return frozenset(found)
+
+    def share_bodies(self, most):
+        """Makes a sentence of each body that many sentences have, if that makes the text smaller, up to this many sentences."""
+        counts = Counter(body for bodies in self.bodies.values() for body in bodies if len(body) > 1)
+        name_size, gains = len(self.word) + 4, []
+        for place, (body, count) in enumerate(counts.items()):
+            size = sum(self.formulas.sizes[formula] + 1 for formula in body) - 1
+            gains.append(((count - 1) * size - (count + 1) * name_size - 7, -place, body))
+        best = sorted((gain for gain in gains if gain[0] > 0), key=lambda it: it[:2], reverse=True)[: max(most - self.sentences(), 0)]
+        names = {body: self.new_part() for _, _, body in best}
+        for head, bodies in self.bodies.items():
+            self.bodies[head] = [frozenset([names[body]]) if body in names else body for body in bodies]
+            for body in bodies:
+                if body in names:
+                    self.sources.setdefault(names[body], self.sources[head])
+        self.bodies.update({name: [body] for body, name in names.items()})
+
+    def new_part(self):
+        self.part_count += 1
+        return self.formulas.atom(f"{self.word}{self.part_count}")
+
+    def share(self, most):
+        """Makes a sentence of each formula that stands in many, if that makes the text smaller, up to this many sentences."""
+        refs = Counter(formula for bodies in self.bodies.values() for body in bodies for formula in body)
+        nodes, sizes = self.formulas.nodes, self.formulas.sizes
+        for number in range(len(nodes) - 1, -1, -1):
+            if refs[number]:
+                for member in self.members(number):
+                    refs[member] += 1
+        name_size = len(self.word) + 4
+        gains = [
+            ((count - 1) * sizes[formula] - (count + 1) * name_size - 7, formula)
+            for formula, count in refs.items()
+            if count > 1 and nodes[formula][0] in ("or", "not")
+        ]
+        room = most - self.sentences()
+        chosen = [formula for gain, formula in sorted(gains, key=lambda it: (-it[0], it[1])) if gain > 0][: max(room, 0)]
+        if chosen:
+            self.name_parts(sorted(chosen))
+
+    def members(self, number):
+        node = self.formulas.nodes[number]
+        return (node[1],) if node[0] == "not" else node[1] if node[0] == "or" else ()
+
+    def rename(self):
+        """Gives short names to sentences that are asked for alone, where that makes the text smaller."""
+        uses, by = self.uses(), {}
+        for head, bodies in self.bodies.items():
+            name_size, size = len(self.word) + 4, self.formulas.sizes[head]
+            if head not in self.own and size > name_size and uses[head] + len(bodies) > 1:
+                by[head] = self.new_part()
+        known = dict(by)
+        for head, bodies in list(self.bodies.items()):
+            bodies = [frozenset(self.formulas.renamed(formula, known) for formula in body) for body in bodies]
+            del self.bodies[head]
+            self.sources[by.get(head, head)] = self.sources[head]
+            self.shares[by.get(head, head)] = self.shares.get(head)
+            self.bodies[by.get(head, head)] = bodies
+
+    def name_parts(self, chosen):
+        """Gives each of these formulas a sentence, the smaller ones first, and its name wherever it stands."""
+        known, made = {}, {}
+        for number in chosen:
+            name = self.new_part()
+            made[name] = [frozenset([self.formulas.renamed(number, known)])]
+            known[number] = name
+        for head, bodies in self.bodies.items():
+            source = self.sources[head]
+            self.bodies[head] = [frozenset(self.formulas.renamed(formula, known) for formula in body) for body in bodies]
+            for body in self.bodies[head]:
+                for formula in body:
+                    if formula in made:
+                        self.sources.setdefault(formula, source)
+        for name in made:
+            self.sources.setdefault(name, min(self.sources.values()))
+        self.bodies.update(made)
+
+    # ---- What is written -------------------------------------------------------------------------
+
+    def written(self):
+        """Each sentence, with the number of the one that it comes from."""
+        for head, bodies in self.bodies.items():
+            atom = self.formulas.nodes[head][1]
+            for body in bodies:
+                ordered = sorted(body)
+                sentence = ("<=", atom, *map(self.formulas.expression, ordered)) if body else atom
+                yield self.sources[head], sentence
+
+
+def merged(bodies, formulas, origins):
+    """The bodies with an `or` in the place of what two or more of them differ in, as long as there are such. Takes what comes of several
+    for what comes of the sentences of them all."""
+    while True:
+        groups, known = {}, set(bodies)
+        for body in bodies:
+            for literal in body:
+                groups.setdefault(body - {literal}, []).append((body, literal))
+        used, new = set(), []
+        for rest, members in sorted(groups.items(), key=lambda it: -len(it[1])):
+            members = [member for member in members if member[0] not in used]
+            if rest in known and rest not in used:
+                used.update(body for body, _ in members)
+            elif len(members) > 1:
+                used.update(body for body, _ in members)
+                new.append(formulas.body([*rest, formulas.any([literal for _, literal in members])]))
+                origins[new[-1]] += sum((origins[body] for body, _ in members), Counter())
+        if not used:
+            return bodies
+        bodies = list(dict.fromkeys([body for body in bodies if body not in used] + new))
+        if frozenset() in bodies:
+            return [frozenset()]
+
+
+def folded(rules, most_sentences, most_bytes, refuses=False):
+    """The game folded, if possible to at most this many sentences and bytes. Where it is to be refused if it is not, that is seen early."""
+    game = Folded(rules)
+    game.settle()
+    game.merge()
+    game.settle()
+    if refuses:
+        game.must_have_room(most_sentences, most_bytes)
+    game.place_in(len(rules))
+    game.share_costs()
+    if game.sentences() > most_sentences:
+        game.join(most_sentences)
+        game.place_in(most_sentences)
+    game.shorten()
+    game.share_bodies(most_sentences)
+    game.share(most_sentences)
+    if game.bytes() > most_bytes:
+        game.rename()
+    return game

@@ -1,0 +1,167 @@
+"""Formulas over ground atomic sentences: each is there once, under a number that is larger than those of its parts.
+
+In a turn each role makes exactly one of its moves. So of one role's `does` sentences exactly one is true wherever they are asked,
+the `or` of them all is true, and an `or` of most of them is the denial of the `or` of the few others.
+"""
+
+from ggp_tools.kif import levels, spelled
+
+TRUE, FALSE = 0, 1
+
+
+class Formulas:
+    """A node is an atomic sentence, `("not", number)` or `("or", numbers in order)`."""
+
+    def __init__(self):
+        self.nodes, self.numbers, self.sizes, self.depths = [("true",), ("false",)], {}, [0, 0], [0, 0]
+        self.role_of, self.moves = {}, {}
+
+    def made(self, node, size, depth):
+        number = self.numbers.get(node)
+        if number is None:
+            number = self.numbers[node] = len(self.nodes)
+            self.nodes.append(node)
+            self.sizes.append(size)
+            self.depths.append(depth)
+        return number
+
+    def atom(self, atom):
+        node = ("atom", atom)
+        number = self.numbers.get(node)
+        return self.made(node, len(spelled(atom)), levels(atom)) if number is None else number
+
+    def set_moves(self, moves):
+        """Takes the moves of each role, as `does` sentences."""
+        for role, sentences in moves.items():
+            self.moves[role] = frozenset(map(self.atom, sentences))
+            self.role_of.update(dict.fromkeys(self.moves[role], role))
+
+    def no(self, number):
+        """The denial of a formula."""
+        if number in (TRUE, FALSE):
+            return TRUE + FALSE - number
+        node = self.nodes[number]
+        if node[0] == "not":
+            return node[1]
+        return self.made(("not", number), self.sizes[number] + 6, self.depths[number] + 1)
+
+    def any(self, numbers):
+        """That one of these is true."""
+        members = set()
+        for number in numbers:
+            node = self.nodes[number]
+            members.update(node[1] if node[0] == "or" else (number,))
+        members.discard(FALSE)
+        if TRUE in members or any(self.no(member) in members for member in members if self.nodes[member][0] == "not"):
+            return TRUE
+        return FALSE if not members else TRUE if self.has_all_moves(members) else self.listed(members)
+
+    def listed(self, members):
+        """The `or` of these, as it stands."""
+        if len(members) == 1:
+            return next(iter(members))
+        members = tuple(sorted(members))
+        size = sum(self.sizes[member] for member in members) + len(members) + 4
+        return self.made(("or", members), size, max(self.depths[member] for member in members) + 1)
+
+    def has_all_moves(self, members):
+        counts = {}
+        for member in members:
+            if member in self.role_of:
+                counts[self.role_of[member]] = counts.get(self.role_of[member], 0) + 1
+        return any(count == len(self.moves[role]) for role, count in counts.items())
+
+    def all(self, numbers):
+        """That all of these are true."""
+        return self.no(self.any([self.no(number) for number in numbers]))
+
+    def parts(self, number):
+        """The formulas that all have to be true where this one is."""
+        node = self.nodes[number]
+        if node[0] == "not" and self.nodes[node[1]][0] == "or":
+            return [self.no(member) for member in self.nodes[node[1]][1]]
+        return [number]
+
+    def allowed(self, number):
+        """For a formula that speaks of one role's moves alone: the role, and the moves with which it is true. Otherwise none."""
+        node = self.nodes[number]
+        if node[0] == "not":
+            found = self.allowed(node[1])
+            return found and (found[0], self.moves[found[0]] - found[1])
+        members = node[1] if node[0] == "or" else (number,)
+        roles = {self.role_of.get(member) for member in members}
+        role = roles.pop()
+        return None if roles or role is None else (role, frozenset(members))
+
+    def body(self, numbers):
+        """The formulas that all have to be true where these are, as a set: those of one role's moves are one. None if that can't be."""
+        found, allowed = set(), {}
+        for number in numbers:
+            for part in self.parts(number):
+                moves = self.allowed(part)
+                if moves:
+                    role, those = moves
+                    allowed[role] = allowed.get(role, self.moves[role]) & those
+                else:
+                    found.add(part)
+        for those in allowed.values():
+            found.add(self.any(those))
+        found.discard(TRUE)
+        if FALSE in found or any(self.no(formula) in found for formula in found if self.nodes[formula][0] == "not"):
+            return None
+        return frozenset(found)
+
+    def shortest(self, number):
+        """The formula with the few moves in the place of the many, wherever that is shorter."""
+        node = self.nodes[number]
+        if node[0] == "not":
+            inner = self.shortest(node[1])
+            return self.no(inner)
+        if node[0] != "or":
+            return number
+        groups, members = {}, []
+        for member in node[1]:
+            if member in self.role_of:
+                groups.setdefault(self.role_of[member], []).append(member)
+            else:
+                members.append(self.shortest(member))
+        for role, those in groups.items():
+            others = self.no(self.listed(self.moves[role].difference(those)))
+            together = self.listed(those)
+            # An `or` of its own, since it may stand in other sentences too.
+            members.append(others if self.sizes[others] < self.sizes[together] else together)
+        return members[0] if len(members) == 1 else self.listed(set(members))
+
+    def expression(self, number):
+        node = self.nodes[number]
+        if node[0] == "atom":
+            return node[1]
+        if node[0] == "not":
+            return "not", self.expression(node[1])
+        return "or", *map(self.expression, node[1])
+
+    def replaced(self, number, by, known):
+        """The formula with others in the place of some atoms; `known` keeps what has been found."""
+        if number in known:
+            return known[number]
+        node = self.nodes[number]
+        if node[0] == "not":
+            found = self.no(self.replaced(node[1], by, known))
+        elif node[0] == "or":
+            found = self.any([self.replaced(member, by, known) for member in node[1]])
+        else:
+            found = by.get(number, number)
+        known[number] = found
+        return found
+
+    def renamed(self, number, known):
+        """The formula as it stands, with other atoms in the place of some; `known` keeps what has been found."""
+        if number not in known:
+            node = self.nodes[number]
+            if node[0] == "not":
+                known[number] = self.no(self.renamed(node[1], known))
+            elif node[0] == "or":
+                known[number] = self.listed({self.renamed(member, known) for member in node[1]})
+            else:
+                known[number] = number
+        return known[number]

@@ -1,0 +1,180 @@
+"""The grounder gringo: the program that it gets, and the instances that it finds."""
+
+import re
+import resource
+import subprocess
+import threading
+from collections import Counter
+
+from ggp_tools.kif import MOST_LEVELS, Refused, relation, variables
+from .sentences import GAME, Rule
+
+# What the grounder may take and give before it is stopped.
+MEMORY, MOST_INSTANCES = 2 << 30, 1_000_000
+
+
+class LogicProgram:
+    """The text for the grounder: relations are p0, p1, .., the instances of the rules that are kept i0, i1, .., and terms are
+    quoted atoms and tuples, so that every KIF atom can stand there."""
+
+    def __init__(self, rules, unsettled):
+        self.unsettled, self.numbers = unsettled, {}
+        self.kept, self.sources, self.names, self.derived, lines = [], {}, {}, set(), []
+        for rule in rules:
+            lines += self.lines_of(rule)
+        lines += [
+            f"{self.name(('true', 1))}(T) :- {self.name(('init', 1))}(T).",
+            f"{self.name(('true', 1))}(T) :- {self.name(('next', 1))}(T).",
+            f"{self.name(('does', 2))}(R,M) :- {self.name(('role', 1))}(R), {self.name(('legal', 2))}(R,M).",
+        ]
+        self.text = "\n".join(lines) + "\n"
+
+    def name(self, key):
+        return f"p{self.numbers.setdefault(key, len(self.numbers))}"
+
+    def is_settled(self, literal):
+        return literal.same or relation(literal.atom) not in self.unsettled
+
+    def lines_of(self, rule):
+        """A settled relation is derived as it stands. Of another only what can be true is: what it denies is left out."""
+        names = {name: f"V{k}" for k, name in enumerate(variables((rule.head, *(literal.atom for literal in rule.body))))}
+        body = [self.literal(literal, names) for literal in rule.body if literal.positive or self.is_settled(literal)]
+        if relation(rule.head)[0] not in GAME and relation(rule.head) not in self.unsettled:
+            # The first rule of a relation that asks for something is the one to look at, and else its first fact.
+            source = self.name(relation(rule.head))
+            if source not in self.sources or (body and source not in self.derived):
+                self.sources[source] = rule.sentence
+            if body:
+                self.derived.add(source)
+            return [rule_line(self.atom(rule.head, names), body)]
+        shown = [literal for literal in rule.body if not self.is_settled(literal)]
+        needed = variables((rule.head, *(literal.atom for literal in shown)))
+        # Ways of one sentence that differ in what is settled have their instances together, each once.
+        kept = Rule(rule.sentence, rule.head, tuple(shown))
+        name = self.names.setdefault(kept, f"i{len(self.kept)}")
+        instance = applied(name, [names[name] for name in needed])
+        if name in self.sources:
+            return [rule_line(instance, body)]
+        self.sources[name] = rule.sentence
+        self.kept.append((kept, needed))
+        return [rule_line(instance, body), rule_line(self.atom(rule.head, names), [instance])]
+
+    def literal(self, literal, names):
+        if literal.same:
+            one, other = literal.atom
+            return f"{term_text(one, names)} {'=' if literal.positive else '!='} {term_text(other, names)}"
+        return ("" if literal.positive else "not ") + self.atom(literal.atom, names)
+
+    def atom(self, atom, names):
+        arguments = () if isinstance(atom, str) else atom[1:]
+        return applied(self.name(relation(atom)), [term_text(argument, names) for argument in arguments])
+
+
+def applied(name, arguments):
+    return f"{name}({','.join(arguments)})" if arguments else name
+
+
+def rule_line(head, body):
+    return f"{head} :- {', '.join(body)}." if body else f"{head}."
+
+
+def term_text(term, names):
+    if isinstance(term, str):
+        return names.get(term) or '"' + term.replace("\\", "\\\\").replace('"', '\\"') + '"'
+    return "(" + ",".join(term_text(member, names) for member in term) + ("," if len(term) == 1 else "") + ")"
+
+
+def term_list(text):
+    """The terms that the grounder's text lists."""
+    levels = [[]]
+    for token in re.findall(r'"(?:[^"\\]|\\.)*"|[()]', text):
+        if token == "(":
+            levels.append([])
+        elif token == ")":
+            closed = tuple(levels.pop())
+            levels[-1].append(closed)
+        else:
+            levels[-1].append(re.sub(r"\\(.)", r"\1", token[1:-1]) if "\\" in token else token[1:-1])
+    return levels[0]
+
+
+def level_count(text):
+    """How many lists stand in one another in a line of the grounder."""
+    deepest = level = 0
+    for token in re.findall(r'"(?:[^"\\]|\\.)*"|[()]', text):
+        level += {"(": 1, ")": -1}.get(token, 0)
+        deepest = max(deepest, level)
+    return deepest
+
+
+class TooMany(Refused):
+    """There are more instances than are taken."""
+
+
+class Grounder:
+    """One run of gringo. It ends where it has found all, is past a limit, or an exception comes, as from the clock."""
+
+    def __init__(self, program, most=MOST_INSTANCES):
+        self.program, self.most, self.counts, self.lists = program, most, Counter(), {}
+
+    def instances(self):
+        """The instances that it finds, each with the number of its rule and its terms."""
+        pipes = {"stdin": subprocess.PIPE, "stdout": subprocess.PIPE, "stderr": subprocess.PIPE}
+        try:
+            run = subprocess.Popen(["gringo", "--text", "--warn=none"], **pipes, text=True, preexec_fn=limit_memory)
+        except FileNotFoundError:
+            raise Refused("gringo is not installed") from None
+        writer = threading.Thread(target=write, args=(run.stdin, self.program.text))
+        writer.start()
+        try:
+            found = list(self.read(run.stdout))
+            said, status = run.stderr.read(), run.wait()
+        finally:
+            run.kill()
+            writer.join()
+            run.wait()
+        if "bad_alloc" in said or status < 0:
+            raise Refused(f"gringo took {MEMORY >> 30} GiB")
+        if status:
+            raise Refused(f"gringo refuses it: {' '.join(said.split())[:300]}")
+        return found
+
+    def read(self, lines):
+        kept = 0
+        for line in lines:
+            name, _, rest = line.partition("(")
+            name, lists = name.strip().rstrip("."), line.count("(")
+            self.counts[name] += 1
+            self.lists[name] = max(lists, self.lists.get(name, 0))
+            if lists > MOST_LEVELS and level_count(line) > MOST_LEVELS + 1:
+                raise Refused(f"a term has more than {MOST_LEVELS} lists in one another")
+            # A line that gringo did not end is one in which it was stopped.
+            if line.startswith("i") and line.endswith("\n"):
+                kept += 1
+                if kept > self.most:
+                    raise TooMany(f"there are more than {self.most:,} instances")
+                yield int(name[1:]), term_list(rest.rpartition(")")[0])
+
+    def lists_in(self, rule):
+        """How many lists the largest sentence has among those that were found for a rule's relation."""
+        return self.lists.get(self.program.name(relation(rule.head)), 0)
+
+    def largest(self):
+        """The sentence that has made the most instances so far, and how many: none where nothing has come yet."""
+        by_sentence = Counter()
+        for name, count in self.counts.items():
+            if name in self.program.sources:
+                by_sentence[self.program.sources[name]] += count
+        return by_sentence.most_common(1)[0] if by_sentence else None
+
+
+def limit_memory():
+    resource.setrlimit(resource.RLIMIT_AS, (MEMORY, MEMORY))
+
+
+def write(stream, text):
+    try:
+        with stream as it:
+            it.write(text)
+    except (BrokenPipeError, ValueError):
+        pass

@@ -1,0 +1,67 @@
+"""The ground rules of a game, from the instances that the grounder has found."""
+
+from ggp_tools.kif import place, put, relation
+from .sentences import GAME, Literal, Rule
+
+
+def ground(kept, instances):
+    """The instances of the rules, without the denials of what is never true."""
+    found, literals = [], {}
+    for number, terms in instances:
+        rule, names = kept[number]
+        values = dict(zip(names, terms))
+        body = []
+        for condition in rule.body:
+            literal = Literal(condition.positive, put(condition.atom, values))
+            body.append(literals.setdefault(literal, literal))
+        found.append(Rule(rule.sentence, put(rule.head, values), tuple(body)))
+    can_be = possible(found)
+    return [Rule(rule.sentence, rule.head, shortened(rule.body, can_be)) for rule in found]
+
+
+def possible(rules):
+    """The sentences that can be true in some state, and with some moves."""
+    found = {rule.head for rule in rules}
+    for head in list(found):
+        match head:
+            case ("init", term) | ("next", term):
+                found.add(("true", term))
+            case ("legal", role, move) if ("role", role) in found:
+                found.add(("does", role, move))
+    return found
+
+
+def shortened(body, can_be):
+    return tuple(dict.fromkeys(literal for literal in body if literal.positive or literal.atom in can_be))
+
+
+def needed(rules):
+    """The rules of the game's own relations, and those of what they ask for."""
+    rules_for = {}
+    for rule in rules:
+        rules_for.setdefault(rule.head, []).append(rule)
+    open_ones = [head for head in rules_for if relation(head)[0] in GAME]
+    found = set(open_ones)
+    while open_ones:
+        for rule in rules_for.get(open_ones.pop(), ()):
+            asked = {literal.atom for literal in rule.body} - found
+            found |= asked
+            open_ones += asked
+    return [rule for rule in rules if rule.head in found]
+
+
+def in_order(rules):
+    """The rules in the order in which they are written, each once."""
+    atoms = {atom for rule in rules for atom in (rule.head, *(literal.atom for literal in rule.body))}
+    ranks = {atom: rank for rank, atom in enumerate(sorted(atoms, key=place))}
+    rules = sorted(rules, key=lambda it: (it.sentence, ranks[it.head], [(ranks[one.atom], one.positive) for one in it.body]))
+    found = {}
+    for one in rules:
+        found.setdefault((one.head, one.body), one)
+    return list(found.values())
+
+
+def sentence_of(rule):
+    if not rule.body:
+        return rule.head
+    return ("<=", rule.head, *(literal.atom if literal.positive else ("not", literal.atom) for literal in rule.body))

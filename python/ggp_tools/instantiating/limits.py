@@ -1,0 +1,79 @@
+"""The limits of the program, and what it refuses in ground rules."""
+
+import re
+from collections import Counter
+
+from ggp_tools.kif import MOST_LEVELS, Refused, levels, relation, spelled
+from .sentences import SECRET, cited
+
+MOST = {"sentences": 8192, "atomic sentences": 16384, "roles": 16, "moves": 4096, "bytes": 1048576, "levels": MOST_LEVELS}
+# One word of a command line on Linux, without the byte that ends it.
+MOST_IN_A_WORD = 131071
+GOAL = re.compile(r"0|[1-9][0-9]?|100")
+PAST_GOAL = re.compile(r"[1-9][0-9]{2,}")
+WITHOUT_HIGH_GOALS = "where one would hold at the end, its role keeps the other goal that holds there, and if none does the match has no goals"
+
+
+def without_high_goals(rules):
+    """The rules without those of goals past 100, and the number of these."""
+    high = {rule.head for rule in rules if is_high(rule.head)}
+    for rule in rules:
+        for literal in rule.body:
+            if is_high(literal.atom):
+                raise Refused(f"{spelled(rule.head)} asks for {spelled(literal.atom)}, and a goal is a number from 0 to 100")
+    return [rule for rule in rules if rule.head not in high], len(high)
+
+
+def is_high(atom):
+    return relation(atom) == ("goal", 2) and isinstance(atom[2], str) and bool(PAST_GOAL.fullmatch(atom[2])) and not GOAL.fullmatch(atom[2])
+
+
+def refuse_faults(rules, sentences):
+    """Refuses what the program refuses: goals that are none, a role that depends on its own denial, no role."""
+    for rule in rules:
+        for atom in (rule.head, *(literal.atom for literal in rule.body)):
+            if relation(atom)[0] == "goal" and not (isinstance(atom[2], str) and GOAL.fullmatch(atom[2])):
+                raise Refused(f"{spelled(atom)} can be derived, and its goal is no number from 0 to 100: {cited(rule.sentence, sentences)}")
+        if rule.head == ("role", "random"):
+            raise Refused(f"{cited(rule.sentence, sentences)}: the role `random` {SECRET}")
+        if relation(rule.head)[0] == "role" and rule.body:
+            raise Refused(f"{spelled(rule.head)} is not settled before the game: {cited(rule.sentence, sentences)}")
+    if not any(relation(rule.head)[0] == "role" for rule in rules):
+        raise Refused("there is no role")
+
+
+def atoms_of(expression):
+    """The atomic sentences of a ground sentence."""
+    if isinstance(expression, tuple) and expression[0] in ("<=", "not", "or"):
+        for member in expression[1:]:
+            yield from atoms_of(member)
+    else:
+        yield expression
+
+
+def figures(written, size):
+    """What the program sets a limit to: each thing's name, how much of it there is, and how much there may be."""
+    heads = dict.fromkeys(sentence[1] if sentence[0] == "<=" else sentence for _, sentence in written)
+    moves = Counter(head[1] for head in heads if relation(head) == ("legal", 2))
+    roles = [head[1] for head in heads if relation(head) == ("role", 1)]
+    yield "sentences", len(written), MOST["sentences"]
+    yield "atomic sentences", len({atom for _, sentence in written for atom in atoms_of(sentence)}), MOST["atomic sentences"]
+    yield "roles", len(roles), MOST["roles"]
+    for role in roles:
+        yield f"moves of {spelled(role)}", moves[role], MOST["moves"]
+    yield "bytes", size, MOST["bytes"]
+    yield "lists in one another", max((levels(sentence) for _, sentence in written), default=0), MOST["levels"]
+
+
+def costs_of(written, is_bytes):
+    """What the sentences of the description cost in what is written as it was found."""
+    costs = Counter()
+    for number, sentence in written:
+        costs[number] += len(spelled(sentence)) + 1 if is_bytes else 1
+    return costs
+
+
+def dearest(costs, sentences, is_bytes):
+    """The three sentences of the description that cost the most, with what each costs."""
+    unit = "bytes" if is_bytes else "ground sentences"
+    return [f"{cited(number, sentences)}: {count:,.0f} {unit}" for number, count in costs.most_common(3)]

@@ -1,0 +1,158 @@
+"""The sentences of a description, their forms, and the rules without `or` and `and` that they come to."""
+
+import itertools
+import math
+from typing import NamedTuple
+
+from ggp_tools.kif import Refused, atoms, fresh_before_digits, relation, spelled, variables
+
+# So many rules may come of the `or`s of one sentence. Past the first number each `or` that can be is a relation of its own.
+FEW_WAYS, MOST_WAYS = 100, 10000
+
+ARITIES = {"role": 1, "init": 1, "true": 1, "next": 1, "does": 2, "legal": 2, "goal": 2, "terminal": None}
+# The relations that make the game: their heads are written whether or not a body asks for them.
+GAME = ("role", "init", "next", "legal", "goal", "terminal")
+NO_RELATIONS = ("<=", "not", "or", "distinct", "and")
+SECRET = "is of GDL-II, games with chance or with what some can't see; here each role sees every move"
+
+
+class Literal(NamedTuple):
+    """An atomic sentence or its negation; or that two terms, its atom, are `same`, or `not same`."""
+
+    positive: bool
+    atom: object
+    same: bool = False
+
+
+class Rule(NamedTuple):
+    """A sentence with one way in which its `or`s can hold."""
+
+    sentence: int
+    head: object
+    body: tuple
+
+
+def as_read(expression):
+    """The sentence or literal with the atom in the place of the list `(terminal)`, which some descriptions have."""
+    if isinstance(expression, str):
+        return expression
+    if expression == ("terminal",):
+        return "terminal"
+    if expression[:1] in (("<=",), ("not",), ("or",), ("and",)):
+        return (expression[0], *map(as_read, expression[1:]))
+    return expression
+
+
+def must_be_term(expression):
+    if isinstance(expression, tuple):
+        if not expression or not isinstance(expression[0], str) or expression[0].startswith("?"):
+            raise Refused(f"{spelled(expression)} is no term")
+        for member in expression[1:]:
+            must_be_term(member)
+
+
+def must_be_atomic(atom, is_head):
+    """Refuses what is no atomic sentence, or stands where it may not."""
+    if isinstance(atom, str) and atom.startswith("?"):
+        raise Refused(f"{atom} is no sentence")
+    must_be_term(atom)
+    name, arity = relation(atom)
+    if is_head and (name, arity) in (("sees", 2), ("sees", 3)):
+        raise Refused(f"`sees` {SECRET}")
+    if is_head and atom == ("role", "random"):
+        raise Refused(f"the role `random` {SECRET}")
+    if name in NO_RELATIONS or ARITIES.get(name, arity) != arity:
+        raise Refused(f"{spelled(atom)} is no sentence")
+    if is_head and name in ("true", "does"):
+        raise Refused(f"{spelled(atom)} is a head")
+    if not is_head and name in ("init", "next"):
+        raise Refused(f"{spelled(atom)} is in a body")
+
+
+def must_be_literal(literal):
+    match literal:
+        case ("not", inner):
+            must_be_literal(inner)
+        case ("or" | "and", _, *_):
+            for inner in literal[1:]:
+                must_be_literal(inner)
+        case ("distinct", one, other):
+            must_be_term(one)
+            must_be_term(other)
+        case _:
+            must_be_atomic(literal, False)
+
+
+def each_of(ways):
+    """The ways in which all of these can hold, each given by its own ways."""
+    count = 1
+    for one in ways:
+        count *= len(one)
+    if count > MOST_WAYS:
+        raise Refused(f"its `or`s can hold in more than {MOST_WAYS:,} ways")
+    return [tuple(itertools.chain(*way)) for way in itertools.product(*ways)]
+
+
+def ways_of(literal, positive=True):
+    """The ways in which a literal can hold, or where it is not positive its negation: each a list of literals."""
+    match literal:
+        case ("not", inner):
+            return ways_of(inner, not positive)
+        case ("or" | "and", *inners):
+            ways = [ways_of(inner, positive) for inner in inners]
+            return each_of(ways) if (literal[0] == "and") == positive else list(itertools.chain(*ways))
+        case ("distinct", one, other):
+            return [(Literal(not positive, (one, other), True),)]
+    return [(Literal(positive, literal),)]
+
+
+def is_bound(name, body):
+    return any(name in variables(literal.atom) for literal in body if literal.positive and not literal.same)
+
+
+def must_be_safe(rule):
+    """Refuses a rule with a variable that no sentence of its body binds."""
+    for name in variables((rule.head, *(literal.atom for literal in rule.body))):
+        if not is_bound(name, rule.body):
+            raise Refused(f"{name} is unsafe: no sentence of the body that is not negated has it")
+
+
+def rules_of(number, sentence, names):
+    """The rules of one sentence, and where its `or`s can hold in many ways those of relations for them, by these names."""
+    is_rule = isinstance(sentence, tuple) and sentence[:1] == ("<=",)
+    if is_rule and len(sentence) < 2:
+        raise Refused("a rule without a head")
+    head, body = (sentence[1], sentence[2:]) if is_rule else (sentence, ())
+    must_be_atomic(head, True)
+    for literal in body:
+        must_be_literal(literal)
+    ways, found = [ways_of(literal) for literal in body], []
+    if math.prod(map(len, ways)) > FEW_WAYS:
+        for place, own in enumerate(ways):
+            bound = dict.fromkeys(name for way in own for literal in way for name in variables(literal.atom))
+            if len(own) > 1 and all(is_bound(name, way) for way in own for name in bound):
+                word = next(names)
+                part = (word, *bound) if bound else word
+                found += [Rule(number, part, way) for way in own]
+                ways[place] = [(Literal(True, part),)]
+    found += [Rule(number, head, way) for way in each_of(ways)]
+    for rule in found:
+        must_be_safe(rule)
+    return found
+
+
+def cited(number, sentences):
+    """A sentence as it is cited where something is wrong with it."""
+    text = spelled(sentences[number])
+    return f"sentence {number}, {text[:100]}" + (".." if len(text) > 100 else "")
+
+
+def all_rules(sentences):
+    word = fresh_before_digits("either", set(atoms(tuple(sentences))))
+    found, names = [], (f"{word}{count}" for count in itertools.count(1))
+    for number, sentence in enumerate(sentences):
+        try:
+            found += rules_of(number, as_read(sentence), names)
+        except Refused as why:
+            raise Refused(f"{cited(number, sentences)}: {why}") from None
+    return found

@@ -1,0 +1,131 @@
+"""KIF: an atom is a text, a list a tuple. And why a description is refused."""
+
+import re
+from collections.abc import Iterable, Iterator
+
+Expression = str | tuple
+MOST_LEVELS = 64
+COMMENT = re.compile(r";[^\n]*")
+TOKEN = re.compile(r"[()]|[^\s()]+")
+NO_CHARACTER = re.compile(r"[^\t\n\r\x20-\x7e]")
+
+
+class Refused(Exception):
+    """Why there is no ground description, in one line."""
+
+
+class KifFault(Refused):
+    """Why a text is no KIF, with the place where that is seen, as an index."""
+
+    def __init__(self, words: str, index: int) -> None:
+        super().__init__(words)
+        self.index = index
+
+
+def blanked(text: str) -> str:
+    """Returns a text with blanks in the place of its comments."""
+    return COMMENT.sub(lambda comment: " " * len(comment[0]), text)
+
+
+def tokens(text: str) -> Iterator[tuple[str, int, int]]:
+    """Gives each parenthesis and each atom of a text with its index, and the number of lists around it. Refuses what is no KIF."""
+    text = blanked(text)
+    if bad := NO_CHARACTER.search(text):
+        raise KifFault(f"a byte that is no character of KIF: {bad[0]!r}", bad.start())
+    opened = []
+    for token in TOKEN.finditer(text):
+        if token[0] == ")":
+            if not opened:
+                raise KifFault("a `)` with no open list", token.start())
+            opened.pop()
+        yield token[0], token.start(), len(opened)
+        if token[0] == "(":
+            opened.append(token.start())
+    if opened:
+        raise KifFault("a list that is not closed", opened[-1])
+
+
+def expressions(text: str) -> list[Expression]:
+    """Returns the expressions that a text spells, in lower case."""
+    levels = [[]]
+    for token, index, around in tokens(text):
+        if token == "(":
+            if around == MOST_LEVELS:
+                raise KifFault(f"more than {MOST_LEVELS} lists in one another", index)
+            levels.append([])
+        elif token == ")":
+            closed = tuple(levels.pop())
+            levels[-1].append(closed)
+        else:
+            levels[-1].append(token.lower())
+    return levels[0]
+
+
+def starts(text: str) -> list[int]:
+    """Returns the index at which each expression of a text begins."""
+    return [index for token, index, around in tokens(text) if not around and token != ")"]
+
+
+def place_of(text: str, index: int) -> str:
+    """Returns an index of a text as its line and column."""
+    return f"line {text.count(chr(10), 0, index) + 1}, column {index - text.rfind(chr(10), 0, index)}"
+
+
+def spelled(expression: Expression) -> str:
+    """The canonical text of an expression."""
+    if isinstance(expression, str):
+        return expression
+    return "(" + " ".join(map(spelled, expression)) + ")"
+
+
+def atoms(expression: Expression) -> Iterator[str]:
+    """Every atom that stands in an expression."""
+    if isinstance(expression, str):
+        yield expression
+    else:
+        for member in expression:
+            yield from atoms(member)
+
+
+def variables(expression: Expression) -> list[str]:
+    """The variables of an expression, each once, in their order."""
+    return list(dict.fromkeys(atom for atom in atoms(expression) if atom.startswith("?")))
+
+
+def put(term: Expression, values: dict[str, Expression]) -> Expression:
+    """The term with these values for its variables."""
+    if isinstance(term, str):
+        return values.get(term, term)
+    return tuple([put(member, values) for member in term])
+
+
+def place(expression: Expression) -> tuple:
+    """The place of an expression in the order of what is written."""
+    if isinstance(expression, str):
+        digits = expression.lstrip("0")
+        return (0, len(digits), digits, expression) if expression.isdigit() else (1, expression)
+    return 2, tuple(map(place, expression))
+
+
+def relation(atom: Expression) -> tuple[str, int | None]:
+    """The relation of an atomic sentence, with the number of its arguments: none for an atom alone."""
+    return (atom, None) if isinstance(atom, str) else (atom[0], len(atom) - 1)
+
+
+def levels(expression: Expression) -> int:
+    """How many lists stand in one another."""
+    return 0 if isinstance(expression, str) else 1 + max(map(levels, expression), default=0)
+
+
+def fresh(word: str, taken: Iterable[str]) -> str:
+    """The word, with as many strokes behind it as make it none of those that are taken."""
+    while word in taken:
+        word += "-"
+    return word
+
+
+def fresh_before_digits(word: str, taken: Iterable[str]) -> str:
+    """The word, with as many strokes behind it as make it and a number none of those that are taken."""
+    while any(re.fullmatch(re.escape(word) + "[0-9]+", one) for one in taken):
+        word += "-"
+    return word

@@ -1,0 +1,128 @@
+"""Sorts a mixed pile of records by game, has the program check each, and makes tables or pages of them.
+
+    ggp-records --rules FOLDER check PILE ..
+    ggp-records --rules FOLDER sqlite FILE PILE ..
+    ggp-records --rules FOLDER csv DIR PILE ..
+    ggp-records --rules FOLDER pages DIR PILE ..
+
+A PILE is a file with a record on each line, as `season` and `run` write them; lines of accounts are skipped. FOLDER has the ground rules of
+the games, a file NAME.kif each: a record is of the game with its roles and its first state. `check` writes a line for each record: the
+file, the line's number, the match, the game and the verdict, with a tab between each two. With --explain lines below one that is not lawful say what
+was expected and what was found. FILE and DIR must not be there. docs/PROFILE.md has the verdicts, in section 9.
+
+The status is 0 if all records are lawful, 1 if not, 2 for wrong use, 3 if the program came to no verdict."""
+
+import argparse
+import collections
+import os
+import pathlib
+import sqlite3
+import sys
+from collections.abc import Iterable, Iterator
+
+from ggp_tools.records.collection import Judged, Pile, judged_lines, known_games
+from ggp_tools.records.explain import explanation
+from ggp_tools.records.index import write_pages
+from ggp_tools.records.tables import write_csv, write_sqlite
+from ggp_tools.referee import NoReferee, Referee, Unchecked, find_program
+
+NOT_LAWFUL = "not lawful: "
+
+
+class Count:
+    """How many lines have which verdict, without its details."""
+
+    def __init__(self) -> None:
+        self.by_verdict: collections.Counter[str] = collections.Counter()
+
+    def over(self, lines: Iterable[Judged]) -> Iterator[Judged]:
+        for judged in lines:
+            self.by_verdict[judged.verdict.partition(":")[0]] += 1
+            yield judged
+
+    def words(self, skipped: int) -> str:
+        parts = [f"{count:,} {verdict}" for verdict, count in self.by_verdict.most_common()]
+        parts += [f"{skipped:,} {'line' if skipped == 1 else 'lines'} of accounts skipped"] * bool(skipped)
+        return ", ".join(parts) or "no records"
+
+    def are_all_lawful(self) -> bool:
+        return set(self.by_verdict) <= {"lawful"}
+
+
+def visible(text: str) -> str:
+    """Returns a text on one line of visible ASCII."""
+    return "".join(letter if " " <= letter <= "~" else f"\\u{{{ord(letter):x}}}" for letter in text)
+
+
+def row_of(judged: Judged) -> str:
+    game = visible(judged.game.name) if judged.game else "-"
+    line = judged.line
+    return "\t".join([visible(line.file), str(line.number), visible(line.match_id) or "-", game, visible(judged.verdict)])
+
+
+def print_check(lines: Iterable[Judged], explains: bool) -> None:
+    """Writes a line for each record, and below one that is not lawful why, if that is wanted."""
+    if sys.stdout is None:
+        raise OSError("standard output is closed")
+    for judged in lines:
+        print(row_of(judged))
+        if explains and judged.game and judged.verdict.startswith(NOT_LAWFUL):
+            for said in explanation(judged.verdict.removeprefix(NOT_LAWFUL), judged.game.sentences, judged.line.data):
+                print(f"\t{said}")
+    sys.stdout.flush()
+
+
+def arguments(words: list[str]) -> argparse.Namespace:
+    reader = argparse.ArgumentParser("ggp-records", description=__doc__, formatter_class=argparse.RawDescriptionHelpFormatter)
+    reader.add_argument("--program", metavar="FILE", help="ggp_manager, if it is not beside this program or on the path")
+    reader.add_argument("--rules", metavar="FOLDER", required=True, help="the games: a file NAME.kif of ground rules each")
+    reader.add_argument("--jobs", type=int, default=len(os.sched_getaffinity(0)), metavar="N", help="at most N processes at a time")
+    reader.add_argument("--explain", action="store_true", help="`check`: say why a record is not lawful")
+    actions = reader.add_subparsers(dest="action", required=True)
+    for action, output in (("check", None), ("sqlite", "FILE"), ("csv", "DIR"), ("pages", "DIR")):
+        one = actions.add_parser(action)
+        if output:
+            one.add_argument("output", metavar=output, type=pathlib.Path)
+        one.add_argument("piles", metavar="PILE", nargs="+")
+    given = reader.parse_args(words)
+    if given.jobs < 1:
+        reader.error("--jobs is at least 1")
+    if given.action != "check" and os.path.lexists(given.output):
+        reader.error(f"{given.output} is there already")
+    return given
+
+
+def perform(given: argparse.Namespace) -> int:
+    """Does what the words ask for. Returns the status."""
+    referee, pile, count = Referee(find_program(given.program)), Pile(given.piles), Count()
+    games, refused = known_games(given.rules, referee)
+    for said in refused:
+        print(f"ggp-records: skipped: {visible(said)}", file=sys.stderr)
+    if not games:
+        print(f"ggp-records: {visible(given.rules)} has no rules of a game, in a file NAME.kif", file=sys.stderr)
+        return 3
+    lines = count.over(judged_lines(referee, games, pile, given.jobs))
+    match given.action:
+        case "check":
+            print_check(lines, given.explain)
+        case "sqlite":
+            write_sqlite(given.output, lines)
+        case "csv":
+            write_csv(given.output, lines)
+        case "pages":
+            write_pages(given.output, lines)
+    print(f"ggp-records: {count.words(pile.skipped)}", file=sys.stderr)
+    return 0 if count.are_all_lawful() else 1
+
+
+def main() -> int:
+    given = arguments(sys.argv[1:])
+    try:
+        return perform(given)
+    except KeyboardInterrupt:
+        return 130
+    except BrokenPipeError:
+        return 3
+    except (NoReferee, Unchecked, OSError, MemoryError, sqlite3.Error) as why:
+        print(f"ggp-records: {visible(str(why) or 'out of memory')}", file=sys.stderr)
+        return 3

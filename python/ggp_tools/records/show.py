@@ -1,0 +1,513 @@
+"""Makes a page of a match's record, to be looked at in a browser."""
+
+import argparse
+import base64
+import functools
+import hashlib
+import html
+import json
+import re
+import sys
+from dataclasses import dataclass
+
+ABOUT = (
+    "Makes a page of a match's record, to be looked at in a browser. The page says who played and how it ended, has a table of the turns "
+    "with each move that was substituted, and shows each state with what changed, as a board where its terms name places and the page has "
+    "at most 32,768 boards. It needs nothing beside itself, loads nothing, and runs no script but its own. What is no record is refused "
+    "with what is wrong with it. `ggp_manager verify` says whether a record is that of a lawful match; this command does not look at that."
+)
+STATUS = "status 0: the page is written. 1: there is no record, or it can't be read, or the page can't be written. 2: wrong use."
+LONGEST_RECORD = 16 << 20
+VERSIONS = (1, 2)
+LONGEST_AXIS = 32
+LONGEST_LABEL = 6
+# A page that would draw more boards, in all states together, lists their terms instead: a board is some hundred times as long as its terms.
+MOST_DRAWN = 32_768
+
+PHASES = {
+    "starting": "It is starting: not every role has its START mark.",
+    "playing": "It is being played.",
+    "stopping": "It has ended by the rules, and not every role has answered STOP.",
+    "finished": "It ended by the rules.",
+    "aborting": "It is given up, and not every role has answered ABORT",
+    "aborted": "It was given up",
+}
+CAUSES = {
+    "asked": "an abort was asked for",
+    "nolegal": "{} has no legal move",
+    "nogoal": "{} has not exactly one goal at the end",
+    "toolong": "10,000 turns were played",
+    "allretired": "all roles are retired",
+}
+CAUSE = re.compile(r"(asked|toolong|allretired)|(nolegal|nogoal) (0|[1-9][0-9]?)")
+ERRORS = {
+    "TO": "no answer came in time",
+    "CE": "the connection broke, or no whole reply came",
+    "RT": "the role is retired: it was not asked",
+    "IL ?": "the answer was not one expression",
+    "IL": "the answer was no legal move",
+}
+
+STYLE = """
+:root { color-scheme: light dark; --ink: #1d2330; --dim: #6b7280; --paper: #fff; --band: #f3f4f6; --line: #d5d9e0;
+  --new: #d8f0d4; --odd: #ffe2cf; --odd-ink: #9a3412; --here: #dbe8fb; }
+@media (prefers-color-scheme: dark) { :root { --ink: #e5e7eb; --dim: #9ca3af; --paper: #14171d; --band: #1f242d; --line: #39404c;
+  --new: #1f4a2a; --odd: #55301a; --odd-ink: #fdba74; --here: #1e3a63; } }
+body { font: 15px/1.45 system-ui, sans-serif; color: var(--ink); background: var(--paper); margin: 1.2rem 1.6rem; }
+h1 { font-size: 1.35rem; margin: 0 0 .3rem; } h2 { font-size: 1.05rem; margin: 0 0 .5rem; }
+p { margin: .2rem 0 .8rem; } .dim, th { color: var(--dim); font-weight: normal; }
+code, td, li, .board { font-family: ui-monospace, "DejaVu Sans Mono", monospace; font-size: .87rem; }
+table { border-collapse: collapse; } th, td { text-align: left; padding: .2rem .7rem; border-bottom: 1px solid var(--line); vertical-align: top; }
+.columns { display: grid; grid-template-columns: minmax(0, 1fr) minmax(0, 32rem); gap: 2rem; align-items: start; margin-top: 1.2rem; }
+@media (max-width: 60rem) { .columns { grid-template-columns: minmax(0, 1fr); } }
+.turns { max-height: 76vh; overflow: auto; } .turns th { position: sticky; top: 0; background: var(--band); }
+.turns tr.here td { background: var(--here); } .stepping .turns tr.turn { cursor: pointer; }
+td.substituted, .turns tr.here td.substituted { background: var(--odd); } .why { color: var(--odd-ink); margin-left: .6rem; }
+.state { margin-bottom: 1.6rem; scroll-margin-top: 100vh; } .stepping .state:not(.shown), nav { display: none; }
+.stepping nav { display: block; margin-bottom: 1rem; } button { font: inherit; font-size: .87rem; padding: .15rem .5rem; }
+ul { list-style: none; padding: 0; margin: .6rem 0; display: flex; flex-wrap: wrap; gap: .3rem; }
+li { background: var(--band); padding: .1rem .5rem; border-radius: .2rem; } li.new { background: var(--new); }
+li.gone { background: none; text-decoration: line-through; color: var(--dim); }
+.board { display: inline-grid; margin: .4rem 1.6rem .4rem 0; grid-template-columns: 1.8rem repeat(var(--across), 2.9rem);
+  grid-template-rows: repeat(var(--up), 2.9rem) 1.6rem; }
+.upside .board { grid-template-rows: 1.6rem repeat(var(--up), 2.9rem); }
+.turned .board { grid-template-columns: 1.8rem repeat(var(--up), 2.9rem); grid-template-rows: repeat(var(--across), 2.9rem) 1.6rem; }
+.turned.upside .board { grid-template-rows: 1.6rem repeat(var(--across), 2.9rem); }
+.board > * { grid-column: calc(var(--x) + 1); grid-row: calc(var(--up) - var(--y) + 1); font-style: normal; text-align: center;
+  place-content: center; display: grid; overflow: hidden; font-size: .75rem; line-height: 1.1; }
+.upside .board > * { grid-row: calc(var(--y) + 1); }
+.turned .board > * { grid-column: calc(var(--y) + 1); grid-row: calc(var(--across) - var(--x) + 1); }
+.turned.upside .board > * { grid-row: calc(var(--x) + 1); }
+.board b { color: var(--dim); font-weight: normal; } .board i { margin: 1px; font-weight: bold; z-index: 1; }
+.board i.new { background: var(--new); } .board i.ground { color: var(--dim); font-weight: normal; }
+.board .squares { grid-column: 2 / span var(--across); grid-row: 1 / span var(--up); border: solid var(--line); border-width: 0 1px 1px 0;
+  background: repeating-linear-gradient(90deg, var(--line) 0 1px, transparent 1px 2.9rem), repeating-linear-gradient(var(--line) 0 1px, transparent 1px 2.9rem); }
+.upside .board .squares { grid-row: 2 / span var(--up); }
+.turned .board .squares { grid-column: 2 / span var(--up); grid-row: 1 / span var(--across); }
+.turned.upside .board .squares { grid-row: 2 / span var(--across); }
+"""
+
+SCRIPT = """
+"use strict";
+const states = [...document.querySelectorAll(".state")];
+const turns = [...document.querySelectorAll(".turn")];
+let shown = 0;
+
+function show(wanted) {
+  states[shown].classList.remove("shown");
+  turns[shown - 1]?.classList.remove("here");
+  shown = Math.max(0, Math.min(states.length - 1, wanted));
+  states[shown].classList.add("shown");
+  turns[shown - 1]?.classList.add("here");
+  turns[shown - 1]?.scrollIntoView({ block: "nearest" });
+  history.replaceState(null, "", "#" + states[shown].id);
+}
+
+const steps = {
+  Home: () => show(0),
+  ArrowLeft: () => show(shown - 1),
+  ArrowRight: () => show(shown + 1),
+  End: () => show(states.length - 1),
+  t: () => document.body.classList.toggle("turned"),
+  u: () => document.body.classList.toggle("upside"),
+};
+
+document.addEventListener("keydown", (event) => {
+  if (event.key in steps && !event.ctrlKey && !event.altKey && !event.metaKey) {
+    event.preventDefault();
+    steps[event.key]();
+  }
+});
+for (const button of document.querySelectorAll("button")) button.addEventListener("click", () => steps[button.dataset.key]());
+turns.forEach((turn, at) => turn.addEventListener("click", () => show(at + 1)));
+const asked = () => states.findIndex((state) => "#" + state.id === location.hash);
+addEventListener("hashchange", () => show(Math.max(0, asked())));
+document.body.classList.add("stepping");
+show(Math.max(0, asked()));
+"""
+
+STEPS = [("Home", "First"), ("ArrowLeft", "\N{LEFTWARDS ARROW} Back"), ("ArrowRight", "Next \N{RIGHTWARDS ARROW}"), ("End", "Last")]
+BOARD_STEPS = [("t", "Turn the board"), ("u", "Upside down")]
+
+
+# ---- reading
+
+
+class NoRecord(Exception):
+    """What is wrong with a text that is no record."""
+
+
+def is_text(it):
+    return isinstance(it, str)
+
+
+def is_whole(it):
+    return isinstance(it, int) and not isinstance(it, bool) and it >= 0
+
+
+def is_text_or_null(it):
+    return it is None or is_text(it)
+
+
+def list_of(is_one):
+    return lambda it: isinstance(it, list) and all(map(is_one, it))
+
+
+# The keys of a record: whether a value is of the key's kind, and what is said of one that is not.
+KEYS = {
+    "cause": (is_text_or_null, "neither null nor a text"),
+    "endMarks": (list_of(is_text_or_null), "no list of texts and nulls"),
+    "errors": (list_of(list_of(is_text)), "no list of lists of texts"),
+    "goalValues": (list_of(is_whole), "no list of whole numbers"),
+    "matchId": (is_text, "no text"),
+    "moves": (list_of(list_of(is_text)), "no list of lists of texts"),
+    "phase": (is_text, "no text"),
+    "playClock": (is_whole, "no whole number"),
+    "players": (list_of(is_text), "no list of texts"),
+    "roles": (list_of(is_text), "no list of texts"),
+    "startClock": (is_whole, "no whole number"),
+    "startMarks": (list_of(is_text_or_null), "no list of texts and nulls"),
+    "states": (list_of(list_of(is_text)), "no list of lists of texts"),
+}
+STRIKES = (is_whole, "no whole number")
+
+
+def parsed(data):
+    """Returns the JSON value that the bytes spell."""
+
+    def no_number(word):
+        raise ValueError(f"{word} is no number")
+
+    try:
+        return json.loads(data.decode("utf-8"), parse_constant=no_number)
+    except RecursionError:
+        raise NoRecord("it is not JSON: it nests too deep") from None
+    except ValueError as why:
+        raise NoRecord(f"it is not JSON: {why}") from None
+
+
+def check_key(record, key, kind):
+    is_of_kind, said = kind
+    if key not in record:
+        raise NoRecord(f"the key {key!r} is missing")
+    if not is_of_kind(record[key]):
+        raise NoRecord(f"the value of {key!r} is {said}")
+
+
+def check_lengths(record):
+    """Looks that there is one of each for each role, and one state more than turns."""
+    roles, turns = len(record["roles"]), len(record["moves"])
+    if not roles:
+        raise NoRecord("it has no role")
+    for key in ("players", "startMarks", "endMarks"):
+        if len(record[key]) != roles:
+            raise NoRecord(f"the length of {key!r} is {len(record[key])}, and there are {roles} roles")
+    if len(record["goalValues"]) not in (0, roles):
+        raise NoRecord(f"the length of 'goalValues' is {len(record['goalValues'])}, which is neither 0 nor {roles}, the number of roles")
+    for key in ("moves", "errors"):
+        for turn, texts in enumerate(record[key]):
+            if len(texts) != roles:
+                raise NoRecord(f"turn {turn} of {key!r} has {len(texts)} texts, and there are {roles} roles")
+    for key, wanted in (("errors", turns), ("states", turns + 1)):
+        if len(record[key]) != wanted:
+            raise NoRecord(f"the length of {key!r} is {len(record[key])} and not {wanted}, for {turns} turns in 'moves'")
+
+
+def checked_record(record: object) -> dict:
+    """Returns a value that is a record by its shape, as far as a page needs it. Version 1 is filled in."""
+    if not isinstance(record, dict):
+        raise NoRecord("it is JSON, and no object")
+    for key, kind in KEYS.items():
+        check_key(record, key, kind)
+    version = record.setdefault("version", 1)
+    if not is_whole(version) or version not in VERSIONS:
+        raise NoRecord("the value of 'version' is neither 1 nor 2")
+    if version >= 2:
+        check_key(record, "strikes", STRIKES)
+    if record["phase"] not in PHASES:
+        raise NoRecord("the value of 'phase' is no phase")
+    check_lengths(record)
+    why = CAUSE.fullmatch(record["cause"] or "asked")
+    if not why or int(why[3] or 0) >= len(record["roles"]):
+        raise NoRecord("the value of 'cause' is no cause of a match with these roles")
+    return record
+
+
+def read_record(data: bytes) -> dict:
+    """Returns the keys of the record that the bytes spell."""
+    # The end of its line is no part of the record.
+    if len(data) - data.endswith(b"\n") > LONGEST_RECORD:
+        raise NoRecord("it is longer than 16 MiB")
+    return checked_record(parsed(data))
+
+
+# ---- boards
+
+
+@functools.cache
+def words_of(term):
+    """Returns the members of a term that is a list of atoms, else none."""
+    is_flat = term.startswith("(") and term.endswith(")") and not re.search(r"[()]", term[1:-1])
+    return term[1:-1].split(" ") if is_flat else []
+
+
+def axis_of(values):
+    """Returns the places of an axis, from the least value to the greatest: numbers behind at most one letter, or single letters.
+    None where the values are no such places."""
+    if all(re.fullmatch("[a-z]", value) for value in values):
+        axis = [chr(number) for number in range(ord(min(values)), ord(max(values)) + 1)]
+    else:
+        found = [re.fullmatch(r"([a-z]?)(0|[1-9][0-9]?)", value) for value in values]
+        if not all(found) or len({match[1] for match in found}) > 1:
+            return None
+        numbers = [int(match[2]) for match in found]
+        axis = [f"{found[0][1]}{number}" for number in range(min(numbers), max(numbers) + 1)]
+    return axis if 2 <= len(axis) <= LONGEST_AXIS else None
+
+
+def kind_of(axis):
+    return axis[0].rstrip("0123456789") if axis[0][-1].isdigit() else "letters"
+
+
+def is_pairing(states):
+    """Returns whether in every state each first argument has one second argument, or each second one first: then they are no places."""
+    return any(all(len({term[side] for term in terms}) == len(terms) for terms in states) for side in (1, 2))
+
+
+@dataclass
+class Board:
+    """Terms that name places. Of each relation, with its number of members, it is known where the two places stand and what is
+    shown there: the other arguments, or the relation where there are none."""
+
+    across: list
+    up: list
+    forms: dict
+
+    def place(self, words):
+        """Returns the column, the row and the label of a term, each place counted from 1."""
+        at, labels = self.forms[words[0], len(words)]
+        return self.across.index(words[at]) + 1, self.up.index(words[at + 1]) + 1, " ".join(words[place] for place in labels)
+
+
+def form_of(words_by_state, number):
+    """Returns where the terms of one relation, of so many members, name a place and where its label stands; None if they name none."""
+    terms = [words for state in words_by_state for words in state]
+    # (on X Y); (cell X Y V) and (cell X Y V W); (piece V X Y)
+    for at, labels in {3: [(1, [0])], 4: [(1, [3]), (2, [1])], 5: [(1, [3, 4])]}.get(number, []):
+        if axis_of({term[at] for term in terms}) and axis_of({term[at + 1] for term in terms}):
+            is_function = is_pairing(words_by_state) if number == 3 else max(map(len, words_by_state)) < 2
+            return None if is_function else (at, labels)
+    return None
+
+
+def boards_of(states):
+    """Returns the boards of a match: one for each relation like (cell X Y V), and one for all others with the same kinds of places."""
+    grouped = {}
+    for at, state in enumerate(states):
+        for words in filter(None, map(words_of, state)):
+            grouped.setdefault((words[0], len(words)), {}).setdefault(at, []).append(words)
+    forms = {}
+    for group, by_state in grouped.items():
+        form = form_of(list(by_state.values()), group[1])
+        if form:
+            places = [{term[form[0] + side] for terms in by_state.values() for term in terms} for side in (0, 1)]
+            own = group if form[0] == 1 and group[1] > 3 else tuple(kind_of(axis_of(place)) for place in places)
+            board = forms.setdefault(own, ({}, set(), set()))
+            board[0][group] = form
+            board[1].update(places[0])
+            board[2].update(places[1])
+    axes = [(axis_of(across), axis_of(up), found) for found, across, up in forms.values()]
+    return [Board(*axis) for axis in axes if axis[0] and axis[1]]
+
+
+# ---- the page
+
+
+def shown(text):
+    """Returns a record's text for the page: escaped, and anything but visible ASCII and the space as its code."""
+    return html.escape("".join(letter if " " <= letter <= "~" else f"\\u{{{ord(letter):x}}}" for letter in text))
+
+
+def why_of(error):
+    return ERRORS["IL"] if error.startswith("IL ") and error != "IL ?" else ERRORS.get(error, "an error of no known form")
+
+
+def mark_text(mark):
+    return "none" if mark is None else shown(mark) or "answered"
+
+
+def ending(record):
+    """Returns the sentence that says how the match ended."""
+    said = PHASES[record["phase"]]
+    cause = CAUSE.fullmatch(record["cause"] or "")
+    if cause:
+        role = f"role {cause[3]} ({shown(record['roles'][int(cause[3])])})" if cause[3] else ""
+        said = f"{said.rstrip('.')}: {CAUSES[cause[1] or cause[2]].format(role)}."
+    return said if said.endswith(".") else f"{said}."
+
+
+def players_table(record):
+    counts = [sum(bool(turn[role]) for turn in record["errors"]) for role in range(len(record["roles"]))]
+    goals = record["goalValues"] or ["none"] * len(counts)
+    head = "<tr><th>Role<th><th>Player<th>Goal<th>Substitutions<th>START<th>End</tr>"
+    rows = zip(record["roles"], record["players"], goals, counts, record["startMarks"], record["endMarks"])
+    lines = [
+        f"<tr><td>{at}<td>{shown(role)}<td>{shown(player)}<td>{goal}<td>{count}<td>{mark_text(start)}<td>{mark_text(end)}</tr>"
+        for at, (role, player, goal, count, start, end) in enumerate(rows)
+    ]
+    return "\n".join(['<table class="players">', head, *lines, "</table>"])
+
+
+def turns_table(record):
+    """Returns the turns, each with the moves of all roles. A turn is numbered as the state that it leaves."""
+
+    def cell(move, error):
+        if not error:
+            return f"<td>{shown(move)}"
+        return f'<td class="substituted" title="{html.escape(why_of(error))}">{shown(move)}<span class="why">{shown(error)}</span>'
+
+    head = "<tr><th>Turn" + "".join(f"<th>{shown(role)}" for role in record["roles"]) + "</tr>"
+    turns = enumerate(zip(record["moves"], record["errors"]))
+    lines = [f'<tr class="turn"><td><a href="#state-{at + 1}">{at}</a>{"".join(map(cell, *turn))}</tr>' for at, turn in turns]
+    return "\n".join(["<table>", head, *lines, "</table>"])
+
+
+def legend(record):
+    errors = sorted({why_of(error): error for turn in record["errors"] for error in turn if error}.items())
+    if not errors:
+        return ""
+    forms = ", ".join(f"<code>{'IL' if why == ERRORS['IL'] else shown(error)}</code> where {html.escape(why)}" for why, error in errors)
+    said = "A marked move is the role's first legal one, played in the place of an answer that did not come or did not count. Beside it stands why"
+    return f'<p class="dim">{said}: {forms}.</p>'
+
+
+def board_places(board, state):
+    """Returns what stands at each place of the board."""
+    places = {}
+    for words in filter(None, map(words_of, state)):
+        if (words[0], len(words)) in board.forms:
+            across, up, label = board.place(words)
+            places.setdefault((across, up), []).append(label)
+    return places
+
+
+def ground_of(board, places):
+    """Returns what stands at more than half of all places, if something stands at each: that is what an empty cell shows."""
+    labels = [labels[0] for labels in places.values()]
+    if len(labels) < len(board.across) * len(board.up):
+        return None
+    return next((label for label in sorted(set(labels)) if 2 * labels.count(label) > len(labels)), None)
+
+
+def board_page(board, places, before, ground):
+    def cell(at):
+        labels = places.get(at, [])
+        kinds = ["new"] * (before is not None and before.get(at, []) != labels) + ["ground"] * (labels == [ground])
+        kind = f' class="{" ".join(kinds)}"' if kinds else ""
+        title = f' title="{shown(", ".join(labels))}"' if any(len(label) > LONGEST_LABEL for label in labels) else ""
+        return f'<i{kind}{title} style="--x:{at[0]};--y:{at[1]}">{"<br>".join(shown(label[:LONGEST_LABEL]) for label in labels)}</i>'
+
+    axes = [f'<b style="--x:{at};--y:0">{name}</b>' for at, name in enumerate(board.across, 1)]
+    axes += [f'<b style="--x:0;--y:{at}">{name}</b>' for at, name in enumerate(board.up, 1)]
+    cells = [cell(at) for at in sorted({*places, *(before or {})})]
+    size = f"--across:{len(board.across)};--up:{len(board.up)}"
+    return f'<div class="board" style="{size}"><div class="squares"></div>{"".join(axes)}{"".join(cells)}</div>'
+
+
+def terms_page(terms, before):
+    """Returns the terms that no board shows, those that are new marked, and behind them those that are gone."""
+    lines = [f'<li class="new">{shown(term)}</li>' if before is not None and term not in before else f"<li>{shown(term)}</li>" for term in terms]
+    now = set(terms)
+    lines += [f'<li class="gone">{shown(term)}</li>' for term in sorted(before or ()) if term not in now]
+    return f"<ul>{''.join(lines)}</ul>" if lines else ""
+
+
+def states_page(record):
+    boards = boards_of(record["states"])
+    boards = boards if len(boards) * len(record["states"]) <= MOST_DRAWN else []
+    on_boards = {form for board in boards for form in board.forms}
+    places, rest, ground, lines = None, None, None, []
+    for at, state in enumerate(record["states"]):
+        before, rest_before = places or [None] * len(boards), rest
+        places = [board_places(board, state) for board in boards]
+        ground = ground or [ground_of(board, own) for board, own in zip(boards, places)]
+        words = ((term, words_of(term)) for term in state)
+        terms = [term for term, found in words if not found or (found[0], len(found)) not in on_boards]
+        rest = set(terms)
+        title = f"State {at}, after turn {at - 1}" if at else "State 0, before the first turn"
+        drawn = [board_page(*parts) for parts in zip(boards, places, before, ground)]
+        nothing = "" if state else '<p class="dim">A state without terms.</p>'
+        lines.append(f'<section class="state" id="state-{at}"><h2>{title}</h2>{"".join(drawn)}{terms_page(terms, rest_before)}{nothing}</section>')
+    return "\n".join(lines), bool(boards)
+
+
+def navigation(has_boards):
+    steps = STEPS + BOARD_STEPS * has_boards
+    buttons = [f'<button data-key="{key}" title="the key {key.removeprefix("Arrow")}">{text}</button>' for key, text in steps]
+    return f"<nav>{' '.join(buttons)}</nav>"
+
+
+def page_of(record):
+    """Returns the page, in ASCII. Its policy lets the browser run its own script alone, and load nothing."""
+    digest = base64.b64encode(hashlib.sha256(SCRIPT.encode()).digest()).decode()
+    policy = f"default-src 'none'; style-src 'unsafe-inline'; script-src 'sha256-{digest}'; base-uri 'none'; form-action 'none'"
+    who = ", ".join(f"{shown(player)} ({shown(role)})" for role, player in zip(record["roles"], record["players"]))
+    strikes = f" Strikes: {record['strikes']}." if record["version"] >= 2 else ""
+    states, has_boards = states_page(record)
+    lines = [
+        "<!DOCTYPE html>",
+        '<html lang="en"><head><meta charset="utf-8"><meta name="viewport" content="width=device-width">',
+        f'<meta http-equiv="Content-Security-Policy" content="{policy}">',
+        f"<title>Match {shown(record['matchId'])}</title><style>{STYLE}</style></head><body>",
+        f"<h1>Match {shown(record['matchId'])}: {who}</h1>",
+        f'<p>{ending(record)} <span class="dim">Turns: {len(record["moves"])}. Clocks: {record["startClock"]} s for START,',
+        f"{record['playClock']} s for every other message.{strikes} Record version {record['version']}.</span></p>",
+        players_table(record),
+        f'<div class="columns"><main class="states">{navigation(has_boards)}{states}</main>',
+        f'<div><h2>Turns</h2><div class="turns">{turns_table(record)}</div>{legend(record)}</div></div>',
+        '<p class="dim">This page shows what the record says. Whether it is that of a lawful match, <code>ggp_manager verify</code> tells.</p>',
+        f"<script>{SCRIPT}</script></body></html>",
+    ]
+    return "\n".join(lines).encode("ascii", "xmlcharrefreplace")
+
+
+def say(words):
+    """Writes to standard error, where that is open: to print, none is standard output."""
+    if sys.stderr:
+        print(words, file=sys.stderr)
+
+
+def parser() -> argparse.ArgumentParser:
+    reader = argparse.ArgumentParser("ggp-show-record", usage="ggp-show-record [RECORD] > page.html", description=ABOUT, epilog=STATUS)
+    reader.add_argument("record", metavar="RECORD", nargs="?", default=0, help="a file with one record, as `run` and `desk` print it (standard input)")
+    return reader
+
+
+def main() -> int:
+    asked = parser().parse_args()
+    try:
+        with open(asked.record, "rb") as file:
+            data = file.read(LONGEST_RECORD + 2)
+        page = page_of(read_record(data))
+    except OSError as why:
+        say(f"ggp-show-record: the record can't be read: {why}")
+        return 1
+    except NoRecord as why:
+        say(f"ggp-show-record: no record: {why}")
+        return 1
+    except MemoryError:
+        say("ggp-show-record: out of memory")
+        return 1
+    return put(page + b"\n")
+
+
+def put(page):
+    """Writes the page, and returns the status."""
+    try:
+        with open(1, "wb", closefd=False) as it:
+            it.write(page)
+    except OSError as why:
+        say(f"ggp-show-record: standard output can't be written: {why.strerror}")
+        return 1
+    return 0
+

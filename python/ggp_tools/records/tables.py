@@ -1,0 +1,118 @@
+"""The records of a collection as tables: of matches, of players and of moves. They are written as one SQLite database, or as CSV."""
+
+import contextlib
+import csv
+import errno
+import os
+import pathlib
+import sqlite3
+import tempfile
+from collections.abc import Iterable, Iterator
+
+from ggp_tools.records.collection import SURROGATE, Judged
+from ggp_tools.records.show import NoRecord, checked_record
+
+TABLES = {
+    "matches": (
+        "number INTEGER PRIMARY KEY, file TEXT, line INTEGER, match_id TEXT, game TEXT, rules_sum TEXT, verdict TEXT, phase TEXT, cause TEXT, "
+        "turns INTEGER, start_clock INTEGER, play_clock INTEGER, strikes INTEGER, version INTEGER"
+    ),
+    "players": (
+        "match_number INTEGER, role_number INTEGER, role TEXT, player TEXT, goal INTEGER, substitutions INTEGER, start_mark TEXT, end_mark TEXT"
+    ),
+    "moves": "match_number INTEGER, turn INTEGER, role_number INTEGER, move TEXT, error TEXT",
+}
+Row = tuple[object, ...]
+
+
+def stored(value: object) -> object:
+    """Returns a value as a table takes it: a number of more than 64 bits as its digits, a text that is no Unicode with codes."""
+    if isinstance(value, int) and value.bit_length() > 63:
+        return str(value)
+    return value.encode("ascii", "backslashreplace").decode() if isinstance(value, str) and SURROGATE.search(value) else value
+
+
+def names_of(table: str) -> list[str]:
+    """Returns the names of a table's columns."""
+    return [column.split()[0] for column in TABLES[table].split(", ")]
+
+
+def stored_row(row: Row) -> Row:
+    return tuple(map(stored, row))
+
+
+def match_row(number: int, judged: Judged, record: dict) -> Row:
+    game, line = judged.game, judged.line
+    named = (game.name, game.rules_sum) if game else (None, None)
+    clocks = record.get("startClock"), record.get("playClock"), record.get("strikes"), record.get("version")
+    return (number, line.file, line.number, line.match_id, *named, judged.verdict, record.get("phase"), record.get("cause"), len(record.get("moves", ())), *clocks)
+
+
+def mark_word(mark: str | None) -> str | None:
+    """Returns a mark as a word: in CSV an empty text would look like none."""
+    return "answered" if mark == "" else mark
+
+
+def player_rows(number: int, record: dict) -> Iterator[Row]:
+    goals = record["goalValues"] or [None] * len(record["roles"])
+    for role, (name, player, goal) in enumerate(zip(record["roles"], record["players"], goals)):
+        substitutions = sum(bool(errors[role]) for errors in record["errors"])
+        marks = (mark_word(record[key][role]) for key in ("startMarks", "endMarks"))
+        yield number, role, name, player, goal, substitutions, *marks
+
+
+def move_rows(number: int, record: dict) -> Iterator[Row]:
+    """Gives the recorded moves. Turns are counted from 1."""
+    for turn, (moves, errors) in enumerate(zip(record["moves"], record["errors"]), 1):
+        for role, (move, error) in enumerate(zip(moves, errors)):
+            yield number, turn, role, move, error
+
+
+def rows_of(number: int, judged: Judged) -> Iterator[tuple[str, Row]]:
+    """Gives the rows of a line, each with its table. What is no record by its shape has a row of matches alone."""
+    try:
+        record = checked_record(dict(judged.line.record or {}))
+    except NoRecord:
+        yield "matches", stored_row(match_row(number, judged, {}))
+        return
+    yield "matches", stored_row(match_row(number, judged, record))
+    yield from (("players", stored_row(row)) for row in player_rows(number, record))
+    yield from (("moves", stored_row(row)) for row in move_rows(number, record))
+
+
+def write_sqlite(path: pathlib.Path, lines: Iterable[Judged]) -> None:
+    """Writes the tables as a database. It is there once it is whole."""
+    with tempfile.TemporaryDirectory(prefix=".ggp-records-", dir=path.parent) as folder:
+        made = pathlib.Path(folder, "made")
+        with contextlib.closing(sqlite3.connect(made)) as database:
+            fill_database(database, lines)
+        if os.path.lexists(path):
+            raise FileExistsError(errno.EEXIST, os.strerror(errno.EEXIST), str(path))
+        made.rename(path)
+
+
+def fill_database(database: sqlite3.Connection, lines: Iterable[Judged]) -> None:
+    for table, columns in TABLES.items():
+        database.execute(f"CREATE TABLE {table} ({columns})")
+    for number, judged in enumerate(lines, 1):
+        for table, row in rows_of(number, judged):
+            database.execute(f"INSERT INTO {table} VALUES ({', '.join('?' * len(row))})", row)
+    database.execute("CREATE INDEX players_by_name ON players (player)")
+    database.execute("CREATE INDEX moves_by_match ON moves (match_number)")
+    database.commit()
+
+
+def write_csv(folder: pathlib.Path, lines: Iterable[Judged]) -> None:
+    """Writes the tables as files of comma-separated values, with the names of the columns first."""
+    folder.mkdir(parents=True, exist_ok=True)
+    files = {table: open(folder / f"{table}.csv", "w", encoding="utf-8", newline="") for table in TABLES}
+    try:
+        writers = {table: csv.writer(file) for table, file in files.items()}
+        for table, writer in writers.items():
+            writer.writerow(names_of(table))
+        for number, judged in enumerate(lines, 1):
+            for table, row in rows_of(number, judged):
+                writers[table].writerow(row)
+    finally:
+        for file in files.values():
+            file.close()

@@ -1,0 +1,199 @@
+"""The program `ggp_manager`, which judges: where it is, and what it is asked."""
+
+import contextlib
+import json
+import os
+import pathlib
+import re
+import shutil
+import subprocess
+import sys
+import tempfile
+
+PROGRAM = "ggp_manager"
+# A desk opens a match only with a player for each role, so one of this many tries tells the number of roles.
+MOST_ROLES = 16
+# Accounts that are replayed in one run: their bytes, and a desk's matches.
+MOST_BYTES, MOST_MATCHES = 200_000_000, 1_000
+# The last line on standard error where status 1 is a verdict, and no fault of the program's own.
+NOT_LAWFUL = "ggp_manager: records not lawful {}"
+NOT_LAWFUL_ITSELF = re.compile(r"ggp_manager: not lawful: .*")
+NOT_REPLAYED = re.compile(r"ggp_manager: not replayed: .*")
+NO_ANSWER = "ggp_manager: no answer"
+VERSION_LINE = re.compile(rb"ggp_manager [0-9]+\.[0-9]+\.[0-9]+\n")
+BAD_RULES = "ggp_manager: bad description"
+
+
+class NoReferee(Exception):
+    """The program is not found, or another one."""
+
+
+class BadRules(Exception):
+    """Why the program takes a text for no ground description, with the place as it tells it."""
+
+
+class Unchecked(Exception):
+    """What the program could not check, and why: it is short of something, or was ended. That says nothing of what was to be checked."""
+
+
+def find_program(given):
+    """Returns the path of the program: the one that was given; else where it stands beside this program, in the repository's bin, or on
+    the path of the shell."""
+    if given:
+        if not shutil.which(given):
+            raise NoReferee(f"{given} is no program that can be run")
+        return os.path.abspath(shutil.which(given))
+    beside = pathlib.Path(sys.argv[0]).absolute().parent
+    inside = pathlib.Path(__file__).resolve().parents[2] / "bin"
+    folders = list(dict.fromkeys((beside, beside.parent / "bin", inside)))
+    for file in (*(folder / PROGRAM for folder in folders), shutil.which(PROGRAM)):
+        if file and os.access(file, os.X_OK):
+            return str(file)
+    looked = ", ".join(map(str, folders))
+    raise NoReferee(f"{PROGRAM} is not in {looked}, nor on the path of the shell (PATH); `--program FILE` names it")
+
+
+def said_lines(said):
+    """Returns the lines that a run has said on standard error."""
+    return said.stderr.decode("ascii", "replace").splitlines()
+
+
+def last_line(said):
+    return (said_lines(said) or [""])[-1]
+
+
+def is_no_answer(status, line):
+    """Returns whether `info` ended since the player did not answer, by its status and the last line that it said."""
+    return status == 1 and line == NO_ANSWER
+
+
+def is_not_lawful(status, line):
+    """Returns whether `verify` ended since a record is not lawful, by its status and the last line that it said."""
+    return status == 1 and bool(NOT_LAWFUL_ITSELF.fullmatch(line))
+
+
+def is_not_replayed(status, line):
+    """Returns whether `replay` ended since an account is wrong, by its status and the last line that it said."""
+    return status == 1 and bool(NOT_REPLAYED.fullmatch(line))
+
+
+def unchecked(said, name):
+    """Returns the fault of a run that did not check what it was given; `name` says with which rules."""
+    words = last_line(said).removeprefix("ggp_manager: ") or "it said nothing"
+    return Unchecked(f"`{PROGRAM} {said.args[1]}` came to no verdict with {name}: {words}, status {said.returncode}")
+
+
+@contextlib.contextmanager
+def rules_file(rules):
+    """Gives the path of a file with rules, as long as it is needed. A fault names it."""
+    with tempfile.NamedTemporaryFile() as file:
+        try:
+            pathlib.Path(file.name).write_bytes(rules)
+        except OSError as why:
+            raise OSError(why.errno, why.strerror, file.name) from None
+        yield file.name
+
+
+def read_records(said):
+    """Returns the records that a run of the desk has printed: None where one is none."""
+    try:
+        return [json.loads(line) for line in said.stdout.splitlines() if line.startswith(b"{")]
+    except (ValueError, RecursionError):
+        return None
+
+
+def is_text_list(value):
+    return isinstance(value, list) and all(isinstance(member, str) for member in value)
+
+
+class Referee:
+    """The program at a path. A file stands in one word with its option, since its name may begin with a hyphen."""
+
+    def __init__(self, path):
+        self.path = path
+
+    def call(self, *words, data=b""):
+        return subprocess.run([self.path, *map(str, words)], input=data, capture_output=True)
+
+    def version(self):
+        said = self.call("--version")
+        if not VERSION_LINE.fullmatch(said.stdout):
+            raise NoReferee(f"{self.path} is no {PROGRAM}: `--version` does not say `{PROGRAM} N.N.N`")
+        return said.stdout.decode("ascii").strip()
+
+    def roles(self, rules, name):
+        """Returns the names of the roles of a ground description; `name` says which one it is. Refuses what is none."""
+        tries = "".join(f"open r{count} 0 1 1 {' '.join(f'p{number}' for number in range(count))}\n" for count in range(1, MOST_ROLES + 1))
+        with rules_file(rules) as path:
+            said = self.call("desk", f"--rules-file={path}", data=tries.encode())
+        if said.returncode == 1 and last_line(said) == BAD_RULES:
+            # The line before says where, and what is wrong there.
+            raise BadRules(said_lines(said)[-2:][0].removeprefix("ggp_manager: "))
+        records = read_records(said)
+        if said.returncode or records is None or len(records) != 1 or not is_text_list(records[0].get("roles")):
+            raise unchecked(said, name)
+        return tuple(records[0]["roles"])
+
+    def run_words(self, rules_path, told_path, match, strikes, places):
+        """Returns the command that plays a match; START carries the rules of the second path where there is one."""
+        told = [] if told_path is None else [f"--told={told_path}"]
+        options = f"--id={match.id}", f"--start={match.start}", f"--play={match.play}", f"--strikes={strikes}", "--history", "--log"
+        return [self.path, "run", f"--rules-file={rules_path}", *told, *options, "--", *places]
+
+    def abort_words(self, match: str, place: str) -> list[str]:
+        return [self.path, "abort", "--", match, place]
+
+    def info_words(self, place):
+        return [self.path, "info", "--", place]
+
+    def verify_words(self, rules_path):
+        return [self.path, "verify", f"--rules-file={rules_path}"]
+
+    def replay_words(self, rules_path):
+        return [self.path, "replay", f"--rules-file={rules_path}"]
+
+    def check_rules(self, rules_path):
+        """Refuses a file that is no ground description."""
+        said = self.call("verify", "--lines", f"--rules-file={rules_path}")
+        if said.returncode == 1 and last_line(said) == BAD_RULES:
+            raise BadRules(said_lines(said)[-2:][0].removeprefix("ggp_manager: "))
+        if said.returncode:
+            raise unchecked(said, rules_path)
+
+    def verdicts(self, rules_path, records):
+        """Returns for each record what `verify` says of it. Each is one line, and begins with `{`."""
+        said = self.call("verify", "--lines", f"--rules-file={rules_path}", data=b"".join(records))
+        found = said.stdout.decode("ascii", "replace").splitlines()
+        wrong = len(found) - found.count("lawful")
+        is_told = last_line(said) == NOT_LAWFUL.format(wrong) if wrong else True
+        if len(found) != len(records) or said.returncode != (1 if wrong else 0) or not is_told:
+            raise unchecked(said, rules_path)
+        return found
+
+    def replays(self, rules_path, accounts, records):
+        """Returns for each account whether its calls give its record again. As long as all do, one run looks at many."""
+        found, at = [], 0
+        while at < len(accounts):
+            end, size = at, 0
+            while end < len(accounts) and end - at < MOST_MATCHES and (end == at or size + len(accounts[end]) <= MOST_BYTES):
+                size += len(accounts[end])
+                end += 1
+            if end - at > 1 and self.replay_gives_all(rules_path, accounts[at:end], records[at:end]):
+                found += [True] * (end - at)
+            else:
+                found += [self.replay_gives(rules_path, [one], [other]) for one, other in zip(accounts[at:end], records[at:end])]
+            at = end
+        return found
+
+    def replay_gives(self, rules_path, accounts, records):
+        said = self.call("replay", f"--rules-file={rules_path}", data=b"".join(accounts))
+        if said.returncode != 0 and not is_not_replayed(said.returncode, last_line(said)):
+            raise unchecked(said, rules_path)
+        return said.returncode == 0 and said.stdout.partition(b"\n")[2] == b"".join(records)
+
+    def replay_gives_all(self, rules_path, accounts, records):
+        """Returns whether one run replays all of these. Where it is short of something for all of them, each may still go by itself."""
+        try:
+            return self.replay_gives(rules_path, accounts, records)
+        except Unchecked:
+            return False

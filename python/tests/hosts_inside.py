@@ -1,0 +1,184 @@
+"""Plays a competition on two machines that are network namespaces of this computer, each with an sshd of its own, and takes one of them
+away while a match is open there. It runs in a namespace of its own, so that nothing of it is reached from outside, and all of it is gone
+with its processes:
+
+    unshare --net python3 -m tests.hosts_inside"""
+
+import os
+import pathlib
+import re
+import shutil
+import signal
+import subprocess
+import tempfile
+import time
+import unittest
+
+from tests.players import TestPlayer, example
+from tests.support import GAMES, InFolder, program, run, start
+
+PLAYERS_AT = "10.77.9.1"
+HEAD = 'start = 5\nplay = 5\nwait = 1\nhosts = ["root@10.77.1.2", "root@10.77.2.2"]\n'
+SSHD = """
+Port 22
+HostKey {room}/host
+AuthorizedKeysFile {room}/key.pub
+PidFile none
+PermitRootLogin prohibit-password
+PasswordAuthentication no
+KbdInteractiveAuthentication no
+UsePAM no
+StrictModes no
+"""
+SSH = """#!/bin/sh
+exec {ssh} -F /dev/null -i {room}/key -o StrictHostKeyChecking=no -o UserKnownHostsFile=/dev/null -o LogLevel=ERROR "$@"
+"""
+
+
+# What runs on holds no pipe of a program that waits for the end of this.
+QUIET = {"stdin": subprocess.DEVNULL, "stdout": subprocess.DEVNULL, "stderr": subprocess.DEVNULL}
+
+
+def system(command):
+    subprocess.run(command.split(), check=True)
+
+
+def setUpModule():
+    system("ip link set lo up")
+    system(f"ip address add {PLAYERS_AT}/32 dev lo")
+
+
+class Machine:
+    """A network namespace with an sshd, at the other end of a line."""
+
+    def __init__(self, number):
+        self.link, self.at = f"line{number}", f"10.77.{number}.2"
+        self.holder = subprocess.Popen(["unshare", "--net", "sleep", "300"], **QUIET)
+        self.sshd = None
+        while os.readlink(f"/proc/{self.holder.pid}/ns/net") == os.readlink("/proc/self/ns/net"):
+            time.sleep(0.01)
+
+    def connect(self, number, room):
+        """Lays the line, and starts the sshd."""
+        inside = f"nsenter --target {self.holder.pid} --net"
+        system(f"ip link add {self.link} type veth peer name eth0 netns {self.holder.pid}")
+        system(f"ip address add 10.77.{number}.1/24 dev {self.link}")
+        system(f"ip link set {self.link} up")
+        for command in ("ip link set lo up", f"ip address add {self.at}/24 dev eth0", "ip link set eth0 up", f"ip route add default via 10.77.{number}.1"):
+            system(f"{inside} {command}")
+        self.sshd = subprocess.Popen([*inside.split(), shutil.which("sshd"), "-D", "-f", room / "sshd.conf"], **QUIET)
+
+    def is_up(self, ssh):
+        return subprocess.run([ssh, "-o", "ConnectTimeout=1", f"root@{self.at}", "true"], capture_output=True).returncode == 0
+
+    def processes(self):
+        """Gives the processes of the namespace, each with its command."""
+        mine = os.readlink(f"/proc/{self.holder.pid}/ns/net")
+        for file in pathlib.Path("/proc").glob("[0-9]*"):
+            try:
+                if os.readlink(file / "ns/net") == mine:
+                    yield int(file.name), (file / "cmdline").read_bytes()
+            except OSError:
+                continue
+
+    def runs(self):
+        """Returns the ids of the matches that are played there."""
+        commands = (command for _, command in self.processes() if command.startswith(os.fsencode(program())))
+        return {it[1].decode() for command in commands if (it := re.search(rb"\0--id=([^\0]+)", command))}
+
+    def take_away(self):
+        system(f"ip link set {self.link} down")
+
+    def end(self):
+        """Ends all that runs there: where the line is cut, an sshd waits for hours."""
+        for process, _ in list(self.processes()):
+            if process != self.holder.pid:
+                os.kill(process, signal.SIGKILL)
+        self.holder.kill()
+        for process in filter(None, (self.sshd, self.holder)):
+            process.wait()
+        subprocess.run(["ip", "link", "delete", self.link], **QUIET)
+
+
+class Hosts(InFolder):
+    def setUp(self):
+        super().setUp()
+        self.room = pathlib.Path(tempfile.mkdtemp())
+        self.addCleanup(shutil.rmtree, self.room)
+        for name in ("key", "host"):
+            subprocess.run(["ssh-keygen", "-q", "-t", "ed25519", "-N", "", "-f", self.room / name], check=True)
+        (self.room / "sshd.conf").write_text(SSHD.format(room=self.room))
+        ssh = self.room / "ssh"
+        ssh.write_text(SSH.format(ssh=shutil.which("ssh"), room=self.room))
+        ssh.chmod(0o755)
+        pathlib.Path("/run/sshd").mkdir(exist_ok=True)
+        self.machines = []
+        for number in (1, 2):
+            self.machines.append(Machine(number))
+            self.addCleanup(self.machines[-1].end)
+            self.machines[-1].connect(number, self.room)
+        until = time.monotonic() + 300
+        while time.monotonic() < until and not all(machine.is_up(ssh) for machine in self.machines):
+            time.sleep(0.1)
+        self.environment = {**os.environ, "PATH": f"{self.room}:{os.environ['PATH']}"}
+
+    def hosts(self):
+        return [line.split()[1] for file in sorted((self.folder / "logs").iterdir()) for line in file.read_text().splitlines() if line.startswith("host ")]
+
+    def planned(self, count=4, game=("countdown", GAMES / "countdown.kif")):
+        self.players = [TestPlayer(f"p{number}", "slow", number, at=PLAYERS_AT) for number in range(count)]
+        self.schedule = self.plan([(player.name, player.place()) for player in self.players], [game], head=HEAD)
+
+    def begun(self):
+        """Begins the competition; returns when a match is played on the first machine."""
+        playing = start(self.folder, "play", "--at-once", "2", env=self.environment)
+        while not any(match in player.matches for match in self.machines[0].runs() for player in self.players):
+            self.assertIsNone(playing.poll())
+            time.sleep(0.02)
+        return playing
+
+    def assert_whole(self):
+        self.assert_sound(self.schedule)
+        errors = {error for record in self.records().values() for turn in record["errors"] for error in turn}
+        self.assertEqual((errors, [player.clashes for player in self.players]), ({""}, [[]] * len(self.players)))
+        hosts = self.hosts()
+        self.assertEqual((len(hosts), set(hosts) - {f"root@{machine.at}" for machine in self.machines}), (len(self.schedule), set()))
+
+    def test_a_lost_host(self):
+        self.planned()
+        playing = self.begun()
+        self.machines[0].take_away()
+        out, said = playing.communicate(timeout=900)
+        self.assertEqual((playing.returncode, said), (0, ""), out)
+        self.assert_whole()
+        self.assertTrue(any(player.begun.count(match) == 2 for player in self.players for match in player.begun), "no match was taken over")
+        print(f"{len(self.schedule)} matches on two hosts, one of which was lost: each has one lawful record", flush=True)
+
+    @unittest.skipUnless(shutil.which("gringo"), "gringo is not installed")
+    def test_players_are_told_rules_with_variables(self):
+        self.planned(2, ("nim", GAMES / "general/nim.kif", 'told = "variables"'))
+        status, out, said = run(self.folder, "play", env=self.environment)
+        self.assertEqual((status, said), (0, ""), out)
+        self.assert_whole()
+        told = tuple(example.read((self.folder / "rules/nim.told").read_text()))
+        self.assertEqual([player.told for player in self.players], [dict.fromkeys((planned[0] for planned in self.schedule), told)] * 2)
+
+    def test_ended_and_killed_and_gone_on(self):
+        self.planned()
+        for number in (signal.SIGTERM, signal.SIGKILL):
+            playing = self.begun()
+            playing.send_signal(number)
+            playing.communicate()
+            if number == signal.SIGTERM:
+                self.assertEqual((playing.returncode, [player.matches for player in self.players]), (1, [{}] * 4))
+            until = time.monotonic() + 120
+            while any(machine.runs() for machine in self.machines):
+                self.assertLess(time.monotonic(), until, "a match of a run that has ended is played on")
+                time.sleep(0.05)
+        status, out, said = run(self.folder, "play", "--at-once", "2", env=self.environment)
+        self.assertEqual((status, said), (0, ""), out)
+        self.assert_whole()
+
+
+if __name__ == "__main__":
+    unittest.main()

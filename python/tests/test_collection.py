@@ -1,0 +1,164 @@
+"""Piles of records: sorted by game, checked, and made tables and pages of."""
+
+import contextlib
+import csv
+import json
+import os
+import pathlib
+import sqlite3
+import subprocess
+import sys
+import tempfile
+import unittest
+
+from ggp_tools.kif import Refused
+from ggp_tools.records.collection import ACCOUNT_LINE, candidates, game_of
+from tests.support import GAMES, TOP, program
+
+RECORDS = TOP / "examples/records"
+# What `verify` says of each record of these names, for the game with a heap of 3.
+LAWFUL = ("countdown-3-first_version", "countdown-3-second_version")
+FAULTY = "countdown-3-another_state"
+
+
+def record(name: str) -> str:
+    return (RECORDS / f"{name}.record").read_text(encoding="ascii")
+
+
+class Sorting(unittest.TestCase):
+    def test_a_game_is_known_by_its_roles_and_its_first_state(self):
+        with tempfile.TemporaryDirectory() as folder:
+            rules = (GAMES / "countdown.kif").read_text(encoding="ascii")
+            other = pathlib.Path(folder, "other.kif")
+            other.write_text(rules.replace("(init (heap 3))", "(init (heap 2))"), encoding="ascii")
+            games = [game_of(other), game_of(GAMES / "countdown.kif"), game_of(GAMES / "tictactoe.kif")]
+        found = candidates(json.loads(record(LAWFUL[0])), games)
+        self.assertEqual([game.name for game in found], ["countdown", "other"])
+
+    def test_a_description_with_variables_is_refused(self):
+        with tempfile.TemporaryDirectory() as folder:
+            path = pathlib.Path(folder, "open.kif")
+            path.write_text("(role a) (<= (legal a ?x) (true ?x))", encoding="ascii")
+            self.assertRaisesRegex(Refused, "variables", game_of, path)
+
+    def test_only_lines_of_an_account_by_their_form_are_skipped(self):
+        for line in (b"0\topen m 0 1 1 a b\topened", b"12\tnext m 0\tover"):
+            self.assertTrue(ACCOUNT_LINE.fullmatch(line))
+        for line in (b"1 {}", b"1\t{}", b"7", b"3\tnext m 0", b"3\tplay m\tx", b"1764273600 next m 0\tover", b'3\tnext m 0\to{"cause":null}'):
+            self.assertFalse(ACCOUNT_LINE.fullmatch(line))
+
+
+class Commands(unittest.TestCase):
+    def setUp(self):
+        self.folder = pathlib.Path(self.enterContext(tempfile.TemporaryDirectory()))
+        (self.folder / "rules").mkdir()
+        for name in ("countdown", "tictactoe"):
+            (self.folder / f"rules/{name}.kif").write_bytes((GAMES / f"{name}.kif").read_bytes())
+        self.pile = self.folder / "pile"
+        lines = [record(LAWFUL[0]), "0\tnext m 0\tover\n", record(FAULTY), record(LAWFUL[1]), "no record\n", '{"roles":["x"]}\n']
+        self.pile.write_text("".join(lines), encoding="ascii")
+
+    def run_records(self, *words: str) -> subprocess.CompletedProcess:
+        call = [sys.executable, TOP / "python/ggp-records", "--program", program(), "--rules", self.folder / "rules", *words]
+        return subprocess.run(list(map(str, call)), capture_output=True, text=True)
+
+    def test_each_record_gets_a_line(self):
+        said = self.run_records("check", str(self.pile))
+        rows = [line.split("\t")[1:] for line in said.stdout.splitlines()]
+        verdicts = ["lawful", "not lawful: state 1", "lawful"]
+        self.assertEqual([row[3] for row in rows[:3]], verdicts)
+        self.assertEqual([row[0] for row in rows], ["1", "3", "4", "5", "6"])
+        self.assertEqual([row[2] for row in rows], ["countdown"] * 3 + ["-"] * 2)
+        self.assertEqual(said.returncode, 1)
+        self.assertEqual(said.stderr, "ggp-records: 2 lawful, 1 not lawful, 1 no record, 1 no game has its roles, 1 line of accounts skipped\n")
+
+    def test_lawful_piles_have_status_0(self):
+        self.pile.write_text(record(LAWFUL[1]), encoding="ascii")
+        self.assertEqual(self.run_records("check", str(self.pile)).returncode, 0)
+
+    def test_why_is_said_below_a_record_that_is_not_lawful(self):
+        said = self.run_records("--explain", "check", str(self.pile))
+        self.assertIn("\tmissing: (heap 2)\n\ttoo many: (heap 1)\n", said.stdout)
+
+    def test_a_database_has_matches_players_and_moves(self):
+        output = self.folder / "o.db"
+        self.assertEqual(self.run_records("sqlite", str(output), str(self.pile)).returncode, 1)
+        with sqlite3.connect(output) as database:
+            rows = database.execute("SELECT line, verdict, turns FROM matches ORDER BY number").fetchall()
+            self.assertEqual(rows[:3], [(1, "lawful", 2), (3, "not lawful: state 1", 2), (4, "lawful", 2)])
+            players = database.execute("SELECT role, player, goal, substitutions, start_mark FROM players WHERE match_number = 1").fetchall()
+            self.assertEqual(players, [("red", "ann", 0, 0, "answered"), ("blue", "bob", 100, 0, "answered")])
+            moves = database.execute("SELECT turn, role_number, move, error FROM moves WHERE match_number = 3").fetchall()
+            self.assertEqual(moves, [(1, 0, "(take 1)", ""), (1, 1, "noop", ""), (2, 0, "noop", ""), (2, 1, "(take 2)", "")])
+        database.close()
+        self.assertEqual(self.run_records("sqlite", str(output), str(self.pile)).returncode, 2)
+
+    def test_files_of_values_have_the_same_rows(self):
+        self.run_records("csv", str(self.folder / "tables"), str(self.pile))
+        with open(self.folder / "tables/moves.csv", encoding="utf-8", newline="") as file:
+            rows = list(csv.reader(file))
+        self.assertEqual(rows[0], ["match_number", "turn", "role_number", "move", "error"])
+        self.assertEqual(len(rows), 1 + 3 * 4)
+
+    def test_pages_link_each_match_and_show_no_markup_of_it(self):
+        hostile = json.loads(record(LAWFUL[1]))
+        hostile["players"][0] = "<script>x</script>"
+        hostile["matchId"] = "../<b>"
+        self.pile.write_text(record(LAWFUL[1]) + json.dumps(hostile) + "\n", encoding="ascii")
+        self.run_records("pages", str(self.folder / "pages"), str(self.pile))
+        names = sorted(path.name for path in (self.folder / "pages").iterdir())
+        self.assertEqual(names, ["000001-m1.html", "000002-.._b_.html".replace("_b_", "__b_"), "index.html"])
+        for name in names:
+            page = (self.folder / "pages" / name).read_text(encoding="ascii")
+            self.assertNotIn("<script>x", page)
+            self.assertNotIn("<b>:", page)
+
+    def test_a_pile_that_is_not_there_is_no_verdict(self):
+        said = self.run_records("check", str(self.folder / "none"))
+        self.assertEqual(said.returncode, 3)
+        self.assertIn("none", said.stderr)
+
+    def test_a_line_that_is_too_long_is_told_and_the_others_are_checked(self):
+        with open(self.pile, "w", encoding="ascii") as file:
+            file.write(record(LAWFUL[0]) + "{" + " " * (17 << 20) + "}\n" + record(LAWFUL[1]))
+        rows = [line.split("\t")[1:] for line in self.run_records("check", str(self.pile)).stdout.splitlines()]
+        self.assertEqual([row[0] for row in rows], ["1", "2", "3"])
+        self.assertEqual([row[3] for row in rows], ["lawful", "no record: it is longer than 16 MiB", "lawful"])
+
+    def test_tables_take_what_is_no_lawful_record(self):
+        odd = [{"strikes": 10**30}, {"matchId": "\ud800"}, {"matchId": "a\0b"}, {"version": [1]}, {"players": ["=x", "a\"b\n,c\r"]}]
+        whole = json.loads(record(LAWFUL[1]))
+        self.pile.write_text("".join(json.dumps({**whole, **one}) + "\n" for one in odd), encoding="ascii")
+        for action in ("sqlite", "csv", "pages"):
+            said = self.run_records(action, str(self.folder / action), str(self.pile))
+            self.assertEqual((said.returncode, said.stderr), (1, "ggp-records: 5 not lawful\n"), action)
+        with contextlib.closing(sqlite3.connect(self.folder / "sqlite")) as database:
+            rows = database.execute("SELECT strikes, match_id FROM matches ORDER BY number").fetchall()
+        self.assertEqual((rows[0][0], rows[1][1]), (1e30, "\\ud800"))
+
+    def test_a_database_takes_no_file_that_is_there(self):
+        beside = self.folder / "o.db.new"
+        beside.write_text("mine", encoding="ascii")
+        self.run_records("sqlite", str(self.folder / "o.db"), str(self.pile))
+        self.assertEqual(beside.read_text(encoding="ascii"), "mine")
+        (self.folder / "link").symlink_to("nowhere")
+        self.assertEqual(self.run_records("sqlite", str(self.folder / "link"), str(self.pile)).returncode, 2)
+        self.assertEqual(self.run_records("sqlite", str(self.folder / "none/o.db"), str(self.pile)).returncode, 3)
+        self.assertEqual(sorted(path.name for path in self.folder.iterdir()), ["link", "o.db", "o.db.new", "pile", "rules"])
+
+    def test_files_that_are_no_rules_are_told_and_skipped(self):
+        odd = {"v": "(role red)(role blue)(<= (init x) (true y))", "w": "()", "x": "(((", "y": "", "z\tz": "(role red)(role blue)(<= a (not a))"}
+        for name, text in odd.items():
+            (self.folder / f"rules/{name}.kif").write_text(text, encoding="ascii")
+        (self.folder / "rules" / os.fsdecode(b"\xff.kif")).write_text("(role red)(role blue)", encoding="ascii")
+        self.pile.write_text(record(LAWFUL[1]), encoding="ascii")
+        said = self.run_records("check", str(self.pile))
+        self.assertEqual(said.returncode, 0, said.stderr)
+        self.assertEqual(said.stderr.count("ggp-records: skipped: "), len(odd) + 1)
+
+    def test_without_rules_there_is_no_verdict(self):
+        for path in (self.folder / "rules").iterdir():
+            path.unlink()
+        self.assertEqual(self.run_records("check", str(self.pile)).returncode, 3)
+        (self.folder / "rules").rmdir()
+        self.assertEqual(self.run_records("check", str(self.pile)).returncode, 3)

@@ -1,0 +1,300 @@
+"""Records are held against the published description: what is not by it is found, in games that are instantiated wrongly too."""
+
+import contextlib
+import io
+import json
+import random
+import shutil
+import subprocess
+import sys
+import unittest
+from unittest import mock
+
+from ggp_tools import ground_games
+from ggp_tools.holding.command import MOST_CALLS
+from ggp_tools.holding.following import Differs, Following
+from ggp_tools.holding.game import Game
+from ggp_tools.holding.reading import NotFollowed
+from ggp_tools.instantiating import making, rounds
+from ggp_tools.kif import expressions, relation
+from tests.support import GAMES, TOP
+
+COMMAND = TOP / "python/ggp-hold-against"
+PLANTED_IN = "tictactoe", "nim", "connectfour", "auction", "blocks", "hanoi", "hex", "river", "lightcycles", "quarto"
+MOST_TURNS, TRIES = 60, 40
+# A game of three turns, in which the order of moves is clear.
+STEPS = """(role ann) (role bob) (init (at 1)) (after 1 2) (after 2 3) (after 3 4)
+(<= (legal ann (go ?n)) (true (at ?m)) (after ?m ?n))
+(legal ann stay) (legal bob wait)
+(<= (next (at ?n)) (does ann (go ?n)))
+(<= (next (at ?m)) (true (at ?m)) (does ann stay))
+(<= terminal (true (at 4)))
+(<= (goal ann 100) (true (at 4))) (<= (goal ann 10) (not (true (at 4)))) (goal bob 50)
+"""
+
+
+def instantiated(name):
+    """The ground sentences of a game of this repository."""
+    with contextlib.redirect_stderr(io.StringIO()):
+        return expressions(making.Making(description(name), 60, making.WHERE_NEEDED).run())
+
+
+def description(name):
+    return (GAMES / f"general/{name}.kif").read_text("latin-1")
+
+
+def begun(sentences):
+    """A match by ground rules, ready for its first turn."""
+    game = ground_games.Game(sentences)
+    match = ground_games.Match(game, "m", 1, 1, [f"p{at}" for at in range(len(game.roles))])
+    match.marks["start"] = dict.fromkeys(range(len(game.roles)), "")
+    return match
+
+
+def played(sentences, seed):
+    """The record of a match by ground rules: some answers are late, and some illegal."""
+    match = begun(sentences)
+    game = match.game
+    every = {role: sorted((head[2] for head in game.heads[("legal", 2)] if head[1] == role), key=repr) for role in game.roles}
+    while len(match.moves) < MOST_TURNS and match.phase()[0] == "playing":
+        dice = [random.Random(f"{seed} {len(match.moves)} {role}") for role in game.roles]
+        legal = [game.legal(match.states[-1], role) for role in game.roles]
+        match.turn([judged(one, found, every[role]) for one, found, role in zip(dice, legal, game.roles)])
+    match.marks["end"] = dict(match.marks["start"])
+    return match.record()
+
+
+def played_again(sentences, record):
+    """The record that the same answers make by other ground rules."""
+    match = begun(sentences)
+    for moves, errors in zip(record["moves"], record["errors"]):
+        if match.phase()[0] != "playing":
+            break
+        turn = []
+        for role, move, error in zip(match.game.roles, moves, errors):
+            legal = match.game.legal(match.states[-1], role)
+            answer = expressions(error.removeprefix("IL ") if error.startswith("IL ") else move)[0]
+            is_late = error == "TO"
+            turn.append((answer, "") if answer in legal and not is_late else (legal[0], "TO" if is_late else f"IL {ground_games.text_of(answer)}"))
+        match.turn(turn)
+    match.marks["end"] = dict(match.marks["start"])
+    return match.record()
+
+
+def judged(dice, legal, every):
+    """A move, and the error that it stands for."""
+    kind = dice.random()
+    if kind < 0.2:
+        return legal[0], "TO"
+    answer = dice.choice(every if kind < 0.4 else sorted(legal, key=repr))
+    return (answer, "") if answer in legal else (legal[0], f"IL {ground_games.text_of(answer)}")
+
+
+def differs(game, record):
+    """Words for where a record differs from the description; none where it does not."""
+    try:
+        Following(game).follow(json.loads(json.dumps(record)))
+    except Differs as why:
+        return str(why)
+    return None
+
+
+def head_of(sentence):
+    return sentence[1] if sentence[0] == "<=" else sentence
+
+
+def dropped(sentences, dice):
+    """The sentences without one of a `legal` or a `next`."""
+    at = dice.choice([at for at, one in enumerate(sentences) if relation(head_of(one))[0] in ("legal", "next")])
+    return sentences[:at] + sentences[at + 1 :]
+
+
+def swapped(sentences, dice):
+    """The sentences with two legal moves of a role in each other's place."""
+    heads = list(dict.fromkeys(head_of(one) for one in sentences if relation(head_of(one)) == ("legal", 2)))
+    role = dice.choice(heads)[1]
+    moves = [head for head in heads if head[1] == role]
+    one, other = dice.sample(moves, 2) if len(moves) > 1 else moves * 2
+    instead = {one: other, other: one}
+    found, seen = [], set()
+    for sentence in sentences:
+        head = head_of(sentence)
+        if head not in instead:
+            found.append(sentence)
+        elif head not in seen:
+            found += [it for it in sentences if head_of(it) == instead[head]]
+        seen.add(head)
+    return found
+
+
+def goals_off(sentences, dice):
+    """The sentences with a goal that is off by one."""
+    at = dice.choice([at for at, one in enumerate(sentences) if relation(head_of(one)) == ("goal", 2)])
+    _, role, value = head_of(sentences[at])
+    head = ("goal", role, str(int(value) + (1 if value == "0" else -1)))
+    found = list(sentences)
+    found[at] = ("<=", head, *found[at][2:]) if found[at][0] == "<=" else head
+    return found
+
+
+class Planted(unittest.TestCase):
+    """What is wrong in ground rules is found in the first match in which it matters."""
+
+    def look_for(self, name, plant):
+        game, sentences = Game(description(name)), instantiated(name)
+        for number in range(TRIES):
+            wrong = played(plant(sentences, random.Random(f"{name} {number}")), number)
+            right = played_again(sentences, wrong)
+            self.assertIsNone(differs(game, right), name)
+            if wrong != right:
+                self.assertIsNotNone(differs(game, wrong), f"{name}, {plant.__name__}, {number}")
+                return
+        self.fail(f"{name}: nothing that was planted matters")
+
+    @unittest.skipUnless(shutil.which("gringo"), "gringo is not installed")
+    def test_what_is_planted(self):
+        for name in PLANTED_IN:
+            for plant in (dropped, swapped, goals_off):
+                with self.subTest(name, plant=plant.__name__):
+                    self.look_for(name, plant)
+
+    @unittest.skipUnless(shutil.which("gringo"), "gringo is not installed")
+    def test_a_halved_cycle(self):
+        whole, last = Game(description("hex")), rounds.last_round
+        with mock.patch.object(rounds, "last_round", lambda circle, rules_for: last(circle, rules_for) // 8):
+            wrong = instantiated("hex")
+        found = [differs(whole, played(wrong, number)) for number in range(TRIES)]
+        self.assertTrue(any(found))
+        self.assertIn("terminal", next(filter(None, found)))
+
+
+class Words(unittest.TestCase):
+    def setUp(self):
+        sentences = "(role ann) (role bob) (init (at 1))"
+        sentences += "".join(f"(<= (legal ann (go {n + 1})) (true (at {n})))" for n in (1, 2, 3)) + "(legal ann stay) (legal bob wait)"
+        sentences += "".join(f"(<= (next (at {n + 1})) (does ann (go {n + 1}))) (<= (next (at {n})) (true (at {n})) (does ann stay))" for n in (1, 2, 3))
+        sentences += "(<= terminal (true (at 4))) (<= (goal ann 100) (true (at 4))) (<= (goal ann 10) (not (true (at 4)))) (goal bob 50)"
+        self.game, self.record = Game(STEPS), played(expressions(sentences), 3)
+
+    def words(self, **changes):
+        return differs(self.game, {**self.record, **changes})
+
+    def test_the_same(self):
+        self.assertIsNone(self.words())
+        self.assertEqual((self.record["phase"], self.record["goalValues"]), ("finished", [100, 50]))
+
+    def test_roles(self):
+        self.assertEqual(self.words(roles=["bob", "ann"]), "the roles are ann bob by the description, and bob ann in the record")
+
+    def test_states(self):
+        states = self.record["states"]
+        said = "the first state lacks (at 1), which sentence 2, line 1: (init (at 1)) gives"
+        self.assertEqual(self.words(states=[[], *states[1:]]), said)
+        said = "the first state has (x), which no sentence of the description gives there"
+        self.assertEqual(self.words(states=[["(at 1)", "(x)"], *states[1:]]), said)
+        said = "after turn 1 the record lacks"
+        self.assertTrue(self.words(states=[states[0], [], *states[2:]]).startswith(said))
+        self.assertEqual(self.words(states=[["(at 1)", "(at 1)"], *states[1:]]), "the first state has a term twice")
+
+    def test_moves(self):
+        moves = [["(go 3)", "wait"], *self.record["moves"][1:]]
+        said = "turn 1, ann: the record plays (go 3), which is not legal by the description"
+        self.assertEqual(self.words(moves=moves), said)
+        at = next(at for at, turn in enumerate(self.record["errors"]) if self.record["moves"][at][0] != "stay")
+        errors = [[f"IL stay" if place == at else "", turn[1]] for place, turn in enumerate(self.record["errors"])]
+        said = f"turn {at + 1}, ann: the answer stay was taken for illegal, and sentence 7, line 3: (legal ann stay) gives it"
+        self.assertEqual(self.words(errors=errors), said)
+
+    def test_the_first_legal_move(self):
+        turns = [["stay", "wait"]]
+        record = dict(self.record, moves=turns, errors=[["TO", ""]], states=[["(at 1)"], ["(at 1)"]], phase="playing", goalValues=[], cause=None)
+        said = "turn 1, ann: the record plays stay in the place of an answer, and (go 2) stands before it, by sentence 6, line 2: "
+        self.assertTrue(differs(self.game, record).startswith(said))
+        self.assertIsNone(differs(self.game, {**record, "errors": [["", ""]]}))
+
+    def test_the_end(self):
+        said = "ann has the goal 99 in the record, and by the description sentence 12, line 7: (<= (goal ann 100) (true (at 4))) gives 100"
+        self.assertEqual(self.words(goalValues=[99, 50]), said)
+        short = {key: self.record[key][:-1] for key in ("moves", "errors", "states")}
+        self.assertIn("has no end there", self.words(**short))
+        said = "the record goes on, and the match has ended by the description: sentence 11, line 6: (<= terminal (true (at 4))) gives `terminal`"
+        self.assertEqual(self.words(phase="playing", goalValues=[]), said)
+        said = "the record is given up since bob has no single goal, and by the description no role lacks its goal"
+        self.assertEqual(self.words(phase="aborted", cause="nogoal 1", goalValues=[]), said)
+        said = "after the last turn bob has no legal move in the record, and by the description no role"
+        self.assertEqual(self.words(**short, phase="aborted", cause="nolegal 1", goalValues=[]), said)
+        # What was asked to end may end anywhere.
+        self.assertIsNone(self.words(**short, phase="aborted", cause="asked", goalValues=[]))
+
+
+class Described(unittest.TestCase):
+    """Forms of descriptions, and what is none."""
+
+    def test_what_is_no_description(self):
+        for text, words in [
+            ("(role a) (<= (p ?x) (not (q ?x)))", "sentence 1, line 1: (<= (p ?x) (not (q ?x))): nothing binds ?x"),
+            ("(role a)\n(<= (legal a ?m) (does a ?m))", "legal depends on does"),
+            ("(role a) (p", "line 1: a list that is not closed"),
+            ("(role a) (goal a)", "sentence 1, line 1: (goal a): (goal a) is no sentence of GDL"),
+            ("(role a)\n)", "line 2: a `)` with no open list"),
+            ("(true x)", "sentence 0: true is a head"),
+        ]:
+            with self.subTest(text), self.assertRaises(NotFollowed) as why:
+                Game(text)
+            self.assertEqual(str(why.exception), words)
+
+    def test_forms(self):
+        text = "(role a) (n 1) (n 2) (n 3) (less 1 2) (less 2 3) (init (c 1)) (init (c 2)) (init s)"
+        text += "(<= (under ?a ?b) (less ?a ?b)) (<= (under ?a ?c) (or (under ?a ?b) (and (under ?a ?b) s)) (under ?b ?c))"
+        text += "(<= (legal a (m ?a (pair ?b ?b))) (under ?a ?b) (or (true (c ?a)) (and (not (true (c ?b))) (distinct ?b 2))) (not (not (n ?a))))"
+        text += "(<= (next ?t) (true ?t) (does a (m ?x ?any)) (distinct ?t (c ?x))) (<= (terminal) (not (true s))) (<= (goal a 5) (role a))"
+        game = Game(text)
+        position = game.position(game.initial, [("m", "1", ("pair", "2", "2"))])
+        self.assertEqual(set(game.moves(position, "a")), {("m", "1", ("pair", "2", "2")), ("m", "1", ("pair", "3", "3")), ("m", "2", ("pair", "3", "3"))})
+        self.assertEqual(set(game.following(position)), {("c", "2"), "s"})
+        self.assertFalse(game.is_over(position))
+        self.assertTrue(game.is_over(game.position(frozenset())))
+        self.assertEqual(game.goals(position, "a"), [5])
+
+    def test_a_relation_that_denies_itself(self):
+        text = "(role a) (next 1 2) (after 1 2) (after 2 3) (after 3 4) (init s) (<= (won ?m) (after ?m ?n) (not (won ?n))) (<= (legal a ?m) (won ?m) (true s))"
+        game = Game(text.replace("(next 1 2) ", ""))
+        self.assertEqual(set(game.moves(game.position(game.initial), "a")), {"3", "1"})
+        game = Game("(role a) (init s) (<= (p ?x) (q ?x) (not (p ?x))) (q 1) (<= terminal (p 1) (true s))")
+        with self.assertRaises(NotFollowed):
+            game.is_over(game.position(game.initial))
+
+    def test_a_long_body_and_a_long_chain(self):
+        self.addCleanup(sys.setrecursionlimit, sys.getrecursionlimit())
+        sys.setrecursionlimit(MOST_CALLS)
+        names = [f"?v{at}" for at in range(40)]
+        links = " ".join(f"(after {one} {other})" for one, other in zip(names, names[1:]))
+        facts = " ".join(f"(after {at} {at + 1})" for at in range(45))
+        game = Game(f"(role a) {facts} (init (c 0)) (<= (legal a (go ?v39)) (true (c ?v0)) {links})")
+        self.assertEqual(game.moves(game.position(game.initial), "a"), [("go", "39")])
+        chain = " ".join(f"(<= p{at} p{at + 1})" for at in range(900))
+        game = Game(f"(role a) (init s) {chain} (<= p900 (true s)) (<= terminal p0)")
+        self.assertTrue(game.is_over(game.position(game.initial)))
+
+
+class Command(unittest.TestCase):
+    def run_it(self, *words, data=b""):
+        done = subprocess.run([sys.executable, COMMAND, *map(str, words)], input=data, capture_output=True)
+        return done.returncode, done.stdout.decode().splitlines(), done.stderr.decode()
+
+    def test_statuses(self):
+        nim = GAMES / "general/nim.kif"
+        record = json.dumps({"roles": ["first", "second"], "states": [sorted(["(control first)", *(f"(heap {name} {count})" for name, count in zip("abcd", (1, 3, 5, 7)))])], "moves": [], "errors": [], "goalValues": [], "phase": "playing", "cause": None}).encode()
+        self.assertEqual(self.run_it(nim, data=record), (0, ["the same: 0 turns"], ""))
+        wrong = record.replace(b"(heap a 1)", b"(heap a 2)")
+        status, said, _ = self.run_it(nim, data=wrong + b"\n" + record)
+        self.assertEqual((status, said[-1], said[0][:40]), (1, "the same: 0 turns", "differs: the first state lacks (heap a 1"))
+        self.assertEqual(self.run_it(nim, data=b"{}")[:2], (3, ["not followed: it is no record: roles is missing, or of another kind"]))
+        self.assertEqual(self.run_it("--seconds", "0.000001", nim, data=record)[0], 3)
+        self.assertEqual(self.run_it(nim.with_name("none.kif"), data=record)[0], 2)
+        self.assertEqual(self.run_it("--seconds", "0", nim, data=record)[0], 2)
+        self.assertEqual(self.run_it(TOP / "README.md", data=record)[0], 3)
+
+
+if __name__ == "__main__":
+    unittest.main()

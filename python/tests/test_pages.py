@@ -1,0 +1,132 @@
+"""The pages of 300 matches: each link leads to a page that is there, and what names and rules say is text."""
+
+import html.parser
+import json
+import os
+import pathlib
+import subprocess
+import tempfile
+import time
+import unittest
+
+from ggp_tools.competition.competition_file import read_competition
+from ggp_tools.descriptions.loading import Rules
+from ggp_tools.competition.files import Folder
+from ggp_tools.competition.pages import Pages, spelt
+from ggp_tools.competition.plan import Plan
+from ggp_tools.competition.results import result_of
+from ggp_tools.competition.schedule import planned
+from tests.support import toml
+
+LOG = b"began 2026-01-02T03:04:05.000Z\nm role 0 ann message 1 (START m a (..: ready, 7 ms\nended 2026-01-02T03:04:07.500Z\n"
+
+
+class Links(html.parser.HTMLParser):
+    def __init__(self, text):
+        super().__init__()
+        self.links, self.tags = [], set()
+        self.feed(text)
+
+    def handle_starttag(self, tag, attributes):
+        self.tags.add(tag)
+        self.links += [value for key, value in attributes if key in ("href", "src")]
+
+
+def record_of(match, number):
+    """Returns a record of a match, with texts that no page may take for anything but text."""
+    return {
+        "cause": None, "endMarks": ["", ""], "errors": [["", "IL <script>"]], "goalValues": [number % 101, 50], "matchId": match.id,
+        "moves": [["<b>", "noop"]], "phase": "finished", "playClock": 10, "players": list(match.players), "roles": ["<i>", "b"],
+        "startClock": 10, "startMarks": ["", ""], "states": [["(a 1)"], ["(a 2)"]], "strikes": 0, "version": 2,
+    }
+
+
+class PagesOfMany(unittest.TestCase):
+    def setUp(self):
+        room = tempfile.TemporaryDirectory()
+        self.addCleanup(room.cleanup)
+        folder = Folder(pathlib.Path(room.name))
+        folder.make(folder.records, folder.logs)
+        players = [(f"p{count}", f"h:{count + 1}") for count in range(25)]
+        competition = read_competition(toml(players, [("one", "f")], 'kind = "gauntlet"\none = "p0"\nrounds = 7').encode())
+        rules = Rules(b"; </pre><script>\n(role a)", "0" * 64, ("<i>", "b"), b"(role ?<script>)")
+        self.plan = Plan(folder, competition, {"one": rules}, [])
+        self.plan.matches = planned(competition, {"one": 2})[:300]
+        self.results = []
+        for number, match in enumerate(self.plan.matches):
+            record = record_of(match, number)
+            folder.record(match.id).write_text(json.dumps(record))
+            folder.log(match.id).write_bytes(LOG)
+            self.results.append(result_of(record, match))
+
+    def test_each_link_leads_to_a_page(self):
+        pages = Pages(self.plan)
+        pages.write(self.results)
+        files = [path for path in pages.folder.rglob("*") if path.is_file()]
+        self.assertEqual(len(files), 302)
+        linked = {pages.folder / "index.html"}
+        for file in files:
+            found = Links(file.read_text("ascii"))
+            self.assertFalse(found.tags & {"b", "img"} and file.parent.name != "matches")
+            for link in found.links:
+                if not link.startswith("#"):
+                    linked.add((file.parent / link).resolve())
+        self.assertEqual({path.resolve() for path in linked}, {path.resolve() for path in files})
+        first = (pages.folder / "index.html").read_text()
+        self.assertIn("300 of 300 matches are over. From 2026-01-02 03:04:05 to 2026-01-02 03:04:07 UTC.", first)
+        self.assertIn("<td>2.5", first)
+        for text in ("&lt;/pre&gt;&lt;script&gt;", "(role ?&lt;script&gt;)"):
+            self.assertIn(text, (pages.folder / "games/one.html").read_text())
+        self.assertNotIn("<script", first + (pages.folder / "games/one.html").read_text())
+
+    def test_what_a_log_says_is_text(self):
+        for match, log in zip(self.plan.matches, (b"began <plaintext>\n" + LOG, LOG + b"began <plaintext>\nended <plaintext>\n")):
+            self.plan.folder.log(match.id).write_bytes(log)
+        pages = Pages(self.plan)
+        pages.write(self.results[:3])
+        for name in ("index.html", "games/one.html"):
+            self.assertNotIn("plaintext", (pages.folder / name).read_text())
+        self.assertEqual((spelt("<b>2026-01-02T03:04:05.678Z"), spelt(None)), ("&lt;b&gt;2026-01-02 03:04", ""))
+
+    def test_now_and_then(self):
+        pages, began, asked = Pages(self.plan), time.monotonic(), []
+        for count in range(1, 301):
+            pages.write_now_and_then(lambda: asked.append(count) or self.results[:count])
+        self.assertIn("1 of 300 matches", (pages.folder / "index.html").read_text())
+        self.assertLess(time.monotonic() - began, 10)
+        self.assertEqual(asked[0], 1)
+        self.assertLess(len(asked), 20)
+        pages.write(self.results[:20])
+        self.assertEqual(len(list((pages.folder / "matches").iterdir())), 20)
+
+    def test_what_can_not_be_written_is_not_tried_at_once_again(self):
+        pages, tried = Pages(self.plan), []
+        pages.folder.write_text("")
+        with self.assertRaises(OSError):
+            pages.write_now_and_then(lambda: self.results[:1])
+        pages.write_now_and_then(lambda: tried.append(1))
+        self.assertEqual(tried, [])
+
+    def test_two_runs_at_once(self):
+        one, other = Pages(self.plan), Pages(self.plan)
+        one.write(self.results[:3])
+        with subprocess.Popen(["sleep", "60"]) as alive:
+            gone = subprocess.Popen(["true"])
+            gone.wait()
+            places = [one.folder, one.folder / "matches", one.folder / "games"]
+            for number in (alive.pid, gone.pid, os.getpid(), "cup"):
+                for spot in places:
+                    (spot / f".unfinished-{number}-x.html").touch()
+            (one.folder / "matches/mine").mkdir()
+            other.write(self.results[:2])
+            left = [file.name for place in places for file in place.iterdir() if file.name.startswith(".")]
+            alive.kill()
+        self.assertEqual(left, [f".unfinished-{alive.pid}-x.html"] * 3)
+        one.write(self.results[:3])
+        matches = {f"{result.match.id}.html" for result in self.results[:3]}
+        self.assertEqual({file.name for file in (one.folder / "matches").iterdir()}, {*matches, "mine"})
+        self.assertEqual([file.name for file in one.folder.iterdir() if file.is_file()], ["index.html"])
+
+
+if __name__ == "__main__":
+    unittest.main()

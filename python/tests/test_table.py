@@ -1,0 +1,176 @@
+"""The table: against a plain recount of random results, and in the cases that its words name."""
+
+import json
+import random
+import unittest
+from collections import Counter
+from dataclasses import replace
+from unittest import mock
+
+from ggp_tools.competition.competition_file import read_competition
+from ggp_tools.competition.plan import Plan
+from ggp_tools.competition.ratings import Rating
+from ggp_tools.competition.results import Result, result_of, times_of
+from ggp_tools.competition.schedule import Match
+from ggp_tools.competition.table import Line, Table, tables_of
+from ggp_tools.competition.table_text import crosstable_rows, notes, rating_text, standings_rows, table_files
+from tests.support import toml
+
+NAMES = ["ann", "bob", "cid", "dan"]
+
+
+def competition(head=""):
+    return read_competition(toml([(name, f"h:{at + 1}") for at, name in enumerate(NAMES)], [("two", "f"), ("three", "f"), ("one", "f")], head=head).encode())
+
+
+def result(players, goals, wrong=None, turns=5, retired=None, game="two"):
+    """Returns the result of a match in which so many moves of each player were replaced."""
+    wrong = wrong or [0] * len(players)
+    errors = tuple(Counter({"TO": count} if count else {}) for count in wrong)
+    retired = tuple(retired or [False] * len(players))
+    return Result(Match("m", game, 1, 1, tuple(players)), tuple(goals), turns, errors, retired, "finished", None)
+
+
+def line(results, player, head="", game=0):
+    return tables_of(competition(head), results)[game].lines[player]
+
+
+class Tables(unittest.TestCase):
+    def test_plain_recount(self):
+        chance = random.Random(5)
+        results = []
+        for _ in range(400):
+            players = chance.sample(NAMES, chance.choice((1, 2, 3)))
+            game = {1: "one", 2: "two", 3: "three"}[len(players)]
+            results.append(result(players, [chance.choice((0, 50, 100)) for _ in players], [chance.randrange(3) for _ in players], game=game))
+        for table in tables_of(competition(), results):
+            of_game = [one_result for one_result in results if table.game in ("all games", one_result.match.game)]
+            self.assertEqual(table.matches, len(of_game))
+            for name in NAMES:
+                mine = [(played, played.match.players.index(name)) for played in of_game if name in played.match.players]
+                found = table.lines[name]
+                versus = [(played.goals[at], [goal for other, goal in enumerate(played.goals) if other != at]) for played, at in mine if len(played.goals) > 1]
+                self.assertEqual(found.matches, len(mine))
+                self.assertEqual(found.goals, sum(played.goals[at] for played, at in mine))
+                self.assertEqual(found.won, sum(own > max(others) for own, others in versus))
+                self.assertEqual(found.lost, sum(own < max(others) for own, others in versus))
+                self.assertEqual(found.drawn, sum(own == max(others) for own, others in versus))
+                self.assertEqual(found.replaced, sum(played.replaced(at) for played, at in mine))
+                points = sum((own > other_goal) + (own == other_goal) / 2 for own, others in versus for other_goal in others)
+                self.assertEqual(sum(got for (one, _), got in table.points.items() if one == name), points)
+
+    def test_the_order_and_places(self):
+        # Means of 33.333.. and 33.33 are printed alike, so wins decide; then losses; else the place is shared.
+        line = Line("x", matches=3, scored=3, goals=100, won=1, lost=2)
+        changes = [
+            ({}, {"goals": 101}, 1), ({"goals": 3333, "scored": 100}, {"won": 0}, -1), ({}, {"goals": 3333, "scored": 100}, 0),
+            ({}, {"won": 0, "lost": 0}, -1), ({}, {"lost": 1}, 1), ({"goals": 0, "scored": 0}, {"goals": 0}, 0), ({}, {"drawn": 2, "replaced": 7}, 0),
+        ]
+        for one, other, sign in changes:
+            orders = [replace(line, **change).order() for change in (one, other)]
+            self.assertEqual((orders[0] > orders[1]) - (orders[0] < orders[1]), sign, (one, other))
+        results = [result(["dan", "bob"], [100, 0]), result(["cid", "ann"], [0, 50]), result(["bob", "cid"], [50, 50]), result(["ann", "dan"], [0, 50])]
+        results += [result(["bob", "cid"], [0, 0])]
+        table = tables_of(competition(), results)[0]
+        found = [(place, standing.player, standing.mean(), standing.won, standing.lost) for place, standing in zip(table.places(), table.standings())]
+        self.assertEqual(found, [(1, "dan", 75, 2, 0), (2, "ann", 25, 1, 1), (3, "bob", 16.67, 0, 1), (3, "cid", 16.67, 0, 1)])
+        self.assertEqual([row[:2] for row in standings_rows(table)][1:], [["1", "dan"], ["2", "ann"], ["3", "bob"], ["3", "cid"]])
+        self.assertEqual([row[0] for row in crosstable_rows(table)], ["", "1", "2", "3", "4"])
+        alone = tables_of(competition(), [result([name], [40], game="one") for name in ("bob", "cid", "dan")] + [result(["ann"], [30], game="one")])[0]
+        self.assertEqual((alone.places(), [standing.player for standing in alone.standings()]), ([1, 1, 1, 4], ["bob", "cid", "dan", "ann"]))
+
+    def test_who_made_no_move_is_told(self):
+        results = [result(["ann", "bob"], [100, 0], [0, 5]), result(["bob", "ann"], [0, 100], [5, 0]), result(["bob", "cid"], [100, 0], [5, 4])]
+        table = tables_of(competition(), results)[0]
+        self.assertEqual([(standing.player, standing.absent) for standing in table.standings()], [("ann", 0), ("bob", 3), ("cid", 0)])
+        said = table_files(Plan(None, competition(), {}, results), [table])["table.txt"].decode()
+        self.assertIn("* bob made no move of its own: all of its moves were replaced", said)
+
+    def test_forfeit(self):
+        results = [result(["ann", "bob"], [0, 100], [0, 5], retired=[False, True])]
+        self.assertEqual([line(results, "bob").won, line(results, "bob").mean(), line(results, "ann").lost], [1, 100, 1])
+        head = "forfeit = true"
+        self.assertEqual([line(results, "bob", head).lost, line(results, "bob", head).mean(), line(results, "ann", head).won], [1, 0, 1])
+        self.assertEqual(line(results, "ann", head).mean(), 0)
+        both = [result(["ann", "bob"], [], [5, 5], retired=[True, True])]
+        self.assertEqual([line(both, name, head).lost for name in ("ann", "bob")], [1, 1])
+        self.assertEqual(tables_of(competition(head), both)[0].met, {})
+
+    def test_forfeit_without_goals(self):
+        # `toolong` or `nogoal`, with a player that was retired: it is the other's win, and no goal is counted for that one.
+        results = [result(["ann", "bob"], [], [0, 5], retired=[False, True])]
+        for head, won, lost, mean in (("", 0, 0, None), ("forfeit = true", 1, 1, 0)):
+            found = [line(results, name, head) for name in ("ann", "bob")]
+            self.assertEqual([(row.won, row.drawn, row.lost, row.mean()) for row in found], [(won, 0, 0, None), (0, 0, lost, mean)])
+            self.assertEqual(tables_of(competition(head), results)[0].points.get(("ann", "bob")), won or None)
+        three = [result(["ann", "bob", "cid"], [], [0, 5, 0], retired=[False, True, False], game="three")]
+        found = [line(three, name, "forfeit = true") for name in ("ann", "bob", "cid")]
+        self.assertEqual([(row.won, row.drawn, row.lost) for row in found], [(0, 1, 0), (0, 0, 1), (0, 1, 0)])
+
+    def test_three_players(self):
+        results = [result(["ann", "bob", "cid"], [50, 50, 0], game="three")]
+        found = [line(results, name) for name in ("ann", "bob", "cid")]
+        self.assertEqual([(row.won, row.drawn, row.lost) for row in found], [(0, 1, 0), (0, 1, 0), (0, 0, 1)])
+        table = tables_of(competition(), results)[0]
+        self.assertEqual([table.points[pair] for pair in (("ann", "bob"), ("bob", "ann"), ("ann", "cid"), ("cid", "ann"))], [0.5, 0.5, 1, 0])
+
+    def test_no_goals_and_one_role(self):
+        results = [result(["ann", "bob"], []), result(["ann"], [40], game="one")]
+        found = line(results, "ann")
+        self.assertEqual((found.matches, found.mean(), found.won, found.drawn, found.lost), (2, 40, 0, 0, 0))
+        self.assertIsNone(line(results, "bob").mean())
+
+    def test_who_is_retired(self):
+        record = {"errors": [["", "TO"], ["CE", "TO"], ["", "RT"]], "moves": [[], [], []], "goalValues": [1, 2], "strikes": 2, "phase": "finished", "cause": None}
+        match = Match("m", "two", 1, 1, ("ann", "bob"))
+        self.assertEqual(result_of(record, match).retired, (False, True))
+        self.assertEqual(result_of({**record, "strikes": 0}, match).retired, (False, False))
+        # Where the match ended with its last strike there is no `RT`.
+        last = {**record, "errors": [["", ""], ["", "TO"], ["", "IL x"]]}
+        self.assertEqual(result_of(last, match).retired, (False, True))
+        self.assertEqual(result_of(last, match).errors[1], {"TO": 1, "IL": 1})
+
+    def test_a_rating_next_to_nothing_has_no_sign(self):
+        for rating, said in ((-0.4, "0 +- 118"), (0.4, "0 +- 118"), (-0.6, "-1 +- 118"), (-118.5, "-118 +- 118")):
+            lines = {"ann": Line("ann", matches=1, rating=Rating(rating, 118.2, 1))}
+            self.assertEqual(rating_text(Table("two", lines), lines["ann"]), said)
+
+    def test_a_rating_that_is_not_settled_is_told(self):
+        results = [result(names, goals) for names in (NAMES[:2], NAMES[1:3], NAMES[2:]) for goals in ([100, 0], [100, 0], [0, 100])]
+        for steps, said in ((100_000, []), (3, ["rating not settled: ann, bob, cid, dan (after 100,000 steps it was still changing)"])):
+            with mock.patch("ggp_tools.competition.ratings.MOST_STEPS", steps):
+                tables = tables_of(competition(), results)
+            self.assertEqual(list(notes(tables[0])), said)
+            self.assertEqual(json.loads(table_files(Plan(None, competition(), {}, results), tables)["table.json"])["tables"][0]["notes"], said)
+
+    def test_files_say_the_same(self):
+        results = [result(["ann", "bob"], [100, 0]), result(["bob", "ann"], [50, 50]), result(["cid"], [30], game="one")]
+        files = table_files(Plan(None, competition(), {}, results), tables_of(competition(), results))
+        said = json.loads(files["table.json"])
+        lines = [line.split(",") for line in files["table.csv"].decode().splitlines()[1:]]
+        self.assertEqual(len(lines), sum(len(of_game["lines"]) for of_game in said["tables"]))
+        flat = [(table["game"], row["player"], row["goals"], row["rating"]) for table in said["tables"] for row in table["lines"]]
+        self.assertEqual([(line[0], line[1], float(line[3]), float(line[11]) if line[11] else None) for line in lines], flat)
+        self.assertIn("all games,ann,bob,2,1.5\n", files["crosstable.csv"].decode())
+
+    def test_times_of_a_log(self):
+        log = (
+            b"began 2026-01-02T03:04:05.678Z\nhost one\nm1 role 1 bob message 1 (START m1 b (..: ready, 7 ms\n"
+            b"m1 role 0 ann message 2 (PLAY m1 NIL): TO (no answer, 3 ms, in time), 1000 ms\nParallel: a word\nended 2026-01-02T03:04:06.000Z\n"
+        )
+        found = times_of(log, 2)
+        self.assertEqual(found["messages"], [[["play", 1000]], [["start", 7]]])
+        self.assertEqual((found["begin"], found["end"], found["host"]), ("2026-01-02T03:04:05.678Z", "2026-01-02T03:04:06.000Z", "one"))
+
+    def test_numbers_of_a_log_that_are_too_long(self):
+        for line in ("m1 role {} ann message 1 (PLAY m1 nil): x, 3 ms", "m1 role 0 ann message {} (PLAY m1 nil): x, 3 ms", "m1 role 0 ann message 1 (PLAY m1 nil): x, {} ms"):
+            self.assertEqual(times_of(line.format("0" * 5000).encode(), 1)["messages"], [[]])
+
+    def test_times_that_are_none(self):
+        for line in ("began <plaintext>", "began 2026-01-02T03:04:05.678Z<b>", "began 2026-01-02", "ended now", "began 2026-01-02T03:04:05Z"):
+            found = times_of(line.encode(), 1)
+            self.assertEqual((found["begin"], found["end"]), (None, None), line)
+
+
+if __name__ == "__main__":
+    unittest.main()

@@ -1,0 +1,153 @@
+"""Pages of the manual, and completions of words for bash and zsh, made from what commands print by --help: those that read their words by
+clap, and those that do so by argparse."""
+import re
+from dataclasses import dataclass, field
+
+ENTRY = re.compile(r" {2,}(\S(?:.*?\S)?)(?: {2,}(\S.*))?")
+HEAD = re.compile(r"[A-Za-z][a-z ]*:")
+OPTION = re.compile(r"--[a-z][a-z-]*")
+STATUS = re.compile(r"\bstatus 0: ")
+# The heads of what is no word of its own: the help of a command, and the word that stands for any command.
+NO_COMMANDS = ("help", "COMMAND")
+
+
+@dataclass
+class Help:
+    """What a command prints by --help: its usage, what it does, its words with what each is for, and what it says at the end. The commands
+    within it have a help each."""
+
+    name: str
+    usage: str
+    about: list[str]
+    words: list[tuple[str, str]]
+    more: list[str]
+    commands: list["Help"] = field(default_factory=list)
+
+    def options(self) -> dict[str, str]:
+        """Returns each option of several letters, with what it is for."""
+        return {option: text for word, text in self.words for option in OPTION.findall(word)}
+
+
+def paragraphs(text: str) -> list[list[str]]:
+    """Returns the paragraphs of a text, each as its lines."""
+    return [block.splitlines() for block in re.split(r"\n\s*\n", text.strip("\n")) if block.strip()]
+
+
+def entries(lines: list[str]) -> list[tuple[str, str]]:
+    """Returns the words of a list, with what each is for."""
+    found = [ENTRY.fullmatch(line) for line in lines]
+    return [(entry[1], entry[2] or "") for entry in found if entry]
+
+
+def read_help(name: str, text: str) -> tuple[Help, list[str]]:
+    """Returns the help that a command prints, and the names of the commands within it."""
+    found, within = Help(name, "", [], [], []), []
+    for lines in paragraphs(text):
+        if lines[0].lower().startswith("usage:"):
+            found.usage = " ".join(line.strip() for line in lines).split(":", 1)[1].strip()
+        elif HEAD.fullmatch(lines[0]) and lines[0].lower() == "commands:":
+            within = [word for word, _ in entries(lines[1:]) if word not in NO_COMMANDS]
+        elif HEAD.fullmatch(lines[0]):
+            found.words += entries(lines[1:])
+        else:
+            (found.more if found.words else found.about).append(" ".join(lines))
+    return found, within
+
+
+# ---- The manual
+
+
+def roff(text: str) -> str:
+    """Returns a text as roff shows it, without marks of code."""
+    shown = text.replace("\\", "\\e").replace("-", "\\-").replace("`", "")
+    return f"\\&{shown}" if shown.startswith((".", "'")) else shown
+
+
+def word_lines(words: list[tuple[str, str]]) -> list[str]:
+    return [line for word, text in words for line in (".TP", f".B {roff(word)}", roff(text) or "\\&")]
+
+
+def more_lines(help_of: Help) -> list[str]:
+    """Returns what a command says at the end, and its statuses under a head of their own."""
+    lines = []
+    for text in help_of.more:
+        before, mark, after = text.partition("status 0: ")
+        lines += [".PP", roff(before.strip())] if before.strip() else []
+        lines += [".SS Exit status" if help_of.name.count(" ") else ".SH EXIT STATUS", roff(f"0: {after}")] if mark else []
+    return lines
+
+
+def command_lines(command: Help) -> list[str]:
+    """Returns what the page of a command says of one within it."""
+    about = [line for text in command.about for line in (".PP", roff(text))]
+    return [f'.SS "{roff(command.name)}"', f".B {roff(command.usage)}", *about, *word_lines(command.words), *more_lines(command)]
+
+
+def first_sentence(help_of: Help) -> str:
+    return re.split(r"[.:] ", help_of.about[0].rstrip("."))[0]
+
+
+def page(help_of: Help, version: str, others: list[str]) -> str:
+    """Returns the page of a command, and of those within it, as `man` reads it."""
+    title = f'.TH {help_of.name.upper()} 1 "" "ggp_manager {version}" "User Commands"'
+    lines = [title, ".SH NAME", f"{roff(help_of.name)} \\- {roff(first_sentence(help_of))}", ".SH SYNOPSIS", f".B {roff(help_of.usage)}"]
+    lines += [".SH DESCRIPTION", *(line for text in help_of.about for line in (".PP", roff(text)))]
+    lines += [".SH OPTIONS", *word_lines(help_of.words)]
+    if help_of.commands:
+        lines += [".SH COMMANDS", *(line for command in help_of.commands for line in command_lines(command))]
+    lines += more_lines(help_of)
+    lines += [".SH SEE ALSO", ", ".join(f"{roff(name)}(1)" for name in others if name != help_of.name)]
+    return "\n".join(lines) + "\n"
+
+
+# ---- Completions
+
+
+def first_words(help_of: Help) -> str:
+    return " ".join([*(command.name.split()[-1] for command in help_of.commands), *help_of.options()])
+
+
+def bash(help_of: Help) -> str:
+    """Returns what bash needs to complete the words of a command: options and commands, and files elsewhere."""
+    name, function = help_of.name, f"_{help_of.name.replace('-', '_')}"
+    arms = [f"        {command.name.split()[-1]}) words='{' '.join(command.options())}' ;;" for command in help_of.commands]
+    chosen = ["    case ${COMP_WORDS[1]} in", *arms, "    esac", "    ((COMP_CWORD == 1)) && words=$first"] if arms else []
+    start = "$cur == -* || $COMP_CWORD == 1" if arms else "$cur == -*"
+    return "\n".join([
+        f"# Completes the words of {name} in bash. Written by tools/manual.",
+        f"{function}() {{",
+        "    local cur=${COMP_WORDS[COMP_CWORD]}",
+        f"    local first='{first_words(help_of)}'",
+        "    local words=$first",
+        *chosen,
+        f"    if [[ {start} ]]; then",
+        '        mapfile -t COMPREPLY < <(compgen -W "$words" -- "$cur")',
+        "    else",
+        '        mapfile -t COMPREPLY < <(compgen -f -- "$cur")',
+        "    fi",
+        "}",
+        f"complete -o filenames -F {function} {name}",
+    ]) + "\n"
+
+
+def quoted(word: str, text: str) -> str:
+    """Returns a word with what it is for, as zsh describes it."""
+    described = text.replace("`", "").replace("'", "'\\''").replace(":", "\\:")
+    return f"'{word}:{described}'" if text else f"'{word}'"
+
+
+def described(words: dict[str, str]) -> str:
+    return " ".join(quoted(word, text) for word, text in words.items())
+
+
+def zsh(help_of: Help) -> str:
+    """Returns what zsh needs to complete the words of a command."""
+    lines = [f"#compdef {help_of.name}", "# Completes the words of a command in zsh. Written by tools/manual.", "local -a commands options"]
+    lines += [f"options=({described(help_of.options())})"]
+    if help_of.commands:
+        commands = {command.name.split()[-1]: command.about[0].rstrip(".") for command in help_of.commands}
+        lines += [f"commands=({described(commands)})", "if (( CURRENT == 2 )); then", "    _describe command commands", "    return", "fi"]
+        lines += ["case $words[2] in"]
+        lines += [f"    {command.name.split()[-1]}) options=({described(command.options())}) ;;" for command in help_of.commands]
+        lines += ["esac"]
+    return "\n".join([*lines, "if [[ $PREFIX == -* ]]; then", "    _describe option options", "else", "    _files", "fi"]) + "\n"

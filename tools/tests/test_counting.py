@@ -1,0 +1,64 @@
+"""What the gate counts, and how it is compared with the figures."""
+import os
+import sys
+import tempfile
+import unittest
+
+sys.path.insert(0, os.path.dirname(os.path.dirname(os.path.realpath(__file__))))
+from counting import Tally, faults, keep, kept, read_figures, table, write_figures
+
+
+def tally_of(*lines: str) -> Tally:
+    tally = Tally()
+    for line in lines:
+        tally.read(f"{line}\n")
+    return tally
+
+
+class Counting(unittest.TestCase):
+    def test_what_looks_count_is_added_up(self):
+        tally = tally_of("counted 3 trials", "a line that says counted 9 things", "counted 4 trials", "counted none", "skipped: one, since it is")
+        self.assertEqual((tally.counts, tally.skipped), ({"trials": 7}, ["one, since it is"]))
+
+    def test_what_the_kit_says_is_counted(self):
+        tally = tally_of(
+            "rt: game_core proved",
+            "rt: kif_text is kept: an earlier run on this machine proved the same files",
+            "fn game_core::text::of: proved",
+            "rt: kif_text NOT PROVED",
+            "rt: ok; handles allowed: Net; must-fail edits: 51 refused, 2 of them only by a limit; every proof was done in this run",
+            "582 of 582 edits can be applied",
+            "581 of 582 edits can be applied",
+        )
+        wanted = {"crates proved": 2, "wrong edits refused by the prover": 51, "wrong edits that can be applied": 582}
+        self.assertEqual(tally.counts, wanted)
+
+    def test_fewer_than_the_figure_is_a_fault(self):
+        self.assertEqual(faults({"trials": 99}, {"trials": 100}), ["99 trials: fewer than the 100 of tools/counts.txt"])
+        self.assertEqual(faults({}, {"trials": 100}), ["0 trials: fewer than the 100 of tools/counts.txt"])
+
+    def test_a_tenth_more_than_the_figure_is_none(self):
+        self.assertEqual(faults({"trials": 110}, {"trials": 100}), [])
+        self.assertEqual(faults({"trials": 111}, {"trials": 100}), ["111 trials: so many more than the 100 of tools/counts.txt"])
+
+    def test_a_kind_without_a_figure_has_to_be_written_down(self):
+        self.assertEqual(faults({"trials": 1}, {}), ["1 trials: so many more than the 0 of tools/counts.txt"])
+
+    def test_the_table_has_each_kind(self):
+        said = table({"trials": 99, "looks of a kind": 5}, {"trials": 100, "seasons": 2})
+        self.assertEqual([line.split() for line in said], [
+            "99 of 100 trials: FEWER".split(), "0 of 2 seasons: FEWER".split(), "5 of 0 looks of a kind: MORE".split(),
+        ])
+
+    def test_what_is_written_is_read(self):
+        counts = {"looks of a kind": 5, "trials": 100}
+        with tempfile.TemporaryDirectory() as room:
+            write_figures(counts, f"{room}/counts.txt")
+            self.assertEqual(read_figures(f"{room}/counts.txt"), counts)
+            self.assertIsNone(kept(f"{room}/bin/counts.json"))
+            keep(counts, f"{room}/bin/counts.json")
+            self.assertEqual(kept(f"{room}/bin/counts.json"), counts)
+
+
+if __name__ == "__main__":
+    unittest.main()

@@ -1,0 +1,29 @@
+"""The ledger of the wrong edits."""
+import os
+import sys
+import tempfile
+import unittest
+
+sys.path.insert(0, os.path.dirname(os.path.dirname(os.path.realpath(__file__))))
+from ledger import Counts, Entry, count, read_ledger, tried, write_ledger
+
+ENTRIES = {"edits/low/a.edit": Entry("goal", "01"), "edits/low/b.edit": Entry("proved", "02"), "edits/low/c.edit": Entry("false", "03")}
+# Of `c` something has changed, and `d` is new.
+SUMS = {"edits/low/a.edit": "01", "edits/low/b.edit": "02", "edits/low/c.edit": "04", "edits/low/d.edit": "05"}
+
+
+class Ledger(unittest.TestCase):
+    def test_what_is_written_is_read_again(self):
+        with tempfile.TemporaryDirectory() as room:
+            self.assertEqual(read_ledger(f"{room}/ledger.txt"), {})
+            write_ledger(ENTRIES, f"{room}/ledger.txt")
+            self.assertEqual(read_ledger(f"{room}/ledger.txt"), ENTRIES)
+
+    def test_only_what_rests_on_the_text_as_it_is_was_tried(self):
+        words = tried(SUMS, ENTRIES)
+        self.assertEqual(words, {"edits/low/a.edit": "goal", "edits/low/b.edit": "proved"})
+        self.assertEqual(count(SUMS, words), Counts(tried=2, refused=1, left=2))
+
+
+if __name__ == "__main__":
+    unittest.main()
