@@ -30,16 +30,6 @@ def own_deps(found):
     return {name: [it for it in deps if it in found] for name, (_, deps) in found.items()}
 
 
-def kit_crates(found):
-    """Returns each crate of the kit that crates of a text name, with these crates, in the text's order."""
-    named = {}
-    for name, (_, deps) in found.items():
-        for it in deps:
-            if it not in found:
-                named.setdefault(it, []).append(name)
-    return named
-
-
 def crates():
     """Returns each crate with the repository's crates that it names, in the order of crates.txt."""
     return own_deps(crate_rows())

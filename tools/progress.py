@@ -11,8 +11,8 @@ from crates import TOP, spell
 TIMES = f"{TOP}/bin/times.json"
 # Of a line of tests, where no crate of tests has a time yet.
 SECONDS_A_LINE = 0.06
-# Of a crate's proof, and of each megabyte that a check lays out of it: the line that is nearest to the times of a whole gate, in
-# bench/README.md, whose crates were proved up to four side by side.
+# Of a crate's proof, and of each megabyte that a check lays out of it: the line that is nearest to the times of a whole gate, whose
+# crates were proved up to four side by side.
 SECONDS_A_CRATE = 18.0
 SECONDS_A_MEGABYTE = 1.28
 # What the program takes beside that when it is built, of the time of all libraries below it: their code is read, compiled by LLVM and

@@ -7,7 +7,7 @@ import unittest.mock
 
 sys.path.insert(0, os.path.dirname(os.path.dirname(os.path.realpath(__file__))))
 import crates
-from crates import PARTS, below, is_current, kit_crates, own_deps, rows, spell, strays, with_below, write_beside
+from crates import PARTS, below, is_current, own_deps, rows, spell, strays, with_below, write_beside
 
 TEXT = """\
 # NAME: what it stands on
@@ -29,11 +29,6 @@ class Rows(unittest.TestCase):
 
     def test_libraries_of_the_kit_are_no_crates(self):
         self.assertEqual(own_deps(rows(TEXT)), {"low": [], "wide": [], "middle": ["low"], "high": ["middle", "wide", "low"]})
-
-    def test_each_library_of_the_kit_has_the_crates_that_name_it(self):
-        self.assertEqual(kit_crates(rows(TEXT)), {"thiserror": ["low"], "rtrb": ["wide"], "json": ["middle"]})
-        twice = rows("one: json\ntwo: one json thiserror\n")
-        self.assertEqual(kit_crates(twice), {"json": ["one", "two"], "thiserror": ["two"]})
 
     def test_the_repository_names_each_crate_behind_what_it_stands_on(self):
         seen = set()
