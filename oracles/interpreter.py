@@ -247,7 +247,7 @@ def grouped(asks):
             if name not in places:
                 places[name] = lowest[name] = len(places)
                 path.append(name)
-            asked = next((it for it in more if it in asks), None)
+            asked = next((other for other in more if other in asks), None)
             if asked is None:
                 calls.pop()
                 if calls:
@@ -302,7 +302,7 @@ class Game:
         """Of each relation that goes round the set of those that it goes round with. One that denies itself is looked up instead."""
         found = {}
         for group in groups:
-            circle = frozenset(it for it in group if len(group) > 1 or it in self.asks[it])
+            circle = frozenset(name for name in group if len(group) > 1 or name in self.asks[name])
             bodies = [body for one in circle for _, body in self.rules[one]]
             if not any(denied in circle for body in bodies for literal in body for denied in denied_in(literal)):
                 found.update(dict.fromkeys(circle, circle))
@@ -310,8 +310,8 @@ class Game:
 
     def can_grow(self, circle):
         """Whether a question could come up again with more in the place of a variable, and so without an end."""
-        asked = [it for name in circle for _, body in self.rules[name] for literal in body for it in asked_in(literal)]
-        return any(not (is_variable(one) or is_ground(one)) for it in asked if name_of(it) in circle for one in it[1:])
+        asked = [sentence for name in circle for _, body in self.rules[name] for literal in body for sentence in asked_in(literal)]
+        return any(not (is_variable(one) or is_ground(one)) for sentence in asked if name_of(sentence) in circle for one in sentence[1:])
 
     def asked(self, state, joint, work):
         """What a question comes to in a state, asked anew where a relation is seen to go round."""

@@ -27,7 +27,7 @@ def crate_rows():
 
 def own_deps(found):
     """Returns each crate with the crates of the same text that it names."""
-    return {name: [it for it in deps if it in found] for name, (_, deps) in found.items()}
+    return {name: [dep for dep in deps if dep in found] for name, (_, deps) in found.items()}
 
 
 def crates():
@@ -57,7 +57,7 @@ def texts_of(name, parts=PARTS):
     found = []
     for part in parts:
         for at, _, files in os.walk(f"{TOP}/crates/{name}/{part}"):
-            found += [os.path.relpath(f"{at}/{it}", TOP) for it in files]
+            found += [os.path.relpath(f"{at}/{file}", TOP) for file in files]
     return sorted(found)
 
 
@@ -65,7 +65,7 @@ def strays(folder, names, top=TOP):
     """Returns the folders with files below one of the repository that have none of these names: nothing looks there."""
     with os.scandir(f"{top}/{folder}") as found:
         others = sorted(it.name for it in found if it.is_dir() and it.name not in names)
-    return [it for it in others if any(files for _, _, files in os.walk(f"{top}/{folder}/{it}"))]
+    return [other for other in others if any(files for _, _, files in os.walk(f"{top}/{folder}/{other}"))]
 
 
 def sum_of(file):

@@ -61,7 +61,7 @@ def spots_of(pairs: list[Pair], folder: str) -> set[Spot]:
         except (OSError, UnreadCode):
             return set()
         start = source.find(old)
-        around = [it for it in functions if it.body[0] < start and start + len(old) <= it.body[1]]
+        around = [function for function in functions if function.body[0] < start and start + len(old) <= function.body[1]]
         if start < 0 or not around:
             return set()
         spots.add(spot_of(path, around[0], functions))

@@ -18,4 +18,4 @@ class Use(NamedTuple):
 
 def uses_in(source):
     """Returns the uses of such words in a text of code. In a comment or a text they are none."""
-    return [Use(it.line, it.text, REFUSED[it.text]) for it in tokens(source) if it.kind == "word" and it.text in REFUSED]
+    return [Use(token.line, token.text, REFUSED[token.text]) for token in tokens(source) if token.kind == "word" and token.text in REFUSED]

@@ -26,4 +26,4 @@ def reaching(path, text, known):
 def unmentioned(deps, texts):
     """Returns those of the crates that a crate names in crates.txt which no text of it mentions."""
     words = {it for text in texts for it in re.findall(r"\w+", COMMENT.sub("", text))}
-    return [it for it in deps if it not in words]
+    return [dep for dep in deps if dep not in words]

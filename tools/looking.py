@@ -21,7 +21,7 @@ GRACE = 3
 
 def name_of(look):
     """Returns a look's words without the paths that differ from computer to computer."""
-    return " ".join(it for it in look if not os.path.isabs(it))
+    return " ".join(word for word in look if not os.path.isabs(word))
 
 
 def end_session(leader, number=signal.SIGTERM):
@@ -33,8 +33,8 @@ def end_session(leader, number=signal.SIGTERM):
 def end_looks(leaders, is_over):
     """Ends looks as Ctrl-C does, and behind the grace what is left of them."""
     for number in signal.SIGINT, signal.SIGTERM:
-        for it in leaders:
-            end_session(it, number)
+        for leader in leaders:
+            end_session(leader, number)
         ends = time.monotonic() + GRACE
         while not is_over() and time.monotonic() < ends:
             time.sleep(0.02)

@@ -70,11 +70,11 @@ def renamed(nodes):
 
 def until(nodes, at, *marks):
     """Returns the place of the first of these marks, or of the end."""
-    return next((it for it in range(at, len(nodes)) if any(is_mark(nodes[it], mark) for mark in marks)), len(nodes))
+    return next((number for number in range(at, len(nodes)) if any(is_mark(nodes[number], mark) for mark in marks)), len(nodes))
 
 
 def until_group(nodes, at, *brackets):
-    return next((it for it in range(at, len(nodes)) if is_group(nodes[it], *brackets)), len(nodes))
+    return next((number for number in range(at, len(nodes)) if is_group(nodes[number], *brackets)), len(nodes))
 
 
 def everywhere(nodes):
@@ -214,7 +214,7 @@ class Reader:
 
     def is_refusal(self, pattern, owner):
         """Returns whether an arm matches only out of memory: each of its alternatives names it, or its condition asks for it."""
-        at = next((it for it in range(len(pattern)) if is_word(pattern[it], "if")), len(pattern))
+        at = next((number for number in range(len(pattern)) if is_word(pattern[number], "if")), len(pattern))
         asked = [*flat(pattern[at:])]
         if any(is_word(it) and ASKED.fullmatch(it.text) for it in asked) and not any(is_mark(it, "||") or is_mark(it, "!") for it in asked):
             return True
@@ -262,7 +262,7 @@ class Reader:
         behind = nodes[at + 1] if at + 1 < len(nodes) else None
         is_ring = is_word(node, "new") and at > 1 and is_mark(nodes[at - 1], "::") and is_word(nodes[at - 2], RING)
         if behind and is_group(behind, "(") and (is_ring or is_word(node, *RESERVES)):
-            given = [it for it in parts(behind.inside, ",") if it]
+            given = [part for part in parts(behind.inside, ",") if part]
             at_first = is_word(node, "resize", "resize_with")
             self.look_at_size(node, given[0 if at_first else -1] if given else [], sizes)
         if is_word(node, "collect") and behind and (numbers := collected_range(nodes, at)):
@@ -282,12 +282,12 @@ class Reader:
 
     def uncast(self, size):
         """Returns a size without the type that it is made."""
-        at = next((it for it in range(len(size)) if is_word(size[it], "as")), len(size))
+        at = next((number for number in range(len(size)) if is_word(size[number], "as")), len(size))
         return size[:at] if at + 2 == len(size) else size
 
     def is_at_hand(self, size, sizes):
         """Returns whether a size is a length of something, a small constant, or a sum of these. A name is what the function binds it to."""
-        return bool(size) and all(self.is_part_at_hand(self.uncast(it), sizes) for it in parts(size, "+"))
+        return bool(size) and all(self.is_part_at_hand(self.uncast(part), sizes) for part in parts(size, "+"))
 
     def is_part_at_hand(self, part, sizes):
         if len(part) == 1 and is_group(part[0], "("):
@@ -392,7 +392,7 @@ class Reader:
 
     def read_for(self, nodes, at, sizes, owner):
         """Passes the pattern of a loop."""
-        return next((it for it in range(at, len(nodes)) if is_word(nodes[it], "in")), at) + 1
+        return next((number for number in range(at, len(nodes)) if is_word(nodes[number], "in")), at) + 1
 
     def read_match(self, nodes, at, sizes, owner):
         body = until_group(nodes, at, "{")
@@ -403,7 +403,7 @@ class Reader:
             arrow = until(arms, place, "=>")
             end = self.end_of_arm(arms, arrow)
             # A pattern has no comma: what stands before one belongs to the arm before.
-            before = max((it for it in range(place, arrow) if is_mark(arms[it], ",")), default=place)
+            before = max((number for number in range(place, arrow) if is_mark(arms[number], ",")), default=place)
             self.read(arms[place:before], sizes, owner)
             if not self.is_refusal(arms[before:arrow], owner):
                 self.read(arms[arrow + 1 : end], sizes, owner)

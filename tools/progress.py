@@ -82,7 +82,7 @@ def time_left(deps, seconds, begun, ended, lanes):
     now, done, chain = 0.0, set(ended), behind(deps, seconds)
     running = [(max(seconds[name] - taken, 1.0), name) for name, taken in begun.items()]
     heapq.heapify(running)
-    waiting = sorted((it for it in deps if it not in done and it not in begun), key=lambda it: -chain[it])
+    waiting = sorted((dep for dep in deps if dep not in done and dep not in begun), key=lambda it: -chain[it])
     while waiting or running:
         ready = [it for it in waiting if all(dep in done for dep in deps[it])]
         for name in ready[: max(lanes - len(running), 0)]:
@@ -107,7 +107,7 @@ class Progress:
     def left(self):
         """Returns about how many seconds the rest takes, on a machine as fast as this one has been so far."""
         now, known = time.monotonic(), [*self.taken]
-        scale = sum(self.taken[it] for it in known) / max(sum(self.seconds[it] for it in known), 1) if known else 1
+        scale = sum(self.taken[name] for name in known) / max(sum(self.seconds[name] for name in known), 1) if known else 1
         seconds = {name: scale * it for name, it in self.seconds.items()}
         return time_left(self.deps, seconds, {name: now - at for name, at in self.begun.items()}, self.ended, self.lanes)
 

@@ -10,7 +10,7 @@ ENDING = ".trial"
 
 def lines_of(file):
     with open(file, encoding="utf-8") as lines:
-        return [it for it in lines.read().splitlines() if it.partition("#")[0].strip()]
+        return [line for line in lines.read().splitlines() if line.partition("#")[0].strip()]
 
 
 def trials():
@@ -22,7 +22,7 @@ def files_of(folder):
     """Yields the paths of a crate's sources and definitions, from its folder."""
     for part in ("src", "specs"):
         for at, _, files in os.walk(f"{folder}/{part}"):
-            yield from (os.path.relpath(f"{at}/{it}", folder) for it in sorted(files))
+            yield from (os.path.relpath(f"{at}/{file}", folder) for file in sorted(files))
 
 
 def lines_in(name):

@@ -92,7 +92,7 @@ def reason(lines: list[str]) -> tuple[str, str]:
         elif place[2].startswith("src/"):
             opened.append(line)
     # a function whose answers lost a name has goals that are open only because they have new names
-    lost_names = {os.path.basename(it) for it in lost}
+    lost_names = {os.path.basename(name) for name in lost}
     failed = [it for it in map(FUNCTION.match, lines) if it and "it calls" not in it[2]]
     own = [it[1] for it in failed if it[1].split("::")[-1] not in lost_names]
     unfit = [line for folder, line in unfit if folder not in lost]

@@ -122,7 +122,7 @@ def swapped(sentences, dice):
         if head not in instead:
             found.append(sentence)
         elif head not in seen:
-            found += [it for it in sentences if head_of(it) == instead[head]]
+            found += [sentence for sentence in sentences if head_of(sentence) == instead[head]]
         seen.add(head)
     return found
 

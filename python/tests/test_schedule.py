@@ -63,13 +63,13 @@ class Schedule(unittest.TestCase):
     def test_a_game_of_one_role_is_played_by_each_player_alone(self):
         for form in ('kind = "round_robin"', 'kind = "gauntlet"\none = "p1"'):
             found = matches(4, 1, f"{form}\nrounds = 3")
-            self.assertEqual(Counter(it.players for it in found), Counter({(f"p{it}",): 3 for it in range(4)}))
+            self.assertEqual(Counter(match.players for match in found), Counter({(f"p{number}",): 3 for number in range(4)}))
 
     def test_the_limit_of_matches(self):
         self.assertEqual(len(matches(1_000, 1, 'kind = "round_robin"\nrounds = 100')), MOST_MATCHES)
         with self.assertRaises(Mistaken) as why:
             matches(317, 2)
-        self.assertEqual([(it.key, it.words) for it in why.exception.mistakes], [("form", "there are more than 100,000 matches")])
+        self.assertEqual([(mistake.key, mistake.words) for mistake in why.exception.mistakes], [("form", "there are more than 100,000 matches")])
 
     def test_gauntlet(self):
         for roles in range(2, 6):

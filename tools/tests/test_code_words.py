@@ -8,7 +8,7 @@ from code_words import Group, UnreadCode, flat, grouped, parts, tokens
 
 
 def texts(source):
-    return [it.text for it in tokens(source)]
+    return [token.text for token in tokens(source)]
 
 
 class Tokens(unittest.TestCase):
@@ -16,17 +16,17 @@ class Tokens(unittest.TestCase):
         self.assertEqual(texts("a // b\nc /* d /* e */ f */ g"), ["a", "c", "g"])
 
     def test_a_doc_comment_stays(self):
-        self.assertEqual([it.kind for it in tokens("/// Says so.\nMemory")], ["doc", "word"])
+        self.assertEqual([token.kind for token in tokens("/// Says so.\nMemory")], ["doc", "word"])
 
     def test_texts_hold_what_looks_like_a_comment_or_a_bracket(self):
         self.assertEqual(texts(r'f("// \" {", b"}")'), ["f", "(", r'"// \" {"', ",", 'b"}"', ")"])
         self.assertEqual(texts('r#"a " b"# c'), ['r#"a " b"#', "c"])
 
     def test_a_lifetime_is_no_character(self):
-        self.assertEqual([it.kind for it in tokens("&'a str == '{'")], ["mark", "lifetime", "word", "mark", "char"])
+        self.assertEqual([token.kind for token in tokens("&'a str == '{'")], ["mark", "lifetime", "word", "mark", "char"])
 
     def test_each_token_has_its_line(self):
-        self.assertEqual([it.line for it in tokens('a\n"b\nc"\nd /* \n */ e')], [1, 2, 4, 5])
+        self.assertEqual([token.line for token in tokens('a\n"b\nc"\nd /* \n */ e')], [1, 2, 4, 5])
 
     def test_a_number_ends_before_a_range(self):
         self.assertEqual(texts("0..=1_024u64"), ["0", "..=", "1_024u64"])

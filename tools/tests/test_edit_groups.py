@@ -45,7 +45,7 @@ PATH = "src/sides.rt"
 
 class Functions(unittest.TestCase):
     def test_each_has_its_lines_with_its_attributes(self):
-        found = [(it.name, it.first, it.last, it.cycle) for it in functions_in(SOURCE)]
+        found = [(function.name, function.first, function.last, function.cycle) for function in functions_in(SOURCE)]
         self.assertEqual(found, [("one", 4, 11, "pair"), ("two", 13, 14, "pair"), ("new", 17, 19, ""), ("new", 24, 26, ""), ("last", 27, 29, "")])
 
     def test_a_body_and_a_comment_are_not_seen_from_above(self):
@@ -71,7 +71,7 @@ class Together(unittest.TestCase):
 
     def test_functions_of_a_cycle_have_one_proof(self):
         self.assertEqual(self.spots(("; 1", "; 2")), self.spots(("+ 2", "+ 3")))
-        self.assertEqual({it.name for it in self.spots(("; 1", "; 2"))}, {"+pair"})
+        self.assertEqual({spot.name for spot in self.spots(("; 1", "; 2"))}, {"+pair"})
 
     def test_an_edit_of_anything_but_a_body_is_tried_alone(self):
         self.assertEqual(self.spots(("u8 = 9", "u8 = 8")), set())
@@ -80,7 +80,7 @@ class Together(unittest.TestCase):
     def test_no_two_of_a_group_change_one_proof(self):
         wrong = {"first": "; 1", "second": "+ 2", "third": "a: 3", "fourth": "u8 = 9"}
         groups, alone = groups_of({name: [Pair(PATH, old, "7")] for name, old in wrong.items()}, self.folder)
-        self.assertEqual([[*it.spots] for it in groups], [["first", "third"], ["second"]])
+        self.assertEqual([[*group.spots] for group in groups], [["first", "third"], ["second"]])
         self.assertEqual(alone, ["fourth"])
         self.assertIn("two(a)7", groups[0].texts[PATH])
         self.assertIn("Left { 7 }", groups[0].texts[PATH])

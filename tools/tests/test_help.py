@@ -20,7 +20,7 @@ OLDER = "import runpy, sys; sys.version_info = (3, 10, 18); runpy.run_path(sys.a
 def scripts():
     """Returns the text of each script, by its path from the top."""
     found = {}
-    for file in (f"{room}/{it}" for folder in FOLDERS for room, _, names in os.walk(f"{TOP}/{folder}") for it in names):
+    for file in (f"{room}/{name}" for folder in FOLDERS for room, _, names in os.walk(f"{TOP}/{folder}") for name in names):
         if os.access(file, os.X_OK):
             with open(file, encoding="utf-8") as it:
                 text = it.read()
@@ -33,7 +33,7 @@ class Help(unittest.TestCase):
     def test_each_script_reads_its_words(self):
         found = scripts()
         self.assertGreater(len(found), 40)
-        without = [file for file, text in found.items() if not any(it in text for it in READERS)]
+        without = [file for file, text in found.items() if not any(reader in text for reader in READERS)]
         self.assertEqual(sorted(without), sorted(HANDED_ON))
 
     def test_what_a_command_is_for_is_printed(self):

@@ -37,7 +37,7 @@ class Interpreter(unittest.TestCase):
     def test_what_goes_round_by_a_state_is_derived_anew(self):
         game = Game("(role r) (<= (w ?x) (true (e ?y ?x)) (w ?y)) (<= (w 1) (true s)) (<= (legal r ?x) (w ?x))")
         for edges, wanted in (("12", "23"), "123"), (("12", "31"), "12"), (("21", "32"), "1"):
-            self.assertEqual(legal(game, ["s", *(("e", *it) for it in edges)]), set(wanted))
+            self.assertEqual(legal(game, ["s", *(("e", *edge) for edge in edges)]), set(wanted))
         self.assertEqual(legal(game, [("e", "1", "2")]), set())
 
     def test_a_circle_within_another_one_is_whole(self):
@@ -68,7 +68,7 @@ class Interpreter(unittest.TestCase):
 
     def test_a_chain_of_as_many_relations_as_a_game_may_have(self):
         began = time.process_time()
-        game = Game("(role r) " + " ".join(f"(<= p{it} p{it + 1})" for it in range(8_190)) + " (<= p8190 (true s))")
+        game = Game("(role r) " + " ".join(f"(<= p{number} p{number + 1})" for number in range(8_190)) + " (<= p8190 (true s))")
         self.assertEqual((game.roles, game.timeless, game.circles), (["r"], set(), {}))
         self.assertLess(time.process_time() - began, 10)
 

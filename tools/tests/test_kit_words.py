@@ -21,7 +21,7 @@ SERVING = """fn serve(port: &mut Port) -> bool {
 
 
 def found(source):
-    return [(it.line, it.word) for it in uses_in(source)]
+    return [(use.line, use.word) for use in uses_in(source)]
 
 
 class Uses(unittest.TestCase):
@@ -38,7 +38,7 @@ class Uses(unittest.TestCase):
         self.assertEqual(found("port.replies.is_full() || port.calls.pop().is_err() || my_cached_slots() == slots_cached_slots"), [])
 
     def test_each_use_says_why(self):
-        self.assertTrue(all(it.why for it in uses_in("pop_known cached_slots peek_known")))
+        self.assertTrue(all(use.why for use in uses_in("pop_known cached_slots peek_known")))
 
 
 if __name__ == "__main__":

@@ -37,7 +37,7 @@ def found(code, declared=DECLARED):
     """Returns the lines of code that are places, and whether each reserves room, where this stands in a function."""
     source = declared + FUNCTION % code
     lines = source.split("\n")
-    return [(lines[it.line - 1].strip(), it.is_reserve) for it in places_in(source, names_of([source]))]
+    return [(lines[place.line - 1].strip(), place.is_reserve) for place in places_in(source, names_of([source]))]
 
 
 class Said(unittest.TestCase):

@@ -141,7 +141,7 @@ class Serving(unittest.TestCase):
             heard.append(message)
             return "done"
 
-        heard, sent = [], [f"m{it:02}" for it in range(20)]
+        heard, sent = [], [f"m{number:02}" for number in range(20)]
         with server() as (port, _), unittest.mock.patch.object(player.Player, "answer", lambda _, it: answer(it)), contextlib.ExitStack() as held:
             for body in sent:
                 it = held.enter_context(socket.create_connection(("127.0.0.1", port), SECONDS))
@@ -185,13 +185,13 @@ class Serving(unittest.TestCase):
         os.close(theirs)
 
     def test_as_many_rules_and_lists_as_a_game_may_have(self):
-        chain = " ".join(f"(<= p{it} {'(or ' * 60}p{it + 1}{')' * 60})" for it in range(3_000))
+        chain = " ".join(f"(<= p{number} {'(or ' * 60}p{number + 1}{')' * 60})" for number in range(3_000))
         with started("player", subprocess.DEVNULL) as port:
             self.assertEqual(asked(port, f"(START m red ((role red) (init s) (<= (legal red go) p0) {chain} (<= p3000 (true s))) 1 1)"), (200, "ready"))
             self.assertEqual(asked(port, "(PLAY m NIL)"), (200, "go"))
 
     def test_a_chain_of_as_many_rules_as_a_game_may_have(self):
-        chain = " ".join(f"(<= (a {it + 1}) (or (b {it}) (not (not (a {it})))))" for it in range(8186))
+        chain = " ".join(f"(<= (a {number + 1}) (or (b {number}) (not (not (a {number})))))" for number in range(8186))
         rules = f"((role red) (init p) (a 0) {chain} (<= (legal red go) (a 8186)))"
         with started("player", subprocess.DEVNULL) as port:
             self.assertEqual(asked(port, f"(START m red {rules} 1 1)"), (200, "ready"))

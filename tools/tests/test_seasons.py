@@ -44,7 +44,7 @@ class Halls(unittest.TestCase):
     def test_each_player_has_its_port(self):
         players = [Player("ann", 3), Player("bob", 3)]
         Hall(players)
-        self.assertEqual(len({it.port for it in players} - {None}), 2)
+        self.assertEqual(len({player.port for player in players} - {None}), 2)
 
     def test_a_server_that_cannot_be_started_is_told(self):
         told = []
