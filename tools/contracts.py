@@ -91,5 +91,5 @@ def says(crate, contracts, name):
     """Returns whether one of the contracts has the clause of this name; with a capital it is a definition, which they cite themselves
     or by the definitions of their crate."""
     if name[0].isupper():
-        return any(re.search(rf"\b{name}\b", it) for it in [*contracts, definitions(crate)])
-    return any(f"ensures {name} {{" in it for it in contracts)
+        return any(re.search(rf"\b{name}\b", text) for text in [*contracts, definitions(crate)])
+    return any(f"ensures {name} {{" in contract for contract in contracts)

@@ -40,7 +40,7 @@ def below(name, known=None):
     known = known or crates()
     order = []
     for dep in known[name]:
-        order += [it for it in [*below(dep, known), dep] if it not in order]
+        order += [lower for lower in [*below(dep, known), dep] if lower not in order]
     return order
 
 
@@ -48,7 +48,7 @@ def with_below(names, known):
     """Returns the crates with all that they stand on, the lower ones first."""
     order = []
     for name in names:
-        order += [it for it in [*below(name, known), name] if it not in order]
+        order += [lower for lower in [*below(name, known), name] if lower not in order]
     return order
 
 
@@ -64,7 +64,7 @@ def texts_of(name, parts=PARTS):
 def strays(folder, names, top=TOP):
     """Returns the folders with files below one of the repository that have none of these names: nothing looks there."""
     with os.scandir(f"{top}/{folder}") as found:
-        others = sorted(it.name for it in found if it.is_dir() and it.name not in names)
+        others = sorted(entry.name for entry in found if entry.is_dir() and entry.name not in names)
     return [other for other in others if any(files for _, _, files in os.walk(f"{top}/{folder}/{other}"))]
 
 

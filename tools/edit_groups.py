@@ -44,9 +44,9 @@ class Group(NamedTuple):
 
 
 def spot_of(path: str, function: Function, functions: list[Function]) -> Spot:
-    same = [it for it in functions if function.cycle and it.cycle == function.cycle] or [function]
-    is_only = sum(it.proved_as() == function.proved_as() for it in functions) == len(same)
-    return Spot(path, function.proved_as(), is_only, tuple(range(it.first, it.last + 1) for it in same))
+    same = [other for other in functions if function.cycle and other.cycle == function.cycle] or [function]
+    is_only = sum(other.proved_as() == function.proved_as() for other in functions) == len(same)
+    return Spot(path, function.proved_as(), is_only, tuple(range(other.first, other.last + 1) for other in same))
 
 
 def spots_of(pairs: list[Pair], folder: str) -> set[Spot]:

@@ -222,7 +222,7 @@ def whole_gate() -> int:
         keep(tally.counts)
         found += faults(tally.counts, read_figures())
     times.tell_all()
-    found = [it for it in found if it]
+    found = [fault for fault in found if fault]
     print(*(f"gate: FAILED: {fault}\n" for fault in found), sep="", end="")
     print(proofs.last_line, end="")
     return proofs.status or int(bool(found) or not is_whole)

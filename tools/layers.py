@@ -19,11 +19,11 @@ def reaching(path, text, known):
         crate, module, names = found[1], f"{found[1]}{found[2]}", found[3] or ""
         if crate not in known or crate == own and is_within(path, own):
             continue
-        for name in [it.split()[0] for it in names.strip("{}").split(",") if it.strip()] or ["*"]:
+        for name in [word.split()[0] for word in names.strip("{}").split(",") if word.strip()] or ["*"]:
             yield module, name
 
 
 def unmentioned(deps, texts):
     """Returns those of the crates that a crate names in crates.txt which no text of it mentions."""
-    words = {it for text in texts for it in re.findall(r"\w+", COMMENT.sub("", text))}
+    words = {word for text in texts for word in re.findall(r"\w+", COMMENT.sub("", text))}
     return [dep for dep in deps if dep not in words]

@@ -82,7 +82,7 @@ def sums_of(names: Iterable[str]) -> dict[str, str]:
     """Returns the sum of each edit of these crates."""
     known, kit, found = crates(), kit_said(), {}
     for name in names:
-        below = [sum_from_above(it) for it in with_below(known[name], known)]
+        below = [sum_from_above(lower) for lower in with_below(known[name], known)]
         rests_on = sum_of(kit, read("HANDLES"), sum_of_own(name), *below)
         found.update({edit: sum_of(rests_on, read(edit))[:DIGITS] for edit in edits_of(name)})
     return found

@@ -88,9 +88,9 @@ def everywhere(nodes):
 def variants_of(name, body):
     """Gives the variants of an enum that mean out of memory."""
     for part in parts(body, ","):
-        words = [it for it in part if is_word(it)]
-        beside = [it.text for it in part if it.kind == "doc"]
-        messages = [it.text for it in flat(node for node in part if is_group(node, "[")) if it.kind == "text"]
+        words = [node for node in part if is_word(node)]
+        beside = [node.text for node in part if node.kind == "doc"]
+        messages = [token.text for token in flat(node for node in part if is_group(node, "[")) if token.kind == "text"]
         variant = words[0].text if words else ""
         if NAMED.search(variant) or any(map(NOTE.search, beside)) or any(map(MESSAGE.search, messages)):
             yield name, variant
@@ -98,14 +98,14 @@ def variants_of(name, body):
 
 def is_from_refusal(header, names):
     """Returns whether an impl's header is that of `From` of a refused growth alone."""
-    words = [it.text for it in header if is_word(it)]
+    words = [node.text for node in header if is_word(node)]
     at = words.index("From") if "From" in words else len(words)
     return at + 1 < len(words) and not names.meanings(words[at + 1]).isdisjoint(REFUSED)
 
 
 def given_for_refusal(header, body):
     """Gives the variants that such an impl makes of a refused growth."""
-    owner = [it.text for it in header if is_word(it)][-1]
+    owner = [node.text for node in header if is_word(node)][-1]
     row = [*flat(body)]
     for first, mark, second in zip(row, row[1:], row[2:]):
         if is_mark(mark, "::") and is_word(first, "Self", owner) and is_word(second) and second.text[0].isupper():
@@ -125,7 +125,7 @@ def note_names(nodes, names):
                 names.meant.setdefault(other, set()).add(meant)
         elif is_word(node, "type") and at + 3 < len(nodes) and is_mark(nodes[at + 2], "="):
             path = nodes[at + 3 : until(nodes, at + 3, ";", "<")]
-            names.meant.setdefault(name, set()).update(it.text for it in path[-1:] if is_word(it))
+            names.meant.setdefault(name, set()).update(node.text for node in path[-1:] if is_word(node))
         elif is_word(node, "const"):
             row = nodes[at : until(nodes, at, ";")]
             number = plain_number(row[-1].text) if len(row) > 2 and is_mark(row[-2], "=") else None
@@ -138,7 +138,7 @@ def note_names(nodes, names):
 def names_of(sources):
     """Returns what the names in these texts stand for."""
     names = Names({}, set(), {})
-    lists = [it for source in sources for it in everywhere(grouped(source))]
+    lists = [nodes for source in sources for nodes in everywhere(grouped(source))]
     for nodes in lists:
         note_names(nodes, names)
     for nodes in lists:
@@ -184,7 +184,7 @@ class Reader:
     def __init__(self, source, names):
         self.source, self.names, self.found = source, names, []
         self.tree = grouped(source)
-        self.imported = {it.text for nodes in everywhere(self.tree) for it in self.imports(nodes)}
+        self.imported = {word.text for nodes in everywhere(self.tree) for word in self.imports(nodes)}
 
     def imports(self, nodes):
         """Gives the words of the imports in a list of nodes."""
@@ -216,10 +216,10 @@ class Reader:
         """Returns whether an arm matches only out of memory: each of its alternatives names it, or its condition asks for it."""
         at = next((number for number in range(len(pattern)) if is_word(pattern[number], "if")), len(pattern))
         asked = [*flat(pattern[at:])]
-        if any(is_word(it) and ASKED.fullmatch(it.text) for it in asked) and not any(is_mark(it, "||") or is_mark(it, "!") for it in asked):
+        if any(is_word(node) and ASKED.fullmatch(node.text) for node in asked) and not any(is_mark(node, "||") or is_mark(node, "!") for node in asked):
             return True
         alternatives = parts(flat(pattern[:at]), "|")
-        named = [any(self.says(it, place, owner, True) for place in range(len(it))) for it in alternatives if it]
+        named = [any(self.says(alternative, place, owner, True) for place in range(len(alternative))) for alternative in alternatives if alternative]
         return bool(named) and all(named)
 
     def add(self, place):
@@ -299,7 +299,7 @@ class Reader:
             number = self.names.numbers.get(part[0].text) if number is None and CONSTANT.fullmatch(part[0].text) else number
             return number is not None and number <= LARGEST
         is_call = len(part) > 3 and is_group(part[-1], "(") and not part[-1].inside and is_word(part[-2], "len") and is_mark(part[-3], ".")
-        return is_call and all(is_word(it) or is_mark(it, ".") or is_mark(it, "::") or is_group(it, "(", "[") for it in part[:-3])
+        return is_call and all(is_word(node) or is_mark(node, ".") or is_mark(node, "::") or is_group(node, "(", "[") for node in part[:-3])
 
     def is_beginning(self, nodes, at):
         """Returns whether an expression begins here, so that a bar opens a closure's parameters."""

@@ -71,7 +71,7 @@ def behind(deps, seconds):
     """Returns for each crate the longest chain of seconds that begins with it. `deps` has the lower crates first."""
     chain = {}
     for name in reversed([*deps]):
-        above = [chain[it] for it in chain if name in deps[it]]
+        above = [chain[other] for other in chain if name in deps[other]]
         chain[name] = seconds[name] + max(above, default=0)
     return chain
 
@@ -84,7 +84,7 @@ def time_left(deps, seconds, begun, ended, lanes):
     heapq.heapify(running)
     waiting = sorted((dep for dep in deps if dep not in done and dep not in begun), key=lambda it: -chain[it])
     while waiting or running:
-        ready = [it for it in waiting if all(dep in done for dep in deps[it])]
+        ready = [name for name in waiting if all(dep in done for dep in deps[name])]
         for name in ready[: max(lanes - len(running), 0)]:
             waiting.remove(name)
             heapq.heappush(running, (now + seconds[name], name))

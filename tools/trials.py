@@ -15,7 +15,7 @@ def lines_of(file):
 
 def trials():
     """Returns the names of the crates of trials/, in the order of trials.txt."""
-    return [it.partition(":")[0].split()[0] for it in lines_of(f"{TRIALS}/trials.txt")]
+    return [line.partition(":")[0].split()[0] for line in lines_of(f"{TRIALS}/trials.txt")]
 
 
 def files_of(folder):
@@ -27,7 +27,7 @@ def files_of(folder):
 
 def lines_in(name):
     """Returns how many lines the tests of a crate have."""
-    return sum(len(lines_of(f"{TRIALS}/{name}/{it}")) for it in files_of(f"{TRIALS}/{name}"))
+    return sum(len(lines_of(f"{TRIALS}/{name}/{file}")) for file in files_of(f"{TRIALS}/{name}"))
 
 
 def lay_out(room):

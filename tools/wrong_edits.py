@@ -23,8 +23,8 @@ class Pair(NamedTuple):
 def edits_of(name: str) -> list[str]:
     """Returns a crate's edits, by their paths from the top: those that the gate tries, and the others."""
     folders = [f"crates/{name}/must-fail", f"edits/{name}"]
-    found = [f"{folder}/{it}" for folder in folders if os.path.isdir(f"{TOP}/{folder}") for it in sorted(os.listdir(f"{TOP}/{folder}"))]
-    return [it for it in found if it.endswith(".edit")]
+    found = [f"{folder}/{name}" for folder in folders if os.path.isdir(f"{TOP}/{folder}") for name in sorted(os.listdir(f"{TOP}/{folder}"))]
+    return [path for path in found if path.endswith(".edit")]
 
 
 def pairs_in(text: str) -> tuple[list[Pair], str | None]:
@@ -93,8 +93,8 @@ def reason(lines: list[str]) -> tuple[str, str]:
             opened.append(line)
     # a function whose answers lost a name has goals that are open only because they have new names
     lost_names = {os.path.basename(name) for name in lost}
-    failed = [it for it in map(FUNCTION.match, lines) if it and "it calls" not in it[2]]
-    own = [it[1] for it in failed if it[1].split("::")[-1] not in lost_names]
+    failed = [matched for matched in map(FUNCTION.match, lines) if matched and "it calls" not in matched[2]]
+    own = [matched[1] for matched in failed if matched[1].split("::")[-1] not in lost_names]
     unfit = [line for folder, line in unfit if folder not in lost]
     if own and opened:
         return "goal", f"{opened[0]}  [{own[0]}]"

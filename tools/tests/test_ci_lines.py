@@ -59,7 +59,7 @@ class Lines(unittest.TestCase):
         self.assertEqual(wrong, ["fn middle::one: not proved\n", "logic=not-proved\n", "rt: middle NOT PROVED\n"])
 
     def test_a_library_stands_there_once_it_is_proved_or_kept(self):
-        self.assertEqual([it for it in map(library_of, LINES) if it], ["low", "wide"])
+        self.assertEqual([library for library in map(library_of, LINES) if library], ["low", "wide"])
         self.assertIsNone(library_of("rt: wide: its tests are proved\n"))
 
     def test_what_may_wait_is_compared_with_its_row(self):

@@ -36,7 +36,7 @@ class Groups(unittest.TestCase):
     def test_brackets_hold_what_is_between_them(self):
         tree = grouped("f(a, {b}) c")
         self.assertIsInstance(tree[1], Group)
-        self.assertEqual([it.text for it in flat(tree)], ["f", "a", ",", "b", "c"])
+        self.assertEqual([token.text for token in flat(tree)], ["f", "a", ",", "b", "c"])
         self.assertEqual(len(parts(tree[1].inside, ",")), 2)
 
     def test_brackets_that_do_not_fit_are_refused(self):

@@ -91,7 +91,7 @@ def write(file, text):
 
 class Times(unittest.TestCase):
     def test_a_time_is_spelled(self):
-        self.assertEqual([spell(it) for it in (0.4, 59.4, 59.6, 754)], ["0 s", "59 s", "1 min 00 s", "12 min 34 s"])
+        self.assertEqual([spell(seconds) for seconds in (0.4, 59.4, 59.6, 754)], ["0 s", "59 s", "1 min 00 s", "12 min 34 s"])
 
 
 if __name__ == "__main__":

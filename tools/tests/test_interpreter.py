@@ -63,7 +63,7 @@ class Interpreter(unittest.TestCase):
 
     def test_which_relations_go_round_and_which_no_state_changes(self):
         game = Game("(role r) (<= a b (true s)) (<= b c) (<= c (or d b)) (<= d f) (<= e e f) (<= g (not h) e) (<= h g) (<= i (does r m))")
-        names = [{name for name, _ in it} for it in (game.timeless, *sorted(set(game.circles.values()), key=len))]
+        names = [{name for name, _ in group} for group in (game.timeless, *sorted(set(game.circles.values()), key=len))]
         self.assertEqual(names, [set("bcdegh"), {"e"}, {"b", "c"}])
 
     def test_a_chain_of_as_many_relations_as_a_game_may_have(self):

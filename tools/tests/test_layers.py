@@ -15,7 +15,7 @@ def found(text, path="crates/high/proofs/One.antt"):
 
 class Reaching(unittest.TestCase):
     def test_a_lemma_of_another_crate(self):
-        self.assertEqual(found("use Rattle.low.proofs.Laws.{one-two, ◌⊕◌, both as own}\n"), [("low.proofs.Laws", it) for it in ("one-two", "◌⊕◌", "both")])
+        self.assertEqual(found("use Rattle.low.proofs.Laws.{one-two, ◌⊕◌, both as own}\n"), [("low.proofs.Laws", name) for name in ("one-two", "◌⊕◌", "both")])
         self.assertEqual(found("ghost use Rattle.low.proofs.Laws.{one};", "crates/high/src/lib.rt"), [("low.proofs.Laws", "one")])
         self.assertEqual(found("use Rattle.low.proofs.Laws\n"), [("low.proofs.Laws", "*")])
 

@@ -19,7 +19,7 @@ class Limits(unittest.TestCase):
         for file, name, words in LIMITS:
             code = text_of(file)
             said = re.findall(words, profile)
-            self.assertEqual(re.findall(rf"\bconst {name}: usize = ([\d_]+);", code), [it.replace(",", "_") for it in said], name)
+            self.assertEqual(re.findall(rf"\bconst {name}: usize = ([\d_]+);", code), [number.replace(",", "_") for number in said], name)
             # The constant is used as it is, and in one place.
             self.assertEqual(len(said), 1, name)
             self.assertEqual(re.findall(rf"\b{name}\b *([^:,)\s]?)", code), ["", ""], name)

@@ -62,7 +62,7 @@ class Looking(unittest.TestCase):
             beside.start()
             beside.join()
         self.assertEqual((stops, beside.all_well), ([True], False))
-        self.assertEqual([said.getvalue().count(it) for it in ("said\n", "why\n", "WRONG, ")], [1, 1, 1])
+        self.assertEqual([said.getvalue().count(words) for words in ("said\n", "why\n", "WRONG, ")], [1, 1, 1])
 
     def test_well_ones_stop_nothing(self):
         stops = []
@@ -105,7 +105,7 @@ class Looking(unittest.TestCase):
                 child = int(it.read())
             self.assertTrue(is_soon(lambda: has_ended(child)))
         self.assertEqual((stops, beside.all_well, beside.is_alive()), ([], False, False))
-        self.assertEqual([said.getvalue().count(it) for it in ("begins", "WRONG, ")], [1, 1])
+        self.assertEqual([said.getvalue().count(words) for words in ("begins", "WRONG, ")], [1, 1])
 
     def test_one_that_is_ended_tidies_up(self):
         with tempfile.TemporaryDirectory() as room, contextlib.redirect_stdout(io.StringIO()):

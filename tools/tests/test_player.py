@@ -75,7 +75,7 @@ class Answers(unittest.TestCase):
         return self.player.answer(player.read_message(text))
 
     def test_a_match(self):
-        said = [self.answer(it) for it in ("(INFO)", f"(START m red {RULES} 1 1)", "INFO", "(PLAY m NIL)", "(STOP m (go))", "(INFO)")]
+        said = [self.answer(message) for message in ("(INFO)", f"(START m red {RULES} 1 1)", "INFO", "(PLAY m NIL)", "(STOP m (go))", "(INFO)")]
         self.assertEqual(said, ["available", "ready", "busy", "(stay 1)", "done", "available"])
 
     def test_the_end_of_another_match_ends_none(self):
@@ -87,7 +87,7 @@ class Answers(unittest.TestCase):
 
     def test_capitals_count_in_the_id_alone(self):
         self.answer(f"(Start ; (x)\n M RED {RULES.upper()} 1 1)")
-        said = [self.answer(it) for it in ("(play m NIL)", "(PLAY M nil)", "(stop m nil)", "(Info)", "(abort M)", "info")]
+        said = [self.answer(message) for message in ("(play m NIL)", "(PLAY M nil)", "(stop m nil)", "(Info)", "(abort M)", "info")]
         self.assertEqual(said, ["busy", "(stay 1)", "done", "busy", "done", "available"])
 
     def test_a_start_that_fails_leaves_the_match(self):
