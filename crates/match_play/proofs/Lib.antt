@@ -1,4 +1,3 @@
 mod EndedMatches
-mod HeldGames
 pub mod LongestMoves
 mod Places

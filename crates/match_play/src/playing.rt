@@ -16,7 +16,6 @@ use desk_calls::{Call, Phase, Refusal, Reply, Setup};
 use desk_text::{push_history, refusal_word};
 use game_core::{Game, Lent, Text, Texts};
 use match_book::Match;
-use match_desk::Manager;
 use match_messages::StartRules;
 use match_plans::{MatchPlan, Reach, RolePlace, Shortage, TellsShortages};
 use match_record::record_json;
@@ -155,29 +154,25 @@ pub fn entrants_of<P: Drop, S: Reach<P>>(
     })
 }
 
-/// The desk's first match and its game. `None` if there is no match or it is not over.
-pub(crate) fn ended_match_of<G: Game>(manager: &Manager<G>) -> Option<(&G, &Match<G>)>
-    ensures ended { MatchOption result (HasNoEndedMatch G.rules manager.now) (λ r. HasEndedMatch G.rules manager.now r.1.now) }
+/// The refereed match and its game. `None` if the match is not over.
+pub(crate) fn ended_match_of<G: Game>(refereed: &Refereed<G>) -> Option<(&G, &Match<G>)>
+    ensures ended { MatchOption result (HasNoEndedMatch G.rules refereed.now.closed.object) (λ r. HasEndedMatch G.rules refereed.now.closed.object r.1.now) }
     ensures game { IfSome result (λ r. r.1.now.game ≡ r.0.now) }
     ensures setup { IfSome result (λ r. IsLawfulSetup r.1.now.value.setup) }
 {
-    if manager.matches() == 0 {
-        return None;
-    }
-    let game = manager.game_of_match(0).unwrap();
-    let held = manager.match_at(0).unwrap();
+    let (game, held) = refereed.game_and_match();
     match held.status().phase {
         Phase::Finished | Phase::Aborted => Some((game, held)),
         Phase::Starting | Phase::Playing | Phase::Stopping | Phase::Aborting => None,
     }
 }
 
-/// The record of the desk's first match. The error is `NotEnded` if there is no match or it is not over, or out of memory.
-fn ended_record<G: Game>(alloc: Global, manager: &Manager<G>) -> Result<Text, MatchFault>
-    ensures ended { IfOk result (IsEndedRecord G.rules manager.now) }
-    ensures not_ended { IfErr result (λ fault. fault ≢ MatchFault.Memory → (fault ≡ MatchFault.NotEnded) × HasNoEndedMatch G.rules manager.now) }
+/// The record of the refereed match. The error is `NotEnded` if the match is not over, or out of memory.
+fn ended_record<G: Game>(alloc: Global, refereed: &Refereed<G>) -> Result<Text, MatchFault>
+    ensures ended { IfOk result (IsEndedRecord G.rules refereed.now.closed.object) }
+    ensures not_ended { IfErr result (λ fault. fault ≢ MatchFault.Memory → (fault ≡ MatchFault.NotEnded) × HasNoEndedMatch G.rules refereed.now.closed.object) }
 {
-    let Some((game, held)) = ended_match_of(manager) else {
+    let Some((game, held)) = ended_match_of(refereed) else {
         return Err(MatchFault::NotEnded);
     };
     let record = record_json(alloc, game, held)?;
@@ -212,7 +207,7 @@ fn ran_out_of_memory<G: Game>(refereed: &Refereed<G>) -> bool
     ensures short { IsTrue result → HasNoEndedMatch G.rules refereed.now.closed.object × (¬ (All (λ end. end ≢ Err AttendFault.Memory) refereed.now.ends.items)) }
     ensures whole { IsFalse result → HasNoEndedMatch G.rules refereed.now.closed.object → All (λ end. end ≢ Err AttendFault.Memory) refereed.now.ends.items }
 {
-    ended_match_of(&refereed.closed.object).is_none() && !had_memory(&refereed.ends)
+    ended_match_of(refereed).is_none() && !had_memory(&refereed.ends)
 }
 
 /// Referees a match of this game between its entrants. Returns the closed desk. The error is `Shortage` if the referee was short of
@@ -279,7 +274,7 @@ where
     ensures refused { IfErr result (λ fault. fault ≢ MatchFault.Memory → reason_of fault ≡ packed_refusal game.entry.game.now entrants.setup) }
 {
     let refereed = refereed_match(rt, alloc, reach, entrants, game)?;
-    let record = ended_record(alloc, &refereed.closed.object)?;
+    let record = ended_record(alloc, &refereed)?;
     Ok(PlayedMatch {
         record,
         history: refereed.closed.history,

@@ -9,8 +9,8 @@ use crate::hosting::HostedGame;
 use crate::playing::{Entrants, MatchFault, ended_match_of, refereed_match};
 use game_core::{Game, Text};
 use match_book::Match;
-use match_desk::Manager;
 use match_plans::TellsShortages;
+use match_workers::Refereed;
 use packed_rules::PackedGame;
 use role_workers::Player;
 use std::alloc::{AllocError, Global};
@@ -47,16 +47,16 @@ fn turns_of<G: Game>(
     Ok(turns)
 }
 
-/// The turns of a role in the desk's first match. The error is `NotEnded` if there is no match, if it is not over or has no such role.
+/// The turns of a role in the refereed match. The error is `NotEnded` if the match is not over or has no such role.
 fn ended_turns<G: Game>(
     alloc: Global,
-    manager: &Manager<G>,
+    refereed: &Refereed<G>,
     role: usize,
 ) -> Result<Vec<RoleTurn>, MatchFault>
-    ensures ended { IfOk result (λ told. AreEndedTurns G.rules manager.now role told.items) }
-    ensures not_ended { IfErr result (λ fault. fault ≢ MatchFault.Memory → (fault ≡ MatchFault.NotEnded) × HasNoEndedTurns G.rules manager.now role) }
+    ensures ended { IfOk result (λ told. AreEndedTurns G.rules refereed.now.closed.object role told.items) }
+    ensures not_ended { IfErr result (λ fault. fault ≢ MatchFault.Memory → (fault ≡ MatchFault.NotEnded) × HasNoEndedTurns G.rules refereed.now.closed.object role) }
 {
-    let Some((game, held)) = ended_match_of(manager) else {
+    let Some((game, held)) = ended_match_of(refereed) else {
         return Err(MatchFault::NotEnded);
     };
     if role >= game.roles() {
@@ -87,6 +87,6 @@ where
     ensures refused { IfErr result (λ fault. fault ≢ MatchFault.Memory → reason_of fault ≡ packed_refusal game.entry.game.now entrants.setup) }
 {
     let refereed = refereed_match(rt, alloc, reach, entrants, game)?;
-    let turns = ended_turns(alloc, &refereed.closed.object, role)?;
+    let turns = ended_turns(alloc, &refereed, role)?;
     Ok(turns)
 }

@@ -1,4 +1,6 @@
 mod NewLines
+mod HeldGames
 mod LineParts
+mod OneMatch
 mod RefereeFaults
 mod Sent

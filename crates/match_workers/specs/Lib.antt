@@ -3,5 +3,6 @@ pub mod RefereeFaults
 pub mod Refusals
 pub mod LineParts
 pub mod Ends
+pub mod OneMatch
 pub mod Refereeing
 pub mod Internal

@@ -14,6 +14,7 @@ use Rattle.match_workers.specs.Briefs.{IsBriefOf}
 use Rattle.match_workers.specs.Ends.{AreEndsOf}
 use Rattle.role_workers.specs.Handing.{Handed}
 use Rattle.match_workers.specs.LineParts.{OpensMatch, AreRoleLines, AreCounts}
+use Rattle.match_workers.specs.OneMatch.{HasOneMatch}
 
 -- A match of this game with this setup was played between these players, who got these sentences, with at most this many tries for
 -- each role. It left the players in this state, and its desk closed with this manager, this history and these numbers of calls by
@@ -27,6 +28,8 @@ pub record IsRefereed {G S M P : Type 0} (rules : G → Rules S M) (handed : P �
   -- each other line is a role's, and made only that role's calls
   pub role_lines : AreRoleLines setup.id (rules game).roles history
   pub counts : AreCounts history made_by_line
+  -- the manager holds exactly one match, of the given game and with the given setup
+  pub one_match : HasOneMatch game setup d
   pub one_end_each : length ends ≡ (rules game).roles
   -- each player got this match's data, and was attended as the role at its place, over the role's line
   pub told : Brief

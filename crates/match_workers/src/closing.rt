@@ -1,5 +1,5 @@
 //! The end of a match's desk.
-ghost use Rattle.std.specs.Prelude.{◌≡◌, None, IfOk, IfErr, length, All};
+ghost use Rattle.std.specs.Prelude.{◌≡◌, ◌<◌, None, IfOk, IfErr, length, All};
 ghost use Rattle.call_history.specs.Lines.{HasAll};
 ghost use Rattle.call_history.specs.RingLines.{AreEndsOf};
 ghost use Rattle.call_history.specs.RingClosing.{end_numbers, IsServed, TakesPrefix};
@@ -24,6 +24,7 @@ pub fn close_match<G: Game + Drop>(
     ensures headline { IfOk result (λ c. HasHeadline G.rules (length desk.ports) c.object c.history.items c.made_by_line.items) }
     ensures games { IfOk result (λ c. c.object.games ≡ desk.journal.object.games) }
     ensures all { IfOk result (λ _. HasAll (end_numbers lines.items) (length desk.ports)) }
+    ensures lines { IfOk result (λ c. All (λ e. e.line < length desk.ports) c.history.items) }
     ensures served { IfOk result (λ c. All (IsServed c.history.items) lines.items) }
     ensures replies { IfOk result (λ c. All (TakesPrefix c.history.items) lines.items) }
     ensures made { IfOk result (λ c. AreCounts c.history.items c.made_by_line.items) }

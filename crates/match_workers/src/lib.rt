@@ -4,7 +4,9 @@
 #![tactic(auto)]
 
 mod closing;
+mod refereed;
 mod refereeing;
 
-pub use refereeing::{RefereeFault, Refereed, referee, referee_shared};
+pub use refereed::Refereed;
+pub use refereeing::{RefereeFault, referee, referee_shared};
 pub use role_workers::{AttendFault, Player, attend, attend_shared};

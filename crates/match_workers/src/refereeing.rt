@@ -15,10 +15,9 @@ ghost use Rattle.match_workers.specs.Refusals.{manager_of, match_refusal};
 ghost use Rattle.role_workers.specs.RoleLines.{AreSeatLines};
 
 use crate::closing::close_match;
+use crate::refereed::Refereed;
 use call_history::laws::{lines_stay, new_lines_are_lines, numbers_are_of_ends};
-use call_history::{
-    AskFault, CallFault, Closed, DeskFault, MAX_ENTRIES, Object, RingLine, open_rings,
-};
+use call_history::{AskFault, CallFault, DeskFault, MAX_ENTRIES, Object, RingLine, open_rings};
 use desk_calls::{Call, Refusal, Reply, Setup};
 use game_core::{Game, Text, Texts};
 use kif_text::Expr;
@@ -26,7 +25,7 @@ use match_desk::{Manager, open_call};
 use match_messages::{SharedBrief, StartRules};
 use role_workers::laws::{calls_are_of_the_role, calls_have_replies};
 use role_workers::{
-    AttendFault, AttendancePlan, AttendedMatch, DeskHolder, Player, ROOM, ask_own, attend_match,
+    AttendancePlan, AttendedMatch, DeskHolder, Player, ROOM, ask_own, attend_match,
 };
 use std::alloc::{AllocError, AllocFailed, Global};
 use std::marker::Brand;
@@ -88,16 +87,6 @@ impl From<DeskFault> for RefereeFault {
             CallFault::Memory => RefereeFault::Memory,
         }
     }
-}
-
-/// The result of a refereed match.
-#[derive(Drop)]
-pub struct Refereed<G: Game> {
-    /// The desk's history, and its manager with the one match.
-    pub closed: Closed<Manager<G>>,
-    /// How attending each role ended, in the order of the roles: with the number of messages that its player was handed, or with a
-    /// fault.
-    pub ends: Vec<Result<u64, AttendFault>>,
 }
 
 /// The names of the game's roles, in their order.
@@ -254,9 +243,10 @@ where
 ///
 /// The result is that of any closed desk of matches. Its history replays: made again call by call on one thread, by a manager of
 /// the same game without a match, it gives every kept reply and the manager as it stands. It holds as many calls as the lines
-/// made. Each match is lawful, and its recorded moves were legal. For each recorded move of a role that the earlier turns do not
-/// retire, the history took exactly one answer, and the move and its error are the judgement of that answer. For each player, it
-/// is known which messages it was handed, and how attending it ended.
+/// made. The manager holds exactly one match, of this game and with this setup. The match is lawful, and its recorded moves were
+/// legal. For each recorded move of a role that the earlier turns do not retire, the history took exactly one answer, and the move
+/// and its error are the judgement of that answer. For each player, it is known which messages it was handed, and how attending it
+/// ended.
 pub fn referee<G, P, R>(
     rt: &R,
     alloc: Global,

@@ -3,7 +3,6 @@ use crate::calls::{text, texts};
 use crate::holding::holds;
 use game_core::{Countdown, Take};
 use match_book::{Answer, Match, Phase, Setup};
-use match_desk::Manager;
 use match_workers::{Player, Refereed, referee};
 use std::alloc::{AllocError, Global};
 use std::process::Abort;
@@ -156,24 +155,19 @@ fn check_match<R: Abort>(rt: &R, held: &Match<Countdown>, errors: [&str; 2]) {
     }
 }
 
-fn check_first<R: Abort>(rt: &R, manager: &Manager<Countdown>, errors: [&str; 2]) {
-    let Some(held) = manager.match_at(0) else {
-        panic!(rt; "no match");
-    };
-    check_match(rt, held, errors);
-}
-
 #[test]
 fn roles_are_attended_at_once(rt: HostRuntime) {
     let (red, blue) = (Act::Say("(take 1)"), Act::Say("noop"));
     let refereed = refereed(&rt, rt.alloc(), red, blue);
     let ends = refereed.ends.as_slice();
     holds(&rt, ends == [Ok(3), Ok(3)].as_slice(), "the messages");
-    check_first(&rt, &refereed.closed.object, ["", ""]);
+    let (_, held) = refereed.game_and_match();
+    check_match(&rt, held, ["", ""]);
 }
 
 #[test]
 fn missing_answers_are_replaced(rt: HostRuntime) {
     let refereed = refereed(&rt, rt.alloc(), Act::Break, Act::Wait);
-    check_first(&rt, &refereed.closed.object, ["CE", "TO"]);
+    let (_, held) = refereed.game_and_match();
+    check_match(&rt, held, ["CE", "TO"]);
 }

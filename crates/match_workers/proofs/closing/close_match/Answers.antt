@@ -1,4 +1,4 @@
-use Rattle.std.proofs.Common.{◌≡◌, ◌∙◌, sym, ap, subst}
+use Rattle.std.proofs.Common.{◌≡◌, ◌<◌, ◌∙◌, All, sym, ap, subst}
 use Rattle.std.proofs.lemmas.Result.{err_from_is_err_and}
 use Rattle.call_history.specs.Faults.{ask_fault}
 use Rattle.call_history.specs.declared.journal.CallFault.{CallFault}
@@ -25,6 +25,9 @@ returns-in-Ok-clause-headline g c =
 
 pub returns-in-Ok-clause-all : goal.returns-in-Ok-clause-all
 returns-in-Ok-clause-all g c = subst (λ n. HasAll (end_numbers c.args.lines.items) n) c.serve_all.ensures.lines.count c.in-Ok.ensures.closed.has_all
+
+pub returns-in-Ok-clause-lines : goal.returns-in-Ok-clause-lines
+returns-in-Ok-clause-lines g c = subst (λ n. All (λ e. e.line < n) c.in-Ok.closed.history.items) c.serve_all.ensures.lines.count c.in-Ok.ensures.closed.lines
 
 pub returns-clause-unclosed : goal.returns-clause-unclosed
 returns-clause-unclosed g c is = record {

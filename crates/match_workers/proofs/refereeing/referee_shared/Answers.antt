@@ -1,18 +1,23 @@
 use denote.Exit.{yes}
 use denote.Param.Send.{param_send, arg_send}
 use Rattle.match_workers.proofs.Sent.{manager_send}
-use Rattle.std.proofs.Common.{◌≡◌, ◌∙◌, ◌+◌, ◌++◌, ◌∷◌, [], length, refl, sym, ap, subst, arith}
+use Rattle.std.proofs.Common.{◌≡◌, ◌∙◌, ◌+◌, ◌<◌, ◌++◌, ◌∷◌, [], All, length, refl, sym, ap, subst, arith}
 use Rattle.std.proofs.lemmas.Result.{err_from_is_err_and}
 use Rattle.match_desk.specs.Headline.{HasHeadline}
+use Rattle.match_desk.specs.ManagerValue.{opening}
 use Rattle.match_desk.specs.Open.{open_refusal}
 use Rattle.desk_calls.specs.declared.call.Reply.TheVariants.{Opened}
 use Rattle.match_messages.specs.declared.brief.Brief.{Brief}
 use Rattle.match_workers.specs.Briefs.{IsBriefOf}
-use Rattle.match_workers.specs.LineParts.{open_call}
+use Rattle.match_workers.specs.LineParts.{open_call, OpensMatch, AreRoleLines}
+use Rattle.match_workers.specs.OneMatch.{HasOneMatch}
 use Rattle.match_workers.specs.RefereeFaults.{reason_of}
+use Rattle.match_workers.specs.Refusals.{manager_of}
 use Rattle.match_workers.proofs.NewLines.{seats_of_ports}
 use Rattle.match_workers.proofs.LineParts.{opens_match, ends_of, as_many, role_lines}
+use Rattle.match_workers.proofs.OneMatch.{one_match, length-one}
 use Rattle.match_workers.proofs.refereeing.referee_shared.Goals as goal
+use Rattle.match_workers.proofs.refereeing.referee_shared.Goals.{In_ok-closed}
 
 pub attend_match-requires-clause-first : goal.attend_match-requires-clause-first
 attend_match-requires-clause-first g c κs within =
@@ -31,35 +36,71 @@ attend_match-requires-clause-ports g c κs within = omega (arith, c.in_ok-holder
 pub close_match-requires : goal.close_match-requires
 close_match-requires g c = record { lines = c.in_ok-desk.ensures.lines }
 
+-- the desk has a line for each role, and one more
+lines_are : (g : _) (c : In_ok-closed g) → length c.in_ok-desk.field-0.desk.ports ≡ (g.G.Game.rules c.args.game).roles + 1
+lines_are g c = c.in_ok-desk.ensures.ports.count ∙ c.open_match.ensures.ports.count ∙ c.in_ok-holder.ensures.desk
+
+headline_is : (g : _) (c : In_ok-closed g)
+    → HasHeadline g.G.Game.rules ((g.G.Game.rules c.args.game).roles + 1) c.in_ok-closed.closed.object c.in_ok-closed.closed.history.items c.in_ok-closed.closed.made_by_line.items
+headline_is g c = subst (λ n. HasHeadline g.G.Game.rules n c.in_ok-closed.closed.object c.in_ok-closed.closed.history.items c.in_ok-closed.closed.made_by_line.items) (lines_are g c) c.in_ok-closed.ensures.headline
+
+begins_with : (g : _) (c : In_ok-closed g) → opening c.in_ok-closed.closed.object ≡ manager_of c.args.game
+begins_with g c = ap (λ gs. record { games = gs; matches = [] })
+    (c.in_ok-closed.ensures.games ∙ ap (λ d. d.games) c.in_ok-desk.ensures.opening ∙ c.open_match.ensures.games ∙ c.in_ok-holder.ensures.games)
+
+as_roles : (g : _) (c : In_ok-closed g) → length c.in_ok-desk.field-0.ends.items ≡ (g.G.Game.rules c.args.game).roles
+as_roles g c =
+    let played = c.in_ok-desk.field-0 in
+    as_many g.P.Player.handed c.brief_of-brief.result c.args.tries c.args.players.items played.players.items c.in_ok-closed.closed.history.items played.lines.items played.ends.items c.in_ok-desk.ensures.ends
+    c.in_ok-closed.ensures.served c.in_ok-closed.ensures.replies c.numbers_are_of_ends.ensures played.desk.ports (g.G.Game.rules c.args.game).roles c.in_ok-desk.ensures.lines (lines_are g c) c.in_ok-closed.ensures.all
+
+first_line_is : (g : _) (c : In_ok-closed g) → OpensMatch c.args.setup c.in_ok-closed.closed.history.items
+first_line_is g c =
+    let opened = c.in_ok-holder.ensures in
+    opens_match c.args.setup c.in_ok-closed.closed.history.items c.open_match.new.holder.line c.in_ok-desk.field-0.lines.items
+    (c.open_match.ensures.line.0 ∙ opened.first.number_is)
+    (c.in_ok-open_match.ensures.call ∙ ap (λ l. l ++ open_call c.args.setup ∷ []) opened.first.posted)
+    (c.in_ok-open_match.ensures.reply ∙ ap (λ l. l ++ Opened ∷ []) opened.first.taken)
+    c.in_ok-desk.ensures.first c.in_ok-closed.ensures.served c.in_ok-closed.ensures.replies
+
+role_lines_are : (g : _) (c : In_ok-closed g) → AreRoleLines c.args.setup.id (g.G.Game.rules c.args.game).roles c.in_ok-closed.closed.history.items
+role_lines_are g c =
+    let played = c.in_ok-desk.field-0 in
+    role_lines g.P.Player.handed c.brief_of-brief.result c.args.tries c.args.players.items played.players.items c.in_ok-closed.closed.history.items played.lines.items played.ends.items c.in_ok-desk.ensures.ends
+    c.in_ok-closed.ensures.served c.in_ok-closed.ensures.replies
+    c.calls_are_of_the_role.ensures c.args.setup.id (g.G.Game.rules c.args.game).roles (ap (λ (b : Brief). b.id) c.brief_of-brief.ensures ∙ c.in_ok-id.ensures) (as_roles g c)
+
+-- so the closed manager has exactly one match
+one_is : (g : _) (c : In_ok-closed g) → HasOneMatch c.args.game c.args.setup c.in_ok-closed.closed.object
+one_is g c = one_match g.G.Game.rules c.args.game c.args.setup c.args.setup.id (g.G.Game.rules c.args.game).roles c.in_ok-closed.closed.object c.in_ok-closed.closed.history.items
+    (headline_is g c).replay (begins_with g c)
+    (subst (λ n. All (λ e. e.line < n) c.in_ok-closed.closed.history.items) (lines_are g c) c.in_ok-closed.ensures.lines)
+    (first_line_is g c) (role_lines_are g c)
+
 pub returns-clause-refereed : goal.returns-clause-refereed
 returns-clause-refereed g c =
-    let rules = g.G.Game.rules c.args.game in
-    let opened = c.in_ok-holder.ensures in
+    let at = (goal.at.returns-clause-refereed g c).In_ok-closed in
     let played = c.in_ok-desk.field-0 in
-    let left = c.in_ok-desk.ensures in
     let closed = c.in_ok-closed.closed in
     let of_closed = c.in_ok-closed.ensures in
     let brief = c.brief_of-brief.result in
-    let lines : length played.desk.ports ≡ rules.roles + 1 = left.ports.count ∙ c.open_match.ensures.ports.count ∙ opened.desk in
-    let as_roles =
-    as_many g.P.Player.handed brief c.args.tries c.args.players.items played.players.items closed.history.items played.lines.items played.ends.items left.ends of_closed.served of_closed.replies
-    c.numbers_are_of_ends.ensures played.desk.ports rules.roles left.lines lines of_closed.all in
     record {
-      headline = subst (λ n. HasHeadline g.G.Game.rules n closed.object closed.history.items closed.made_by_line.items) lines of_closed.headline;
-      begins = ap (λ gs. record { games = gs; matches = [] }) (of_closed.games ∙ ap (λ d. d.games) left.opening ∙ c.open_match.ensures.games ∙ opened.games);
-      first_line = opens_match c.args.setup closed.history.items c.open_match.new.holder.line played.lines.items
-          (c.open_match.ensures.line.0 ∙ opened.first.number_is)
-          (c.in_ok-open_match.ensures.call ∙ ap (λ l. l ++ open_call c.args.setup ∷ []) opened.first.posted)
-          (c.in_ok-open_match.ensures.reply ∙ ap (λ l. l ++ Opened ∷ []) opened.first.taken)
-          left.first of_closed.served of_closed.replies;
-      role_lines = role_lines g.P.Player.handed brief c.args.tries c.args.players.items played.players.items closed.history.items played.lines.items played.ends.items left.ends of_closed.served of_closed.replies
-          c.calls_are_of_the_role.ensures c.args.setup.id rules.roles (ap (λ (b : Brief). b.id) c.brief_of-brief.ensures ∙ c.in_ok-id.ensures) as_roles;
+      headline = headline_is g at;
+      begins = begins_with g at;
+      first_line = first_line_is g at;
+      role_lines = role_lines_are g at;
       counts = of_closed.made;
-      one_end_each = as_roles;
+      one_match = one_is g at;
+      one_end_each = as_roles g at;
       told = brief;
-      is_told = subst (IsBriefOf rules c.args.setup _) (sym c.brief_of-brief.ensures) (record { id = c.in_ok-id.ensures; roles = c.in_ok-roles.ensures; rules_are = refl; start = refl; play = refl });
-      attended = ends_of g.P.Player.handed brief c.args.tries c.args.players.items played.players.items closed.history.items played.lines.items played.ends.items left.ends of_closed.served of_closed.replies c.calls_have_replies.ensures;
+      is_told = subst (IsBriefOf (g.G.Game.rules c.args.game) c.args.setup _) (sym c.brief_of-brief.ensures) (record { id = c.in_ok-id.ensures; roles = c.in_ok-roles.ensures; rules_are = refl; start = refl; play = refl });
+      attended = ends_of g.P.Player.handed brief c.args.tries c.args.players.items played.players.items closed.history.items played.lines.items played.ends.items c.in_ok-desk.ensures.ends of_closed.served of_closed.replies c.calls_have_replies.ensures;
     }
+
+pub invariant_of-result : goal.invariant_of-result
+invariant_of-result g c =
+    let at = (goal.at.invariant_of-result g c).In_ok-closed in
+    record { one_match = length-one c.args.game c.args.setup c.in_ok-closed.closed.object (one_is g at) }
 
 pub attend_match-requires-send-O : goal.attend_match-requires-send-O
 attend_match-requires-send-O g c κs within = param_send _ _ (arg_send _ yes _ (manager_send _ _ _ g.G.Game c.type_bounds.send-G c.type_bounds.send-G-State c.type_bounds.send-G-Move))

@@ -1,0 +1,38 @@
+//! The result of a refereed match.
+ghost use Rattle.std.specs.Prelude.{◌≡◌, Some, length};
+ghost use Rattle.desk_calls.specs.Names.{IsLawfulSetup};
+ghost use Rattle.match_workers.specs.OneMatch.{first_match};
+
+use call_history::Closed;
+use game_core::Game;
+use match_book::Match;
+use match_desk::Manager;
+use role_workers::AttendFault;
+
+/// The result of a refereed match.
+#[derive(Drop)]
+pub struct Refereed<G: Game> {
+    /// The desk's history, and its manager with the one match.
+    pub closed: Closed<Manager<G>>,
+    /// How attending each role ended, in the order of the roles: with the number of messages that its player was handed, or with a
+    /// fault.
+    pub ends: Vec<Result<u64, AttendFault>>,
+    ghost one_match: { length closed.object.matches ≡ 1 },
+}
+
+impl<G: Game> Refereed<G> {
+    /// The one match, with its game.
+    pub fn game_and_match(&self) -> (&G, &Match<G>)
+        ensures one { length self.now.closed.object.matches ≡ 1 }
+        ensures held { first_match self.now.closed.object ≡ Some result.1.now }
+        ensures game { result.1.now.game ≡ result.0.now }
+        ensures setup { IsLawfulSetup result.1.now.value.setup }
+    {
+        let manager = &self.closed.object;
+        // Its clause says that the match is lawful, and of a game that the manager has.
+        let _ = manager.matches();
+        let game = manager.game_of_match(0).unwrap();
+        let held = manager.match_at(0).unwrap();
+        (game, held)
+    }
+}
