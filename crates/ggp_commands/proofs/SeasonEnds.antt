@@ -12,6 +12,7 @@ use Rattle.match_season.specs.Seasons.{WritesAllBut}
 use Rattle.command_line.specs.declared.tasks.SeasonPlan.{SeasonPlan}
 use Rattle.game_commands.specs.Faults.{IsFileFault}
 use Rattle.game_commands.specs.declared.fault.Fault.{Fault}
+use Rattle.game_commands.specs.declared.fault.Fault.TheVariants.{WriteFault}
 use Rattle.game_commands.specs.declared.files.NamedFile.TheVariants.{Records}
 use Rattle.ggp_commands.specs.Schedules.{AreLeft, AreToPlay, AreUndone, GoesTo, HasNoPlans, WritesPlans, WritesPlansUpTo}
 
@@ -40,22 +41,36 @@ pub season_into_file : {P F : Type 0} (is_reached : RolePlace → PlayerAddress 
 season_into_file is_reached handed game season schedule records path plans old is undone (Ok missing) found = written_to_file is_reached handed game season schedule records path plans missing old is undone found
 season_into_file is_reached handed game season schedule records path plans old is undone (Err fault) found = found
 
+-- The file was lost once the matches were played, in the call that plays them into it and in the season.
+pub lost_file : {P F : Type 0} (is_reached : RolePlace → PlayerAddress → P → Type 0) (handed : P → Option (List Handed)) (game : HostedGame) (season : SeasonPlan) (schedule : List ℕ) (records : Option F) (path : F) (plans : List MatchPlan) (fault : Fault) (old : Option (List ℕ))
+    → records ≡ Some path → AreUndone game.game.now season.strikes season.done schedule plans
+    → (fault ≡ WriteFault) × ((missing : ℕ) × (left : List MatchPlan) × AreLeft game.game.now (Some path) plans left × ((before : Option (List ℕ)) × (after : Option (List ℕ)) × WritesPlans is_reached handed game season.form left missing before after))
+    → (is_some records ≡ true) × (fault ≡ WriteFault) × ((missing : ℕ) × ((played : List MatchPlan) × AreToPlay game.game.now season.strikes season.done records schedule played × GoesTo records (WritesPlans is_reached handed game season.form played missing) old old))
+lost_file is_reached handed game season schedule records path plans fault old is undone lost =
+    (subst (λ r. is_some r ≡ true) (sym is) refl, lost.0, (lost.1.0, written_to_file is_reached handed game season schedule records path plans lost.1.0 old is undone (lost.1.1, lost.1.2, lost.1.3)))
+
 pub stopped_in_file : {P F : Type 0} (is_reached : RolePlace → PlayerAddress → P → Type 0) (handed : P → Option (List Handed)) (game : HostedGame) (season : SeasonPlan) (schedule : List ℕ) (records : Option F) (path : F) (plans : List MatchPlan) (fault : Fault) (old : Option (List ℕ))
     → records ≡ Some path → AreUndone game.game.now season.strikes season.done schedule plans
-    → (IsFileFault Records fault ⊎ ((left : List MatchPlan) × AreLeft game.game.now (Some path) plans left × ((before : Option (List ℕ)) × (after : Option (List ℕ)) × WritesPlansUpTo is_reached handed game season.form left fault before after)))
-    → (HasNoPlans game.game.now season.strikes season.done records schedule fault × (old ≡ old))
+    → ((IsFileFault Records fault
+    ⊎ ((fault ≡ WriteFault) × ((missing : ℕ) × (left : List MatchPlan) × AreLeft game.game.now (Some path) plans left × ((before : Option (List ℕ)) × (after : Option (List ℕ)) × WritesPlans is_reached handed game season.form left missing before after))))
+    ⊎ ((left : List MatchPlan) × AreLeft game.game.now (Some path) plans left × ((before : Option (List ℕ)) × (after : Option (List ℕ)) × WritesPlansUpTo is_reached handed game season.form left fault before after)))
+    → ((HasNoPlans game.game.now season.strikes season.done records schedule fault × (old ≡ old))
+    ⊎ ((is_some records ≡ true) × (fault ≡ WriteFault) × ((missing : ℕ) × ((played : List MatchPlan) × AreToPlay game.game.now season.strikes season.done records schedule played × GoesTo records (WritesPlans is_reached handed game season.form played missing) old old))))
     ⊎ ((played : List MatchPlan) × AreToPlay game.game.now season.strikes season.done records schedule played × GoesTo records (WritesPlansUpTo is_reached handed game season.form played fault) old old)
-stopped_in_file is_reached handed game season schedule records path plans fault old is undone found = elim found [
-  | inl bad ↦ inl (inr (subst (λ r. is_some r ≡ true) (sym is) refl, bad), refl)
-  | inr part ↦ inr (subst (λ r. (played : List MatchPlan) × AreToPlay game.game.now season.strikes season.done r schedule played × GoesTo r (WritesPlansUpTo is_reached handed game season.form played fault) old old)
-      (sym is) (part.0, (plans, undone, part.1), (refl, part.2)))
-]
+stopped_in_file is_reached handed game season schedule records path plans fault old is undone (inl (inl bad)) = inl (inl (inr (subst (λ r. is_some r ≡ true) (sym is) refl, bad), refl))
+stopped_in_file is_reached handed game season schedule records path plans fault old is undone (inl (inr lost)) = inl (inr (lost_file is_reached handed game season schedule records path plans fault old is undone lost))
+stopped_in_file is_reached handed game season schedule records path plans fault old is undone (inr part) =
+    inr (subst (λ r. (played : List MatchPlan) × AreToPlay game.game.now season.strikes season.done r schedule played × GoesTo r (WritesPlansUpTo is_reached handed game season.form played fault) old old)
+    (sym is) (part.0, (plans, undone, part.1), (refl, part.2)))
 
 pub season_stops_in_file : {P F : Type 0} (is_reached : RolePlace → PlayerAddress → P → Type 0) (handed : P → Option (List Handed)) (game : HostedGame) (season : SeasonPlan) (schedule : List ℕ) (records : Option F) (path : F) (plans : List MatchPlan) (old : Option (List ℕ))
     → records ≡ Some path → AreUndone game.game.now season.strikes season.done schedule plans
     → (result : Result ℕ Fault)
-    → IfErr result (λ fault. IsFileFault Records fault ⊎ ((left : List MatchPlan) × AreLeft game.game.now (Some path) plans left × ((before : Option (List ℕ)) × (after : Option (List ℕ)) × WritesPlansUpTo is_reached handed game season.form left fault before after)))
-    → IfErr result (λ fault. (HasNoPlans game.game.now season.strikes season.done records schedule fault × (old ≡ old))
+    → IfErr result (λ fault. (IsFileFault Records fault
+    ⊎ ((fault ≡ WriteFault) × ((missing : ℕ) × (left : List MatchPlan) × AreLeft game.game.now (Some path) plans left × ((before : Option (List ℕ)) × (after : Option (List ℕ)) × WritesPlans is_reached handed game season.form left missing before after))))
+    ⊎ ((left : List MatchPlan) × AreLeft game.game.now (Some path) plans left × ((before : Option (List ℕ)) × (after : Option (List ℕ)) × WritesPlansUpTo is_reached handed game season.form left fault before after)))
+    → IfErr result (λ fault. ((HasNoPlans game.game.now season.strikes season.done records schedule fault × (old ≡ old))
+    ⊎ ((is_some records ≡ true) × (fault ≡ WriteFault) × ((missing : ℕ) × ((played : List MatchPlan) × AreToPlay game.game.now season.strikes season.done records schedule played × GoesTo records (WritesPlans is_reached handed game season.form played missing) old old))))
     ⊎ ((played : List MatchPlan) × AreToPlay game.game.now season.strikes season.done records schedule played × GoesTo records (WritesPlansUpTo is_reached handed game season.form played fault) old old))
 season_stops_in_file is_reached handed game season schedule records path plans old is undone (Ok missing) found = found
 season_stops_in_file is_reached handed game season schedule records path plans old is undone (Err fault) found = stopped_in_file is_reached handed game season schedule records path plans fault old is undone found

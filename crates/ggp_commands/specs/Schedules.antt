@@ -9,7 +9,7 @@ use Rattle.game_commands.specs.Done.{AreDone, is_noted, match_names}
 use Rattle.game_commands.specs.Faults.{IsFileFault, schedule_fault}
 use Rattle.game_commands.specs.declared.done.DoneMatches.{DoneMatches}
 use Rattle.game_commands.specs.declared.fault.Fault.{Fault}
-use Rattle.game_commands.specs.declared.fault.Fault.TheVariants.{Memory}
+use Rattle.game_commands.specs.declared.fault.Fault.TheVariants.{Memory, WriteFault}
 use Rattle.game_commands.specs.declared.files.NamedFile.TheVariants.{Records}
 use Rattle.command_line.specs.declared.tasks.HostedTask.{HostedTask}
 use Rattle.command_line.specs.declared.tasks.HostedTask.TheVariants.{Season}
@@ -84,9 +84,16 @@ abbrev pub WritesSeason : {P : Type 0} → (RolePlace → PlayerAddress → P �
 WritesSeason is_reached handed game season schedule missing old new = (plans : List MatchPlan) × AreToPlay game.game.now season.strikes season.done season.records schedule plans
     × GoesTo season.records (WritesPlans is_reached handed game season.form plans missing) old new
 
--- What a season that ended with this fault has written: nothing if it has no matches to play, and otherwise the outputs up to that fault.
+-- The season was played, and then the name of the file that its records were added to did not name it any more. That is a write fault.
+abbrev pub LosesFile : {P : Type 0} → (RolePlace → PlayerAddress → P → Type 0) → (P → Option (List Handed)) → HostedGame → SeasonPlan → List ℕ → Fault → Option (List ℕ) → Option (List ℕ) → Type 0
+LosesFile is_reached handed game season schedule fault old new = (is_some season.records ≡ true) × (fault ≡ WriteFault)
+    × ((missing : ℕ) × WritesSeason is_reached handed game season schedule missing old new)
+
+-- What a season that ended with this fault has written: nothing if it has no matches to play, all if it then lost its file of records, and
+-- otherwise the outputs up to that fault.
 abbrev pub WritesSeasonUpTo : {P : Type 0} → (RolePlace → PlayerAddress → P → Type 0) → (P → Option (List Handed)) → HostedGame → SeasonPlan → List ℕ → Option (List ℕ) → Option (List ℕ) → Fault → Type 0
 WritesSeasonUpTo is_reached handed game season schedule old new fault =
-    (HasNoPlans game.game.now season.strikes season.done season.records schedule fault × (new ≡ old))
+    ((HasNoPlans game.game.now season.strikes season.done season.records schedule fault × (new ≡ old))
+    ⊎ LosesFile is_reached handed game season schedule fault old new)
     ⊎ ((plans : List MatchPlan) × AreToPlay game.game.now season.strikes season.done season.records schedule plans
     × GoesTo season.records (WritesPlansUpTo is_reached handed game season.form plans fault) old new)

@@ -53,6 +53,7 @@ pub fn records_fault(fault: RecordsFault) -> Fault
         RecordsFault::Unopened => FileFault::Unopened,
         RecordsFault::NotRegular => FileFault::NotRegular,
         RecordsFault::InUse => FileFault::InUse,
+        RecordsFault::Unread | RecordsFault::NoRecords => FileFault::Unread,
         RecordsFault::Unmended => FileFault::Unmended,
         RecordsFault::Memory => return Fault::Memory,
     };

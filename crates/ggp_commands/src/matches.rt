@@ -8,13 +8,14 @@ ghost use Rattle.player_check.specs.Checks.{EndsEarly, WritesCheck};
 ghost use Rattle.player_check.specs.declared.check.CheckFault.{CheckFault};
 ghost use Rattle.match_plans.specs.declared.plan.MatchPlan.{MatchPlan};
 ghost use Rattle.game_commands.specs.Faults.{IsFileFault};
+ghost use Rattle.game_commands.specs.declared.fault.Fault.TheVariants.{WriteFault};
 ghost use Rattle.game_commands.specs.declared.files.NamedFile.TheVariants.{Records};
 ghost use Rattle.ggp_commands.specs.Schedules.{AreLeft, WritesPlans, WritesPlansUpTo, WritesSeason, WritesSeasonUpTo, has_schedule};
 ghost use Rattle.ggp_commands.specs.Tasks.{EndsTask, HasNoInput, ReadsInput, WritesTask, WritesTaskUpTo};
 
 use crate::descriptors::allowed_form;
 use crate::faults::{check_fault, match_fault, season_fault};
-use crate::records_file::records_file;
+use crate::records_file::{records_file, tell_of_file};
 use crate::schedules::{plans_of, undone};
 use crate::terminals::Terminals;
 use command_line::{HostedTask, RunPlan, SeasonPlan};
@@ -167,15 +168,30 @@ where
     S: Reach<P> + TellsShortages + Sync,
     ensures written { IfOk result (λ missing. (left : List MatchPlan) × AreLeft game.entry.game.now (Some path.entry) plans.entry.items left
         × ((before : Option (List ℕ)) × (after : Option (List ℕ)) × WritesPlans (S.is_reached reach.now) P.handed game.entry form left missing before after)) }
-    ensures at_fault { IfErr result (λ fault. IsFileFault Records fault ⊎ ((left : List MatchPlan) × AreLeft game.entry.game.now (Some path.entry) plans.entry.items left
+    ensures at_fault { IfErr result (λ fault. (IsFileFault Records fault
+        ⊎ ((fault ≡ WriteFault) × ((missing : ℕ) × (left : List MatchPlan) × AreLeft game.entry.game.now (Some path.entry) plans.entry.items left
+        × ((before : Option (List ℕ)) × (after : Option (List ℕ)) × WritesPlans (S.is_reached reach.now) P.handed game.entry form left missing before after))))
+        ⊎ ((left : List MatchPlan) × AreLeft game.entry.game.now (Some path.entry) plans.entry.items left
         × ((before : Option (List ℕ)) × (after : Option (List ℕ)) × WritesPlansUpTo (S.is_reached reach.now) P.handed game.entry form left fault before after))) }
 {
     let mut errors = ReportStream::new(rt, &console.notices);
     let mut file = Counted::new(records_file(rt, alloc, path, &mut errors)?);
     let left = undone(rt, alloc, game.game, Some(path), plans)?;
-    play_plans::<H, P, S, RecordsFile<<H as Files>::File>>(
+    let played = play_plans::<H, P, S, RecordsFile<'_, H, <H as Files>::File>>(
         rt, alloc, reach, form, game, &left, &mut file, console,
-    )
+    );
+    if file.end().is_kept() {
+        return played;
+    }
+    tell_of_file(
+        &mut errors,
+        path,
+        "is no longer the file that records were added to",
+    );
+    match played {
+        Ok(_) => Err(Fault::WriteFault),
+        Err(fault) => Err(fault),
+    }
 }
 
 /// Plays the matches of a schedule, and writes their records. Returns the number of those without a record.

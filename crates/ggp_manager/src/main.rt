@@ -36,9 +36,9 @@ fn ended<E: Write>(errors: &mut E, fault: Fault) -> ExitCode {
 
 fn main(rt: HostRuntime) -> ExitCode {
     let (input, output, errors) = (rt.stdin(), rt.stdout(), rt.stderr());
-    let Ok(_held) = hold_closed(&rt, input.as_fd(), output.as_fd(), errors.as_fd()) else {
+    if hold_closed(&rt, input.as_fd(), output.as_fd(), errors.as_fd()).is_err() {
         return ended(&mut rt.stderr(), Fault::ClosedStream);
-    };
+    }
     let terminals = Terminals {
         errors: errors.is_terminal(),
         output: output.is_terminal(),

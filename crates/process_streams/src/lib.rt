@@ -8,8 +8,6 @@ mod records_file;
 mod standard;
 
 pub use limits::{DESCRIPTORS, FILE_SIZE, limit_in, limit_of};
-pub use placeholders::{Placeholders, hold_closed};
-pub use records_file::{
-    LockedFiles, OpenRecords, RecordsFault, RecordsFile, is_emptied_output, open_records,
-};
+pub use placeholders::hold_closed;
+pub use records_file::{LockedFiles, RecordsFault, RecordsFile, is_emptied_output, open_records};
 pub use standard::{ERRORS, INPUT, OUTPUT, Standard};

@@ -20,9 +20,12 @@ pub const FILE_SIZE: &str = "Max file size";
 
 /// The soft limit of this name in a text of limits. `None` if the text has none, or if there is no limit.
 pub fn limit_in(limits: &str, name: &str) -> Option<u64> {
-    let line = limits.lines().find_map(|line| line.strip_prefix(name))?;
-    let word = line.split(' ').find(|word| !word.is_empty())?;
-    word.parse::<u64>().ok()
+    for line in limits.lines() {
+        if let Some(rest) = line.strip_prefix(name) {
+            return rest.split_ascii_whitespace().next()?.parse::<u64>().ok();
+        }
+    }
+    None
 }
 
 /// The soft limit of this name. `None` if there is no limit, or the system does not say it.

@@ -1,9 +1,12 @@
 //! A file that records are added to.
-ghost use Rattle.std.specs.Prelude.{◌≤◌, IfOk};
+ghost use Rattle.std.specs.Prelude.{◌≡◌, ◌≤◌, None, IfOk, IfSome, take};
+ghost use Rattle.std.specs.Io.{WritesAtMost};
+ghost use Rattle.std.specs.Io.KnownBytes.{Appends, WriteAppends};
+ghost use Rattle.process_streams.specs.Records.{EndsLine, may_hold_records};
 
 use crate::standard::OUTPUT;
 use std::alloc::Global;
-use std::fs::{File, OpenFile, OpenOptions, TryLockError};
+use std::fs::{File, Metadata, OpenFile, OpenOptions, TryLockError};
 use std::io::{Error, ErrorKind, Read, Seek, SeekFrom, Write};
 use std::os::unix::fs::MetadataExt;
 use std::rt::Files;
@@ -18,12 +21,16 @@ const MOST_TORN: usize = 1_000;
 /// Why a file can't be added to.
 #[derive(Clone, Copy)]
 pub enum RecordsFault {
-    /// It can't be opened, made or locked.
+    /// It can't be opened, made or locked, or its path named another file by then.
     Unopened,
     /// It is a directory, a pipe or a device.
     NotRegular,
     /// Another program adds to it.
     InUse,
+    /// Its first byte can't be read.
+    Unread,
+    /// It does not begin as a record does.
+    NoRecords,
     /// Its last line is cut off, and can't be moved to another file.
     Unmended,
     /// Out of memory.
@@ -46,32 +53,58 @@ impl LockedFiles for HostRuntime {
     }
 }
 
-/// A file that records are added to. What a write took is on the disk before the write returns.
-#[derive(Drop)]
-pub struct RecordsFile<F> {
-    file: F,
-    /// The limit of the file's size in bytes.
-    limit: Option<u64>,
+/// Whether two files are one.
+fn is_same(one: &Metadata, other: &Metadata) -> bool {
+    one.dev() == other.dev() && one.ino() == other.ino()
 }
 
-/// A file of records that ends with a whole line.
+/// A file that records are added to. What a write took is on the disk before the write returns, and the file's path still names it then.
 #[derive(Drop)]
-pub struct OpenRecords<F> {
-    pub file: RecordsFile<F>,
+pub struct RecordsFile<'a, R, F> {
+    files: &'a R,
+    path: &'a str,
+    file: F,
+    /// What the file was when it was opened.
+    opened: Metadata,
+    /// The limit of the file's size in bytes.
+    limit: Option<u64>,
     /// The name of the file that a last line without its end was moved to.
     pub torn: Option<String>,
 }
 
-impl<F: Write + OpenFile> Write for RecordsFile<F> {
-    fn write(&mut self, bytes: &[u8]) -> io::Result<usize> {
+impl<R: Files, F> RecordsFile<'_, R, F> {
+    /// What the file is now. An error says that its path does not name it any more.
+    fn named(&self) -> io::Result<Metadata> {
+        let named = fs::metadata(self.files, self.path)?;
+        if is_same(&named, &self.opened) {
+            Ok(named)
+        } else {
+            Err(Error::from(ErrorKind::NotFound))
+        }
+    }
+
+    /// Whether the file's path still names it. Otherwise it was removed, renamed or replaced.
+    pub fn is_kept(&self) -> bool {
+        self.named().is_ok()
+    }
+}
+
+impl<R: Files, F: Write + OpenFile> Write for RecordsFile<'_, R, F> {
+    fn write(&mut self, bytes: &[u8]) -> io::Result<usize>
+        ensures bound { WritesAtMost result bytes.now }
+        ensures bytes { WriteAppends None None result bytes.now }
+        ensures added { IfOk result (λ count. Appends (F.contents self.old.file) (F.contents self.new.file) (take count bytes.now)) }
+    {
+        let named = self.named()?;
         if let Some(limit) = self.limit {
             // One more byte there would end the process by a signal.
-            if self.file.metadata()?.len() >= limit {
+            if named.len() >= limit {
                 return Err(Error::from(ErrorKind::FileTooLarge));
             }
         }
         let count = self.file.write(bytes)?;
         self.file.sync_data()?;
+        self.named()?;
         Ok(count)
     }
 
@@ -83,13 +116,28 @@ impl<F: Write + OpenFile> Write for RecordsFile<F> {
 /// Whether standard output goes to the file at this path, and the file is empty.
 pub fn is_emptied_output<F: Files>(files: &F, path: &str) -> bool {
     match (fs::metadata(files, path), fs::metadata(files, OUTPUT)) {
-        (Ok(file), Ok(output)) => {
-            file.is_file()
-                && file.len() == 0
-                && file.dev() == output.dev()
-                && file.ino() == output.ino()
-        }
+        (Ok(file), Ok(output)) => file.is_file() && file.len() == 0 && is_same(&file, &output),
         _ => false,
+    }
+}
+
+/// Whether a file that was just opened is empty, or begins as a record does. A mark of the byte order or a blank is no such beginning:
+/// no reader of records would take the line.
+fn may_hold_records<F: Read>(file: &mut F) -> io::Result<bool>
+    ensures { IfOk result (λ may. IfSome (F.remaining file.old) (λ text. may ≡ may_hold_records text)) }
+{
+    let mut first = [0u8; 1];
+    let count = file.read(&mut first)?;
+    Ok(count == 0 || first[0] == b'{')
+}
+
+/// The number of bytes up to the last line feed, and with it.
+fn line_end(bytes: &[u8]) -> Option<usize>
+    ensures { EndsLine bytes.now result }
+{
+    match bytes.iter().rposition(|byte| *byte == b'\n') {
+        Some(at) => Some(at + 1),
+        None => None,
     }
 }
 
@@ -104,8 +152,8 @@ fn whole_lines<F: Read + Seek>(file: &mut F, length: u64) -> io::Result<u64>
         let bytes = &mut piece[..(end - begin) as usize];
         file.seek(SeekFrom::Start(begin))?;
         file.read_exact(bytes)?;
-        if let Some(at) = bytes.iter().rposition(|byte| *byte == b'\n') {
-            return Ok(begin + at as u64 + 1);
+        if let Some(count) = line_end(bytes) {
+            return Ok(begin + count as u64);
         }
         end = begin;
     }
@@ -125,24 +173,19 @@ fn new_beside<F: Files>(files: &F, alloc: Global, path: &str) -> io::Result<(Str
     Err(Error::from(ErrorKind::AlreadyExists))
 }
 
-/// Moves what follows the whole lines to a new file. It is there on the disk before it is taken away here.
-fn move_rest<F: Files>(
-    files: &F,
-    alloc: Global,
-    path: &str,
-    file: &mut F::File,
+/// Moves what follows the whole lines to another file. It is there on the disk before it is taken away here.
+fn move_rest<F: Read + Write + Seek + OpenFile>(
+    file: &mut F,
+    torn: &mut F,
     whole: u64,
-) -> io::Result<String> {
-    let (name, mut torn) = new_beside(files, alloc, path)?;
+) -> io::Result<()> {
     file.seek(SeekFrom::Start(whole))?;
-    io::copy(file, &mut torn)?;
+    io::copy(file, torn)?;
     torn.sync_all()?;
-    file.set_len(whole)?;
-    file.sync_all()?;
-    Ok(name)
+    file.set_len(whole)
 }
 
-/// Moves a last line without its line feed to a new file. Returns the name of that.
+/// Moves a last line without its line feed to a new file, which is removed again if it can't be written whole. Returns its name.
 fn mend<F: Files>(
     files: &F,
     alloc: Global,
@@ -154,7 +197,13 @@ fn mend<F: Files>(
     if whole == length {
         return Ok(None);
     }
-    Ok(Some(move_rest(files, alloc, path, file, whole)?))
+    let (name, mut torn) = new_beside(files, alloc, path)?;
+    if let Err(error) = move_rest(file, &mut torn, whole) {
+        let _ = fs::remove_file(files, name.as_str());
+        return Err(error);
+    }
+    file.sync_all()?;
+    Ok(Some(name))
 }
 
 /// The fault for an error where there may be no memory.
@@ -165,17 +214,17 @@ fn fault_of(error: Error, other: RecordsFault) -> RecordsFault {
     }
 }
 
-/// Opens the file at this path to add to it, and makes it if it is not there. It is locked as long as it is open. A last line without its
-/// line feed is moved to another file, which gets a name that is free.
-pub fn open_records<F: LockedFiles>(
-    files: &F,
+/// Opens the file at this path to add to it, and makes it if it is not there. It is locked as long as it is open. A file that does not
+/// begin as a record does is refused as it is. A last line without its line feed is moved to another file, which gets a name that is free.
+pub fn open_records<'a, R: LockedFiles>(
+    files: &'a R,
     alloc: Global,
-    path: &str,
+    path: &'a str,
     limit: Option<u64>,
-) -> Result<OpenRecords<F::File>, RecordsFault> {
+) -> Result<RecordsFile<'a, R, <R as Files>::File>, RecordsFault> {
     let mut options = OpenOptions::new();
     options.read(true).append(true).create(true);
-    let mut file = match options.open(files, path) {
+    let file = match options.open(files, path) {
         Ok(file) => file,
         Err(error) => return Err(fault_of(error, RecordsFault::Unopened)),
     };
@@ -184,15 +233,30 @@ pub fn open_records<F: LockedFiles>(
         Ok(false) => return Err(RecordsFault::InUse),
         Err(error) => return Err(fault_of(error, RecordsFault::Unopened)),
     }
-    let length = match file.metadata() {
-        Ok(found) if found.is_file() => found.len(),
+    let opened = match file.metadata() {
+        Ok(found) if found.is_file() => found,
         _ => return Err(RecordsFault::NotRegular),
     };
-    match mend(files, alloc, path, &mut file, length) {
-        Ok(torn) => Ok(OpenRecords {
-            file: RecordsFile { file, limit },
-            torn,
-        }),
-        Err(error) => Err(fault_of(error, RecordsFault::Unmended)),
+    let length = opened.len();
+    let mut records = RecordsFile {
+        files,
+        path,
+        file,
+        opened,
+        limit,
+        torn: None,
+    };
+    if !records.is_kept() {
+        return Err(RecordsFault::Unopened);
     }
+    match may_hold_records(&mut records.file) {
+        Ok(true) => {}
+        Ok(false) => return Err(RecordsFault::NoRecords),
+        Err(error) => return Err(fault_of(error, RecordsFault::Unread)),
+    }
+    match mend(files, alloc, path, &mut records.file, length) {
+        Ok(torn) => records.torn = torn,
+        Err(error) => return Err(fault_of(error, RecordsFault::Unmended)),
+    }
+    Ok(records)
 }
