@@ -17,7 +17,7 @@ use Rattle.whole_streams.specs.Laws.{FirstLineIsTaken, LastLineIsWhole}
 use Rattle.game_commands.specs.declared.fault.Fault.{Fault}
 use Rattle.game_commands.specs.Faults.{input_fault}
 use Rattle.game_commands.specs.Verdicts.{IsVerdict, AreVerdicts, verdict_line, verdict_lines}
-use Rattle.game_commands.specs.Checks.{BeginsWithLines, HasFirstLine, TellsVerdicts, LineFails, CheckStops, max_record}
+use Rattle.game_commands.specs.Checks.{BeginsWithLines, HasFirstLine, TellsVerdicts, LineFails, CheckStops, max_line}
 
 -- more of the input was read
 pub begins_more : (text : List ℕ) (first : List (List ℕ)) (left given : List ℕ) → BeginsWithLines text first left → BeginsWithLines (text ++ given) first (left ++ given)
@@ -63,7 +63,7 @@ stops_reading given reader mid reader' same calls (inr ended) =
 -- the meaning of a fault at reading a line
 pub read_stops : {S M R W : Type 0} (remaining : R → Option (List ℕ)) (contents : W → Option (List ℕ)) (g : Rules S M) (fault : InputFault) (verdicts : List Verdict) (bytes lost left : List ℕ)
     (reader mid reader' : Counting R) (writer writer' : Counting W)
-    → mid.faults ≡ reader.faults → CallsMade 0 reader.calls mid.calls → bytes ≡ lost ++ left → HasNoLineFeed lost → InputFails max_record fault lost mid reader' → TellsVerdicts contents verdicts writer writer'
+    → mid.faults ≡ reader.faults → CallsMade 0 reader.calls mid.calls → bytes ≡ lost ++ left → HasNoLineFeed lost → InputFails max_line fault lost mid reader' → TellsVerdicts contents verdicts writer writer'
     → CheckStops remaining contents g (input_fault fault) verdicts bytes reader reader' writer writer'
 read_stops remaining contents g ReadFault verdicts bytes lost left reader mid reader' writer writer' same calls cut feedless fails tells =
     ((lost, left, cut, feedless, (fails.0, stops_reading (length lost) reader mid reader' same calls fails.1)), tells)

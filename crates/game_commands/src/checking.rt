@@ -19,8 +19,11 @@ use std::io::{Read, Write};
 use whole_streams::laws::lines_are_taken;
 use whole_streams::{InputFault, LineBuffer, NextLine, read_to_end, write_all};
 
-/// The limit of a record's bytes: 16 MiB.
-pub const MAX_RECORD: usize = 16_777_216;
+/// The limit of a record's bytes, if the input is one record: 16 MiB.
+const MAX_RECORD: usize = 16_777_216;
+
+/// The limit of a line's bytes: 64 GiB, which no record of a match has.
+pub const MAX_LINE: usize = 68_719_476_736;
 
 impl From<InputFault> for Fault {
     ghost use Rattle.std.specs.Prelude.{◌≡◌};
@@ -128,7 +131,7 @@ pub fn check_records<G: Game, R: Read, W: Write>(
     let mut unlawful = 0;
     let mut skipped = 0;
     for place in 0..u64::MAX {
-        match buffer.next_line(alloc, reader, MAX_RECORD) {
+        match buffer.next_line(alloc, reader, MAX_LINE) {
             Ok(NextLine::Ended(line)) => match check_line(alloc, game, &line, writer) {
                 Ok(verdict) => {
                     unlawful += count_unlawful(verdict);

@@ -23,7 +23,7 @@ pub enum Verdict {
 }
 
 /// Whether the line has the form of an account's: decimal digits, a call and a reply, with a tab between each two.
-fn is_account_line(line: &[u8]) -> bool
+pub fn is_account_line(line: &[u8]) -> bool
     ensures { result ≡ is_account_line line.now }
 {
     let (number, Some(fields)) = first_piece(line, b'\t') else {

@@ -22,7 +22,7 @@ import sys
 import threading
 from typing import BinaryIO, NamedTuple
 
-LONGEST_RECORD = 16 << 20
+LONGEST_LINE = 64 << 30
 PIECE = 4 << 20
 MOST_PIECE = 1 << 30
 MOST_JOBS = 1_024
@@ -71,7 +71,7 @@ def pieces(size):
     yield []
     held, count, of_line = [], 0, 0
     try:
-        while of_line <= LONGEST_RECORD and (part := os.read(0, min(size, CHUNK))):
+        while of_line <= LONGEST_LINE and (part := os.read(0, min(size, CHUNK))):
             end = part.rfind(b"\n") + 1
             of_line = len(part) - end if end else of_line + len(part)
             held.append(part)
