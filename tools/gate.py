@@ -39,7 +39,7 @@ LOOKS: list[Look] = [
 GENERAL = "examples/games/general"
 # The games that are compared here: small ones, and two that have to be folded and unrolled.
 FEW = ("tictactoe", "nim", "connectfour", "auction", "minority", "hanoi", "queens", "blocks", "foxandhounds", "hex")
-SEASONS = ("try", "crowd", "killed", "unread", "closed", "short", "named", "stopped", "restarted", "bloated", "full", "waiting", "added", "nonblocking")
+SEASONS = ("try", "crowd", "killed", "unread", "closed", "short", "named", "stopped", "restarted", "bloated", "full", "waiting", "added", "nonblocking", "large")
 WITHOUT_PROGRAM = (
     "README.md's commands and the pages of records, since no program is up to date: `make build` proves one, and `make demo` compiles one"
 )

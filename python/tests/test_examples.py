@@ -226,7 +226,9 @@ class Explained(unittest.TestCase):
         texts = [(b"", "line 1, column 1: Expecting value."), (b'{"a":\n x}', "line 2, column 2: Expecting value."), (b'{\n"\xff"', "line 2, byte 2 of it: no UTF-8."), (b"{} x", "line 1, column 4: Extra data.")]
         for text, said in texts:
             self.assertEqual(self.explained(text), (1, ["not lawful: json", f"The text is no JSON: {said}"], ""), text)
-        self.assertEqual(self.explained(RECORD.read_bytes() * 2)[1][1:], ["The text is no JSON: line 2, column 1: Extra data.", more])
+        extra = "The text is no JSON: line 2, column 1: Extra data."
+        for second, said in ((RECORD.read_bytes(), [more]), (b"0\topen m 0 1 1 a b\topened\n", [more]), (b"7\n", []), (b"1\t\topened\n", [])):
+            self.assertEqual(self.explained(RECORD.read_bytes() + second)[1][1:], [extra, *said], second)
         for text in (b"[" * 128 + b"]" * 128, b"[" * 99999, b"1e999", b"9" * 5000, b'"\\ud800"', b"NaN"):
             self.assertEqual(self.explained(text), (1, ["not lawful: json", none], ""), text)
 

@@ -5,7 +5,7 @@ import unittest
 
 TOP = os.path.dirname(os.path.dirname(os.path.dirname(os.path.realpath(__file__))))
 # The file and the name of a constant, and what stands around its number in the profile.
-LIMITS = [("crates/game_commands/src/replaying.rt", "MAX_ACCOUNT", r"an account of at most ([\d,]+) bytes")]
+LIMITS = [("crates/game_commands/src/replaying.rt", "MAX_ACCOUNT", r"an account of at most ([\d,]+) bytes"), ("crates/game_commands/src/checking.rt", "MAX_LINE", r"records, one a line, each of at most ([\d,]+) bytes")]
 
 
 def text_of(file):

@@ -1,5 +1,6 @@
 -- Lines that are checked one after another.
-use Rattle.std.proofs.Common.{◌≡◌, ◌<◌, ◌+◌, ℕ, List, [], ◌∷◌, ◌++◌, length, Option, sym, ap, subst, ◌∙◌, inl, inr, arith, cond, zero-add}
+use Rattle.std.proofs.Common.{◌≡◌, ◌<◌, ◌+◌, ℕ, Bool, List, [], ◌∷◌, ◌++◌, length, Option, sym, ap, subst, ◌∙◌, inl, inr, arith, cond, zero-add}
+use Rattle.std.specs.Prelude.{count_by}
 use Rattle.std.proofs.lemmas.List.Sums.{sum_by_push}
 use Rattle.std.proofs.lemmas.List.{append_assoc, flat_map_more}
 use Rattle.std.specs.Io.KnownBytes.{Appends}
@@ -15,8 +16,8 @@ use Rattle.whole_streams.specs.declared.whole.InputFault.TheVariants.{ReadFault,
 use Rattle.whole_streams.specs.Laws.{FirstLineIsTaken, LastLineIsWhole}
 use Rattle.game_commands.specs.declared.fault.Fault.{Fault}
 use Rattle.game_commands.specs.Faults.{input_fault}
-use Rattle.game_commands.specs.Verdicts.{IsVerdict, AreVerdicts, verdict_line, verdict_lines, is_unlawful, count_unlawful}
-use Rattle.game_commands.specs.Checks.{BeginsWithLines, HasFirstLine, TellsVerdicts, LineFails, CheckStops, max_record}
+use Rattle.game_commands.specs.Verdicts.{IsVerdict, AreVerdicts, verdict_line, verdict_lines}
+use Rattle.game_commands.specs.Checks.{BeginsWithLines, HasFirstLine, TellsVerdicts, LineFails, CheckStops, max_line}
 
 -- more of the input was read
 pub begins_more : (text : List ℕ) (first : List (List ℕ)) (left given : List ℕ) → BeginsWithLines text first left → BeginsWithLines (text ++ given) first (left ++ given)
@@ -47,8 +48,8 @@ pub lines_push : (a b c : Option (List ℕ)) (verdicts : List Verdict) (verdict 
 lines_push a b c verdicts verdict before here =
     subst (λ l. Appends a c l) (flat_map_more verdict_line [] verdicts verdict) (Appends-trans a b c _ _ before here)
 
-pub count_push : (verdicts : List Verdict) (verdict : Verdict) → count_unlawful (verdicts ++ verdict ∷ []) ≡ count_unlawful verdicts + count_unlawful (verdict ∷ [])
-count_push verdicts verdict = sum_by_push (λ v. cond (is_unlawful v) 1 0) verdicts verdict ∙ ap (λ n. count_unlawful verdicts + n) (sym (zero-add (cond (is_unlawful verdict) 1 0)))
+pub count_push : (counts : Verdict → Bool) (verdicts : List Verdict) (verdict : Verdict) → count_by counts (verdicts ++ verdict ∷ []) ≡ count_by counts verdicts + count_by counts (verdict ∷ [])
+count_push counts verdicts verdict = sum_by_push (λ v. cond (counts v) 1 0) verdicts verdict ∙ ap (λ n. count_by counts verdicts + n) (sym (zero-add (cond (counts verdict) 1 0)))
 
 pub calls_on : (a b c : ℕ) → CallsMade 0 a b → CallsMade 0 b c → CallsMade 0 a c
 calls_on a b c before now below = omega (arith, now below, before)
@@ -62,7 +63,7 @@ stops_reading given reader mid reader' same calls (inr ended) =
 -- the meaning of a fault at reading a line
 pub read_stops : {S M R W : Type 0} (remaining : R → Option (List ℕ)) (contents : W → Option (List ℕ)) (g : Rules S M) (fault : InputFault) (verdicts : List Verdict) (bytes lost left : List ℕ)
     (reader mid reader' : Counting R) (writer writer' : Counting W)
-    → mid.faults ≡ reader.faults → CallsMade 0 reader.calls mid.calls → bytes ≡ lost ++ left → HasNoLineFeed lost → InputFails max_record fault lost mid reader' → TellsVerdicts contents verdicts writer writer'
+    → mid.faults ≡ reader.faults → CallsMade 0 reader.calls mid.calls → bytes ≡ lost ++ left → HasNoLineFeed lost → InputFails max_line fault lost mid reader' → TellsVerdicts contents verdicts writer writer'
     → CheckStops remaining contents g (input_fault fault) verdicts bytes reader reader' writer writer'
 read_stops remaining contents g ReadFault verdicts bytes lost left reader mid reader' writer writer' same calls cut feedless fails tells =
     ((lost, left, cut, feedless, (fails.0, stops_reading (length lost) reader mid reader' same calls fails.1)), tells)

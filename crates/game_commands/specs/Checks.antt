@@ -14,9 +14,13 @@ use Rattle.game_commands.specs.Verdicts.{IsVerdict, verdict_line, verdict_lines}
 use Rattle.game_commands.specs.declared.fault.Fault.{Fault}
 use Rattle.game_commands.specs.declared.fault.Fault.TheVariants.{ReadFault, InputTooLong, Memory, NotLawful, WriteFault}
 
--- the limit of a record's bytes
+-- the limit of a record's bytes, if the input is one record
 abbrev pub max_record : ℕ
 max_record = 16777216
+
+-- the limit of a line's bytes
+abbrev pub max_line : ℕ
+max_line = 68719476736
 
 -- the output for a lawful record
 abbrev pub lawful_line : List ℕ
@@ -65,9 +69,9 @@ LineFails contents g fault line writer writer' = ((fault ≡ Memory) × (writer'
 -- is too long is not read further, and neither is an input after 2^64 - 1 lines.
 abbrev pub CheckStops : {S M R W : Type 0} → (R → Option (List ℕ)) → (W → Option (List ℕ)) → Rules S M → Fault → List Verdict → List ℕ → Counting R → Counting R → Counting W → Counting W → Type 0
 CheckStops remaining contents g ReadFault verdicts left reader reader' writer writer' =
-    HasOpenLine left (λ count. (count ≤ max_record) × StopsReading count reader reader') × TellsVerdicts contents verdicts writer writer'
+    HasOpenLine left (λ count. (count ≤ max_line) × StopsReading count reader reader') × TellsVerdicts contents verdicts writer writer'
 CheckStops remaining contents g InputTooLong verdicts left reader reader' writer writer' =
-    (HasOpenLine left (λ count. max_record < count) ⊎ (last_count ≤ length verdicts)) × (reader'.faults ≡ reader.faults) × TellsVerdicts contents verdicts writer writer'
+    (HasOpenLine left (λ count. max_line < count) ⊎ (last_count ≤ length verdicts)) × (reader'.faults ≡ reader.faults) × TellsVerdicts contents verdicts writer writer'
 CheckStops remaining contents g Memory verdicts left reader reader' writer writer' = (reader'.faults ≡ reader.faults) × TellsVerdicts contents verdicts writer writer'
 CheckStops remaining contents g WriteFault verdicts left reader reader' writer writer' =
     (reader'.faults ≡ reader.faults) × ((line : List ℕ) × HasFirstLine (remaining reader'.stream) left line × TellsPart contents g verdicts line writer writer')

@@ -1,20 +1,26 @@
 -- The verdicts on lines of records, and their output.
-use Rattle.std.specs.Prelude.{◌≡◌, ◌≢◌, ◌&&◌, ℕ, nat_le, Bool, true, false, List, [], ◌∷◌, ◌++◌, codes, count_by, flat_map}
-use Rattle.game_core.specs.Bytes.{line_feed}
+use Rattle.std.specs.Prelude.{◌≡◌, ◌≢◌, ◌==◌, ◌&&◌, ℕ, Bool, true, false, not, List, [], ◌∷◌, ◌++◌, codes, count_by, flat_map, length}
+use Rattle.game_core.specs.Bytes.{line_feed, tab}
+use Rattle.game_core.specs.Numerals.{are_digits}
 use Rattle.game_core.specs.Play.{Rules}
 use Rattle.match_record.specs.LawfulRecord.{IsLawfulRecord}
 use Rattle.record_check.specs.Verified.{FailsFirst}
 use Rattle.record_reading.specs.FaultText.{fault_text}
 use Rattle.record_reading.specs.declared.verify_fault.VerifyFault.TheVariants.{Memory}
+use Rattle.desk_text.specs.Words.{pieces}
 use Rattle.game_commands.specs.declared.verdicts.Verdict.{Verdict}
 use Rattle.game_commands.specs.declared.verdicts.Verdict.TheVariants.{Lawful, Unlawful, Account}
 
--- the line begins with a digit
-abbrev pub is_account_line : List ℕ → Bool
-is_account_line [] = false
-is_account_line (byte ∷ line) = nat_le 48 byte && nat_le byte 57
+-- the fields of an account's line: the number of a line of the desk in decimal digits, a call, and a reply
+abbrev pub are_account_fields : List (List ℕ) → Bool
+are_account_fields (number ∷ (call ∷ (reply ∷ more))) = are_digits number && not (length call == 0)
+are_account_fields _ = false
 
--- The verdict on a line. By its first byte it is one of an account. Otherwise it is a lawful record, or fails a first test.
+-- the line has the form of an account's, whose fields have a tab between each two
+abbrev pub is_account_line : List ℕ → Bool
+is_account_line line = are_account_fields (pieces tab line)
+
+-- The verdict on a line. By its form it is one of an account. Otherwise it is a lawful record, or fails a first test.
 abbrev pub IsVerdict : {S M : Type 0} → Rules S M → List ℕ → Verdict → Type 0
 IsVerdict g text Account = is_account_line text ≡ true
 IsVerdict g text Lawful = (is_account_line text ≡ false) × IsLawfulRecord g text
@@ -43,3 +49,11 @@ is_unlawful verdict = false
 -- the number of lines that are no lawful records. Lines of accounts don't count.
 abbrev pub count_unlawful : List Verdict → ℕ
 count_unlawful verdicts = count_by is_unlawful verdicts
+
+abbrev pub is_skipped : Verdict → Bool
+is_skipped Account = true
+is_skipped verdict = false
+
+-- the number of lines of accounts
+abbrev pub count_skipped : List Verdict → ℕ
+count_skipped verdicts = count_by is_skipped verdicts

@@ -1,16 +1,16 @@
 //! The check of records.
-ghost use Rattle.std.specs.Prelude.{◌≡◌, ◌∷◌, [], ℕ, List, IfErr, IfOk, OnOk};
+ghost use Rattle.std.specs.Prelude.{◌≡◌, ℕ, List, IfErr, IfOk, OnOk};
 ghost use Rattle.std.specs.Io.KnownBytes.{Consumes, Appends, IsAtEnd};
 ghost use Rattle.std.specs.Str.Lines.{lines};
 ghost use Rattle.match_record.specs.LawfulRecord.{IsLawfulRecord};
 ghost use Rattle.game_commands.specs.declared.verdicts.Verdict.{Verdict as LineVerdict};
-ghost use Rattle.game_commands.specs.Verdicts.{IsVerdict, AreVerdicts, verdict_line, verdict_lines, count_unlawful};
+ghost use Rattle.game_commands.specs.Verdicts.{IsVerdict, AreVerdicts, verdict_line, verdict_lines, count_skipped, count_unlawful};
 ghost use Rattle.game_commands.specs.Checks.{lawful_line, CheckFails, BeginsWithLines, LineFails, CheckStops};
 
 use crate::fault::Fault;
 use crate::remarks::Remarks;
 use crate::script_fault::ScriptFault;
-use crate::verdicts::{Verdict, verdict_line, verdict_on};
+use crate::verdicts::{Verdict, count_skipped, count_unlawful, verdict_line, verdict_on};
 use game_core::{Counted, Game};
 use match_record::VerifyFault;
 use record_check::verify;
@@ -19,8 +19,11 @@ use std::io::{Read, Write};
 use whole_streams::laws::lines_are_taken;
 use whole_streams::{InputFault, LineBuffer, NextLine, read_to_end, write_all};
 
-/// The limit of a record's bytes: 16 MiB.
-pub const MAX_RECORD: usize = 16_777_216;
+/// The limit of a record's bytes, if the input is one record: 16 MiB.
+const MAX_RECORD: usize = 16_777_216;
+
+/// The limit of a line's bytes: 64 GiB, which no record of a match has.
+pub const MAX_LINE: usize = 68_719_476_736;
 
 impl From<InputFault> for Fault {
     ghost use Rattle.std.specs.Prelude.{◌≡◌};
@@ -74,16 +77,14 @@ pub fn check_record<G: Game, R: Read, W: Write>(
     Ok(write_all(writer, b"lawful\n")?)
 }
 
-/// Writes the verdict on a line. Returns 1 if the line is no lawful record, and 0 if it is one. A line of an account is skipped, and
-/// counts as 0.
+/// Writes the verdict on a line, and returns it. For a line of an account nothing is written.
 fn check_line<G: Game, W: Write>(
     alloc: Global,
     game: &G,
     line: &[u8],
     writer: &mut Counted<W>,
-) -> Result<u64, Fault>
-    ensures verdict { IfOk result (λ count. (verdict : LineVerdict) × IsVerdict (G.rules game.now) line.now verdict
-        × (count ≡ count_unlawful (verdict ∷ []))
+) -> Result<Verdict, Fault>
+    ensures verdict { IfOk result (λ verdict. IsVerdict (G.rules game.now) line.now verdict
         × Appends (W.contents writer.old.stream) (W.contents writer.new.stream) (verdict_line verdict)) }
     ensures no_fault { OnOk result (writer.new.faults ≡ writer.old.faults) }
     ensures fails { IfErr result (λ fault. LineFails W.contents (G.rules game.now) fault line.now writer.old writer.new) }
@@ -91,26 +92,33 @@ fn check_line<G: Game, W: Write>(
     let verdict = verdict_on(alloc, game, line)?;
     let told = verdict_line(alloc, verdict)?;
     write_all(writer, told.as_bytes())?;
-    match verdict {
-        Verdict::Unlawful(_) => Ok(1),
-        Verdict::Lawful | Verdict::Account => Ok(0),
-    }
+    Ok(verdict)
+}
+
+/// How many lines were not lawful, and how many were skipped.
+#[derive(Clone, Copy)]
+pub struct LineCounts {
+    /// The number of lines that are no lawful records, without those of accounts.
+    pub unlawful: u64,
+    /// The number of lines of accounts.
+    pub skipped: u64,
 }
 
 /// Checks each line of the input as a record of the game, and writes its verdict before the next line is read. Lines of accounts are
-/// skipped. Returns the number of the other lines that are no lawful records. One line is in memory at a time.
+/// skipped. One line is in memory at a time.
 pub fn check_records<G: Game, R: Read, W: Write>(
     alloc: Global,
     game: &G,
     reader: &mut Counted<R>,
     writer: &mut Counted<W>,
-) -> Result<u64, Fault>
-    ensures verdicts { IfOk result (λ unlawful. (input : List ℕ) × (verdicts : List LineVerdict)
+) -> Result<LineCounts, Fault>
+    ensures verdicts { IfOk result (λ counts. (input : List ℕ) × (verdicts : List LineVerdict)
         × Consumes (R.remaining reader.old.stream) (R.remaining reader.new.stream) input
         × IsAtEnd (R.remaining reader.new.stream)
         × AreVerdicts (G.rules game.now) (lines input) verdicts
         × Appends (W.contents writer.old.stream) (W.contents writer.new.stream) (verdict_lines verdicts)
-        × (unlawful ≡ count_unlawful verdicts)) }
+        × (counts.unlawful ≡ count_unlawful verdicts)
+        × (counts.skipped ≡ count_skipped verdicts)) }
     ensures no_fault { OnOk result ((reader.new.faults ≡ reader.old.faults) × (writer.new.faults ≡ writer.old.faults)) }
     ensures stops { IfErr result (λ fault. (given : List ℕ) × (first : List (List ℕ)) × (left : List ℕ) × (verdicts : List LineVerdict)
         × Consumes (R.remaining reader.old.stream) (R.remaining reader.new.stream) given
@@ -121,17 +129,26 @@ pub fn check_records<G: Game, R: Read, W: Write>(
     lines_are_taken();
     let mut buffer = LineBuffer::new();
     let mut unlawful = 0;
+    let mut skipped = 0;
     for place in 0..u64::MAX {
-        match buffer.next_line(alloc, reader, MAX_RECORD) {
+        match buffer.next_line(alloc, reader, MAX_LINE) {
             Ok(NextLine::Ended(line)) => match check_line(alloc, game, &line, writer) {
-                Ok(count) => unlawful += count,
+                Ok(verdict) => {
+                    unlawful += count_unlawful(verdict);
+                    skipped += count_skipped(verdict);
+                }
                 Err(fault) => return Err(fault),
             },
             Ok(NextLine::Last(line)) => match check_line(alloc, game, &line, writer) {
-                Ok(count) => return Ok(unlawful + count),
+                Ok(verdict) => {
+                    return Ok(LineCounts {
+                        unlawful: unlawful + count_unlawful(verdict),
+                        skipped: skipped + count_skipped(verdict),
+                    });
+                }
                 Err(fault) => return Err(fault),
             },
-            Ok(NextLine::Nothing) => return Ok(unlawful),
+            Ok(NextLine::Nothing) => return Ok(LineCounts { unlawful, skipped }),
             Err(fault) => return Err(Fault::from(fault)),
         }
     }

@@ -61,7 +61,10 @@ fn perform<G: Game + Drop, R: Read, W: Write>(
         }
         GameCommand::Verify => check_record(alloc, &game, reader, writer, remarks),
         GameCommand::VerifyLines => match check_records(alloc, &game, reader, writer) {
-            Ok(count) => unless_none(count, Fault::UnlawfulRecords(count)),
+            Ok(counts) => {
+                remarks.skipped_lines(counts.skipped);
+                unless_none(counts.unlawful, Fault::UnlawfulRecords(counts.unlawful))
+            }
             Err(fault) => Err(fault),
         },
         GameCommand::Replay => {

@@ -9,9 +9,10 @@ ghost use Rattle.game_commands.specs.Faults.{IsFileFault};
 ghost use Rattle.game_commands.specs.declared.fault.Fault.TheVariants.{Memory};
 ghost use Rattle.game_commands.specs.declared.files.NamedFile.TheVariants.{Records};
 
-use crate::checking::MAX_RECORD;
+use crate::checking::MAX_LINE;
 use crate::fault::Fault;
 use crate::files::{FileFault, NamedFile, opening_fault, reading_fault};
+use crate::verdicts::is_account_line;
 use game_core::{Counted, Game};
 use indexmap::IndexSet;
 use match_plans::MatchPlan;
@@ -31,6 +32,8 @@ use whole_streams::{LineBuffer, NextLine};
 pub struct DoneMatches {
     /// The names of each match. Lawful names have no spaces, so different matches have different texts.
     names: IndexSet<Vec<u8>>,
+    /// The number of lines that are neither lawful records nor lines of accounts.
+    other_lines: u64,
 }
 
 /// Appends a name and a space to `names`.
@@ -77,8 +80,14 @@ fn names_if_over(alloc: Global, parts: &RecordParts) -> Result<Option<Vec<u8>>, 
     }
 }
 
-/// The names of a line's match. `None` if the line is no lawful record, or the match is not over.
-fn done_names<G: Game>(alloc: Global, game: &G, line: &[u8]) -> Result<Option<Vec<u8>>, Fault>
+/// The names of a line's match. `None` if the line is no lawful record, or the match is not over. A line that is neither a lawful record
+/// nor one of an account is counted among the others.
+fn done_names<G: Game>(
+    alloc: Global,
+    game: &G,
+    line: &[u8],
+    other_lines: &mut u64,
+) -> Result<Option<Vec<u8>>, Fault>
     ensures names { IfOk result (λ o. AreNamesOf (G.rules game.now) line.now (option_map (λ names. names.items) o)) }
     ensures memory { IfErr result (λ fault. fault ≡ Memory) }
 {
@@ -87,11 +96,21 @@ fn done_names<G: Game>(alloc: Global, game: &G, line: &[u8]) -> Result<Option<Ve
     match lawful_parts(alloc, game, line) {
         Ok(parts) => names_if_over(alloc, &parts),
         Err(VerifyFault::Memory) => Err(Fault::Memory),
-        Err(_) => Ok(None),
+        Err(_) => {
+            if !is_account_line(line) {
+                *other_lines = other_lines.saturating_add(1);
+            }
+            Ok(None)
+        }
     }
 }
 
 impl DoneMatches {
+    /// The number of lines that are neither lawful records nor lines of accounts.
+    pub fn other_lines(&self) -> u64 {
+        self.other_lines
+    }
+
     /// Whether a match with this id and these players is over.
     pub fn has(&self, alloc: Global, plan: &MatchPlan<'_>) -> Result<bool, AllocError>
         ensures { IfOk result (λ found. found ≡ is_noted self.now (match_names plan.now.id.now (map (λ p. p.name.now) plan.now.players.items))) }
@@ -100,12 +119,13 @@ impl DoneMatches {
         Ok(self.names.contains(names.as_slice()))
     }
 
-    /// Notes the match of a line, if the line is its lawful record and the match is over. Any other line is skipped.
+    /// Notes the match of a line, if the line is its lawful record and the match is over. Any other line is skipped, and counted if it is
+    /// neither a lawful record nor one of an account.
     fn note<G: Game>(&mut self, alloc: Global, game: &G, line: &[u8]) -> Result<(), Fault>
         ensures noted { OnOk result ((first : List (List ℕ)) → AreDone (G.rules game.now) first self.old → AreDone (G.rules game.now) (first ++ line.now ∷ []) self.new) }
         ensures memory { IfErr result (λ fault. fault ≡ Memory) }
     {
-        match done_names(alloc, game, line) {
+        match done_names(alloc, game, line, &mut self.other_lines) {
             Ok(Some(names)) => self.add(names),
             Ok(None) => Ok(()),
             Err(fault) => Err(fault),
@@ -122,7 +142,8 @@ impl DoneMatches {
     }
 }
 
-/// The matches that are over, by the lines of an input. Each line is one record. Other lines are skipped.
+/// The matches that are over, by the lines of an input. Each line is one record. Other lines are skipped, and one line is in memory at a
+/// time.
 fn done_in<G: Game, R: Read>(
     alloc: Global,
     game: &G,
@@ -137,10 +158,11 @@ fn done_in<G: Game, R: Read>(
     lines_are_taken();
     let mut done = DoneMatches {
         names: IndexSet::new(alloc),
+        other_lines: 0,
     };
     let mut buffer = LineBuffer::new();
     for _ in 0..u64::MAX {
-        match buffer.next_line(alloc, reader, MAX_RECORD) {
+        match buffer.next_line(alloc, reader, MAX_LINE) {
             Ok(NextLine::Ended(line)) => done.note(alloc, game, &line)?,
             Ok(NextLine::Last(line)) => {
                 done.note(alloc, game, &line)?;

@@ -1,4 +1,4 @@
-//! The lines that explain a fault, before its own line.
+//! The lines that explain a fault, before its own line, or say what was skipped.
 
 use crate::bad_entries::push_bad_entry;
 use crate::bad_lines::push_first_bad_line;
@@ -7,7 +7,8 @@ use ground_rules::LoadFault;
 use match_record::VerifyFault;
 use std::alloc::{AllocError, Global};
 
-/// The lines that explain a fault, each with a line feed. There are none if they are not wanted, or if they were out of memory.
+/// The lines that explain a fault or say what was skipped, each with a line feed. There are none if they are not wanted, or if they were
+/// out of memory.
 #[derive(Drop)]
 pub struct Remarks {
     alloc: Global,
@@ -94,6 +95,21 @@ impl Remarks {
             return;
         }
         if self.lines.push_str(LINES).is_err() {
+            self.lines.clear();
+        }
+    }
+
+    /// Says how many lines of accounts were skipped, if there were any.
+    pub fn skipped_lines(&mut self, count: u64) {
+        if !self.is_wanted || count == 0 {
+            return;
+        }
+        if write!(
+            self.lines,
+            "ggp_manager: lines of accounts skipped {count}\n"
+        )
+        .is_err()
+        {
             self.lines.clear();
         }
     }

@@ -1,10 +1,12 @@
 //! The verdicts on the lines of a file of records, and their lines of output.
-ghost use Rattle.std.specs.Prelude.{◌≡◌, IfOk, IfErr, string_bytes};
+ghost use Rattle.std.specs.Prelude.{◌≡◌, ◌≤◌, ◌∷◌, [], IfOk, IfErr, string_bytes};
 ghost use Rattle.game_commands.specs.declared.fault.Fault.TheVariants.{Memory};
-ghost use Rattle.game_commands.specs.Verdicts.{IsVerdict, is_account_line, verdict_line};
+ghost use Rattle.game_commands.specs.Verdicts.{IsVerdict, count_skipped, count_unlawful, is_account_line, verdict_line};
 
 use crate::fault::Fault;
+use desk_text::first_piece;
 use game_core::Game;
+use game_core::numeral::are_digits;
 use match_record::VerifyFault;
 use record_check::verify;
 use std::alloc::{AllocError, Global};
@@ -16,18 +18,21 @@ pub enum Verdict {
     Lawful,
     /// No lawful record, by the first test that it fails.
     Unlawful(VerifyFault),
-    /// A line of an account, by its first byte.
+    /// A line of an account, by its form.
     Account,
 }
 
-/// Whether the line begins with a digit. Each line of an account does, and no record does.
-fn is_account_line(line: &[u8]) -> bool
+/// Whether the line has the form of an account's: decimal digits, a call and a reply, with a tab between each two.
+pub fn is_account_line(line: &[u8]) -> bool
     ensures { result ≡ is_account_line line.now }
 {
-    match line.first() {
-        Some(byte) => byte.is_ascii_digit(),
-        None => false,
-    }
+    let (number, Some(fields)) = first_piece(line, b'\t') else {
+        return false;
+    };
+    let (call, Some(_)) = first_piece(fields, b'\t') else {
+        return false;
+    };
+    are_digits(number) && !call.is_empty()
 }
 
 /// The verdict on a line.
@@ -53,5 +58,27 @@ pub fn verdict_line(alloc: Global, verdict: Verdict) -> Result<String, AllocErro
         Verdict::Lawful => String::from_str(alloc, "lawful\n"),
         Verdict::Account => String::from_str(alloc, ""),
         Verdict::Unlawful(fault) => format!(in alloc; "not lawful: {fault}\n"),
+    }
+}
+
+/// 1 if the line is no lawful record, and 0 otherwise.
+pub fn count_unlawful(verdict: Verdict) -> u64
+    ensures count { result ≡ count_unlawful (verdict ∷ []) }
+    ensures small { result ≤ 1 }
+{
+    match verdict {
+        Verdict::Unlawful(_) => 1,
+        Verdict::Lawful | Verdict::Account => 0,
+    }
+}
+
+/// 1 if the line is one of an account, and 0 otherwise.
+pub fn count_skipped(verdict: Verdict) -> u64
+    ensures count { result ≡ count_skipped (verdict ∷ []) }
+    ensures small { result ≤ 1 }
+{
+    match verdict {
+        Verdict::Account => 1,
+        Verdict::Lawful | Verdict::Unlawful(_) => 0,
     }
 }

@@ -33,7 +33,7 @@ use std::time::Clock;
 use whole_streams::{Pieces, write_all};
 
 /// Performs the command of the words after the program's name, and returns the program's status. A fault is one line on `errors`, after
-/// the lines that explain it. A failed write to `errors` is skipped. On a terminal `errors` also shows the progress of matches.
+/// the remarks. A failed write to `errors` is skipped. On a terminal `errors` also shows the progress of matches.
 pub fn command<H, P, S, R: Read, W: Write, E: Write + Send>(
     rt: &H,
     alloc: Global,
@@ -72,22 +72,22 @@ fn texts<'a>(alloc: Global, words: &'a [String]) -> Result<Vec<&'a str>, AllocEr
     words.iter().map(|word| word.as_str()).collect(alloc)
 }
 
-/// Reports the fault of a command, if it has one. Returns the program's status.
+/// Writes the remarks, and reports the fault of a command, if it has one. Returns the program's status.
 fn end<E: Write>(performed: Result<(), Fault>, remarks: &Remarks, errors: &mut E) -> u8
     ensures none { OnOk performed (result ≡ 0) }
     ensures some { IfErr performed (λ fault. result ≡ status_of fault) }
 {
+    report_remarks(errors, remarks);
     match performed {
         Ok(()) => 0,
         Err(fault) => {
-            report_remarks(errors, remarks);
             report(errors, fault);
             fault.status()
         }
     }
 }
 
-/// Writes the lines that explain a fault, as far as the stream takes them.
+/// Writes the lines that explain a fault or say what was skipped, as far as the stream takes them.
 fn report_remarks<E: Write>(errors: &mut E, remarks: &Remarks) {
     let mut pieces = Pieces { stream: errors };
     let _ = pieces.write_str(remarks.lines());

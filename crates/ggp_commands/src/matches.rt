@@ -176,7 +176,7 @@ where
 {
     let mut errors = ReportStream::new(rt, &console.notices);
     let mut file = Counted::new(records_file(rt, alloc, path, &mut errors)?);
-    let left = undone(rt, alloc, game.game, Some(path), plans)?;
+    let left = undone(rt, alloc, game.game, Some(path), plans, &mut errors)?;
     let played = play_plans::<H, P, S, RecordsFile<'_, H, <H as Files>::File>>(
         rt, alloc, reach, form, game, &left, &mut file, console,
     );

@@ -40,13 +40,28 @@ fn left_over<'a>(
     Ok(left)
 }
 
-/// The matches that are not over by the file of records that is named, if one is.
-pub fn undone<'a, F: Files>(
+/// Reports how many lines of a file are neither lawful records nor lines of accounts, if there are any.
+fn tell_other_lines<E: Write>(errors: &mut E, path: &str, count: u64) {
+    let mut pieces = Pieces { stream: errors };
+    let _ = match count {
+        0 => Ok(()),
+        1 => writeln!(pieces, "ggp_manager: 1 line of {path} is no lawful record"),
+        _ => writeln!(
+            pieces,
+            "ggp_manager: {count} lines of {path} are no lawful records"
+        ),
+    };
+}
+
+/// The matches that are not over by the file of records that is named, if one is. It is reported how many of its lines are neither lawful
+/// records nor lines of accounts.
+pub fn undone<'a, F: Files, E: Write>(
     files: &F,
     alloc: Global,
     game: &PackedGame,
     file: Option<&str>,
     plans: Vec<MatchPlan<'a>>,
+    errors: &mut E,
 ) -> Result<Vec<MatchPlan<'a>>, Fault>
     ensures left { IfOk result (λ left. AreLeft game.now file.entry plans.entry.items left.items) }
     ensures fault { IfErr result (λ fault. (is_some file.entry ≡ true) × IsFileFault Records fault) }
@@ -55,6 +70,7 @@ pub fn undone<'a, F: Files>(
         None => Ok(plans),
         Some(path) => {
             let done = done_matches(files, alloc, game, path)?;
+            tell_other_lines(errors, path, done.other_lines());
             Ok(left_over(alloc, plans, &done)?)
         }
     }
@@ -97,7 +113,7 @@ pub fn plans_of<'a, F: Files, E: Write>(
     let plans = read_schedule(alloc, schedule, game.roles(), season.strikes)?;
     refuse_output(files, season.done)?;
     let all = plans.len();
-    let left = undone(files, alloc, game, season.done, plans)?;
+    let left = undone(files, alloc, game, season.done, plans, errors)?;
     match season.done {
         Some(path) if left.len() == all => tell_none_done(errors, path),
         _ => {}

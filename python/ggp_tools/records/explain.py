@@ -23,6 +23,8 @@ LONGEST_RECORD, LONGEST_RULES = 16 << 20, 1 << 20
 MOST_LISTED, MOST_OF_VALUE, MOST_OF_TEXT = 20, 80, 400
 # A fault is a tuple: how the program names it, and the lines that explain it.
 NOT_LAWFUL = re.compile(r"ggp_manager: not lawful: (.+)")
+# What may follow a record: another one, or a line of its account.
+FOLLOWS = re.compile(r"\{|[0-9]+\t[^\t\n]+\t")
 
 
 class NoVerdict(Exception):
@@ -62,7 +64,7 @@ def json_lines(data):
         json.loads(data.decode("utf-8"), parse_int=float)
     except json.JSONDecodeError as why:
         lines = [f"The text is no JSON: line {why.lineno}, column {why.colno}: {why.msg}."]
-        more = why.msg == "Extra data" and re.match(r"[{0-9]", why.doc[why.pos :])
+        more = why.msg == "Extra data" and FOLLOWS.match(why.doc, why.pos)
         return lines + ["More follows the first record: give one record at a time, without its account. `verify --lines` checks one a line."] * bool(more)
     except UnicodeDecodeError as why:
         line, column = data.count(b"\n", 0, why.start) + 1, why.start - data.rfind(b"\n", 0, why.start)

@@ -22,7 +22,7 @@ import sys
 import threading
 from typing import BinaryIO, NamedTuple
 
-LONGEST_RECORD = 16 << 20
+LONGEST_LINE = 64 << 30
 PIECE = 4 << 20
 MOST_PIECE = 1 << 30
 MOST_JOBS = 1_024
@@ -30,7 +30,8 @@ MOST_JOBS = 1_024
 CHUNK = 1 << 20
 # This many pieces may be read, or wait until they are written, beside those that are being checked.
 WAITING = 2
-UNLAWFUL = re.compile(rb"ggp_manager: records not lawful ([0-9]+)\n")
+# What the program says of a piece that it has read to its end.
+COUNTS = re.compile(rb"(?:ggp_manager: lines of accounts skipped ([0-9]+)\n)?(?:ggp_manager: records not lawful ([0-9]+)\n)?")
 
 
 class Fault(Exception):
@@ -42,9 +43,11 @@ class Fault(Exception):
 
 
 class Checked(NamedTuple):
-    """What the check of a piece came to: the verdicts, how many lines are no lawful records, and the fault that ended it, if one did."""
+    """What the check of a piece came to: the verdicts, how many lines are of accounts, how many others are no lawful records, and the
+    fault that ended it, if one did."""
 
     verdicts: BinaryIO | None
+    skipped: int = 0
     unlawful: int = 0
     fault: Fault | None = None
 
@@ -68,7 +71,7 @@ def pieces(size):
     yield []
     held, count, of_line = [], 0, 0
     try:
-        while of_line <= LONGEST_RECORD and (part := os.read(0, min(size, CHUNK))):
+        while of_line <= LONGEST_LINE and (part := os.read(0, min(size, CHUNK))):
             end = part.rfind(b"\n") + 1
             of_line = len(part) - end if end else of_line + len(part)
             held.append(part)
@@ -116,12 +119,12 @@ def check(words, piece):
             said, status = it.read(), child.returncode
     except OSError as error:
         return Checked(None, fault=Fault(own_words(f"{words[0]} can't be run: {error.strerror}")))
-    unlawful = UNLAWFUL.fullmatch(said)
+    counts = COUNTS.fullmatch(said)
     if status < 0:
         said += own_words(f"{words[0]} was ended by signal {-status}")
         return Checked(verdicts, fault=Fault(said, 128 - status))
-    if status == 1 and unlawful:
-        return Checked(verdicts, int(unlawful[1]))
+    if counts and status == (1 if counts[2] else 0):
+        return Checked(verdicts, int(counts[1] or 0), int(counts[2] or 0))
     return Checked(verdicts, fault=Fault(said, status) if status else None)
 
 
@@ -143,7 +146,7 @@ class Checking:
     def __init__(self, words, jobs, size):
         self.words, self.pieces = words, enumerate(pieces(size))
         self.reading, self.running = threading.Lock(), threading.Semaphore(jobs)
-        self.turns, self.written, self.unlawful = threading.Condition(), 0, 0
+        self.turns, self.written, self.skipped, self.unlawful = threading.Condition(), 0, 0, 0
         # What each thread came to: none where no piece was left.
         self.ends = queue.SimpleQueue()
 
@@ -160,6 +163,7 @@ class Checking:
                 copy_out(checked.verdicts)
             if checked.fault:
                 raise checked.fault
+            self.skipped += checked.skipped
             self.unlawful += checked.unlawful
             self.written += 1
             self.turns.notify_all()
@@ -190,6 +194,8 @@ def check_all(words, jobs, size):
         fault = checking.ends.get()
         if fault:
             raise fault
+    if checking.skipped:
+        say(f"ggp_manager: lines of accounts skipped {checking.skipped}\n".encode())
     if checking.unlawful:
         raise Fault(f"ggp_manager: records not lawful {checking.unlawful}\n".encode())
 

@@ -4,15 +4,16 @@ use Rattle.std.proofs.lemmas.List.Sums.{count_by-le-length}
 use Rattle.std.proofs.KnownBytes.{Consumes-nil, Consumes-trans, Appends-nil}
 use Rattle.std.specs.Str.Lines.{lines}
 use Rattle.whole_streams.specs.Lines.{BeginsWithLine, IsNextLine}
-use Rattle.game_commands.specs.Verdicts.{AreVerdicts, is_unlawful, count_unlawful}
+use Rattle.game_commands.specs.Verdicts.{AreVerdicts, is_skipped, is_unlawful, count_skipped, count_unlawful}
 use Rattle.game_commands.specs.Checks.{CheckStops}
 use Rattle.game_commands.proofs.CheckedLines.{begins_more, begins_line, begins_last, verdicts_push, lines_push, count_push, calls_on, read_stops, tell_stops}
 use Rattle.game_commands.proofs.checking.check_records.Goals as goal
 
 pub loop-place-init : goal.loop-place-init
 loop-place-init g c = record {
-  checked = ([], [], [], Consumes-nil _, (λ more. ap (λ l. lines (l ++ more)) (sym c.new-buffer.ensures)), tt, Appends-nil _, refl, refl);
-  few = search rules;
+  checked = ([], [], [], Consumes-nil _, (λ more. ap (λ l. lines (l ++ more)) (sym c.new-buffer.ensures)), tt, Appends-nil _, refl, refl, refl);
+  few_unlawful = search rules;
+  few_skipped = search rules;
   calls = search rules;
   read = refl;
   wrote = refl;
@@ -28,10 +29,13 @@ loop-place-preserved g c =
     let begins = subst (λ n. IsNextLine (g.R.Read.remaining c.next_line.new.reader.stream) bytes n left) c.in-Ok-Ended.field-0-is next.2 in
     let same : c.deref.result.now ≡ c.in-Ok-Ended.line.items = search rules in
     let line = subst (λ l. BeginsWithLine bytes l left) (sym same) begins in
-    let all = was.2 ++ told.0 ∷ [] in
-    let count : c.loop-place.unlawful + c.in-Ok.count ≡ count_unlawful all =
-    ap (λ n. n + c.in-Ok.count) was.7 ∙ ap (λ n. count_unlawful was.2 + n) told.2 ∙ sym (count_push was.2 told.0) in
-    let size : length all ≡ c.loop-place.place + 1 = length_push was.2 told.0 ∙ ap (λ n. n + 1) was.8 in
+    let verdict = c.in-Ok.verdict in
+    let all = was.2 ++ verdict ∷ [] in
+    let unlawful : c.loop-place.unlawful + c.count_unlawful-unlawful.result ≡ count_unlawful all =
+    ap (λ n. n + c.count_unlawful-unlawful.result) was.7 ∙ ap (λ n. count_unlawful was.2 + n) c.count_unlawful-unlawful.ensures.count ∙ sym (count_push is_unlawful was.2 verdict) in
+    let skipped : c.loop-place.skipped + c.count_skipped-skipped.result ≡ count_skipped all =
+    ap (λ n. n + c.count_skipped-skipped.result) was.8 ∙ ap (λ n. count_skipped was.2 + n) c.count_skipped-skipped.ensures.count ∙ sym (count_push is_skipped was.2 verdict) in
+    let size : length all ≡ c.loop-place.place + 1 = length_push was.2 verdict ∙ ap (λ n. n + 1) was.9 in
     record {
       checked = (
         was.0 ++ next.0,
@@ -39,12 +43,14 @@ loop-place-preserved g c =
         all,
         Consumes-trans _ _ _ _ _ was.3 next.1,
         begins_line c.lines_are_taken.ensures.first (was.0 ++ next.0) was.1 bytes c.deref.result.now left (begins_more was.0 was.1 c.loop-place.buffer next.0 was.4) line,
-        verdicts_push _ was.1 was.2 c.deref.result.now told.0 was.5 told.1,
-        lines_push _ _ _ was.2 told.0 was.6 told.3,
-        count,
+        verdicts_push _ was.1 was.2 c.deref.result.now verdict was.5 told.0,
+        lines_push _ _ _ was.2 verdict was.6 told.1,
+        unlawful,
+        skipped,
         size,
       );
-      few = omega (arith, count, size, count_by-le-length is_unlawful all);
+      few_unlawful = omega (arith, unlawful, size, count_by-le-length is_unlawful all);
+      few_skipped = omega (arith, skipped, size, count_by-le-length is_skipped all);
       calls = calls_on _ _ _ c.loop-place.invariant.calls c.in-Ok-Ended.ensures.called;
       read = c.in-Ok-Ended.ensures.no_fault ∙ c.loop-place.invariant.read;
       wrote = c.in-Ok.ensures.no_fault ∙ c.loop-place.invariant.wrote;
@@ -58,17 +64,20 @@ returns-in-Ok-check_line-clause-verdicts g c =
     let told = c.in-Ok-check_line.ensures.verdict in
     let last = subst (λ n. IsNextLine (g.R.Read.remaining c.next_line.new.reader.stream) bytes n c.next_line.new.self) c.in-Ok-Last.field-0-is next.2 in
     let same : c.deref-in-Ok-Last.result.now ≡ c.in-Ok-Last.line.items = search rules in
-    let all = was.2 ++ told.0 ∷ [] in
+    let verdict = c.in-Ok-check_line.verdict in
+    let all = was.2 ++ verdict ∷ [] in
     let cut = begins_last c.lines_are_taken.ensures.last was.0 was.1 c.loop-place.buffer next.0 c.deref-in-Ok-Last.result.now was.4 last.0 (same ∙ last.1) last.2 in
-    let verdicts = verdicts_push _ was.1 was.2 c.deref-in-Ok-Last.result.now told.0 was.5 told.1 in
-    let count = ap (λ n. n + c.in-Ok-check_line.count) was.7 ∙ ap (λ n. count_unlawful was.2 + n) told.2 ∙ sym (count_push was.2 told.0) in (
+    let verdicts = verdicts_push _ was.1 was.2 c.deref-in-Ok-Last.result.now verdict was.5 told.0 in
+    let unlawful = ap (λ n. n + c.count_unlawful.result) was.7 ∙ ap (λ n. count_unlawful was.2 + n) c.count_unlawful.ensures.count ∙ sym (count_push is_unlawful was.2 verdict) in
+    let skipped = ap (λ n. n + c.count_skipped.result) was.8 ∙ ap (λ n. count_skipped was.2 + n) c.count_skipped.ensures.count ∙ sym (count_push is_skipped was.2 verdict) in (
       was.0 ++ next.0,
       all,
       Consumes-trans _ _ _ _ _ was.3 next.1,
       last.4,
       subst (λ ls. AreVerdicts (g.G.Game.rules c.args.game.now) ls all) (sym cut) verdicts,
-      lines_push _ _ _ was.2 told.0 was.6 told.3,
-      count,
+      lines_push _ _ _ was.2 verdict was.6 told.1,
+      unlawful,
+      skipped,
     )
 
 pub returns-in-Err-check_line-clause-stops : goal.returns-in-Err-check_line-clause-stops

@@ -1,8 +1,24 @@
-use Rattle.std.proofs.Common.{inr}
+use Rattle.std.proofs.Common.{inl, inr, refl}
 use Rattle.std.proofs.lemmas.Result.{IfErr-weaker}
+use Rattle.game_commands.specs.Verdicts.{verdict_lines}
 use Rattle.game_commands.proofs.commands.perform.Goals as goal
 
 pub returns-clause-fails : goal.returns-clause-fails
 returns-clause-fails g c =
     let fails = rw c.in_ok-alone-in-Replay.ensures.list at c.replay_account.ensures.fails in
     rw c.in-Replay.is (IfErr-weaker c.replay_account.result _ _ (λ fault stops. inr stops) fails)
+
+pub returns-in-Ok-clause-fails : goal.returns-in-Ok-clause-fails
+returns-in-Ok-clause-fails g c =
+    let checked = c.in-Ok.ensures.verdicts in
+    let no_fault = c.in-Ok.ensures.no_fault in
+    rw c.in-VerifyLines.is (IfErr-weaker c.unless_none-in-Ok.result _ _
+        (λ fault it. inl (c.in-Ok.counts.unlawful, it.0, it.1, (checked.0, verdict_lines checked.1,
+            record {
+              read = checked.2;
+              ended = checked.3;
+              wrote = checked.5;
+              no_read_fault = no_fault.0;
+              no_write_fault = no_fault.1;
+            }, (checked.1, checked.4, refl, checked.6))))
+        c.unless_none-in-Ok.ensures.some)
