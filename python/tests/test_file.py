@@ -29,6 +29,7 @@ MISTAKES = [
     ("strikes = 3", "striks = 3", [(3, "striks", "no such key")]),
     ("strikes = 3", "strikes 3", [(3, "strikes", "Expected '=' after a key")]),
     ("strikes = 3", 'forfeit = "yes"', [(3, "forfeit", "true or false")]),
+    ("strikes = 3", 'order = "wins"', [(3, "order", "'wins' is none of goals, points")]),
     ("strikes = 3", 'absent = "wait"', [(3, "absent", "none of leave, play")]),
     ('"me@two"', '"-oProxyCommand=x"', [(4, "hosts", "is no host")]),
     *(('"me@two"', f'"{host}"', [(4, "hosts", f"'{host}' is no host: NAME or USER@NAME is wanted")]) for host in NO_HOSTS),

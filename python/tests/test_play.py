@@ -50,7 +50,11 @@ class Play(InFolder):
         for head, said in (("forfeit = true\n", True), ("", False)):
             self.planned(["good", "lying"], head=HEAD + head)
             out = run(self.folder, "play")[1]
-            self.assertEqual([", forfeit: p1, " in line for line in lines(out, "end")], [said] * 2, out)
+            self.assertEqual([", forfeit: p1 (IL in turns 1 to 2), counts as " in line for line in lines(out, "end")], [said] * 2, out)
+            self.assertEqual(["p0 100" in line.rpartition("counts as")[2] for line in lines(out, "end")], [said] * 2, out)
+            run(self.folder, "pages")
+            pages = [self.folder / "pages" / name for name in ("index.html", "games/countdown.html", "matches/cup-001.html")]
+            self.assertEqual(["forfeit: p1 (IL in turns 1 to 2)" in page.read_text() for page in pages], [said] * 3)
             shutil.rmtree(self.folder / "records")
 
     def test_times_stand_in_matches_jsonl(self):

@@ -24,9 +24,11 @@ MOST_SECONDS, MOST_STRIKES, MOST_PLAYERS, MOST_ROUNDS, MOST_PORT = 86_400, 255, 
 INSTANTIATING, MOST_INSTANTIATING = 60, 1_000_000
 KINDS = ("round_robin", "gauntlet", "schedule")
 ABSENT = ("leave", "play")
+# What the standings are ordered by.
+ORDERS = BY_GOALS, BY_POINTS = "goals", "points"
 # What START carries: the rules that the referee plays, or the description that they were made from.
 TOLD = ("ground", "variables")
-ROOT_KEYS = ("name", "start", "play", "strikes", "tries", "wait", "info", "absent", "forfeit", "hosts", "form", "games", "players")
+ROOT_KEYS = ("name", "start", "play", "strikes", "tries", "wait", "info", "absent", "forfeit", "order", "hosts", "form", "games", "players")
 
 
 @dataclass(frozen=True)
@@ -110,6 +112,7 @@ class Competition:
     info: int
     absent: str
     forfeit: bool
+    order: str
     hosts: tuple[str, ...]
     form: Form
     games: tuple[Game, ...]
@@ -352,6 +355,7 @@ def read_competition(data: bytes) -> Competition:
         root.number("info", 1, 10, 10),
         root.word("absent", ABSENT, "leave"),
         root.flag("forfeit"),
+        root.word("order", ORDERS, BY_GOALS),
         hosts_of(root),
         form_of(root, games, players),
         tuple(games),

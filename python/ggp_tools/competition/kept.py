@@ -97,7 +97,7 @@ def looked_at(plan, referee, game, matches):
             continue
         record = read_record(records[at])
         misfit = fault_of_record(record, match, plan.competition.strikes)
-        yield match, None, misfit, None if misfit else result_of(record, match)
+        yield match, None, misfit, None if misfit else result_of(record, match, plan.competition.forfeit)
 
 
 def look_at_records(plan, referee):

@@ -53,7 +53,7 @@ class Playing:
             abort_matches(self.referee, {open_match.match.id: open_match.places}, self.plan.folder, self.reporter)
         if open_match.result:
             self.results[open_match.match.id] = open_match.result
-            self.reporter.ends(open_match.result, self.plan.competition.forfeit, open_match.seconds)
+            self.reporter.ends(open_match.result, open_match.seconds)
             self.ended(open_match.result)
         elif open_match.why:
             self.is_full |= says_full(open_match.why, open_match.is_broken and self.plan.competition.hosts)

@@ -2,11 +2,15 @@
 
 It follows from the records alone. A player's result in a match is won where its goal is above that of every other player, lost where
 one is above its own, else drawn; in a match of one role, or without goals, it is none of the three. With `forfeit` a player that was
-retired in a match has lost it, whatever the goals and also without any, against each player that was not, and its goal counts as 0."""
+retired in a match has lost it, whatever the goals and also without any, against each player that was not. Its goal counts as 0, and who
+is left gets 100, which several share and have drawn."""
 
+from collections.abc import Iterable
 from dataclasses import dataclass, field
 
-from ggp_tools.competition.ratings import rated
+from ggp_tools.competition.competition_file import BY_POINTS, Competition
+from ggp_tools.competition.ratings import Rating, rated
+from ggp_tools.competition.results import Result
 
 ALL = "all games"
 
@@ -22,77 +26,84 @@ class Line:
     won: int = 0
     drawn: int = 0
     lost: int = 0
+    won_by_forfeit: int = 0
+    lost_by_forfeit: int = 0
     moves: int = 0
     replaced: int = 0
     absent: int = 0
     retired: int = 0
-    rating: object = None
+    rating: Rating | None = None
 
-    def mean(self):
+    def mean(self) -> float | None:
         return round(self.goals / self.scored, 2) if self.scored else None
 
-    def order(self):
-        """Returns what orders the line: the mean goals as they are printed, 0 where there are none, then wins, then losses."""
-        return -(self.mean() or 0), -self.won, self.lost
+    def points(self) -> float:
+        """Returns a point for each match that was won, and half of one for each that was drawn."""
+        return self.won + self.drawn / 2
+
+    def order(self, by: str) -> tuple[float, ...]:
+        """Returns what orders the line: the mean goals as they are printed, 0 where there are none, then wins, then losses; or all of it
+        after the points."""
+        goals = -(self.mean() or 0), -self.won, self.lost
+        return (-self.points(), *goals) if by == BY_POINTS else goals
 
 
 @dataclass
 class Table:
-    """The lines of a game, or of all, in the order of the standings; and by pairs of players the points of the first against the
-    second, and how often they met."""
+    """The lines of a game, or of all, in the order of the standings; by pairs of players the points of the first against the second, and
+    how often they met; and what the lines are ordered by."""
 
     game: str
-    lines: dict
-    points: dict = field(default_factory=dict)
-    met: dict = field(default_factory=dict)
+    lines: dict[str, Line]
+    points: dict[tuple[str, str], float] = field(default_factory=dict)
+    met: dict[tuple[str, str], int] = field(default_factory=dict)
     matches: int = 0
+    by: str = ""
 
-    def standings(self):
+    def standings(self) -> list[Line]:
         """Returns the lines of who has played, in order; equal ones as they stand in competition.toml."""
-        return sorted((line for line in self.lines.values() if line.matches), key=Line.order)
+        return sorted((line for line in self.lines.values() if line.matches), key=lambda line: line.order(self.by))
 
-    def places(self):
+    def places(self) -> list[int]:
         """Returns the places of the standings: lines that nothing orders share one, and the places behind it stay free."""
-        orders = list(map(Line.order, self.standings()))
-        return [1 + orders.index(order) for order in orders]
+        orders, first = [line.order(self.by) for line in self.standings()], {}
+        for at, order in enumerate(orders, 1):
+            first.setdefault(order, at)
+        return [first[order] for order in orders]
 
-    def is_of_pairs(self):
+    def is_of_pairs(self) -> bool:
         return bool(self.met)
 
-
-def worths(result, forfeit):
-    """Returns what orders the players of a match, by roles: the goals, and below each of them a forfeit. None where there are none."""
-    forfeits = [forfeit and was_retired for was_retired in result.retired]
-    if not result.goals and not any(forfeits):
-        return None
-    goals = result.goals or [0] * len(forfeits)
-    return [-1 if lost else goal for goal, lost in zip(goals, forfeits)]
+    def has_forfeits(self) -> bool:
+        return any(line.won_by_forfeit or line.lost_by_forfeit for line in self.lines.values())
 
 
-def count_player(line, result, role, worth):
+def count_player(line: Line, result: Result, role: int) -> None:
     line.matches += 1
     line.moves += result.turns
     line.replaced += result.replaced(role)
     line.absent += result.is_absent(role)
-    line.retired += result.retired[role]
+    line.retired += result.retirements[role] is not None
+    worth, counted = result.worths(), result.counted()[role]
     if not worth:
         return
-    # A match without goals has none for who did not forfeit it either.
-    if result.goals or worth[role] < 0:
-        line.scored += 1
-        line.goals += max(0, worth[role])
+    line.scored += 1
+    line.goals += counted
     others = worth[:role] + worth[role + 1 :]
     if others:
-        line.won += worth[role] > max(others)
-        line.lost += worth[role] < max(others) or worth[role] < 0
-        line.drawn += worth[role] == max(others) >= 0
+        won, lost = worth[role] > max(others), worth[role] < max(others) or worth[role] < 0
+        line.won += won
+        line.lost += lost
+        line.drawn += not won and not lost
+        line.won_by_forfeit += won and bool(result.forfeits())
+        line.lost_by_forfeit += role in result.forfeits()
 
 
-def count_pairs(table, result, worth):
+def count_pairs(table: Table, result: Result) -> None:
     """Counts each two players of a match as having met: the higher goal has won, and equal ones are half a win for each. Two that both
     forfeited it have not."""
-    players = result.match.players
-    for one in range(len(players)):
+    players, worth = result.match.players, result.worths() or ()
+    for one in range(len(worth)):
         for other in range(one):
             if worth[one] == worth[other] < 0:
                 continue
@@ -103,20 +114,18 @@ def count_pairs(table, result, worth):
                 table.met[pair] = table.met.get(pair, 0) + 1
 
 
-def tables_of(competition, results):
+def tables_of(competition: Competition, results: Iterable[Result]) -> list[Table]:
     """Returns the tables: first that of all games, then that of each game."""
     names = [entrant.name for entrant in competition.players]
     games = [ALL, *(game.name for game in competition.games)]
-    found = [Table(game, {name: Line(name) for name in names}) for game in games]
+    found = [Table(game, {name: Line(name) for name in names}, by=competition.order) for game in games]
     by_game = {table.game: table for table in found}
     for result in results:
-        worth = worths(result, competition.forfeit)
         for table in (found[0], by_game[result.match.game]):
             table.matches += 1
             for role, player in enumerate(result.match.players):
-                count_player(table.lines[player], result, role, worth)
-            if worth:
-                count_pairs(table, result, worth)
+                count_player(table.lines[player], result, role)
+            count_pairs(table, result)
     for table in found:
         for player, rating in rated([name for name in names if table.lines[name].matches], table.points).items():
             table.lines[player].rating = rating

@@ -3,15 +3,25 @@
 import csv
 import io
 import json
+from collections.abc import Iterator
 
+from ggp_tools.competition.competition_file import BY_POINTS
 from ggp_tools.competition.ratings import MOST_STEPS
+from ggp_tools.competition.results import FULL_GOAL
+from ggp_tools.competition.table import Line, Table
 
-HEADS = ("player", "matches", "goals", "won", "drawn", "lost", "moves", "replaced", "absent", "retired", "rating", "half", "group")
+HEADS = (
+    *("player", "matches", "goals", "won", "drawn", "lost", "moves", "replaced", "absent", "retired", "rating", "half", "group"),
+    *("points", "won_by_forfeit", "lost_by_forfeit"),
+)
 TABLE_FILES = "table.txt", "table.csv", "crosstable.csv", "table.json"
 METHOD = (
     "Bradley and Terry's model, by Hunter's MM iteration (The Annals of Statistics 32, 2004); a draw is half a win; "
     "intervals of 95% from the observed information; 400 points are odds of 10 to 1"
 )
+
+
+FORFEIT = f"A match in which a player was retired is lost for it; who is left gets {FULL_GOAL} goals, which several share."
 
 
 def in_order(plan, results):
@@ -30,11 +40,12 @@ def rounded(number, places):
     return None if number is None else round(number, places) + 0.0
 
 
-def fields(line):
+def fields(line: Line) -> tuple[object, ...]:
     """Returns what a line says, in the order of the heads."""
     rating = line.rating
     rest = (rounded(rating.rating, 1), rounded(rating.half, 1), rating.group) if rating else (None, None, None)
-    return line.player, line.matches, line.mean(), line.won, line.drawn, line.lost, line.moves, line.replaced, line.absent, line.retired, *rest
+    counts = line.won, line.drawn, line.lost, line.moves, line.replaced, line.absent, line.retired
+    return line.player, line.matches, line.mean(), *counts, *rest, line.points(), line.won_by_forfeit, line.lost_by_forfeit
 
 
 def points_text(points):
@@ -61,13 +72,17 @@ def columns(rows):
         yield "  ".join(cells).rstrip()
 
 
-def standings_rows(table, sign="+-"):
+def standings_rows(table: Table, sign: str = "+-") -> Iterator[list[str]]:
     """Gives the rows of the standings, the heads first."""
-    yield ["", "player", "matches", "goals", "won", "drawn", "lost", "replaced", "absent", "retired", "rating"]
+    points, forfeits = table.by == BY_POINTS, table.has_forfeits()
+    head = ["", "player", "matches", *["points"] * points, "goals", "won", "drawn", "lost", *["by forfeit"] * forfeits]
+    yield [*head, "replaced", "absent", "retired", "rating"]
     for place, line in zip(table.places(), table.standings()):
-        counts = [line.won, line.drawn, line.lost, f"{line.replaced} of {line.moves}", line.absent, line.retired]
         name = f"{line.player} (no move of its own)" if line.absent == line.matches else line.player
-        yield [str(place), name, str(line.matches), goals_text(line), *map(str, counts), rating_text(table, line, sign)]
+        row = [str(place), name, str(line.matches), *[points_text(line.points())] * points, goals_text(line)]
+        row += [str(line.won), str(line.drawn), str(line.lost)]
+        row += [f"{line.won_by_forfeit} won, {line.lost_by_forfeit} lost"] * forfeits
+        yield [*row, f"{line.replaced} of {line.moves}", str(line.absent), str(line.retired), rating_text(table, line, sign)]
 
 
 def crosstable_rows(table):
@@ -98,7 +113,7 @@ def table_text(plan, tables):
     """Returns the tables as text."""
     lines = [f"{plan.competition.name}: {tables[0].matches} of {len(plan.matches)} matches"]
     if plan.competition.forfeit:
-        lines.append("A match in which a player was retired is lost for it.")
+        lines.append(FORFEIT)
     for table in tables:
         lines += ["", table.game, "", *columns(list(standings_rows(table)))]
         if table.is_of_pairs():
@@ -136,6 +151,7 @@ def json_text(plan, tables):
         "matches": tables[0].matches,
         "planned": len(plan.matches),
         "forfeit": plan.competition.forfeit,
+        "order": plan.competition.order,
         "ratings": METHOD,
         "tables": [
             {
