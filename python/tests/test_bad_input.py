@@ -69,7 +69,7 @@ class BadInput(InFolder):
             self.assertEqual(run(self.folder, "plan")[0], 0, name)
         (self.folder / "records/cup-1.json").touch()
         self.write(PLAYERS, [("game", "game.kif")], head="play = 4\n")
-        self.assert_refused("schedule.tsv would change, and matches were played", "plan")
+        self.assert_refused("competition.toml: the clocks of game were 10 and 3, and are 10 and 4: put back what was changed", "plan")
 
     def test_a_plan_that_is_broken_off_is_none(self):
         game, written = self.folder / "game.kif", []
@@ -118,6 +118,7 @@ class BadInput(InFolder):
                 self.assertEqual(run(self.folder, "plan")[::2], (0, ""))
                 self.assertEqual({path: path.read_bytes() for path in before}, before)
         text = games.read_text()
+        (self.folder / "planned.toml").unlink()
         for path in before:
             games.write_text(text.replace("100", "99"))
             path.unlink()
@@ -131,9 +132,9 @@ class BadInput(InFolder):
         text = file.read_text()
         file.write_text(text.replace("start = 2", "start = 3"))
         for command in ("play", "table", "pages", "publish"):
-            self.assert_refused("schedule.tsv is not what competition.toml says: matches were played, so put back what was changed\n", command)
+            self.assert_refused("schedule.tsv is not what competition.toml says: matches were played, so put back what was changed, or add to it and plan again\n", command)
         file.write_text(text.replace('name = "game"', 'name = "other"'))
-        self.assert_refused("rules/SHA256SUMS is not what competition.toml says: matches were played, so put back what was changed\n", "play")
+        self.assert_refused("rules/SHA256SUMS is not what competition.toml says: matches were played, so put back what was changed, or add to it and plan again\n", "play")
         file.write_text(text)
         rules.write_text("(role a)")
         self.assert_refused("rules/game.kif is not what `ggp_competition plan` wrote: take it away, and `ggp_competition plan` writes it again\n", "play")

@@ -83,7 +83,7 @@ class Tables(unittest.TestCase):
         results = [result(["ann", "bob"], [100, 0], [0, 5]), result(["bob", "ann"], [0, 100], [5, 0]), result(["bob", "cid"], [100, 0], [5, 4])]
         table = tables_of(competition(), results)[0]
         self.assertEqual([(standing.player, standing.absent) for standing in table.standings()], [("ann", 0), ("bob", 3), ("cid", 0)])
-        said = table_files(Plan(None, competition(), {}, results), [table])["table.txt"].decode()
+        said = table_files(Plan(None, competition(), {}, [played.match for played in results]), [table])["table.txt"].decode()
         self.assertIn("* bob made no move of its own: all of its moves were replaced", said)
 
     def test_forfeit(self):
@@ -153,6 +153,15 @@ class Tables(unittest.TestCase):
         self.assertEqual(result_of(last, match).retirements, (None, Retirement(("TO", "IL"), 3)))
         self.assertEqual(result_of(last, match).errors[1], {"TO": 1, "IL": 1})
 
+    def test_a_match_that_was_ordered_again_counts_for_nobody(self):
+        first, second = result(["ann", "bob"], [100, 0]), result(["ann", "bob"], [0, 100])
+        first = replace(first, match=replace(first.match, again="m2", reason="the host's cable"))
+        tables = tables_of(competition(), [first, second])
+        self.assertEqual([(of.player, of.matches, of.won) for of in tables[0].standings()], [("bob", 1, 1), ("ann", 1, 0)])
+        files = table_files(Plan(None, competition(), {}, [first.match, second.match]), tables)
+        self.assertIn("cup: 1 of 1 matches\n", files["table.txt"].decode())
+        self.assertIn("* m does not count: m2 was ordered in its place: the host's cable\n", files["table.txt"].decode())
+
     def test_a_rating_next_to_nothing_has_no_sign(self):
         for rating, said in ((-0.4, "0 +- 118"), (0.4, "0 +- 118"), (-0.6, "-1 +- 118"), (-118.5, "-118 +- 118")):
             lines = {"ann": Line("ann", matches=1, rating=Rating(rating, 118.2, 1))}
@@ -164,11 +173,11 @@ class Tables(unittest.TestCase):
             with mock.patch("ggp_tools.competition.ratings.MOST_STEPS", steps):
                 tables = tables_of(competition(), results)
             self.assertEqual(list(notes(tables[0])), said)
-            self.assertEqual(json.loads(table_files(Plan(None, competition(), {}, results), tables)["table.json"])["tables"][0]["notes"], said)
+            self.assertEqual(json.loads(table_files(Plan(None, competition(), {}, [played.match for played in results]), tables)["table.json"])["tables"][0]["notes"], said)
 
     def test_files_say_the_same(self):
         results = [result(["ann", "bob"], [100, 0]), result(["bob", "ann"], [50, 50]), result(["cid"], [30], game="one")]
-        files = table_files(Plan(None, competition(), {}, results), tables_of(competition(), results))
+        files = table_files(Plan(None, competition(), {}, [played.match for played in results]), tables_of(competition(), results))
         said = json.loads(files["table.json"])
         lines = [line.split(",") for line in files["table.csv"].decode().splitlines()[1:]]
         self.assertEqual(len(lines), sum(len(of_game["lines"]) for of_game in said["tables"]))

@@ -14,6 +14,7 @@ import zlib
 
 from ggp_tools.competition.described import DIFFERS, IS_SAME, held_records
 from ggp_tools.competition.files import UNFINISHED, Refused, written_whole
+from ggp_tools.competition.history import history_files
 from ggp_tools.competition.kept import look_at_records, strangers
 from ggp_tools.competition.pages import made_anew
 from ggp_tools.competition.plan import faults_of_descriptions, read_plan, read_sums, sums_text
@@ -46,7 +47,8 @@ checks all that follows. By hand, in this folder:
 The rules are ground descriptions; games has the descriptions that they were made from, whose sums when the plan was made are in
 rules/DESCRIPTIONS.sha256. Where rules/GAME.told is there, the players of that game were told this in place of rules/GAME.kif. The
 version of the referee with which this was published is in VERSION. Where GAPS.tsv is there, it has the matches of the schedule that
-have no record.
+have no record. Where again.tsv is there, it has the matches that were played again, with the reasons: the earlier records do not count.
+Where earlier is there, the competition grew: earlier/N.toml is competition.toml as it was when N matches were planned.
 What this does not show: that the players of these names sent these answers, and when. Keep the sum of the archive as you got it.
 """
 
@@ -93,6 +95,8 @@ def contents(plan, referee, results):
     folder = plan.folder
     yield "competition.toml", plan.text
     yield "schedule.tsv", folder.schedule
+    for file in history_files(folder):
+        yield str(file.relative_to(folder.path)), file
     for file in (folder.rule_sums(), folder.description_sums()):
         yield f"rules/{file.name}", file
     for game in plan.competition.games:
@@ -121,7 +125,7 @@ def own_files(plan):
     # The last four are there where the folder comes out of an archive.
     others = (folder.path / name for name in (*TABLE_FILES, SUMS, VERSION, HOW, GAPS))
     descriptions = (file for game in plan.competition.games for file in (folder.description(game), folder.given(game)))
-    return [folder.competition, folder.schedule, folder.matches, *others, *descriptions]
+    return [folder.competition, folder.schedule, folder.planned, folder.again, folder.matches, *others, *descriptions]
 
 
 def publish(plan, referee, results, path):
@@ -221,6 +225,7 @@ def faults_of_files(folder, plan, results, wanted):
         if name not in pages or name not in said or pages[name].read_bytes() != said[name].read_bytes():
             yield f"pages/{name} does not follow from the records"
     known = {SUMS, VERSION, HOW, "competition.toml", "schedule.tsv", *wanted}
+    known |= {str(file.relative_to(plan.folder.path)) for file in history_files(plan.folder)}
     known |= {f"rules/{sums.name}" for sums in (plan.folder.rule_sums(), plan.folder.description_sums())}
     for game in plan.competition.games:
         known |= {f"games/{game.name}.kif", *(f"rules/{file.name}" for file in plan.folder.rule_files(game))}

@@ -48,6 +48,11 @@ class Mistaken(Exception):
         self.mistakes = mistakes
 
 
+def told(path: object, mistakes: Iterable[Mistake]) -> str:
+    """Returns the mistakes of a file, a line for each."""
+    return "\n".join(f"{path}:{mistake.line}: {mistake.key + ': ' if mistake.key else ''}{mistake.words}" for mistake in mistakes)
+
+
 @dataclass(frozen=True)
 class Game:
     """A game that is played: its name, the file of its description, its clocks in seconds, and which rules its players get, with the line

@@ -7,7 +7,7 @@ import shutil
 import time
 
 from ggp_tools.competition.files import UNFINISHED, drop_unfinished, write_whole
-from ggp_tools.competition.results import forfeit_words, times_of
+from ggp_tools.competition.results import remarks, times_of
 from ggp_tools.competition.table import tables_of
 from ggp_tools.competition.table_text import FORFEIT, METHOD, crosstable_rows, notes, standings_rows, without_record
 from ggp_tools.descriptions.loading import sum_of
@@ -86,9 +86,9 @@ def match_row(result, times, up):
     who = ", ".join(f"{html.escape(player)} {goal}" for player, goal in zip(match.players, goals))
     replaced = ", ".join(f"{html.escape(name)} {result.replaced(role)}" for role, name in enumerate(match.players) if result.replaced(role))
     cause = f" ({html.escape(result.cause)})" if result.cause else ""
-    forfeit = f'<br><span class="odd">{html.escape(forfeit_words(result))}</span>' if result.forfeits() else ""
+    more = "".join(f'<br><span class="odd">{html.escape(remark)}</span>' for remark in remarks(result))
     links = link(f"{up}matches/{match.id}.html", match.id), link(f"{up}games/{match.game}.html", match.game)
-    return [*links, who + cause + forfeit, str(result.turns), f'<span class="odd">{replaced}</span>', spelt(times["begin"]), seconds_between(times)]
+    return [*links, who + cause + more, str(result.turns), f'<span class="odd">{replaced}</span>', spelt(times["begin"]), seconds_between(times)]
 
 
 MATCH_HEADS = ["match", "game", "players and goals", "turns", "replaced moves", "begin (UTC)", "seconds"]
@@ -158,8 +158,7 @@ class Pages:
         match, folder = result.match, self.plan.folder
         made = page_of(read_record(folder.record(match.id).read_bytes()))
         way = f"<p>{link('../index.html', self.plan.competition.name)} / {link(f'../games/{match.game}.html', match.game)}</p>"
-        if result.forfeits():
-            way += f"<p>{html.escape(forfeit_words(result))}</p>"
+        way += "".join(f"<p>{html.escape(remark)}</p>" for remark in remarks(result))
         self.put(f"matches/{match.id}.html", made.replace(b"<body>", b"<body>\n" + way.encode("ascii"), 1) + b"\n")
         times = times_of(folder.read_log(match.id), len(match.players))
         self.rows[match.id] = times["begin"], times["end"], match_row(result, times, ""), match_row(result, times, "../")

@@ -2,30 +2,43 @@
 
 import os
 import re
+from collections.abc import Mapping
 from dataclasses import dataclass
+from pathlib import Path
 
-from ggp_tools.competition.competition_file import Competition, Mistake, Mistaken, read_competition
-from ggp_tools.descriptions.loading import NoDescription, Stopped, has_variables, load_described, load_description, rules_of, sum_of
-from ggp_tools.referee import Unchecked
+from ggp_tools.competition.competition_file import Competition, Mistake, Mistaken, told
 from ggp_tools.competition.files import UNFINISHED, Folder, Refused, held, write_whole
-from ggp_tools.competition.schedule import planned, schedule_text
+from ggp_tools.competition.growth import Growing, History, Misfit, grown, refuse_changes, shape
+from ggp_tools.competition.history import competition_of_file, history_files, read_history
+from ggp_tools.competition.schedule import Match, id_of, schedule_text
+from ggp_tools.descriptions.loading import NoDescription, Rules, Stopped, has_variables, load_described, load_description, rules_of, sum_of
+from ggp_tools.referee import Referee, Unchecked
 
 SUM_LINE = re.compile(rb"([0-9a-f]{64})  ([^\n]+)\n")
 SUMS_ALONE = re.compile(rb"(?:[0-9a-f]{64}  [^\n]+\n)*")
 WRITES = "`ggp_competition plan` writes it"
+PUT_BACK = "put back what was changed: once matches were played, the plan only grows"
 
 
 @dataclass
 class Plan:
-    """A competition with its rules by the names of the games, its matches in the schedule's order, and the bytes of competition.toml."""
+    """A competition with its rules by the names of the games, its matches in the schedule's order, the bytes of competition.toml, and how
+    it came to this schedule; and how many of the matches were planned before it grew just now, or none."""
 
     folder: Folder
     competition: Competition
-    rules: dict
-    matches: list
+    rules: dict[str, Rules]
+    matches: list[Match]
     text: bytes = b""
+    history: History = History()
+    known: int | None = None
 
-    def roles(self, game):
+    def next_id(self) -> str:
+        """Returns the id of the match that is planned next."""
+        name = self.competition.name
+        return id_of(self.competition, len(self.matches) + 1, len(self.matches[0].id) - len(name) - 1)
+
+    def roles(self, game: str) -> tuple[str, ...]:
         return self.rules[game].roles
 
     def told_path(self, game):
@@ -54,29 +67,24 @@ def is_played(folder):
 
 def refused_plan(folder, path):
     """Returns the fault of a file that `plan` has written for another competition.toml."""
-    advice = "matches were played, so put back what was changed" if is_played(folder) else f"{WRITES} anew"
+    advice = "matches were played, so put back what was changed, or add to it and plan again" if is_played(folder) else f"{WRITES} anew"
     return Refused(f"{path} is not what {folder.competition} says", advice)
 
 
-def told(path, mistakes):
-    """Returns the mistakes of a file, a line for each."""
-    return "\n".join(f"{path}:{mistake.line}: {mistake.key + ': ' if mistake.key else ''}{mistake.words}" for mistake in mistakes)
-
-
-def competition_of(folder):
+def competition_of(folder: Folder) -> tuple[Competition, bytes]:
     """Returns the competition, and the bytes that say it."""
     text = read_file(folder.competition)
-    try:
-        return read_competition(text), text
-    except Mistaken as why:
-        raise Refused(told(folder.competition, why.mistakes)) from None
+    return competition_of_file(folder.competition, text), text
 
 
-def matches_of(folder, competition, rules):
+def schedule_of(folder: Folder, competition: Competition, rules: Mapping[str, Rules], history: History) -> Growing:
+    """Returns the schedule that follows from a competition and its history."""
     try:
-        return planned(competition, {name: len(ground.roles) for name, ground in rules.items()})
+        return grown(history, competition, {name: len(ground.roles) for name, ground in rules.items()})
     except Mistaken as why:
         raise Refused(told(folder.competition, why.mistakes)) from None
+    except Misfit as why:
+        raise Refused(f"{folder.competition}: {why}", PUT_BACK) from None
 
 
 def is_in_rules(folder, path):
@@ -115,34 +123,73 @@ def sums_text(sums):
     return "".join(f"{digest}  {name}\n" for name, digest in sorted(sums.items())).encode("utf-8")
 
 
-def make_plan(path, referee):
-    """Writes the rules and the schedule of the competition in a folder, and returns it. Nothing is written where anything is wrong,
-    where matches of another schedule were played, or while any are."""
+def make_plan(path: str, referee: Referee) -> Plan:
+    """Writes the rules and the schedule of the competition in a folder, and returns it. Nothing is written where anything is wrong, where
+    the schedule of matches that were played does not grow but change, or while any are played."""
     folder = Folder(path)
     competition, text = competition_of(folder)
     rules = loaded_games(folder, competition, referee)
-    matches = matches_of(folder, competition, rules)
-    wanted = {folder.rules_of(name): ground.text for name, ground in rules.items()}
-    wanted |= {folder.told_of(name): ground.told for name, ground in rules.items() if ground.told is not None}
-    sums = sums_text({file.name: sum_of(data) for file, data in wanted.items()})
-    wanted[folder.description_sums()] = sums_text({f"{name}.kif": ground.description_sum for name, ground in rules.items()})
-    # Without these sums the other files do not count, so where this is broken off it has to be done again.
-    wanted[folder.rule_sums()] = sums
-    wanted[folder.schedule] = schedule_text(matches)
+    files = {folder.rules_of(name): ground.text for name, ground in rules.items()}
+    files |= {folder.told_of(name): ground.told for name, ground in rules.items() if ground.told is not None}
+    sums = sums_text({file.name: sum_of(data) for file, data in files.items()})
     with held(folder.path):
-        write_plan(folder, wanted)
-    return Plan(folder, competition, rules, matches, text)
+        is_begun = is_played(folder)
+        history, wanted = history_of(folder, competition, rules) if is_begun else (History(), {})
+        schedule = schedule_of(folder, competition, rules, history)
+        wanted |= files
+        wanted[folder.description_sums()] = sums_text({f"{name}.kif": ground.description_sum for name, ground in rules.items()})
+        # Without these sums the other files do not count, so where this is broken off it has to be done again.
+        wanted[folder.rule_sums()] = sums
+        wanted[folder.planned] = text
+        wanted[folder.schedule] = schedule_text(schedule.matches)
+        known = count_of_matches(folder) if is_begun else None
+        write_plan(folder, wanted, is_begun)
+    return Plan(folder, competition, rules, schedule.matches, text, history, known)
 
 
-def write_plan(folder, wanted):
-    """Writes the files of a plan, where no match was played by another one."""
-    played = is_played(folder)
+def count_of_matches(folder: Folder) -> int | None:
+    """Returns how many matches the schedule has that is there, or none where none is."""
+    return read_file(folder.schedule).count(b"\n") - 1 if folder.schedule.exists() else None
+
+
+def history_of(folder: Folder, competition: Competition, rules: Mapping[str, Rules]) -> tuple[History, dict[Path, bytes]]:
+    """Returns how a competition that was played came to its schedule, where its file may have grown now; and the file that it grew from,
+    where that is to be kept."""
+    history = read_history(folder)
+    if not folder.planned.exists():
+        return history, {}
+    text = read_file(folder.planned)
+    before = competition_of_file(folder.planned, text)
+    try:
+        refuse_changes(before, competition)
+    except Misfit as why:
+        raise Refused(f"{folder.competition}: {why}", PUT_BACK) from None
+    if shape(before) == shape(competition):
+        return history, {}
+    until = len(schedule_of(folder, before, rules, history).matches)
+    if history.earlier and history.earlier[-1][0] == until:
+        return history, {}
+    return History((*history.earlier, (until, before)), history.again), {folder.earlier / f"{until}.toml": text}
+
+
+def grows(folder: Folder, file: Path, old: bytes, new: bytes) -> bool:
+    """Returns whether a file of a plan may be written again though matches were played: nothing is changed of what it said before."""
+    if file in (folder.rule_sums(), folder.description_sums()):
+        return (read_sums(old) or {"": ""}).items() <= (read_sums(new) or {}).items()
+    return old == new or file == folder.planned or file == folder.schedule and new.startswith(old)
+
+
+def write_plan(folder: Folder, wanted: dict[Path, bytes], is_begun: bool) -> None:
+    """Writes the files of a plan. Where matches were played, what is there may only grow."""
     for file, data in wanted.items():
         # What is missing is written again.
-        if played and file.exists() and file.read_bytes() != data:
+        if is_begun and file.exists() and not grows(folder, file, read_file(file), data):
             raise Refused(f"{file} would change, and matches were played", "put back what was changed, or take another folder")
     try:
-        folder.make(folder.rules)
+        if not is_begun:
+            for file in history_files(folder):
+                file.unlink()
+        folder.make(folder.rules, *([folder.earlier] if any(file.parent == folder.earlier for file in wanted) else []))
         # The schedule is last, so that there is none without its rules.
         for file in sorted(wanted, key=lambda it: it == folder.schedule):
             write_whole(file, wanted[file])
@@ -207,12 +254,12 @@ def read_rules(folder, competition, referee):
     return found
 
 
-def read_plan(path, referee):
+def read_plan(path: str, referee: Referee) -> Plan:
     """Returns the competition that was planned in a folder. Refuses one whose rules or schedule are not those of the plan."""
     folder = Folder(path)
     competition, text = competition_of(folder)
-    schedule, rules = read_planned(folder.schedule), read_rules(folder, competition, referee)
-    matches = matches_of(folder, competition, rules)
+    schedule, rules, history = read_planned(folder.schedule), read_rules(folder, competition, referee), read_history(folder)
+    matches = schedule_of(folder, competition, rules, history).matches
     if schedule != schedule_text(matches):
         raise refused_plan(folder, folder.schedule)
-    return Plan(folder, competition, rules, matches, text)
+    return Plan(folder, competition, rules, matches, text, history)

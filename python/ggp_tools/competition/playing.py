@@ -192,7 +192,7 @@ def prepared(playing):
         if planned.id not in playing.results and planned.id not in faults and set_aside(plan, planned.id):
             reporter.line(f"aside {planned.id}: it has no record; its other files are set aside, and it is played")
     clear_open_rooms(playing)
-    playing.waiting.extend(planned for planned in plan.matches if planned.id not in playing.results)
+    playing.waiting.extend(planned for planned in plan.matches if planned.id not in playing.results and not planned.again)
 
 
 @contextlib.contextmanager

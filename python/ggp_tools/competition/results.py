@@ -3,6 +3,7 @@
 import json
 import re
 from collections import Counter
+from collections.abc import Iterator
 from dataclasses import dataclass
 
 from ggp_tools.competition.schedule import Match
@@ -13,6 +14,7 @@ TIME_LINE = re.compile(r"(began|ended) (\d{4}-\d\d-\d\dT\d\d:\d\d:\d\d\.\d{3}Z)"
 HOST_LINE = re.compile(r"(host) (\S+)")
 
 
+WON, DRAWN, LOST = "won", "drawn", "lost"
 # What a player that is left alone by a forfeit gets, and several that are left share.
 FULL_GOAL = 100
 
@@ -70,6 +72,16 @@ class Result:
         lost, goals = self.forfeits(), self.counted()
         return None if None in goals else tuple(-1 if role in lost else goal for role, goal in enumerate(goals))
 
+    def outcome(self, role: int) -> str | None:
+        """Returns what the match was for a role: won, drawn or lost. None in a match of one role, or without goals that count."""
+        worth = self.worths() or ()
+        others = worth[:role] + worth[role + 1 :]
+        if not others:
+            return None
+        if worth[role] < max(others) or worth[role] < 0:
+            return LOST
+        return WON if worth[role] > max(others) else DRAWN
+
 
 def forfeit_words(result: Result) -> str:
     """Returns who has lost a match by forfeit, why, and what counts of it for each player. Empty where nobody has."""
@@ -78,6 +90,21 @@ def forfeit_words(result: Result) -> str:
         return ""
     counts = ", ".join(f"{player} {goal}" for player, goal in zip(players, result.counted()))
     return f"forfeit: {', '.join(f'{players[role]} ({why.words()})' for role, why in lost.items())}, counts as {counts}"
+
+
+def again_words(match: Match) -> str:
+    """Returns why a match does not count any more."""
+    return f"{match.id} does not count: {match.again} was ordered in its place: {match.reason}"
+
+
+def remarks(result: Result) -> Iterator[str]:
+    """Gives what there is to say of a match beside its goals: by what it was decided, and whether it counts."""
+    if result.forfeits():
+        yield forfeit_words(result)
+    if result.match.again:
+        yield again_words(result.match)
+    if result.match.instead_of:
+        yield f"{result.match.id} was ordered in the place of {result.match.instead_of}"
 
 
 def fault_of_record(record, match, strikes):
@@ -148,6 +175,12 @@ def forfeit_keys(result: Result) -> dict[str, object]:
     return {"forfeit": said, "counted": result.counted()}
 
 
+def again_keys(match: Match) -> dict[str, object]:
+    """Returns what the line of a match says of its round, of the match that was ordered in its place and why, and in whose place it is."""
+    said = {"round": match.round, "again": match.again, "reason": match.reason, "insteadOf": match.instead_of}
+    return {key: value for key, value in said.items() if value}
+
+
 def match_line(result: Result, rules_sum: str, log: bytes) -> bytes:
     """Returns the match as one line of JSON."""
     match = result.match
@@ -158,6 +191,7 @@ def match_line(result: Result, rules_sum: str, log: bytes) -> bytes:
         "players": match.players,
         "goals": result.goals,
         **forfeit_keys(result),
+        **again_keys(match),
         "turns": result.turns,
         "phase": result.phase,
         "cause": result.cause,

@@ -10,7 +10,8 @@ from dataclasses import dataclass, field
 
 from ggp_tools.competition.competition_file import BY_POINTS, Competition
 from ggp_tools.competition.ratings import Rating, rated
-from ggp_tools.competition.results import Result
+from ggp_tools.competition.results import DRAWN, LOST, WON, Result
+from ggp_tools.competition.schedule import Match
 
 ALL = "all games"
 
@@ -51,7 +52,7 @@ class Line:
 @dataclass
 class Table:
     """The lines of a game, or of all, in the order of the standings; by pairs of players the points of the first against the second, and
-    how often they met; and what the lines are ordered by."""
+    how often they met; what the lines are ordered by; and the matches that do not count, since others were ordered in their place."""
 
     game: str
     lines: dict[str, Line]
@@ -59,6 +60,7 @@ class Table:
     met: dict[tuple[str, str], int] = field(default_factory=dict)
     matches: int = 0
     by: str = ""
+    again: list[Match] = field(default_factory=list)
 
     def standings(self) -> list[Line]:
         """Returns the lines of who has played, in order; equal ones as they stand in competition.toml."""
@@ -84,19 +86,15 @@ def count_player(line: Line, result: Result, role: int) -> None:
     line.replaced += result.replaced(role)
     line.absent += result.is_absent(role)
     line.retired += result.retirements[role] is not None
-    worth, counted = result.worths(), result.counted()[role]
-    if not worth:
-        return
-    line.scored += 1
-    line.goals += counted
-    others = worth[:role] + worth[role + 1 :]
-    if others:
-        won, lost = worth[role] > max(others), worth[role] < max(others) or worth[role] < 0
-        line.won += won
-        line.lost += lost
-        line.drawn += not won and not lost
-        line.won_by_forfeit += won and bool(result.forfeits())
-        line.lost_by_forfeit += role in result.forfeits()
+    counted, outcome = result.counted()[role], result.outcome(role)
+    if counted is not None:
+        line.scored += 1
+        line.goals += counted
+    line.won += outcome == WON
+    line.drawn += outcome == DRAWN
+    line.lost += outcome == LOST
+    line.won_by_forfeit += outcome == WON and bool(result.forfeits())
+    line.lost_by_forfeit += outcome == LOST and role in result.forfeits()
 
 
 def count_pairs(table: Table, result: Result) -> None:
@@ -122,6 +120,9 @@ def tables_of(competition: Competition, results: Iterable[Result]) -> list[Table
     by_game = {table.game: table for table in found}
     for result in results:
         for table in (found[0], by_game[result.match.game]):
+            if result.match.again:
+                table.again.append(result.match)
+                continue
             table.matches += 1
             for role, player in enumerate(result.match.players):
                 count_player(table.lines[player], result, role)

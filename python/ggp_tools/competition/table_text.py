@@ -6,8 +6,9 @@ import json
 from collections.abc import Iterator
 
 from ggp_tools.competition.competition_file import BY_POINTS
+from ggp_tools.competition.plan import Plan
 from ggp_tools.competition.ratings import MOST_STEPS
-from ggp_tools.competition.results import FULL_GOAL
+from ggp_tools.competition.results import FULL_GOAL, again_words
 from ggp_tools.competition.table import Line, Table
 
 HEADS = (
@@ -95,8 +96,9 @@ def crosstable_rows(table):
         yield [str(number), one, *(f"{points_text(points)}/{met}" if met else "." for points, met in cells)]
 
 
-def notes(table):
+def notes(table: Table) -> Iterator[str]:
     """Gives what a reader of the standings has to know."""
+    yield from map(again_words, table.again)
     for line in table.standings():
         if line.absent == line.matches:
             yield f"{line.player} made no move of its own: all of its moves were replaced"
@@ -109,9 +111,14 @@ def notes(table):
         yield f"rating not settled: {', '.join(unsettled)} (after {MOST_STEPS:,} steps it was still changing)"
 
 
-def table_text(plan, tables):
+def count_of_planned(plan: Plan) -> int:
+    """Returns how many matches of the schedule count, if each is played."""
+    return sum(not match.again for match in plan.matches)
+
+
+def table_text(plan: Plan, tables: list[Table]) -> str:
     """Returns the tables as text."""
-    lines = [f"{plan.competition.name}: {tables[0].matches} of {len(plan.matches)} matches"]
+    lines = [f"{plan.competition.name}: {tables[0].matches} of {count_of_planned(plan)} matches"]
     if plan.competition.forfeit:
         lines.append(FORFEIT)
     for table in tables:
@@ -149,7 +156,7 @@ def json_text(plan, tables):
     said = {
         "name": plan.competition.name,
         "matches": tables[0].matches,
-        "planned": len(plan.matches),
+        "planned": count_of_planned(plan),
         "forfeit": plan.competition.forfeit,
         "order": plan.competition.order,
         "ratings": METHOD,
