@@ -36,7 +36,10 @@ MISTAKES = [
     ('"me@two"', '"one"', [(4, "hosts", "twice")]),
     ('"me@two"', "2", [(4, "hosts", "a text in quotes")]),
     ("[form]", "[from]", [(1, "form", "one [form]"), (5, "from", "no such key")]),
-    ('"round_robin"', '"swiss"', [(6, "form.kind", "none of round_robin, gauntlet, schedule")]),
+    ('"round_robin"', '"league"', [(6, "form.kind", "none of round_robin, gauntlet, schedule, swiss, knockout")]),
+    ('"round_robin"', '"knockout"', [(7, "form.rounds", "the kind knockout has no such key")]),
+    ('"round_robin"\nrounds = 2', '"swiss"', [(5, "form.rounds", "missing")]),
+    ('"round_robin"\nrounds = 2', '"swiss"\nrounds = 2\none = "ann"', [(8, "form.one", "the kind swiss has no such key")]),
     ('"round_robin"', '"gauntlet"', [(5, "form.one", "missing")]),
     ("rounds = 2", "rounds = 0", [(7, "form.rounds", "is not from")]),
     ("rounds = 2", "rounds = 1001", [(7, "form.rounds", "is not from 1 to 1,000")]),
@@ -93,6 +96,12 @@ class CompetitionFile(unittest.TestCase):
         self.assertEqual((found.name, found.strikes, found.hosts), ("cup", 3, ("one", "me@two")))
         self.assertEqual([(player.name, player.place(), player.concurrent) for player in found.players][1:], [("bob", "bob@[::1]:9148", 1), ("cid", "cid@host.example:9149", 3)])
         self.assertEqual([(game.name, game.start, game.play) for game in found.games], [("chess", 30, 10), ("go", 30, 10)])
+
+    def test_a_competition_by_rounds_has_an_order_of_its_own(self):
+        for kind in ('"swiss"\nrounds = 3', '"knockout"'):
+            self.assertEqual(mistakes_of(toml(PLAYERS, GAMES, f"kind = {kind}").encode()), [])
+            found = mistakes_of(toml(PLAYERS, GAMES, f"kind = {kind}", 'order = "goals"').encode())
+            self.assertEqual(found, [(2, "order", f"the kind {kind.split(chr(34))[1]} has an order of its own")])
 
     def test_hosts(self):
         hosts = ("localhost", "10.0.0.1", "me@host.example", "a_b-c", "me@two:2222", "::1", "me@2001:db8::1")

@@ -1,13 +1,15 @@
 """A competition that grows: what was planned stays, what is added stands behind it, and what would change is refused by its name."""
 
+import contextlib
 import unittest
 from collections import Counter
+from unittest import mock
 
 from ggp_tools.competition.competition_file import Mistaken, read_competition
 from ggp_tools.competition.files import Folder, Refused
 from ggp_tools.competition.growth import Again, History, Misfit, grown, refuse_changes, shape
 from ggp_tools.competition.history import again_text, read_history
-from ggp_tools.competition.schedule import MOST_MATCHES, planned
+from ggp_tools.competition.schedule import planned
 from tests.support import GAMES, InFolder, run, toml
 
 ROLES = {"two": 2, "one": 1, "three": 3}
@@ -105,10 +107,13 @@ class Growth(unittest.TestCase):
         self.assertEqual(str(why.exception), "4 matches were planned before the file grew, and not 5")
 
     def test_the_limit_of_matches(self):
-        with self.assertRaises(Mistaken):
-            self.grown(competition(200, 1, ("two",)), competition(200, 3, ("two",)))
-        with self.assertRaises(Mistaken):
-            self.grown(competition(1_000, 100, ("one",)), again=[Again(f"cup-{MOST_MATCHES + 1}", "cup-000001", "x")])
+        orders = [Again("cup-005", "cup-001", "x"), Again("cup-006", "cup-002", "x")]
+        more, same = (competition(3, 1, ("two",)), competition(4, 1, ("two",))), (competition(2),)
+        for most, versions, again, is_past in ((12, more, [], False), (11, more, [], True), (6, same, orders, False), (5, same, orders, True)):
+            with mock.patch("ggp_tools.competition.schedule.MOST_MATCHES", most), contextlib.ExitStack() as refused:
+                if is_past:
+                    refused.enter_context(self.assertRaises(Mistaken))
+                self.grown(*versions, again=again)
 
     def test_what_the_schedule_does_not_follow_from_is_free(self):
         one, other = competition(3), competition(3, head="wait = 3\nforfeit = true\nhosts = [\"one\"]")

@@ -33,7 +33,7 @@ def order_again(path: str, referee: Referee, match: str, reason: str) -> Match:
         old = refuse_match(plan, referee, match)
         new = plan.next_id()
         history = History(plan.history.earlier, (*plan.history.again, Again(new, old.id, reason)))
-        schedule = schedule_of(plan.folder, plan.competition, plan.rules, history)
+        schedule = schedule_of(plan.folder, plan.competition, plan.rules, history, len(plan.matches) + 1)
         # The schedule is last: where this is broken off before it, `plan` writes it.
         write_whole(plan.folder.again, again_text(history.again))
         write_whole(plan.folder.schedule, schedule_text(schedule.matches))

@@ -17,7 +17,7 @@ from ggp_tools.competition.files import UNFINISHED, Refused, written_whole
 from ggp_tools.competition.history import history_files
 from ggp_tools.competition.kept import look_at_records, strangers
 from ggp_tools.competition.pages import made_anew
-from ggp_tools.competition.plan import faults_of_descriptions, read_plan, read_sums, sums_text
+from ggp_tools.competition.plan import faults_of_descriptions, read_plan, read_sums, rounds_left, sums_text
 from ggp_tools.descriptions.loading import has_variables
 from ggp_tools.referee import VERSION_LINE, Unchecked
 from ggp_tools.competition.results import match_line
@@ -85,9 +85,10 @@ def matches_text(plan, results):
 
 
 def gaps_files(plan, results):
-    """Returns the file that names the matches without a record, by its name; none where there are no such matches."""
+    """Returns the file that names the matches without a record, by its name; none where there are no such matches, and each round is
+    planned."""
     missing = without_record(plan, results)
-    return {GAPS: schedule_text(missing)} if missing else {}
+    return {GAPS: schedule_text(missing)} if missing or rounds_left(plan) else {}
 
 
 def contents(plan, referee, results):
@@ -109,7 +110,7 @@ def contents(plan, referee, results):
         yield str(folder.log(result.match.id).relative_to(folder.path)), folder.read_log(result.match.id)
     yield "matches.jsonl", matches_text(plan, results)
     yield from gaps_files(plan, results).items()
-    for name, data in table_files(plan, tables_of(plan.competition, results)).items():
+    for name, data in table_files(plan, tables_of(plan.competition, results, plan.rounds)).items():
         yield name, data
     for name, file in files_below(folder.pages).items():
         # What another run is writing there is none of these pages.
@@ -309,7 +310,7 @@ def looked_at(path, referee):
             held, faults = held_matches(plan, results, folder)
             if faults:
                 return faults, ""
-            wanted = table_files(plan, tables_of(plan.competition, results))
+            wanted = table_files(plan, tables_of(plan.competition, results, plan.rounds))
             wanted |= {"matches.jsonl": matches_text(plan, results), **gaps_files(plan, results)}
             faults = list(faults_of_files(folder, plan, results, wanted))
             faults += [] if (folder / HOW).read_bytes() == how_to(plan) else [f"{HOW} is not what `publish` writes"]
@@ -322,5 +323,7 @@ def looked_at(path, referee):
             raise Unchecked("the archive can't be checked: want of memory") from None
     missing = len(plan.matches) - len(results)
     gaps = f"; {missing} of {len(plan.matches)} matches have no record, {GAPS} names them" if missing else ""
+    left = rounds_left(plan)
+    gaps += f"; {left} of {left + len(plan.rounds)} rounds were not planned" if left else ""
     said = f"the sums, the schedule, {len(results)} records and accounts, the table and the pages are right{gaps}"
     return faults, f"{said}{held}; published with {made_by}, checked by {referee.version()}"

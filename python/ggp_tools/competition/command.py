@@ -14,7 +14,7 @@ from ggp_tools.competition.files import Refused, held, write_whole
 from ggp_tools.competition.game import add_game, run_game
 from ggp_tools.competition.kept import look_at_records
 from ggp_tools.competition.pages import Pages
-from ggp_tools.competition.plan import WRITES, Plan, faults_of_descriptions, make_plan, read_plan
+from ggp_tools.competition.plan import WRITES, Plan, faults_of_descriptions, make_plan, read_plan, round_words, rounds_left
 from ggp_tools.competition.playing import Playing, play
 from ggp_tools.referee import NoReferee, Referee, Unchecked, find_program
 from ggp_tools.competition.seats import Seats
@@ -119,6 +119,8 @@ def run_plan(asked: argparse.Namespace, referee: Referee) -> int:
             say(f"{game.name}: {note}")
     if plan.competition.forfeit and not plan.competition.strikes:
         say("forfeit: without `strikes` no player is retired, so none loses a match by it")
+    if plan.rounds:
+        say(round_words(plan, [match for match in plan.matches if match.round == len(plan.rounds)]))
     say(f"{plan.folder.schedule}: {len(plan.matches)} matches of {len(plan.competition.players)} players{said_of_growth(plan)}")
     return 0
 
@@ -164,16 +166,19 @@ def run_held_play(asked: argparse.Namespace, referee: Referee) -> int:
     lacks_pages = asked.watch and not are_written(pages.write, in_order(plan, playing.results), reporter)
     for match, why in missing.items():
         reporter.line(f"missing {match}: {why}")
+    left = rounds_left(plan)
+    if left:
+        reporter.line(f"rounds that are not planned yet: {left} of {left + len(plan.rounds)}")
     reporter.line(f"{len(playing.results)} of {len(plan.matches)} matches have a lawful record")
     if reporter.fault:
         raise reporter.fault
-    return bool(missing) or lacks_pages
+    return bool(missing) or lacks_pages or bool(left)
 
 
 def run_table(asked: argparse.Namespace, referee: Referee) -> int:
     plan = read_plan(asked.folder, referee)
     results, is_faulty = known_results(plan, referee)
-    tables = tables_of(plan.competition, results)
+    tables = tables_of(plan.competition, results, plan.rounds)
     # It is there to be read also where it can't be written.
     say(table_text(plan, tables), end="")
     write_matches(plan, results)
@@ -220,11 +225,13 @@ def run_held_publish(asked: argparse.Namespace, referee: Referee) -> int:
     if pages.is_symlink():
         raise Refused(f"{pages} is a link, and `publish` makes that folder anew", "take the link away, and publish again")
     results, is_faulty = known_results(plan, referee)
-    missing = len(plan.matches) - len(results)
+    missing, left = len(plan.matches) - len(results), rounds_left(plan)
     faults = []
     if missing and (is_faulty or not asked.gaps):
         # What is wrong is not a gap: it is played again, or put right.
         faults = [f"{missing} matches have no lawful record{'' if is_faulty else '; with `--gaps` the others are'}"]
+    elif left and not asked.gaps:
+        faults = [f"{left} of {left + len(plan.rounds)} rounds are not planned yet; with `--gaps` the others are"]
     faults = faults or list(faults_of_descriptions(plan, plan.folder.description, f", and {WRITES}"))
     if not faults:
         write_matches(plan, results)

@@ -22,7 +22,9 @@ MOST_SHOWN = 10**20
 MOST_SECONDS, MOST_STRIKES, MOST_PLAYERS, MOST_ROUNDS, MOST_PORT = 86_400, 255, 1_000, 1_000, 65_535
 # The seconds in which a description is instantiated.
 INSTANTIATING, MOST_INSTANTIATING = 60, 1_000_000
-KINDS = ("round_robin", "gauntlet", "schedule")
+# Those that plan each round by the results of the one before.
+ROUND_KINDS = SWISS, KNOCKOUT = "swiss", "knockout"
+KINDS = ("round_robin", "gauntlet", "schedule", *ROUND_KINDS)
 ABSENT = ("leave", "play")
 # What the standings are ordered by.
 ORDERS = BY_GOALS, BY_POINTS = "goals", "points"
@@ -97,7 +99,7 @@ class Text:
 
 @dataclass(frozen=True)
 class Form:
-    """The pairing: round robin, gauntlet of one against all, or the lines of a schedule, each of a game and its players."""
+    """The pairing: round robin, gauntlet of one against all, the lines of a schedule, each of a game and its players, or by rounds."""
 
     kind: str
     rounds: int
@@ -279,12 +281,12 @@ def form_of(root: Section, games: list[Game], players: list[Player]) -> Form:
     section = root.section("form")
     section.refuse_others(("kind", "rounds", "one", "lines"))
     kind = section.word("kind", KINDS, "round_robin")
-    rounds = section.number("rounds", 1, MOST_ROUNDS, 1)
+    rounds = section.number("rounds", 1, MOST_ROUNDS, None if kind == SWISS else 1)
     one = section.text("one") if kind == "gauntlet" else ""
     if one and all(player.name != one for player in players):
         section.mistake("one", f"there is no player {one!r}")
     lines = lines_of_schedule(section, games, players) if kind == "schedule" else []
-    for key, kinds in (("rounds", KINDS[:2]), ("one", KINDS[1:2]), ("lines", KINDS[2:])):
+    for key, kinds in (("rounds", (*KINDS[:2], SWISS)), ("one", KINDS[1:2]), ("lines", KINDS[2:3])):
         if key in section.table and kind not in kinds:
             section.mistake(key, f"the kind {kind} has no such key")
     return Form(kind, rounds, one, tuple(lines), section.first)
@@ -366,6 +368,8 @@ def read_competition(data: bytes) -> Competition:
         tuple(games),
         tuple(players),
     )
+    if "order" in root.table and found.form.kind in ROUND_KINDS:
+        root.mistake("order", f"the kind {found.form.kind} has an order of its own")
     if mistakes:
         raise Mistaken(sorted(mistakes, key=lambda mistake: mistake.line))
     return found

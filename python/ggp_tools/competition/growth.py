@@ -5,17 +5,22 @@ The schedule follows from the files by which the competition was planned one aft
 What a file adds is what it asks for beyond the one before it. A game of more than two roles, whose seats are shared out among all players,
 gets with new players those matches in which one of them sits."""
 
+import itertools
 from collections import Counter
-from collections.abc import Mapping, Sequence
+from collections.abc import Callable, Mapping, Sequence
 from dataclasses import dataclass, replace
 
-from ggp_tools.competition.competition_file import Competition
-from ggp_tools.competition.schedule import Match, asked, id_of, refuse_too_many
+from ggp_tools.competition.competition_file import KNOCKOUT, SWISS, Competition
+from ggp_tools.competition.results import Result
+from ggp_tools.competition.rounds import Round, Rounds, is_by_rounds, meetings, rounds_of
+from ggp_tools.competition.schedule import Match, asked, id_of, refuse_numbers, refuse_too_many
 
 # The number of matches that were planned when a file was replaced; none of the present one.
 Until = int | None
 # A game and its players in the order of the roles.
 Seated = tuple[str, tuple[str, ...]]
+# Looks up what came of a match; none where nothing is known.
+ResultOf = Callable[[Match], Result | None]
 
 
 class Misfit(Exception):
@@ -49,17 +54,23 @@ def shape(competition: Competition) -> tuple[object, ...]:
 
 def refuse_changes(before: Competition, after: Competition) -> None:
     """Refuses what can't change any more once matches were played, by its name."""
-    for key, old, new in (
-        ("name", before.name, after.name), ("form.kind", before.form.kind, after.form.kind), ("strikes", before.strikes, after.strikes),
-    ):
+    said = [("name", before.name, after.name), ("form.kind", before.form.kind, after.form.kind), ("strikes", before.strikes, after.strikes)]
+    if is_by_rounds(before):
+        # Who meets whom in later rounds follows from these too.
+        said += [("forfeit", before.forfeit, after.forfeit), ("the number of games", len(before.games), len(after.games))]
+        said += [("the number of players", len(before.players), len(after.players))] if after.form.kind == KNOCKOUT else []
+    for key, old, new in said:
         if old != new:
             raise Misfit(f"{key} was {old!r} and is {new!r}")
+    if after.form.kind == SWISS and after.form.rounds < before.form.rounds:
+        raise Misfit(f"form.rounds was {before.form.rounds} and is {after.form.rounds}")
     clocks = {game.name: (game.start, game.play) for game in after.games}
     for game in before.games:
         if game.name not in clocks:
             raise Misfit(f"the game {game.name} is there no more")
         if clocks[game.name] != (game.start, game.play):
-            raise Misfit(f"the clocks of {game.name} were {game.start} and {game.play}, and are {' and '.join(map(str, clocks[game.name]))}")
+            now = " and ".join(map(str, clocks[game.name]))
+            raise Misfit(f"the clocks of {game.name} were {game.start} and {game.play}, and are {now}")
     if gone := new_players(after, before):
         raise Misfit(f"the player {gone[0]} is there no more")
 
@@ -91,20 +102,42 @@ def added(before: Competition, after: Competition, roles: Mapping[str, int], pla
 
 
 class Growing:
-    """A schedule as it grows."""
+    """A schedule as it grows, where results are looked up by their matches."""
 
-    def __init__(self, history: History, roles: Mapping[str, int]) -> None:
-        self.roles, self.width = roles, 0
+    def __init__(self, history: History, roles: Mapping[str, int], result_of: ResultOf) -> None:
+        self.roles, self.result_of, self.width = roles, result_of, 0
         self.matches: list[Match] = []
         self.places: dict[str, int] = {}
         self.again = {order.match: order for order in history.again}
+        self.rounds = Rounds()
 
     def take(self, before: Competition | None, competition: Competition, until: Until) -> None:
         """Plans what a file adds, up to so many matches, and what was ordered again until then."""
+        if is_by_rounds(competition):
+            refuse_numbers(competition, self.roles)
+            self.add_again(competition, until)
+            while (until is None or len(self.matches) < until) and (found := self.next_round(competition)):
+                self.add_all(competition, meetings(competition, found), found.number)
+                self.add_again(competition, until)
+            return
         found = asked(competition, self.roles) if before is None else added(before, competition, self.roles, self.matches)
         self.width = self.width or len(str(len(found)))
         self.add_all(competition, found)
         self.add_again(competition, until)
+
+    def next_round(self, competition: Competition) -> Round | None:
+        """Plans the next round, where there is one and the last one is over."""
+        number = len(self.rounds.found)
+        results = [self.result_of(match) for match in self.of_round(number)]
+        return None if number == rounds_of(competition) or None in results else self.rounds.plan(competition, results)
+
+    def of_round(self, number: int) -> list[Match]:
+        """Returns the matches of the last round that count."""
+        return [match for match in self.matches[-self.since(number) :] if not match.again] if number else []
+
+    def since(self, number: int) -> int:
+        """Returns how many matches were planned since a round began."""
+        return sum(1 for _ in itertools.takewhile(lambda match: match.round == number, reversed(self.matches)))
 
     def add_all(self, competition: Competition, found: Sequence[Seated], round_number: int = 0) -> None:
         refuse_too_many(competition, len(self.matches) + len(found))
@@ -128,23 +161,26 @@ class Growing:
             if at is None or self.matches[at].again:
                 raise Misfit(f"{order.match} was ordered in the place of {order.instead_of}, which is no match that counts")
             old = self.matches[at]
-            self.refuse_again(old)
+            if old.round < len(self.rounds.found):
+                raise Misfit(f"{old.id} is of round {old.round}, by which the next one was paired, so it can't be played again")
             self.matches[at] = replace(old, again=order.match, reason=order.reason)
             self.add(replace(old, id=order.match, instead_of=old.id))
 
-    def refuse_again(self, match: Match) -> None:
-        """Refuses to have a match played again from which other matches have followed."""
-        if match.round < self.matches[-1].round:
-            raise Misfit(f"{match.id} is of round {match.round}, and the next round was paired by it")
+
+def nothing_known(_: Match) -> None:
+    """The result of a match where no match has been played."""
 
 
-def grown(history: History, competition: Competition, roles: Mapping[str, int]) -> Growing:
-    """Returns the schedule that follows from a competition and its history."""
-    growing, before = Growing(history, roles), None
+def grown(
+    history: History, competition: Competition, roles: Mapping[str, int], result_of: ResultOf = nothing_known, most: Until = None
+) -> Growing:
+    """Returns the schedule that follows from a competition, its history and its results; of one by rounds no round that begins after so
+    many matches."""
+    growing, before = Growing(history, roles, result_of), None
     for until, version in (*history.earlier, (None, competition)):
         if before is not None:
             refuse_changes(before, version)
-        growing.take(before, version, until)
+        growing.take(before, version, until if until is not None else most if is_by_rounds(version) else None)
         if until is not None and len(growing.matches) != until:
             raise Misfit(f"{len(growing.matches)} matches were planned before the file grew, and not {until}")
         before = version

@@ -88,7 +88,8 @@ def match_row(result, times, up):
     cause = f" ({html.escape(result.cause)})" if result.cause else ""
     more = "".join(f'<br><span class="odd">{html.escape(remark)}</span>' for remark in remarks(result))
     links = link(f"{up}matches/{match.id}.html", match.id), link(f"{up}games/{match.game}.html", match.game)
-    return [*links, who + cause + more, str(result.turns), f'<span class="odd">{replaced}</span>', spelt(times["begin"]), seconds_between(times)]
+    odd = f'<span class="odd">{replaced}</span>'
+    return [*links, who + cause + more, str(result.turns), odd, spelt(times["begin"]), seconds_between(times)]
 
 
 MATCH_HEADS = ["match", "game", "players and goals", "turns", "replaced moves", "begin (UTC)", "seconds"]
@@ -135,7 +136,7 @@ class Pages:
             # Another run that knows fewer matches may have taken the page away.
             if result.match.id not in self.rows or not (self.folder / f"matches/{result.match.id}.html").exists():
                 self.add(result)
-        tables = tables_of(self.plan.competition, results)
+        tables = tables_of(self.plan.competition, results, self.plan.rounds)
         for table in tables[1:]:
             self.put(f"games/{table.game}.html", self.game_page(table, [result for result in results if result.match.game == table.game]))
         self.put("index.html", self.first_page(tables, results))

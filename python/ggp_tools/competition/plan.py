@@ -1,15 +1,19 @@
 """Plans a competition: its rules and its schedule are written, once, and read again by whatever works on it later."""
 
+import functools
 import os
 import re
 from collections.abc import Mapping
-from dataclasses import dataclass
+from dataclasses import dataclass, field
 from pathlib import Path
 
 from ggp_tools.competition.competition_file import Competition, Mistake, Mistaken, told
 from ggp_tools.competition.files import UNFINISHED, Folder, Refused, held, write_whole
 from ggp_tools.competition.growth import Growing, History, Misfit, grown, refuse_changes, shape
 from ggp_tools.competition.history import competition_of_file, history_files, read_history
+from ggp_tools.competition.kept import result_in_file
+from ggp_tools.competition.results import Result
+from ggp_tools.competition.rounds import Round, rounds_of
 from ggp_tools.competition.schedule import Match, id_of, schedule_text
 from ggp_tools.descriptions.loading import NoDescription, Rules, Stopped, has_variables, load_described, load_description, rules_of, sum_of
 from ggp_tools.referee import Referee, Unchecked
@@ -23,7 +27,7 @@ PUT_BACK = "put back what was changed: once matches were played, the plan only g
 @dataclass
 class Plan:
     """A competition with its rules by the names of the games, its matches in the schedule's order, the bytes of competition.toml, and how
-    it came to this schedule; and how many of the matches were planned before it grew just now, or none."""
+    it came to this schedule; the rounds of one by rounds; and how many of the matches were planned before it grew just now, or none."""
 
     folder: Folder
     competition: Competition
@@ -31,6 +35,7 @@ class Plan:
     matches: list[Match]
     text: bytes = b""
     history: History = History()
+    rounds: list[Round] = field(default_factory=list)
     known: int | None = None
 
     def next_id(self) -> str:
@@ -77,10 +82,12 @@ def competition_of(folder: Folder) -> tuple[Competition, bytes]:
     return competition_of_file(folder.competition, text), text
 
 
-def schedule_of(folder: Folder, competition: Competition, rules: Mapping[str, Rules], history: History) -> Growing:
-    """Returns the schedule that follows from a competition and its history."""
+def schedule_of(folder: Folder, competition: Competition, rules: Mapping[str, Rules], history: History, most: int | None = None) -> Growing:
+    """Returns the schedule that follows from a competition, its history and its records; of one by rounds no round that begins after so
+    many matches."""
+    roles = {name: len(ground.roles) for name, ground in rules.items()}
     try:
-        return grown(history, competition, {name: len(ground.roles) for name, ground in rules.items()})
+        return grown(history, competition, roles, functools.partial(result_in_file, folder, competition), most)
     except Mistaken as why:
         raise Refused(told(folder.competition, why.mistakes)) from None
     except Misfit as why:
@@ -134,17 +141,17 @@ def make_plan(path: str, referee: Referee) -> Plan:
     sums = sums_text({file.name: sum_of(data) for file, data in files.items()})
     with held(folder.path):
         is_begun = is_played(folder)
+        known = count_of_matches(folder) if is_begun else None
         history, wanted = history_of(folder, competition, rules) if is_begun else (History(), {})
-        schedule = schedule_of(folder, competition, rules, history)
+        schedule = schedule_of(folder, competition, rules, history, known)
         wanted |= files
         wanted[folder.description_sums()] = sums_text({f"{name}.kif": ground.description_sum for name, ground in rules.items()})
         # Without these sums the other files do not count, so where this is broken off it has to be done again.
         wanted[folder.rule_sums()] = sums
         wanted[folder.planned] = text
         wanted[folder.schedule] = schedule_text(schedule.matches)
-        known = count_of_matches(folder) if is_begun else None
         write_plan(folder, wanted, is_begun)
-    return Plan(folder, competition, rules, schedule.matches, text, history, known)
+    return Plan(folder, competition, rules, schedule.matches, text, history, schedule.rounds.found, known)
 
 
 def count_of_matches(folder: Folder) -> int | None:
@@ -166,7 +173,7 @@ def history_of(folder: Folder, competition: Competition, rules: Mapping[str, Rul
         raise Refused(f"{folder.competition}: {why}", PUT_BACK) from None
     if shape(before) == shape(competition):
         return history, {}
-    until = len(schedule_of(folder, before, rules, history).matches)
+    until = len(schedule_of(folder, before, rules, history, count_of_matches(folder)).matches)
     if history.earlier and history.earlier[-1][0] == until:
         return history, {}
     return History((*history.earlier, (until, before)), history.again), {folder.earlier / f"{until}.toml": text}
@@ -176,7 +183,15 @@ def grows(folder: Folder, file: Path, old: bytes, new: bytes) -> bool:
     """Returns whether a file of a plan may be written again though matches were played: nothing is changed of what it said before."""
     if file in (folder.rule_sums(), folder.description_sums()):
         return (read_sums(old) or {"": ""}).items() <= (read_sums(new) or {}).items()
-    return old == new or file == folder.planned or file == folder.schedule and new.startswith(old)
+    if file == folder.schedule:
+        # A round may be planned anew as long as none of its matches has a record.
+        return new.startswith(old) or old.startswith(new) and not any(folder.record(match).exists() for match in ids_of(old[len(new) :]))
+    return old == new or file == folder.planned
+
+
+def ids_of(lines: bytes) -> list[str]:
+    """Returns the ids of the matches in lines of a schedule."""
+    return [line.partition("\t")[0] for line in lines.decode("ascii", "replace").splitlines()]
 
 
 def write_plan(folder: Folder, wanted: dict[Path, bytes], is_begun: bool) -> None:
@@ -259,7 +274,51 @@ def read_plan(path: str, referee: Referee) -> Plan:
     folder = Folder(path)
     competition, text = competition_of(folder)
     schedule, rules, history = read_planned(folder.schedule), read_rules(folder, competition, referee), read_history(folder)
-    matches = schedule_of(folder, competition, rules, history).matches
-    if schedule != schedule_text(matches):
+    found = schedule_of(folder, competition, rules, history, count_of_matches(folder))
+    if schedule != schedule_text(found.matches):
+        refuse_lost_record(folder, found, schedule)
         raise refused_plan(folder, folder.schedule)
-    return Plan(folder, competition, rules, matches, text, history)
+    return Plan(folder, competition, rules, found.matches, text, history, found.rounds.found)
+
+
+def refuse_lost_record(folder: Folder, found: Growing, schedule: bytes) -> None:
+    """Refuses a schedule with a round that can't be planned, since a match of the round before has no record."""
+    number = len(found.rounds.found)
+    lost = [match.id for match in found.of_round(number) if found.result_of(match) is None]
+    if lost and schedule.startswith(schedule_text(found.matches)):
+        words = f"{folder.schedule} has round {number + 1}, which was paired by {lost[0]}, and that has no record of this match"
+        raise Refused(words, f"put it back; where no match of a later round has a record, {WRITES} without these rounds")
+
+
+def refuse_lost_results(plan: Plan, results: Mapping[str, Result]) -> None:
+    """Refuses to go on where the record of a match does not count by which a later round was paired."""
+    last = len(plan.rounds)
+    lost = [match.id for match in plan.matches if match.round < last and not match.again and match.id not in results]
+    if last and lost:
+        raise Refused(f"{lost[0]} has no record that counts, and a later round was paired by it", "put its record, account and log back")
+
+
+def rounds_left(plan: Plan) -> int:
+    """Returns how many rounds are not planned yet."""
+    return rounds_of(plan.competition) - len(plan.rounds)
+
+
+def plan_next_round(plan: Plan, results: Mapping[str, Result]) -> list[Match]:
+    """Plans the next round where the last one is over, and writes the schedule. Returns its matches: none where there is no further round,
+    or the last one is not over."""
+    if not rounds_left(plan) or any(match.id not in results and not match.again for match in plan.matches):
+        return []
+    roles = {name: len(ground.roles) for name, ground in plan.rules.items()}
+    # Not yet another round after this one: no match of it has a result.
+    found = grown(plan.history, plan.competition, roles, lambda match: results.get(match.id))
+    write_whole(plan.folder.schedule, schedule_text(found.matches))
+    new = found.matches[len(plan.matches) :]
+    plan.matches += new
+    plan.rounds += found.rounds.found[len(plan.rounds) :]
+    return new
+
+
+def round_words(plan: Plan, matches: list[Match]) -> str:
+    """Returns what there is to say of the last round that was planned, with these matches."""
+    found = plan.rounds[-1]
+    return f"round {found.number} of {rounds_of(plan.competition)}: {matches[0].id} to {matches[-1].id}{found.byes_words()}"

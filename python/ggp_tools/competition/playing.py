@@ -14,6 +14,7 @@ from ggp_tools.competition.competition_file import is_place
 from ggp_tools.competition.files import Refused
 from ggp_tools.competition.kept import look_at_records, set_aside, strangers
 from ggp_tools.competition.open_match import OpenMatch
+from ggp_tools.competition.plan import plan_next_round, refuse_lost_results, round_words
 
 REST = 0.02
 # What counts as how many interrupts: the first has no more matches begin, the second ends those that are open.
@@ -102,6 +103,10 @@ class Playing:
             time.sleep(REST)
         self.reporter.clear()
 
+    def may_go_on(self):
+        """Returns whether further matches may begin: nothing has hindered those before."""
+        return not (self.interrupts or self.is_full or self.reporter.fault)
+
     def say_interrupt(self):
         if self.interrupts == 1:
             at_play = sum(open_match.stage == "playing" for open_match in self.open)
@@ -183,6 +188,7 @@ def prepared(playing):
         advice = f"move what is of no match out of {folder.records}, and play again"
         raise Refused(f"{folder.records / found[0]} is of no match of the schedule{more}", advice)
     playing.results, faults, misfits = look_at_records(plan, playing.referee)
+    refuse_lost_results(plan, playing.results)
     for match, why in misfits.items():
         raise Refused(f"{folder.record(match)} is lawful, and of another match: {why}")
     for match, why in faults.items():
@@ -216,5 +222,9 @@ def play(playing):
     prepared(playing)
     with interrupts_counted(playing):
         playing.go()
+        while playing.may_go_on() and (matches := plan_next_round(playing.plan, playing.results)):
+            playing.reporter.line(round_words(playing.plan, matches))
+            playing.waiting.extend(matches)
+            playing.go()
     missing = dict.fromkeys((planned.id for planned in playing.plan.matches if planned.id not in playing.results), "it was not begun")
     return {match: playing.left.get(match, why) for match, why in missing.items()}

@@ -4,18 +4,18 @@ A meeting of two players is a match in each game in both orders of seats. In a S
 points, then of Buchholz's number (the points of all opponents together), then of their seeds, the order of competition.toml. From the top
 down each one meets the next that it has met least often. Then, from the bottom up, two that met before exchange with the nearest pair above
 so that nobody meets again, if that can be. If the number of players is odd, the last one of those with the fewest byes has a bye, which
-counts as if it had won all matches of a meeting. In a knockout the winners of the meetings go on: who has more points, then more goals, then
-the better seed. The seeds stand in the usual bracket, in which the first two can meet only at the end, and byes go to the best seeds."""
+counts as if it had won all matches of a meeting. In a knockout the winners of the meetings go on: who has more points, then more goals,
+then the better seed. The seeds stand in the usual bracket, in which the first two can meet only at the end, and byes go to the best."""
 
 from collections import Counter, defaultdict
-from collections.abc import Callable, Iterable, Sequence
+from collections.abc import Iterable, Mapping, Sequence
 from dataclasses import dataclass
 
 from ggp_tools.competition.competition_file import KNOCKOUT, ROUND_KINDS, SWISS, Competition
 from ggp_tools.competition.results import DRAWN, WON, Result
 
-# The least and the greatest number of roles of a game that is played by rounds.
-ROLES = 2
+# The round and the two players of a meeting.
+Meeting = tuple[int, frozenset[str]]
 
 
 @dataclass(frozen=True)
@@ -31,7 +31,7 @@ class Round:
 
 
 class Scores:
-    """What the rounds that are over came to: by players points, goals, opponents and byes, and in which round each was last."""
+    """What rounds came to: by players points, goals, opponents and byes."""
 
     def __init__(self, competition: Competition) -> None:
         self.meeting = 2 * len(competition.games)
@@ -40,19 +40,16 @@ class Scores:
         self.byes: Counter[str] = Counter()
         self.opponents: dict[str, list[str]] = defaultdict(list)
         self.met: Counter[frozenset[str]] = Counter()
-        self.last: dict[str, int] = {}
 
     def count_round(self, found: Round) -> None:
         """Counts who meets whom, and the byes."""
         for bye in found.byes:
             self.byes[bye] += 1
             self.points[bye] += self.meeting
-            self.last[bye] = found.number
         for pair in found.pairs:
             self.met[frozenset(pair)] += 1
             for one, other in (pair, pair[::-1]):
                 self.opponents[one].append(other)
-                self.last[one] = found.number
 
     def count_result(self, result: Result) -> None:
         for role, player in enumerate(result.match.players):
@@ -131,19 +128,61 @@ def winner(pair: tuple[str, str], results: Iterable[Result], seeds: dict[str, in
     return min(pair, key=lambda player: (-scores.points[player], -scores.goals[player], seeds[player]))
 
 
-def knockout_round(competition: Competition, before: Sequence[Round], results_of: Callable[[Round, tuple[str, str]], list[Result]]) -> Round:
-    """Returns the next round of a knockout, where those before it are over."""
+def knockout_round(competition: Competition, before: Sequence[Round], of_meeting: Mapping[Meeting, list[Result]]) -> Round:
+    """Returns the next round of a knockout, where those before it are over, by the results of their meetings."""
     names = [player.name for player in competition.players]
-    places = [names[seed] if seed < len(names) else None for seed in bracket(len(names))]
+    places: list[str | None] = [names[seed] if seed < len(names) else None for seed in bracket(len(names))]
     seeds = {name: seed for seed, name in enumerate(names)}
     for found in before:
-        pairs = list(zip(places[::2], places[1::2]))
+        met = {frozenset(pair): of_meeting[found.number, frozenset(pair)] for pair in found.pairs}
         places = [
-            one or other if None in (one, other) else winner((one, other), results_of(found, (one, other)), seeds, competition) for one, other in pairs
+            one or other if None in (one, other) else winner((one, other), met[frozenset((one, other))], seeds, competition)
+            for one, other in zip(places[::2], places[1::2])
         ]
     pairs = list(zip(places[::2], places[1::2]))
     byes = tuple(one or other for one, other in pairs if None in (one, other))
-    return Round(len(before) + 1, tuple((one, other) for one, other in pairs if None not in (one, other)), byes)
+    return Round(len(before) + 1, tuple(pair for pair in pairs if None not in pair), byes)
+
+
+class Rounds:
+    """The rounds that were planned one after the other."""
+
+    def __init__(self) -> None:
+        self.found: list[Round] = []
+        self.scores: Scores | None = None
+        self.of_meeting: dict[Meeting, list[Result]] = {}
+
+    def plan(self, competition: Competition, results: Iterable[Result]) -> Round:
+        """Returns the next round, by the results of the last one that count."""
+        self.scores = self.scores or Scores(competition)
+        for result in results:
+            self.scores.count_result(result)
+            self.of_meeting.setdefault(meeting_of(result), []).append(result)
+        if competition.form.kind == SWISS:
+            found = swiss_round(competition, len(self.found) + 1, self.scores)
+        else:
+            found = knockout_round(competition, self.found, self.of_meeting)
+        self.scores.count_round(found)
+        self.found.append(found)
+        return found
+
+
+def meeting_of(result: Result) -> Meeting:
+    return result.match.round, frozenset(result.match.players)
+
+
+def rounds_won(competition: Competition, rounds: Iterable[Round], results: Iterable[Result]) -> Counter[str]:
+    """Returns how many rounds of a knockout each player has come through, by meetings that are over and byes."""
+    seeds, won = {player.name: seed for seed, player in enumerate(competition.players)}, Counter()
+    of_meeting: dict[Meeting, list[Result]] = defaultdict(list)
+    for result in results:
+        of_meeting[meeting_of(result)].append(result)
+    for found in rounds:
+        won.update(found.byes)
+        for pair in found.pairs:
+            of_pair = of_meeting[found.number, frozenset(pair)]
+            won.update([winner(pair, of_pair, seeds, competition)] if len(of_pair) == 2 * len(competition.games) else [])
+    return won
 
 
 def meetings(competition: Competition, found: Round) -> list[tuple[str, tuple[str, str]]]:

@@ -4,7 +4,7 @@ import itertools
 from collections.abc import Iterable, Iterator, Mapping, Sequence
 from dataclasses import dataclass
 
-from ggp_tools.competition.competition_file import Competition, Mistake, Mistaken
+from ggp_tools.competition.competition_file import ROUND_KINDS, Competition, Mistake, Mistaken
 
 HEAD = "id\tgame\tstart\tplay\tplayers\n"
 MOST_MATCHES = 100_000
@@ -80,7 +80,9 @@ def mistakes_of_numbers(competition: Competition, roles: Mapping[str, int]) -> I
                 yield Mistake(line.line, "form.lines", f"{name} has {roles[name]} roles, and the line names {len(players)} players")
         return
     for name, game in games.items():
-        if roles[name] > len(competition.players):
+        if form.kind in ROUND_KINDS and roles[name] != 2:
+            yield Mistake(game.line, "games.file", f"the kind {form.kind} is for games of two roles, and {name} has {roles[name]}")
+        elif roles[name] > len(competition.players):
             words = f"{name} has {roles[name]} roles, and there are {len(competition.players)} players"
             yield Mistake(game.line, "games.file", words)
 
@@ -102,12 +104,17 @@ def seatings(competition: Competition, roles: Mapping[str, int]) -> Iterator[tup
 def asked(competition: Competition, roles: Mapping[str, int]) -> list[tuple[str, tuple[str, ...]]]:
     """Returns the matches that competition.toml asks for, each a game and its players, where the numbers of roles of its games are known by
     their names."""
-    mistakes = list(mistakes_of_numbers(competition, roles))
-    if mistakes:
-        raise Mistaken(mistakes)
+    refuse_numbers(competition, roles)
     found = list(itertools.islice(seatings(competition, roles), MOST_MATCHES + 1))
     refuse_too_many(competition, len(found))
     return [(name, tuple(players)) for name, players in found]
+
+
+def refuse_numbers(competition: Competition, roles: Mapping[str, int]) -> None:
+    """Refuses a competition whose players do not fit the roles of its games."""
+    mistakes = list(mistakes_of_numbers(competition, roles))
+    if mistakes:
+        raise Mistaken(mistakes)
 
 
 def refuse_too_many(competition: Competition, count: int) -> None:

@@ -5,12 +5,13 @@ one is above its own, else drawn; in a match of one role, or without goals, it i
 retired in a match has lost it, whatever the goals and also without any, against each player that was not. Its goal counts as 0, and who
 is left gets 100, which several share and have drawn."""
 
-from collections.abc import Iterable
+from collections.abc import Iterable, Sequence
 from dataclasses import dataclass, field
 
-from ggp_tools.competition.competition_file import BY_POINTS, Competition
+from ggp_tools.competition.competition_file import BY_POINTS, KNOCKOUT, SWISS, Competition
 from ggp_tools.competition.ratings import Rating, rated
 from ggp_tools.competition.results import DRAWN, LOST, WON, Result
+from ggp_tools.competition.rounds import Round, is_by_rounds, rounds_won, scores_of
 from ggp_tools.competition.schedule import Match
 
 ALL = "all games"
@@ -34,17 +35,26 @@ class Line:
     absent: int = 0
     retired: int = 0
     rating: Rating | None = None
+    # In a competition by rounds, and of all games together.
+    byes: int = 0
+    bye_points: int = 0
+    buchholz: float | None = None
+    rounds_won: int | None = None
 
     def mean(self) -> float | None:
         return round(self.goals / self.scored, 2) if self.scored else None
 
     def points(self) -> float:
-        """Returns a point for each match that was won, and half of one for each that was drawn."""
-        return self.won + self.drawn / 2
+        """Returns a point for each match that was won, half of one for each that was drawn, and those of byes."""
+        return self.won + self.drawn / 2 + self.bye_points
 
     def order(self, by: str) -> tuple[float, ...]:
         """Returns what orders the line: the mean goals as they are printed, 0 where there are none, then wins, then losses; or all of it
-        after the points."""
+        after the points; in a Swiss competition the points and Buchholz's number, and in a knockout the rounds."""
+        if by == SWISS:
+            return -self.points(), -(self.buchholz or 0)
+        if by == KNOCKOUT:
+            return (-(self.rounds_won or 0),)
         goals = -(self.mean() or 0), -self.won, self.lost
         return (-self.points(), *goals) if by == BY_POINTS else goals
 
@@ -52,7 +62,8 @@ class Line:
 @dataclass
 class Table:
     """The lines of a game, or of all, in the order of the standings; by pairs of players the points of the first against the second, and
-    how often they met; what the lines are ordered by; and the matches that do not count, since others were ordered in their place."""
+    how often they met; what the lines are ordered by; the matches that do not count, since others were ordered in their place; and the
+    rounds, if it is of all games."""
 
     game: str
     lines: dict[str, Line]
@@ -61,10 +72,11 @@ class Table:
     matches: int = 0
     by: str = ""
     again: list[Match] = field(default_factory=list)
+    rounds: Sequence[Round] = ()
 
     def standings(self) -> list[Line]:
         """Returns the lines of who has played, in order; equal ones as they stand in competition.toml."""
-        return sorted((line for line in self.lines.values() if line.matches), key=lambda line: line.order(self.by))
+        return sorted((line for line in self.lines.values() if line.matches or line.byes), key=lambda line: line.order(self.by))
 
     def places(self) -> list[int]:
         """Returns the places of the standings: lines that nothing orders share one, and the places behind it stay free."""
@@ -112,22 +124,42 @@ def count_pairs(table: Table, result: Result) -> None:
                 table.met[pair] = table.met.get(pair, 0) + 1
 
 
-def tables_of(competition: Competition, results: Iterable[Result]) -> list[Table]:
+def count_rounds(table: Table, competition: Competition, results: Iterable[Result]) -> None:
+    """Counts in the table of all games what follows from the rounds."""
+    counted = [result for result in results if not result.match.again]
+    scores, won = scores_of(competition, table.rounds, counted), rounds_won(competition, table.rounds, counted)
+    for player, line in table.lines.items():
+        line.byes = scores.byes[player]
+        if competition.form.kind == SWISS:
+            line.bye_points, line.buchholz = line.byes * scores.meeting, scores.buchholz(player)
+        else:
+            line.rounds_won = won[player]
+
+
+def tables_of(competition: Competition, results: Sequence[Result], rounds: Sequence[Round] = ()) -> list[Table]:
     """Returns the tables: first that of all games, then that of each game."""
     names = [entrant.name for entrant in competition.players]
-    games = [ALL, *(game.name for game in competition.games)]
-    found = [Table(game, {name: Line(name) for name in names}, by=competition.order) for game in games]
-    by_game = {table.game: table for table in found}
+    kind = competition.form.kind if is_by_rounds(competition) else ""
+    by = [(ALL, kind or competition.order), *((game.name, BY_POINTS if kind else competition.order) for game in competition.games)]
+    found = [Table(game, {name: Line(name) for name in names}, by=order) for game, order in by]
+    found[0].rounds = rounds
+    by_game = {table.game: table for table in found[1:]}
     for result in results:
         for table in (found[0], by_game[result.match.game]):
-            if result.match.again:
-                table.again.append(result.match)
-                continue
-            table.matches += 1
-            for role, player in enumerate(result.match.players):
-                count_player(table.lines[player], result, role)
-            count_pairs(table, result)
+            count_result(table, result)
+    if kind:
+        count_rounds(found[0], competition, results)
     for table in found:
         for player, rating in rated([name for name in names if table.lines[name].matches], table.points).items():
             table.lines[player].rating = rating
     return found
+
+
+def count_result(table: Table, result: Result) -> None:
+    if result.match.again:
+        table.again.append(result.match)
+        return
+    table.matches += 1
+    for role, player in enumerate(result.match.players):
+        count_player(table.lines[player], result, role)
+    count_pairs(table, result)

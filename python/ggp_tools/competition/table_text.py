@@ -5,15 +5,16 @@ import io
 import json
 from collections.abc import Iterator
 
-from ggp_tools.competition.competition_file import BY_POINTS
+from ggp_tools.competition.competition_file import BY_POINTS, KNOCKOUT, SWISS
 from ggp_tools.competition.plan import Plan
 from ggp_tools.competition.ratings import MOST_STEPS
 from ggp_tools.competition.results import FULL_GOAL, again_words
+from ggp_tools.competition.rounds import rounds_of
 from ggp_tools.competition.table import Line, Table
 
 HEADS = (
     *("player", "matches", "goals", "won", "drawn", "lost", "moves", "replaced", "absent", "retired", "rating", "half", "group"),
-    *("points", "won_by_forfeit", "lost_by_forfeit"),
+    *("points", "won_by_forfeit", "lost_by_forfeit", "byes", "buchholz", "rounds_won"),
 )
 TABLE_FILES = "table.txt", "table.csv", "crosstable.csv", "table.json"
 METHOD = (
@@ -46,7 +47,8 @@ def fields(line: Line) -> tuple[object, ...]:
     rating = line.rating
     rest = (rounded(rating.rating, 1), rounded(rating.half, 1), rating.group) if rating else (None, None, None)
     counts = line.won, line.drawn, line.lost, line.moves, line.replaced, line.absent, line.retired
-    return line.player, line.matches, line.mean(), *counts, *rest, line.points(), line.won_by_forfeit, line.lost_by_forfeit
+    more = line.points(), line.won_by_forfeit, line.lost_by_forfeit, line.byes, line.buchholz, line.rounds_won
+    return line.player, line.matches, line.mean(), *counts, *rest, *more
 
 
 def points_text(points):
@@ -73,14 +75,24 @@ def columns(rows):
         yield "  ".join(cells).rstrip()
 
 
+def order_cells(table: Table, line: Line) -> dict[str, str]:
+    """Returns what orders the line beside the goals, by the heads."""
+    said = {
+        "rounds won": str(line.rounds_won) if table.by == KNOCKOUT else "",
+        "points": points_text(line.points()) if table.by in (BY_POINTS, SWISS) else "",
+        "Buchholz": points_text(line.buchholz or 0.0) if table.by == SWISS else "",
+    }
+    return {head: cell for head, cell in said.items() if cell}
+
+
 def standings_rows(table: Table, sign: str = "+-") -> Iterator[list[str]]:
     """Gives the rows of the standings, the heads first."""
-    points, forfeits = table.by == BY_POINTS, table.has_forfeits()
-    head = ["", "player", "matches", *["points"] * points, "goals", "won", "drawn", "lost", *["by forfeit"] * forfeits]
+    forfeits, order = table.has_forfeits(), list(order_cells(table, Line("")))
+    head = ["", "player", "matches", *order, "goals", "won", "drawn", "lost", *["by forfeit"] * forfeits]
     yield [*head, "replaced", "absent", "retired", "rating"]
     for place, line in zip(table.places(), table.standings()):
-        name = f"{line.player} (no move of its own)" if line.absent == line.matches else line.player
-        row = [str(place), name, str(line.matches), *[points_text(line.points())] * points, goals_text(line)]
+        name = f"{line.player} (no move of its own)" if 0 < line.absent == line.matches else line.player
+        row = [str(place), name, str(line.matches), *order_cells(table, line).values(), goals_text(line)]
         row += [str(line.won), str(line.drawn), str(line.lost)]
         row += [f"{line.won_by_forfeit} won, {line.lost_by_forfeit} lost"] * forfeits
         yield [*row, f"{line.replaced} of {line.moves}", str(line.absent), str(line.retired), rating_text(table, line, sign)]
@@ -99,8 +111,9 @@ def crosstable_rows(table):
 def notes(table: Table) -> Iterator[str]:
     """Gives what a reader of the standings has to know."""
     yield from map(again_words, table.again)
+    yield from (f"round {found.number}{found.byes_words()}" for found in table.rounds if found.byes)
     for line in table.standings():
-        if line.absent == line.matches:
+        if 0 < line.absent == line.matches:
             yield f"{line.player} made no move of its own: all of its moves were replaced"
         elif line.absent:
             yield f"{line.player} made no move of its own in {line.absent} of its {line.matches} matches"
@@ -118,7 +131,8 @@ def count_of_planned(plan: Plan) -> int:
 
 def table_text(plan: Plan, tables: list[Table]) -> str:
     """Returns the tables as text."""
-    lines = [f"{plan.competition.name}: {tables[0].matches} of {count_of_planned(plan)} matches"]
+    rounds = f", {len(plan.rounds)} of {rounds_of(plan.competition)} rounds" if plan.rounds else ""
+    lines = [f"{plan.competition.name}: {tables[0].matches} of {count_of_planned(plan)} matches{rounds}"]
     if plan.competition.forfeit:
         lines.append(FORFEIT)
     for table in tables:
@@ -159,6 +173,7 @@ def json_text(plan, tables):
         "planned": count_of_planned(plan),
         "forfeit": plan.competition.forfeit,
         "order": plan.competition.order,
+        "rounds": [{"round": found.number, "pairs": found.pairs, "byes": found.byes} for found in plan.rounds],
         "ratings": METHOD,
         "tables": [
             {
