@@ -38,7 +38,7 @@ class ByRounds(unittest.TestCase):
         self.folder.make(self.folder.records)
 
     def write(self, count, form, head=""):
-        text = toml([(f"p{at}", f"h:{at + 1}") for at in range(count)], [("game", "game.kif")], form, head)
+        text = toml([(f"p{at}", f"h:{at + 1}") for at in range(count)], [("game", "game.kif", "aborts = true")], form, head)
         self.folder.competition.write_text(text)
 
     def make(self):

@@ -58,8 +58,8 @@ def told(path: object, mistakes: Iterable[Mistake]) -> str:
 @dataclass(frozen=True)
 class Game:
     """A game that is played: its name, the file of its description, its clocks in seconds, and which rules its players get, with the line
-    that says so; the file of the description with variables, where it stands beside ground rules (else empty); and the seconds in which
-    it is instantiated."""
+    that says so; the file of the description with variables, where it stands beside ground rules (else empty); the seconds in which it is
+    instantiated; and whether it is planned though its random matches are aborted."""
 
     name: str
     file: str
@@ -70,6 +70,7 @@ class Game:
     told: str
     told_line: int
     line: int
+    aborts: bool = False
 
     def tells_variables(self) -> bool:
         """Returns whether players get the description with variables."""
@@ -236,13 +237,14 @@ def refuse_twice(sections: list[Section], key: str) -> None:
 def games_of(root: Section, clocks: list[int]) -> list[Game]:
     found, sections = [], root.sections("games")
     for section in sections:
-        section.refuse_others(("name", "file", "described", "seconds", "start", "play", "told"))
+        section.refuse_others(("name", "file", "described", "seconds", "start", "play", "told", "aborts"))
         name = section.name("name", NAME, 40, FIRST)
         start, play = (section.number(key, 1, MOST_SECONDS, clock) for key, clock in zip(("start", "play"), clocks))
         described = section.path_of_file("described") if "described" in section.table else ""
         seconds = section.number("seconds", 1, MOST_INSTANTIATING, INSTANTIATING)
         told = section.word("told", TOLD, TOLD[0])
-        found.append(Game(name, section.path_of_file("file"), described, seconds, start, play, told, section.line("told"), section.first))
+        lines, aborts = (section.line("told"), section.first), section.flag("aborts")
+        found.append(Game(name, section.path_of_file("file"), described, seconds, start, play, told, *lines, aborts))
     refuse_twice(sections, "name")
     return found
 

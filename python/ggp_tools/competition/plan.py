@@ -4,7 +4,7 @@ import functools
 import os
 import re
 from collections.abc import Mapping
-from dataclasses import dataclass, field
+from dataclasses import dataclass, field, replace
 from pathlib import Path
 
 from ggp_tools.competition.competition_file import Competition, Mistake, Mistaken, told
@@ -15,6 +15,7 @@ from ggp_tools.competition.kept import result_in_file
 from ggp_tools.competition.results import Result
 from ggp_tools.competition.rounds import Round, rounds_of
 from ggp_tools.competition.schedule import Match, id_of, schedule_text
+from ggp_tools.competition.trial import trial
 from ggp_tools.descriptions.loading import NoDescription, Rules, Stopped, has_variables, load_described, load_description, rules_of, sum_of
 from ggp_tools.referee import Referee, Unchecked
 
@@ -120,6 +121,10 @@ def loaded_games(folder, competition, referee):
             continue
         if game.tells_variables() and rules.told is None:
             mistakes.append(Mistake(game.told_line, "games.told", f'{path} has no variables: "ground" is wanted'))
+        if not game.aborts:
+            why, note = trial(rules.text, referee, game.name)
+            mistakes += [Mistake(game.line, "games.file", f"{path}: {why}; with `aborts = true` it is planned all the same")] if why else []
+            found[game.name] = replace(rules, notes=(*rules.notes, *([note] if note else [])))
     if mistakes:
         raise Refused(told(folder.competition, mistakes))
     return found
