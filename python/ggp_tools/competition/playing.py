@@ -103,6 +103,11 @@ class Playing:
             time.sleep(REST)
         self.reporter.clear()
 
+    def add(self, matches):
+        """Lets further matches wait."""
+        self.waiting.extend(matches)
+        self.seats.look_again()
+
     def may_go_on(self):
         """Returns whether further matches may begin: nothing has hindered those before."""
         return not (self.interrupts or self.is_full or self.reporter.fault)
@@ -224,7 +229,7 @@ def play(playing):
         playing.go()
         while playing.may_go_on() and (matches := plan_next_round(playing.plan, playing.results)):
             playing.reporter.line(round_words(playing.plan, matches))
-            playing.waiting.extend(matches)
+            playing.add(matches)
             playing.go()
     missing = dict.fromkeys((planned.id for planned in playing.plan.matches if planned.id not in playing.results), "it was not begun")
     return {match: playing.left.get(match, why) for match, why in missing.items()}
