@@ -25,7 +25,7 @@ def without_round_2(files):
 GROWN = {
     "a reason is another": (changed("cup/again.tsv", lambda it: it.replace(b"power", b"cable")), "table.txt does not follow"),
     "a reason is another in the line of the match": (changed("cup/matches.jsonl", lambda it: it.replace(b"power", b"cable")), "matches.jsonl does not follow"),
-    "a match was not ordered again": (without("cup/again.tsv"), "schedule.tsv is not what"),
+    "a match was not ordered again": (without("cup/again.tsv"), "2 matches were planned when earlier/3.toml was replaced, and not 3"),
     "another match was ordered again": (changed("cup/again.tsv", lambda it: it.replace(b"\tcup-001\t", b"\tcup-002\t")), "schedule.tsv is not what"),
     "a match was ordered again twice": (changed("cup/again.tsv", lambda it: it + it.splitlines(keepends=True)[1]), "again.tsv is not what"),
     "a record that does not count is missing": (without("cup/records/cup-001.json"), "cup-001: it has no record"),

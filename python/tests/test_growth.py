@@ -104,7 +104,7 @@ class Growth(unittest.TestCase):
     def test_the_number_of_matches_before_is_looked_at(self):
         with self.assertRaises(Misfit) as why:
             grown(History(((5, competition(2)),)), competition(3), ROLES)
-        self.assertEqual(str(why.exception), "4 matches were planned before the file grew, and not 5")
+        self.assertEqual(str(why.exception), "4 matches were planned when earlier/5.toml was replaced, and not 5")
 
     def test_the_limit_of_matches(self):
         orders = [Again("cup-005", "cup-001", "x"), Again("cup-006", "cup-002", "x")]

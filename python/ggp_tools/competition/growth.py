@@ -182,7 +182,7 @@ def grown(
             refuse_changes(before, version)
         growing.take(before, version, until if until is not None else most if is_by_rounds(version) else None)
         if until is not None and len(growing.matches) != until:
-            raise Misfit(f"{len(growing.matches)} matches were planned before the file grew, and not {until}")
+            raise Misfit(f"{len(growing.matches)} matches were planned when earlier/{until}.toml was replaced, and not {until}")
         before = version
     if growing.again:
         raise Misfit(f"{min(growing.again)}, which was ordered again, is not the next match")
