@@ -145,7 +145,8 @@ def make_plan(path: str, referee: Referee) -> Plan:
     files |= {folder.told_of(name): ground.told for name, ground in rules.items() if ground.told is not None}
     sums = sums_text({file.name: sum_of(data) for file, data in files.items()})
     with held(folder.path):
-        is_begun = is_played(folder)
+        # Where it grew, matches were played whose records are elsewhere.
+        is_begun = is_played(folder) or bool(history_files(folder))
         known = count_of_matches(folder) if is_begun else None
         history, wanted = history_of(folder, competition, rules) if is_begun else (History(), {})
         schedule = schedule_of(folder, competition, rules, history, known)
@@ -206,9 +207,6 @@ def write_plan(folder: Folder, wanted: dict[Path, bytes], is_begun: bool) -> Non
         if is_begun and file.exists() and not grows(folder, file, read_file(file), data):
             raise Refused(f"{file} would change, and matches were played", "put back what was changed, or take another folder")
     try:
-        if not is_begun:
-            for file in history_files(folder):
-                file.unlink()
         folder.make(folder.rules, *([folder.earlier] if any(file.parent == folder.earlier for file in wanted) else []))
         # The schedule is last, so that there is none without its rules.
         for file in sorted(wanted, key=lambda it: it == folder.schedule):
