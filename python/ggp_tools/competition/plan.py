@@ -1,13 +1,13 @@
-"""Plans a competition: its rules and its schedule are written, once, and read again by whatever works on it later."""
+"""Plans a competition: its rules and its schedule are written, may grow, and are read again by whatever works on it later."""
 
 import functools
 import os
 import re
-from collections.abc import Mapping
+from collections.abc import Callable, Iterator, Mapping
 from dataclasses import dataclass, field, replace
 from pathlib import Path
 
-from ggp_tools.competition.competition_file import Competition, Mistake, Mistaken, told
+from ggp_tools.competition.competition_file import Competition, Game, Mistake, Mistaken, told
 from ggp_tools.competition.files import UNFINISHED, Folder, Refused, held, write_whole
 from ggp_tools.competition.growth import Growing, History, Misfit, grown, refuse_changes, shape
 from ggp_tools.competition.history import competition_of_file, history_files, read_history
@@ -47,31 +47,31 @@ class Plan:
     def roles(self, game: str) -> tuple[str, ...]:
         return self.rules[game].roles
 
-    def told_path(self, game):
+    def told_path(self, game: str) -> Path | None:
         """Returns the file of what the game's players are told of its rules, or none where they are told the rules themselves."""
         return None if self.rules[game].told is None else self.folder.told_of(game)
 
 
-def read_file(path):
+def read_file(path: Path) -> bytes:
     try:
         return path.read_bytes()
     except OSError as why:
         raise Refused(f"{path} can't be read: {why.strerror}") from None
 
 
-def read_planned(path):
+def read_planned(path: Path) -> bytes:
     """Returns the bytes of a file that `plan` has written."""
     if not path.exists():
         raise Refused(f"{path} is not there", WRITES)
     return read_file(path)
 
 
-def is_played(folder):
+def is_played(folder: Folder) -> bool:
     """Returns whether a match has a record. What a killed `play` has left unfinished is none."""
     return folder.records.is_dir() and any(not file.name.startswith(UNFINISHED) for file in folder.records.glob("*.json"))
 
 
-def refused_plan(folder, path):
+def refused_plan(folder: Folder, path: Path) -> Refused:
     """Returns the fault of a file that `plan` has written for another competition.toml."""
     advice = "matches were played, so put back what was changed, or add to it and plan again" if is_played(folder) else f"{WRITES} anew"
     return Refused(f"{path} is not what {folder.competition} says", advice)
@@ -95,12 +95,12 @@ def schedule_of(folder: Folder, competition: Competition, rules: Mapping[str, Ru
         raise Refused(f"{folder.competition}: {why}", PUT_BACK) from None
 
 
-def is_in_rules(folder, path):
+def is_in_rules(folder: Folder, path: Path) -> bool:
     """Returns whether a file stands where `plan` writes the rules. Unlike a path's own `resolve` this bears links in a circle."""
     return os.path.dirname(os.path.realpath(path)) == os.path.realpath(folder.rules)
 
 
-def loaded_games(folder, competition, referee):
+def loaded_games(folder: Folder, competition: Competition, referee: Referee) -> dict[str, Rules]:
     """Returns the rules of each game by its name. All descriptions that are none are told at once."""
     found, mistakes = {}, []
     for game in competition.games:
@@ -130,7 +130,7 @@ def loaded_games(folder, competition, referee):
     return found
 
 
-def sums_text(sums):
+def sums_text(sums: Mapping[str, str]) -> bytes:
     """Returns sums by names in the form of `sha256sum`."""
     return "".join(f"{digest}  {name}\n" for name, digest in sorted(sums.items())).encode("utf-8")
 
@@ -215,18 +215,18 @@ def write_plan(folder: Folder, wanted: dict[Path, bytes], is_begun: bool) -> Non
         raise Refused(f"{folder.path} can't be written: {why.filename}: {os.strerror(why.errno)}") from None
 
 
-def read_sums(data):
+def read_sums(data: bytes) -> dict[str, str] | None:
     """Returns the sums that the bytes of a file spell, by names. None where it has a name twice, or anything else."""
     found = {name.decode(errors="replace"): digest.decode() for digest, name in SUM_LINE.findall(data)}
     return found if SUMS_ALONE.fullmatch(data) and len(found) == data.count(b"\n") else None
 
 
-def not_planned(path):
+def not_planned(path: Path) -> Refused:
     """Returns the fault of a file that was changed after `plan` wrote it."""
     return Refused(f"{path} is not what `ggp_competition plan` wrote", f"take it away, and {WRITES} again")
 
 
-def sums_of(path):
+def sums_of(path: Path) -> dict[str, str]:
     """Returns the sums of a file of sums that `plan` has written, by names."""
     found = read_sums(read_planned(path))
     if found is None:
@@ -234,7 +234,7 @@ def sums_of(path):
     return found
 
 
-def faults_of_descriptions(plan, path_of, advice=""):
+def faults_of_descriptions(plan: Plan, path_of: Callable[[Game], Path], advice: str = "") -> Iterator[str]:
     """Gives each description that is not the one that the rules were made from; `path_of` tells the file of a game, and the advice what
     helps where their sums are missing."""
     path = plan.folder.description_sums()
@@ -254,7 +254,7 @@ def faults_of_descriptions(plan, path_of, advice=""):
         yield f"{path} has a sum of {name}, which is no game of {plan.folder.competition}"
 
 
-def read_rules(folder, competition, referee):
+def read_rules(folder: Folder, competition: Competition, referee: Referee) -> dict[str, Rules]:
     """Returns the rules of each game by its name, as `plan` wrote them."""
     sums, found = sums_of(folder.rule_sums()), {}
     if sums.keys() != {file.name for game in competition.games for file in folder.rule_files(game)}:

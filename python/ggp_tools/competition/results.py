@@ -107,7 +107,7 @@ def remarks(result: Result) -> Iterator[str]:
         yield f"{result.match.id} was ordered in the place of {result.match.instead_of}"
 
 
-def fault_of_record(record, match, strikes):
+def fault_of_record(record: dict, match: Match, strikes: int) -> str | None:
     """Returns why a lawful record is not that of the match, or none."""
     wanted = {
         "matchId": match.id,
@@ -123,7 +123,7 @@ def fault_of_record(record, match, strikes):
     return None if record["phase"] in ("finished", "aborted") else f"its match is not over: {record['phase']}"
 
 
-def kind_of(error):
+def kind_of(error: str) -> str:
     """Returns the error without the text that was answered."""
     return "IL" if error.startswith("IL ") else error
 
@@ -150,12 +150,12 @@ def result_of(record: dict, match: Match, has_forfeits: bool = False) -> Result:
     return Result(match, tuple(record["goalValues"]), len(record["moves"]), errors, retirements, *end, has_forfeits)
 
 
-def read_record(data):
+def read_record(data: bytes) -> dict:
     """Returns the record that the bytes of a file spell, which `verify` has called lawful."""
     return json.loads(data)
 
 
-def times_of(log, roles):
+def times_of(log: bytes, roles: int) -> dict[str, object]:
     """Returns when a match began and ended, on which host, and of each role's messages the kind and the milliseconds."""
     found, messages = {}, [[] for _ in range(roles)]
     for line in log.decode("ascii", "replace").splitlines():

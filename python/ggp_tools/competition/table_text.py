@@ -3,13 +3,14 @@
 import csv
 import io
 import json
-from collections.abc import Iterator
+from collections.abc import Iterable, Iterator, Mapping, Sequence
 
 from ggp_tools.competition.competition_file import BY_POINTS, KNOCKOUT, SWISS
 from ggp_tools.competition.plan import Plan
 from ggp_tools.competition.ratings import MOST_STEPS
-from ggp_tools.competition.results import FULL_GOAL, again_words
+from ggp_tools.competition.results import FULL_GOAL, Result, again_words
 from ggp_tools.competition.rounds import rounds_of
+from ggp_tools.competition.schedule import Match
 from ggp_tools.competition.table import Line, Table
 
 HEADS = (
@@ -26,18 +27,18 @@ METHOD = (
 FORFEIT = f"A match in which a player was retired is lost for it; who is left gets {FULL_GOAL} goals, which several share."
 
 
-def in_order(plan, results):
+def in_order(plan: Plan, results: Mapping[str, Result]) -> list[Result]:
     """Returns the results in the schedule's order."""
     return [results[match.id] for match in plan.matches if match.id in results]
 
 
-def without_record(plan, results):
+def without_record(plan: Plan, results: Iterable[Result]) -> list[Match]:
     """Returns the matches that are not among the results, in the schedule's order."""
     known = {result.match.id for result in results}
     return [match for match in plan.matches if match.id not in known]
 
 
-def rounded(number, places):
+def rounded(number: float | None, places: int) -> float | None:
     """Returns the number for a file: the last places may differ from one machine to another, and are left away."""
     return None if number is None else round(number, places) + 0.0
 
@@ -51,11 +52,11 @@ def fields(line: Line) -> tuple[object, ...]:
     return line.player, line.matches, line.mean(), *counts, *rest, *more
 
 
-def points_text(points):
+def points_text(points: float) -> str:
     return f"{points:.1f}".removesuffix(".0")
 
 
-def rating_text(table, line, sign="+-"):
+def rating_text(table: Table, line: Line, sign: str = "+-") -> str:
     """Returns the rating with its interval, and the group where there are more than one."""
     if not line.rating or line.rating.rating is None:
         return "none"
@@ -63,11 +64,11 @@ def rating_text(table, line, sign="+-"):
     return f"{round(line.rating.rating)} {sign} {round(line.rating.half)}" + (f" in {line.rating.group}" if several else "")
 
 
-def goals_text(line):
+def goals_text(line: Line) -> str:
     return "none" if line.mean() is None else f"{line.mean():.2f}"
 
 
-def columns(rows):
+def columns(rows: Sequence[list[str]]) -> Iterator[str]:
     """Returns rows of texts as lines: the first two columns to the left, the others to the right."""
     widths = [max(map(len, column)) for column in zip(*rows)]
     for row in rows:
@@ -98,7 +99,7 @@ def standings_rows(table: Table, sign: str = "+-") -> Iterator[list[str]]:
         yield [*row, f"{line.replaced} of {line.moves}", str(line.absent), str(line.retired), rating_text(table, line, sign)]
 
 
-def crosstable_rows(table):
+def crosstable_rows(table: Table) -> Iterator[list[str]]:
     """Gives the rows of the crosstable, the heads first: points, and behind a stroke the meetings. Players are numbered in the order of
     the standings."""
     order = [line.player for line in table.standings()]
@@ -143,7 +144,7 @@ def table_text(plan: Plan, tables: list[Table]) -> str:
     return "\n".join([*lines, "", f"Ratings: {METHOD}.", ""])
 
 
-def csv_text(tables):
+def csv_text(tables: list[Table]) -> str:
     """Returns the lines of all tables as CSV, each with its game."""
     text = io.StringIO()
     writer = csv.writer(text, lineterminator="\n")
@@ -153,7 +154,7 @@ def csv_text(tables):
     return text.getvalue()
 
 
-def crosstable_csv(tables):
+def crosstable_csv(tables: list[Table]) -> str:
     text = io.StringIO()
     writer = csv.writer(text, lineterminator="\n")
     writer.writerow(("game", "player", "opponent", "meetings", "points"))
@@ -166,7 +167,7 @@ def crosstable_csv(tables):
     return text.getvalue()
 
 
-def json_text(plan, tables):
+def json_text(plan: Plan, tables: list[Table]) -> str:
     said = {
         "name": plan.competition.name,
         "matches": tables[0].matches,
@@ -192,7 +193,7 @@ def json_text(plan, tables):
     return json.dumps(said, indent=1) + "\n"
 
 
-def table_files(plan, tables):
+def table_files(plan: Plan, tables: list[Table]) -> dict[str, bytes]:
     """Returns the files of the table by their names, each as bytes."""
     texts = table_text(plan, tables), csv_text(tables), crosstable_csv(tables), json_text(plan, tables)
     return {name: text.encode("ascii") for name, text in zip(TABLE_FILES, texts)}
