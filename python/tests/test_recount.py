@@ -89,6 +89,17 @@ class Schedules(unittest.TestCase):
                 self.assertEqual({players[seat] for players in found}, set(names))
             self.assertTrue(all(len(set(players)) == len(players) for players in found))
 
+    def test_gauntlets_are_balanced(self):
+        chance = random.Random(16)
+        for _ in range(MANY):
+            count, rounds = chance.randrange(2, 9), chance.randrange(1, 4)
+            one = f"p{chance.randrange(count)}"
+            found = planned(competition(count, ["duel", "solo"], f'kind = "gauntlet"\none = "{one}"\nrounds = {rounds}'), ROLES)
+            others = [f"p{at}" for at in range(count) if f"p{at}" != one]
+            duels = [pair for other in others for pair in ((one, other), (other, one))] * rounds
+            self.assertEqual(Counter(match.players for match in found if match.game == "duel"), Counter(duels))
+            self.assertEqual(Counter(match.players for match in found if match.game == "solo"), Counter([(f"p{at}",) for at in range(count)] * rounds))
+
     def test_what_grows_keeps_what_was_planned(self):
         chance = random.Random(13)
         for _ in range(MANY):
