@@ -51,7 +51,7 @@ class Play(InFolder):
             self.planned(["good", "lying"], head=HEAD + head)
             out = run(self.folder, "play")[1]
             self.assertEqual([", forfeit: p1 (IL in turn 1), counts as " in line for line in lines(out, "end")], [said] * 2, out)
-            self.assertEqual(["p0 100" in line.rpartition("counts as")[2] for line in lines(out, "end")], [said] * 2, out)
+            self.assertEqual(["p0 100" in line.partition("counts as")[2] for line in lines(out, "end")], [said] * 2, out)
             run(self.folder, "pages")
             pages = [self.folder / "pages" / name for name in ("index.html", "games/countdown.html", "matches/cup-001.html")]
             self.assertEqual(["forfeit: p1 (IL in turn 1)" in page.read_text() for page in pages], [said] * 3)
