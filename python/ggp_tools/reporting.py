@@ -4,6 +4,8 @@ import os
 import sys
 import time
 
+from ggp_tools.competition.results import forfeit_words
+
 REDRAWN = 0.5
 
 
@@ -75,17 +77,17 @@ class Reporter:
     def begins(self, match):
         self.line(f"begin {match.id} {match.game} {' '.join(match.players)}")
 
-    def ends(self, result, forfeit, seconds):
-        """Says of each player its goal, how many of its moves were replaced, and whether it has lost by forfeit."""
+    def ends(self, result, seconds):
+        """Says of each player its goal, how many of its moves were replaced, and whether it has lost by forfeit, why, and what counts."""
         match = result.match
         goals = result.goals or ["none"] * len(match.players)
-        said = [f"{player} {goal}" for player, goal in zip(match.players, goals)]
+        said = [", ".join(f"{player} {goal}" for player, goal in zip(match.players, goals))]
         replaced = [
             f"{player} {result.replaced(role)} of {result.turns}" for role, player in enumerate(match.players) if result.replaced(role)
         ]
-        lost = [player for player, was_retired in zip(match.players, result.retired) if forfeit and was_retired]
-        more = "".join(f", {word} {', '.join(found)}" for word, found in (("replaced", replaced), ("forfeit:", lost)) if found)
-        self.line(f"end {match.id} {match.game} {', '.join(said)}{more}, {seconds:.1f} s")
+        said += [f"replaced {', '.join(replaced)}"] if replaced else []
+        said += [forfeit_words(result)] if result.forfeits() else []
+        self.line(f"end {match.id} {match.game} {', '.join(said)}, {seconds:.1f} s")
 
     def progress(self, over, open_ones, to_come):
         """Shows how far the matches are, and how long the rest takes if it goes on so."""

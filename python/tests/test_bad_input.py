@@ -10,7 +10,9 @@ import unittest
 from unittest import mock
 
 from ggp_tools.competition.command import COMMANDS
+from ggp_tools.competition.trial import trial
 from ggp_tools.descriptions.loading import NoDescription, instantiated
+from ggp_tools.descriptions.random_matches import TimeIsOver
 from ggp_tools.competition.files import Refused, write_whole
 from ggp_tools.competition.plan import faults_of_descriptions, make_plan, read_plan
 from ggp_tools.referee import NoReferee, find_program
@@ -69,12 +71,12 @@ class BadInput(InFolder):
             self.assertEqual(run(self.folder, "plan")[0], 0, name)
         (self.folder / "records/cup-1.json").touch()
         self.write(PLAYERS, [("game", "game.kif")], head="play = 4\n")
-        self.assert_refused("schedule.tsv would change, and matches were played", "plan")
+        self.assert_refused("competition.toml: the clocks of game were 10 and 3, and are 10 and 4: put back what was changed", "plan")
 
     def test_a_plan_that_is_broken_off_is_none(self):
         game, written = self.folder / "game.kif", []
         referee = types.SimpleNamespace(roles=lambda *_: ("a", "b"))
-        self.write(PLAYERS, [("game", "game.kif")])
+        self.write(PLAYERS, [("game", "game.kif", "aborts = true")])
         for stop in range(5):
             game.write_text(FACTS)
             make_plan(self.folder, referee)
@@ -98,6 +100,34 @@ class BadInput(InFolder):
             wrong = list(faults_of_descriptions(plan, plan.folder.description))
             self.assertEqual((plan.rules["game"].text == game.read_bytes(), bool(wrong)), (stop > 0, stop == 0), written)
 
+    def test_a_game_that_can_not_be_played_is_planned_only_if_that_is_said(self):
+        game, referee = self.folder / "game.kif", types.SimpleNamespace(roles=lambda *_: ("robot",))
+        buttons = (GAMES / "buttons.kif").read_text()
+        for text, words in (
+            ("(role robot)", "no match of it can begin: at the start it is aborted with `nolegal robot`"),
+            ("(role robot) (<= terminal (role robot))", "no match of it can begin: at the start it is aborted with `nogoal robot`"),
+            (buttons.replace("(<= terminal solved", "(=> terminal solved").replace("robot 0", "robto 0"), "all of 5 random matches were aborted, with `nogoal robot`"),
+            (buttons, ""),
+        ):
+            game.write_text(text)
+            self.write(PLAYERS, [("game", "game.kif")])
+            if words:
+                with self.assertRaises(Refused) as why:
+                    make_plan(self.folder, referee)
+                said = f"{self.folder}/competition.toml:4: games.file: {game}: {words}; with `aborts = true` it is planned all the same"
+                self.assertEqual(str(why.exception), said)
+                self.assertFalse((self.folder / "schedule.tsv").exists())
+                self.write(PLAYERS, [("game", "game.kif", "aborts = true")])
+            self.assertEqual(len(make_plan(self.folder, referee).matches), 2)
+            (self.folder / "schedule.tsv").unlink()
+
+    def test_a_game_whose_matches_are_long_is_planned_and_told(self):
+        for fault, words in ((TimeIsOver(), "no random match of it came to its end in 10 s"), (RecursionError(), "it was not tried: its rules ask for one another too deeply")):
+            with mock.patch("ggp_tools.descriptions.random_matches.RandomMatches.play", side_effect=fault):
+                why, note = trial(b"(role a)", None, "game")
+            self.assertIsNone(why)
+            self.assertIn(words, note)
+
     def played(self):
         """Plans a competition, and leaves what stands for the record of a match. Returns the files of the plan, with what they hold."""
         (self.folder / "game.kif").write_bytes((GAMES / "countdown.kif").read_bytes())
@@ -118,6 +148,7 @@ class BadInput(InFolder):
                 self.assertEqual(run(self.folder, "plan")[::2], (0, ""))
                 self.assertEqual({path: path.read_bytes() for path in before}, before)
         text = games.read_text()
+        (self.folder / "planned.toml").unlink()
         for path in before:
             games.write_text(text.replace("100", "99"))
             path.unlink()
@@ -131,9 +162,9 @@ class BadInput(InFolder):
         text = file.read_text()
         file.write_text(text.replace("start = 2", "start = 3"))
         for command in ("play", "table", "pages", "publish"):
-            self.assert_refused("schedule.tsv is not what competition.toml says: matches were played, so put back what was changed\n", command)
+            self.assert_refused("schedule.tsv is not what competition.toml says: matches were played, so put back what was changed, or add to it and plan again\n", command)
         file.write_text(text.replace('name = "game"', 'name = "other"'))
-        self.assert_refused("rules/SHA256SUMS is not what competition.toml says: matches were played, so put back what was changed\n", "play")
+        self.assert_refused("rules/SHA256SUMS is not what competition.toml says: matches were played, so put back what was changed, or add to it and plan again\n", "play")
         file.write_text(text)
         rules.write_text("(role a)")
         self.assert_refused("rules/game.kif is not what `ggp_competition plan` wrote: take it away, and `ggp_competition plan` writes it again\n", "play")
@@ -167,7 +198,7 @@ class BadInput(InFolder):
         (self.folder / "coins.kif").write_text("(role a) (init (s 101)) (<= (goal a ?x) (true (s ?x))) (goal a 7)")
         # What an author says at the head of ground rules is no word of `ggp-instantiate`.
         (self.folder / "one.kif").write_text("; a comment\n" + (GAMES / "buttons.kif").read_text())
-        self.write(PLAYERS, [("coins", "coins.kif"), ("one", "one.kif")])
+        self.write(PLAYERS, [("coins", "coins.kif", "aborts = true"), ("one", "one.kif")])
         status, out, said = run(self.folder, "plan")
         self.assertEqual((status, said, [line.split(":")[0] for line in out.splitlines()]), (0, "", ["coins", "coins", "one", "schedule.tsv"]))
         self.assertEqual(out.splitlines()[1], (

@@ -29,13 +29,17 @@ MISTAKES = [
     ("strikes = 3", "striks = 3", [(3, "striks", "no such key")]),
     ("strikes = 3", "strikes 3", [(3, "strikes", "Expected '=' after a key")]),
     ("strikes = 3", 'forfeit = "yes"', [(3, "forfeit", "true or false")]),
+    ("strikes = 3", 'order = "wins"', [(3, "order", "'wins' is none of goals, points")]),
     ("strikes = 3", 'absent = "wait"', [(3, "absent", "none of leave, play")]),
     ('"me@two"', '"-oProxyCommand=x"', [(4, "hosts", "is no host")]),
     *(('"me@two"', f'"{host}"', [(4, "hosts", f"'{host}' is no host: NAME or USER@NAME is wanted")]) for host in NO_HOSTS),
     ('"me@two"', '"one"', [(4, "hosts", "twice")]),
     ('"me@two"', "2", [(4, "hosts", "a text in quotes")]),
     ("[form]", "[from]", [(1, "form", "one [form]"), (5, "from", "no such key")]),
-    ('"round_robin"', '"swiss"', [(6, "form.kind", "none of round_robin, gauntlet, schedule")]),
+    ('"round_robin"', '"league"', [(6, "form.kind", "none of round_robin, gauntlet, schedule, swiss, knockout")]),
+    ('"round_robin"', '"knockout"', [(7, "form.rounds", "the kind knockout has no such key")]),
+    ('"round_robin"\nrounds = 2', '"swiss"', [(5, "form.rounds", "missing")]),
+    ('"round_robin"\nrounds = 2', '"swiss"\nrounds = 2\none = "ann"', [(8, "form.one", "the kind swiss has no such key")]),
     ('"round_robin"', '"gauntlet"', [(5, "form.one", "missing")]),
     ("rounds = 2", "rounds = 0", [(7, "form.rounds", "is not from")]),
     ("rounds = 2", "rounds = 1001", [(7, "form.rounds", "is not from 1 to 1,000")]),
@@ -45,8 +49,9 @@ MISTAKES = [
     ('name = "go"', 'name = "g/o"', [(12, "games.name", "is no name")]),
     ('file = "go.kif"', "", [(11, "games.file", "missing")]),
     ('file = "go.kif"', 'file = "go.kif"\ntold = "both"', [(14, "games.told", "none of ground, variables")]),
+    ('file = "go.kif"', 'file = "go.kif"\naborts = 1', [(14, "games.aborts", "true or false is wanted")]),
     ('file = "go.kif"', 'file = "go.kif"\ntold = true', [(14, "games.told", "a text in quotes")]),
-    ('file = "go.kif"', 'file = "go.kif"\n\ntell = "ground"', [(15, "games.tell", "no such key; there are name, file, described, seconds, start, play, told")]),
+    ('file = "go.kif"', 'file = "go.kif"\n\ntell = "ground"', [(15, "games.tell", "no such key; there are name, file, described, seconds, start, play, told, aborts")]),
     ('name = "bob"', 'name = "ann"', [(18, "players.name", "'ann' stands in line 15 already")]),
     ('name = "bob"', 'name = "b b"', [(18, "players.name", "is no name")]),
     ('"[::1]:9148"', '"10.0.0.1:9147"', [(19, "players.address", "line 16 already")]),
@@ -92,6 +97,12 @@ class CompetitionFile(unittest.TestCase):
         self.assertEqual((found.name, found.strikes, found.hosts), ("cup", 3, ("one", "me@two")))
         self.assertEqual([(player.name, player.place(), player.concurrent) for player in found.players][1:], [("bob", "bob@[::1]:9148", 1), ("cid", "cid@host.example:9149", 3)])
         self.assertEqual([(game.name, game.start, game.play) for game in found.games], [("chess", 30, 10), ("go", 30, 10)])
+
+    def test_a_competition_by_rounds_has_an_order_of_its_own(self):
+        for kind in ('"swiss"\nrounds = 3', '"knockout"'):
+            self.assertEqual(mistakes_of(toml(PLAYERS, GAMES, f"kind = {kind}").encode()), [])
+            found = mistakes_of(toml(PLAYERS, GAMES, f"kind = {kind}", 'order = "goals"').encode())
+            self.assertEqual(found, [(2, "order", f"the kind {kind.split(chr(34))[1]} has an order of its own")])
 
     def test_hosts(self):
         hosts = ("localhost", "10.0.0.1", "me@host.example", "a_b-c", "me@two:2222", "::1", "me@2001:db8::1")

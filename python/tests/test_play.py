@@ -50,7 +50,11 @@ class Play(InFolder):
         for head, said in (("forfeit = true\n", True), ("", False)):
             self.planned(["good", "lying"], head=HEAD + head)
             out = run(self.folder, "play")[1]
-            self.assertEqual([", forfeit: p1, " in line for line in lines(out, "end")], [said] * 2, out)
+            self.assertEqual([", forfeit: p1 (IL in turn 1), counts as " in line for line in lines(out, "end")], [said] * 2, out)
+            self.assertEqual(["p0 100" in line.partition("counts as")[2] for line in lines(out, "end")], [said] * 2, out)
+            run(self.folder, "pages")
+            pages = [self.folder / "pages" / name for name in ("index.html", "games/countdown.html", "matches/cup-001.html")]
+            self.assertEqual(["forfeit: p1 (IL in turn 1)" in page.read_text() for page in pages], [said] * 3)
             shutil.rmtree(self.folder / "records")
 
     def test_times_stand_in_matches_jsonl(self):
@@ -542,7 +546,7 @@ class Play(InFolder):
         file.write_text(file.read_text().replace("play = 5", "play = 6"))
         status, _, said = run(self.folder, "plan")
         self.assertEqual(status, 2)
-        self.assertIn("schedule.tsv would change, and matches were played", said)
+        self.assertIn("the clocks of countdown were 5 and 5, and are 5 and 6: put back what was changed", said)
 
     @unittest.skipIf(os.geteuid(), "only root can mount a small disk")
     def test_a_full_disk_costs_the_open_matches_alone(self):

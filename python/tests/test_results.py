@@ -3,7 +3,7 @@
 import json
 import unittest
 
-from ggp_tools.competition.results import fault_of_record, kind_of, match_line, result_of, times_of, was_retired
+from ggp_tools.competition.results import fault_of_record, forfeit_words, kind_of, match_line, result_of, retirement_of, times_of
 from ggp_tools.competition.schedule import Match
 
 MATCH = Match("cup-001", "nim", 10, 5, ("ann", "bob"))
@@ -47,18 +47,19 @@ class Results(unittest.TestCase):
 
     def test_strikes_count_in_a_row(self):
         def retired(strikes, *errors):
-            return was_retired(record(strikes=strikes, errors=[[error] for error in errors]), 0)
+            found = retirement_of(record(strikes=strikes, errors=[[error] for error in errors]), 0)
+            return found and found.words()
 
-        self.assertTrue(retired(2, "TO", "TO"))
-        self.assertTrue(retired(2, "", "TO", "CE", ""))
-        self.assertFalse(retired(2, "TO", "", "TO"))
-        self.assertFalse(retired(3, "TO", "TO", "", "TO"))
-        self.assertTrue(retired(1, "TO"))
-        self.assertFalse(retired(1, "", ""))
-        self.assertFalse(retired(0, "TO", "TO"))
+        self.assertEqual(retired(2, "TO", "TO", "RT"), "TO in turns 1 to 2")
+        self.assertEqual(retired(3, "", "TO", "IL (a b)", "TO", "RT"), "TO, IL in turns 2 to 4")
+        self.assertEqual(retired(2, "", "TO", "CE", ""), "TO, CE in turns 2 to 3")
+        self.assertEqual(retired(1, "", "", "IL ?"), "IL in turn 3")
+        for strikes, *errors in ((2, "TO", "", "TO"), (3, "TO", "TO", "", "TO"), (1, "", ""), (0, "TO", "TO"), (255, *["TO"] * 254)):
+            self.assertIsNone(retired(strikes, *errors))
+        self.assertEqual(retired(255, *["TO"] * 256), "TO in turns 1 to 255")
 
     def test_each_role_has_strikes_of_its_own(self):
-        self.assertEqual(result_of(RECORD, MATCH).retired, (True, False))
+        self.assertEqual([bool(why) for why in result_of(RECORD, MATCH).retirements], [True, False])
 
     def test_a_role_is_absent_if_each_of_its_moves_was_replaced(self):
         def absent(*errors):
@@ -90,6 +91,31 @@ class Times(unittest.TestCase):
         self.assertEqual((said["id"], said["game"], said["rules"], said["players"], said["goals"]), ("cup-001", "nim", "sum", ["ann", "bob"], [100, 0]))
         self.assertEqual([*said["errors"][1]], ["IL", "TO"])
         self.assertEqual(said["messages"][1], [["start", 4]])
+        self.assertNotIn("forfeit", said)
+        self.assertNotIn("counted", said)
+
+
+class Forfeits(unittest.TestCase):
+    def test_a_forfeit_says_who_why_and_what_counts(self):
+        found = result_of(RECORD, MATCH, True)
+        self.assertEqual(forfeit_words(found), "forfeit: ann (CE, IL in turns 2 to 3), counts as ann 0, bob 100")
+        said = json.loads(match_line(found, "sum", b""))
+        self.assertEqual((said["goals"], said["counted"]), ([100, 0], [0, 100]))
+        self.assertEqual(said["forfeit"], [{"player": "ann", "errors": ["CE", "IL"], "turn": 3}])
+        self.assertEqual((forfeit_words(result_of(RECORD, MATCH)), result_of(RECORD, MATCH).counted()), ("", (100, 0)))
+
+    def test_who_is_left_shares_the_full_goal_whatever_the_match_gave(self):
+        for roles in range(1, 17):
+            for lost in range(roles + 1):
+                for goals in ([7] * roles, [100, *[0] * (roles - 1)], []):
+                    errors = [["TO" if role < lost else "" for role in range(roles)]]
+                    match = Match("m", "game", 1, 1, tuple(f"p{role}" for role in range(roles)))
+                    found = result_of(record(strikes=1, moves=[["x"] * roles], errors=errors, goalValues=goals), match, True)
+                    wanted = tuple(goals) or (None,) * roles
+                    if lost:
+                        wanted = tuple(0 if role < lost else int(100 / (roles - lost)) for role in range(roles))
+                    self.assertEqual(found.counted(), wanted, (roles, lost, goals))
+                    self.assertEqual(list(found.forfeits()), list(range(lost)))
 
 
 if __name__ == "__main__":

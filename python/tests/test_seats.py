@@ -54,6 +54,14 @@ class SomeSeats(unittest.TestCase):
         self.seats.leave(last)
         self.assertTrue(self.begins(1.0)[0])
 
+    def test_the_queue_is_looked_through_again_when_there_are_other_matches(self):
+        later, self.waiting = self.waiting, []
+        self.assertEqual(self.begins(1.0), (None, 0))
+        self.waiting = later
+        self.assertEqual(self.begins(1.0), (None, 0))
+        self.seats.look_again()
+        self.assertTrue(self.begins(1.0)[0])
+
     def test_the_queue_is_looked_through_again_when_a_player_is_rested(self):
         self.assertTrue(self.seats.was_not_there("p0", time.monotonic()))
         self.waiting = [match for match in self.waiting if "p0" in match.players]

@@ -10,7 +10,7 @@ from unittest import mock
 from ggp_tools.competition.competition_file import read_competition
 from ggp_tools.competition.plan import Plan
 from ggp_tools.competition.ratings import Rating
-from ggp_tools.competition.results import Result, result_of, times_of
+from ggp_tools.competition.results import Result, Retirement, result_of, times_of
 from ggp_tools.competition.schedule import Match
 from ggp_tools.competition.table import Line, Table, tables_of
 from ggp_tools.competition.table_text import crosstable_rows, notes, rating_text, standings_rows, table_files
@@ -23,12 +23,12 @@ def competition(head=""):
     return read_competition(toml([(name, f"h:{at + 1}") for at, name in enumerate(NAMES)], [("two", "f"), ("three", "f"), ("one", "f")], head=head).encode())
 
 
-def result(players, goals, wrong=None, turns=5, retired=None, game="two"):
+def result(players, goals, wrong=None, retired=None, game="two", forfeit=True):
     """Returns the result of a match in which so many moves of each player were replaced."""
     wrong = wrong or [0] * len(players)
     errors = tuple(Counter({"TO": count} if count else {}) for count in wrong)
-    retired = tuple(retired or [False] * len(players))
-    return Result(Match("m", game, 1, 1, tuple(players)), tuple(goals), turns, errors, retired, "finished", None)
+    retirements = tuple(Retirement(("TO",), 5) if gone else None for gone in retired or [False] * len(players))
+    return Result(Match("m", game, 1, 1, tuple(players)), tuple(goals), 5, errors, retirements, "finished", None, forfeit)
 
 
 def line(results, player, head="", game=0):
@@ -67,7 +67,7 @@ class Tables(unittest.TestCase):
             ({}, {"won": 0, "lost": 0}, -1), ({}, {"lost": 1}, 1), ({"goals": 0, "scored": 0}, {"goals": 0}, 0), ({}, {"drawn": 2, "replaced": 7}, 0),
         ]
         for one, other, sign in changes:
-            orders = [replace(line, **change).order() for change in (one, other)]
+            orders = [replace(line, **change).order("goals") for change in (one, other)]
             self.assertEqual((orders[0] > orders[1]) - (orders[0] < orders[1]), sign, (one, other))
         results = [result(["dan", "bob"], [100, 0]), result(["cid", "ann"], [0, 50]), result(["bob", "cid"], [50, 50]), result(["ann", "dan"], [0, 50])]
         results += [result(["bob", "cid"], [0, 0])]
@@ -83,29 +83,52 @@ class Tables(unittest.TestCase):
         results = [result(["ann", "bob"], [100, 0], [0, 5]), result(["bob", "ann"], [0, 100], [5, 0]), result(["bob", "cid"], [100, 0], [5, 4])]
         table = tables_of(competition(), results)[0]
         self.assertEqual([(standing.player, standing.absent) for standing in table.standings()], [("ann", 0), ("bob", 3), ("cid", 0)])
-        said = table_files(Plan(None, competition(), {}, results), [table])["table.txt"].decode()
+        said = table_files(Plan(None, competition(), {}, [played.match for played in results]), [table])["table.txt"].decode()
         self.assertIn("* bob made no move of its own: all of its moves were replaced", said)
 
     def test_forfeit(self):
-        results = [result(["ann", "bob"], [0, 100], [0, 5], retired=[False, True])]
-        self.assertEqual([line(results, "bob").won, line(results, "bob").mean(), line(results, "ann").lost], [1, 100, 1])
-        head = "forfeit = true"
-        self.assertEqual([line(results, "bob", head).lost, line(results, "bob", head).mean(), line(results, "ann", head).won], [1, 0, 1])
-        self.assertEqual(line(results, "ann", head).mean(), 0)
-        both = [result(["ann", "bob"], [], [5, 5], retired=[True, True])]
-        self.assertEqual([line(both, name, head).lost for name in ("ann", "bob")], [1, 1])
-        self.assertEqual(tables_of(competition(head), both)[0].met, {})
+        def found(forfeit, goals, retired):
+            lines = tables_of(competition(), [result(["ann", "bob"], goals, [0, 5], retired=retired, forfeit=forfeit)])[0].lines
+            return [(of.won, of.lost, of.mean(), of.won_by_forfeit, of.lost_by_forfeit) for of in (lines["ann"], lines["bob"])]
 
-    def test_forfeit_without_goals(self):
-        # `toolong` or `nogoal`, with a player that was retired: it is the other's win, and no goal is counted for that one.
-        results = [result(["ann", "bob"], [], [0, 5], retired=[False, True])]
-        for head, won, lost, mean in (("", 0, 0, None), ("forfeit = true", 1, 1, 0)):
-            found = [line(results, name, head) for name in ("ann", "bob")]
-            self.assertEqual([(row.won, row.drawn, row.lost, row.mean()) for row in found], [(won, 0, 0, None), (0, 0, lost, mean)])
-            self.assertEqual(tables_of(competition(head), results)[0].points.get(("ann", "bob")), won or None)
-        three = [result(["ann", "bob", "cid"], [], [0, 5, 0], retired=[False, True, False], game="three")]
-        found = [line(three, name, "forfeit = true") for name in ("ann", "bob", "cid")]
-        self.assertEqual([(row.won, row.drawn, row.lost) for row in found], [(0, 1, 0), (0, 0, 1), (0, 1, 0)])
+        self.assertEqual(found(False, [0, 100], [False, True]), [(0, 1, 0, 0, 0), (1, 0, 100, 0, 0)])
+        # Neither the goals that substituted moves have led to, nor that there are none, make a difference.
+        for goals in ([0, 100], [100, 0], [50, 50], [30, 10], []):
+            self.assertEqual(found(True, goals, [False, True]), [(1, 0, 100, 1, 0), (0, 1, 0, 0, 1)])
+            self.assertEqual(found(True, goals, [True, True]), [(0, 1, 0, 0, 1), (0, 1, 0, 0, 1)])
+        self.assertEqual(found(False, [], [False, True]), [(0, 0, None, 0, 0), (0, 0, None, 0, 0)])
+        both = [result(["ann", "bob"], [], [5, 5], retired=[True, True])]
+        self.assertEqual(tables_of(competition(), both)[0].met, {})
+
+    def test_substituted_moves_do_not_decide_places(self):
+        # By the goals alone bob, with fewer wins, would stand above ann.
+        results = [result(["ann", "cid"], [0, 100], [0, 5], retired=[False, True])] * 10 + [result(["ann", "dan"], [100, 0])] * 8
+        results += [result(["ann", "dan"], [0, 100])] * 2 + [result(["bob", "dan"], [100, 0])] * 17 + [result(["bob", "dan"], [0, 100])] * 3
+        table = tables_of(competition("forfeit = true"), results)[0]
+        self.assertEqual([(of.player, of.won, of.mean()) for of in table.standings()][:2], [("ann", 18, 90), ("bob", 17, 85)])
+        rows = list(standings_rows(table))
+        self.assertEqual([row[rows[0].index("by forfeit")] for row in rows[1:]], ["10 won, 0 lost", "0 won, 0 lost", "0 won, 0 lost", "0 won, 10 lost"])
+        self.assertNotIn("by forfeit", next(standings_rows(tables_of(competition(), results[10:])[0])))
+
+    def test_a_forfeit_with_more_players(self):
+        for goals in ([0, 100, 0], [100, 0, 0], [0, 0, 100], []):
+            three = [result(["ann", "bob", "cid"], goals, [0, 5, 0], retired=[False, True, False], game="three")]
+            table = tables_of(competition(), three)[0]
+            found = [(of.won, of.drawn, of.lost, of.mean()) for of in map(table.lines.get, ("ann", "bob", "cid"))]
+            self.assertEqual(found, [(0, 1, 0, 50), (0, 0, 1, 0), (0, 1, 0, 50)])
+            self.assertEqual([table.points[pair] for pair in (("ann", "bob"), ("bob", "ann"), ("ann", "cid"))], [1, 0, 0.5])
+            two = tables_of(competition(), [result(["ann", "bob", "cid"], goals, retired=[True, True, False], game="three")])[0]
+            self.assertEqual([(of.won, of.lost, of.mean()) for of in map(two.lines.get, ("ann", "cid"))], [(0, 1, 0), (1, 0, 100)])
+
+    def test_the_order_by_points(self):
+        # More goals for ann, more points for bob.
+        results = [result(["ann", "bob"], [60, 70]), result(["ann", "cid"], [90, 10]), result(["bob", "cid"], [40, 40]), result(["dan", "cid"], [0, 5])]
+        for head, order, places in (("", ["ann", "bob", "cid", "dan"], [1, 2, 3, 4]), ('order = "points"', ["bob", "cid", "ann", "dan"], [1, 2, 3, 4])):
+            table = tables_of(competition(head), results)[0]
+            self.assertEqual(([of.player for of in table.standings()], table.places()), (order, places))
+        self.assertEqual([of.points() for of in table.standings()], [1.5, 1.5, 1, 0])
+        rows = list(standings_rows(table))
+        self.assertEqual([row[3] for row in rows], ["points", "1.5", "1.5", "1", "0"])
 
     def test_three_players(self):
         results = [result(["ann", "bob", "cid"], [50, 50, 0], game="three")]
@@ -123,12 +146,21 @@ class Tables(unittest.TestCase):
     def test_who_is_retired(self):
         record = {"errors": [["", "TO"], ["CE", "TO"], ["", "RT"]], "moves": [[], [], []], "goalValues": [1, 2], "strikes": 2, "phase": "finished", "cause": None}
         match = Match("m", "two", 1, 1, ("ann", "bob"))
-        self.assertEqual(result_of(record, match).retired, (False, True))
-        self.assertEqual(result_of({**record, "strikes": 0}, match).retired, (False, False))
+        self.assertEqual(result_of(record, match).retirements, (None, Retirement(("TO", "TO"), 2)))
+        self.assertEqual(result_of({**record, "strikes": 0}, match).retirements, (None, None))
         # Where the match ended with its last strike there is no `RT`.
         last = {**record, "errors": [["", ""], ["", "TO"], ["", "IL x"]]}
-        self.assertEqual(result_of(last, match).retired, (False, True))
+        self.assertEqual(result_of(last, match).retirements, (None, Retirement(("TO", "IL"), 3)))
         self.assertEqual(result_of(last, match).errors[1], {"TO": 1, "IL": 1})
+
+    def test_a_match_that_was_ordered_again_counts_for_nobody(self):
+        first, second = result(["ann", "bob"], [100, 0]), result(["ann", "bob"], [0, 100])
+        first = replace(first, match=replace(first.match, again="m2", reason="the host's cable"))
+        tables = tables_of(competition(), [first, second])
+        self.assertEqual([(of.player, of.matches, of.won) for of in tables[0].standings()], [("bob", 1, 1), ("ann", 1, 0)])
+        files = table_files(Plan(None, competition(), {}, [first.match, second.match]), tables)
+        self.assertIn("cup: 1 of 1 matches\n", files["table.txt"].decode())
+        self.assertIn("* m does not count: m2 was ordered in its place: the host's cable\n", files["table.txt"].decode())
 
     def test_a_rating_next_to_nothing_has_no_sign(self):
         for rating, said in ((-0.4, "0 +- 118"), (0.4, "0 +- 118"), (-0.6, "-1 +- 118"), (-118.5, "-118 +- 118")):
@@ -141,11 +173,11 @@ class Tables(unittest.TestCase):
             with mock.patch("ggp_tools.competition.ratings.MOST_STEPS", steps):
                 tables = tables_of(competition(), results)
             self.assertEqual(list(notes(tables[0])), said)
-            self.assertEqual(json.loads(table_files(Plan(None, competition(), {}, results), tables)["table.json"])["tables"][0]["notes"], said)
+            self.assertEqual(json.loads(table_files(Plan(None, competition(), {}, [played.match for played in results]), tables)["table.json"])["tables"][0]["notes"], said)
 
     def test_files_say_the_same(self):
         results = [result(["ann", "bob"], [100, 0]), result(["bob", "ann"], [50, 50]), result(["cid"], [30], game="one")]
-        files = table_files(Plan(None, competition(), {}, results), tables_of(competition(), results))
+        files = table_files(Plan(None, competition(), {}, [played.match for played in results]), tables_of(competition(), results))
         said = json.loads(files["table.json"])
         lines = [line.split(",") for line in files["table.csv"].decode().splitlines()[1:]]
         self.assertEqual(len(lines), sum(len(of_game["lines"]) for of_game in said["tables"]))

@@ -29,17 +29,20 @@ def recount(records):
     for record in records:
         out = [any(turn[role] for turn in record["errors"]) for role in range(len(record["players"]))]
         worth = [-1 if gone else goal for gone, goal in zip(out, record["goalValues"] or [0] * len(out))]
-        has_goals = bool(record["goalValues"])
+        counted = record["goalValues"] or [0] * len(out)
+        if any(out):
+            worth = [-1 if gone else 100 // out.count(False) for gone in out]
+            counted = [max(0, goal) for goal in worth]
+        has_goals = bool(record["goalValues"]) or any(out)
         for role, player in enumerate(record["players"]):
             line = found.setdefault(player, [0] * 9)
             others = [of_role for at, of_role in enumerate(worth) if at != role]
             wrong = sum(bool(turn[role]) for turn in record["errors"])
-            is_counted = has_goals or any(out)
-            won = bool(others) and is_counted and all(worth[role] > of_other for of_other in others)
-            lost = bool(others) and is_counted and (worth[role] < max(others) or out[role])
-            drawn = bool(others) and is_counted and not won and not lost
-            goal = 0 if out[role] or not has_goals else record["goalValues"][role]
-            added = (1, goal, has_goals or out[role], won, drawn, lost, len(record["moves"]), wrong, out[role])
+            is_counted = bool(others) and has_goals
+            won = is_counted and all(worth[role] > of_other for of_other in others)
+            lost = is_counted and (worth[role] < max(others) or out[role])
+            drawn = is_counted and not won and not lost
+            added = (1, counted[role], has_goals, won, drawn, lost, len(record["moves"]), wrong, out[role])
             found[player] = [one + int(more) for one, more in zip(line, added)]
     return found
 

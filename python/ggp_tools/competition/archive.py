@@ -14,9 +14,10 @@ import zlib
 
 from ggp_tools.competition.described import DIFFERS, IS_SAME, held_records
 from ggp_tools.competition.files import UNFINISHED, Refused, written_whole
+from ggp_tools.competition.history import history_files
 from ggp_tools.competition.kept import look_at_records, strangers
 from ggp_tools.competition.pages import made_anew
-from ggp_tools.competition.plan import faults_of_descriptions, read_plan, read_sums, sums_text
+from ggp_tools.competition.plan import faults_of_descriptions, read_plan, read_sums, rounds_left, sums_text
 from ggp_tools.descriptions.loading import has_variables
 from ggp_tools.referee import VERSION_LINE, Unchecked
 from ggp_tools.competition.results import match_line
@@ -46,7 +47,8 @@ checks all that follows. By hand, in this folder:
 The rules are ground descriptions; games has the descriptions that they were made from, whose sums when the plan was made are in
 rules/DESCRIPTIONS.sha256. Where rules/GAME.told is there, the players of that game were told this in place of rules/GAME.kif. The
 version of the referee with which this was published is in VERSION. Where GAPS.tsv is there, it has the matches of the schedule that
-have no record.
+have no record. Where again.tsv is there, it has the matches that were played again, with the reasons: the earlier records do not count.
+Where earlier is there, the competition grew: earlier/N.toml is competition.toml as it was when N matches were planned.
 What this does not show: that the players of these names sent these answers, and when. Keep the sum of the archive as you got it.
 """
 
@@ -83,9 +85,10 @@ def matches_text(plan, results):
 
 
 def gaps_files(plan, results):
-    """Returns the file that names the matches without a record, by its name; none where there are no such matches."""
+    """Returns the file that names the matches without a record, by its name; none where there are no such matches, and each round is
+    planned."""
     missing = without_record(plan, results)
-    return {GAPS: schedule_text(missing)} if missing else {}
+    return {GAPS: schedule_text(missing)} if missing or rounds_left(plan) else {}
 
 
 def contents(plan, referee, results):
@@ -93,6 +96,8 @@ def contents(plan, referee, results):
     folder = plan.folder
     yield "competition.toml", plan.text
     yield "schedule.tsv", folder.schedule
+    for file in history_files(folder):
+        yield str(file.relative_to(folder.path)), file
     for file in (folder.rule_sums(), folder.description_sums()):
         yield f"rules/{file.name}", file
     for game in plan.competition.games:
@@ -105,7 +110,7 @@ def contents(plan, referee, results):
         yield str(folder.log(result.match.id).relative_to(folder.path)), folder.read_log(result.match.id)
     yield "matches.jsonl", matches_text(plan, results)
     yield from gaps_files(plan, results).items()
-    for name, data in table_files(plan, tables_of(plan.competition, results)).items():
+    for name, data in table_files(plan, tables_of(plan.competition, results, plan.rounds)).items():
         yield name, data
     for name, file in files_below(folder.pages).items():
         # What another run is writing there is none of these pages.
@@ -121,7 +126,7 @@ def own_files(plan):
     # The last four are there where the folder comes out of an archive.
     others = (folder.path / name for name in (*TABLE_FILES, SUMS, VERSION, HOW, GAPS))
     descriptions = (file for game in plan.competition.games for file in (folder.description(game), folder.given(game)))
-    return [folder.competition, folder.schedule, folder.matches, *others, *descriptions]
+    return [folder.competition, folder.schedule, folder.planned, folder.again, folder.matches, *others, *descriptions]
 
 
 def publish(plan, referee, results, path):
@@ -221,6 +226,7 @@ def faults_of_files(folder, plan, results, wanted):
         if name not in pages or name not in said or pages[name].read_bytes() != said[name].read_bytes():
             yield f"pages/{name} does not follow from the records"
     known = {SUMS, VERSION, HOW, "competition.toml", "schedule.tsv", *wanted}
+    known |= {str(file.relative_to(plan.folder.path)) for file in history_files(plan.folder)}
     known |= {f"rules/{sums.name}" for sums in (plan.folder.rule_sums(), plan.folder.description_sums())}
     for game in plan.competition.games:
         known |= {f"games/{game.name}.kif", *(f"rules/{file.name}" for file in plan.folder.rule_files(game))}
@@ -304,7 +310,7 @@ def looked_at(path, referee):
             held, faults = held_matches(plan, results, folder)
             if faults:
                 return faults, ""
-            wanted = table_files(plan, tables_of(plan.competition, results))
+            wanted = table_files(plan, tables_of(plan.competition, results, plan.rounds))
             wanted |= {"matches.jsonl": matches_text(plan, results), **gaps_files(plan, results)}
             faults = list(faults_of_files(folder, plan, results, wanted))
             faults += [] if (folder / HOW).read_bytes() == how_to(plan) else [f"{HOW} is not what `publish` writes"]
@@ -317,5 +323,7 @@ def looked_at(path, referee):
             raise Unchecked("the archive can't be checked: want of memory") from None
     missing = len(plan.matches) - len(results)
     gaps = f"; {missing} of {len(plan.matches)} matches have no record, {GAPS} names them" if missing else ""
+    left = rounds_left(plan)
+    gaps += f"; {left} of {left + len(plan.rounds)} rounds were not planned" if left else ""
     said = f"the sums, the schedule, {len(results)} records and accounts, the table and the pages are right{gaps}"
     return faults, f"{said}{held}; published with {made_by}, checked by {referee.version()}"

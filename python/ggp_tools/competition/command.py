@@ -8,12 +8,13 @@ import sys
 from collections.abc import Callable
 
 from ggp_tools import VERSION
+from ggp_tools.competition.again import order_again
 from ggp_tools.competition.archive import TooLarge, check_archive, matches_text, own_files, publish
 from ggp_tools.competition.files import Refused, held, write_whole
 from ggp_tools.competition.game import add_game, run_game
 from ggp_tools.competition.kept import look_at_records
 from ggp_tools.competition.pages import Pages
-from ggp_tools.competition.plan import WRITES, faults_of_descriptions, make_plan, read_plan
+from ggp_tools.competition.plan import WRITES, Plan, faults_of_descriptions, make_plan, read_plan, round_words, rounds_left
 from ggp_tools.competition.playing import Playing, play
 from ggp_tools.referee import NoReferee, Referee, Unchecked, find_program
 from ggp_tools.competition.seats import Seats
@@ -25,6 +26,7 @@ MOST_AT_ONCE = 1_024
 HELP = "A competition in one folder, of which competition.toml says what is played."
 COMMANDS = {
     "plan": "writes the rules and schedule.tsv, as competition.toml says",
+    "again": "orders a match to be played again: the one in its place counts, and both are kept",
     "play": "plays the matches that have no lawful record yet",
     "table": "prints the table, and writes it as table.txt, table.csv, crosstable.csv and table.json",
     "pages": "writes the folder `pages`, to be opened in a browser",
@@ -61,6 +63,9 @@ def arguments(words: list[str]) -> argparse.Namespace:
             continue
         text = "the folder of the competition, with competition.toml (the present one)"
         command.add_argument("folder", nargs="?", default=".", metavar="FOLDER", help=text)
+        if name == "again":
+            command.add_argument("match", metavar="MATCH", help="the match, which has a lawful record")
+            command.add_argument("--reason", required=True, metavar="TEXT", help="why: it stands in the table, the pages and the archive")
         if name == "play":
             command.add_argument("--at-once", type=count, default=4, metavar="N", help="at most N matches at once (4)")
             command.add_argument("--watch", action="store_true", help="write the pages anew as matches end")
@@ -109,12 +114,28 @@ def said_of_game(plan, matches):
 def run_plan(asked: argparse.Namespace, referee: Referee) -> int:
     plan = make_plan(asked.folder, referee)
     for game in plan.competition.games:
-        say(f"{game.name}: {said_of_game(plan, [match for match in plan.matches if match.game == game.name])}")
+        say(f"{game.name}: {said_of_game(plan, [match for match in plan.matches if match.game == game.name and not match.again])}")
         for note in plan.rules[game.name].notes:
             say(f"{game.name}: {note}")
     if plan.competition.forfeit and not plan.competition.strikes:
         say("forfeit: without `strikes` no player is retired, so none loses a match by it")
-    say(f"{plan.folder.schedule}: {len(plan.matches)} matches of {len(plan.competition.players)} players")
+    if plan.rounds:
+        say(round_words(plan, [match for match in plan.matches if match.round == len(plan.rounds)]))
+    say(f"{plan.folder.schedule}: {len(plan.matches)} matches of {len(plan.competition.players)} players{said_of_growth(plan)}")
+    return 0
+
+
+def said_of_growth(plan: Plan) -> str:
+    """Returns what a plan has added to that of a competition of which matches were played."""
+    if plan.known is None:
+        return ""
+    new = plan.matches[plan.known :]
+    return f"; added: {len(new)}, {new[0].id} to {new[-1].id}" if new else "; nothing is added"
+
+
+def run_again(asked: argparse.Namespace, referee: Referee) -> int:
+    match = order_again(asked.folder, referee, asked.match, asked.reason)
+    say(f"{match.id} {match.game} {' '.join(match.players)} takes the place of {match.instead_of}")
     return 0
 
 
@@ -145,16 +166,19 @@ def run_held_play(asked: argparse.Namespace, referee: Referee) -> int:
     lacks_pages = asked.watch and not are_written(pages.write, in_order(plan, playing.results), reporter)
     for match, why in missing.items():
         reporter.line(f"missing {match}: {why}")
+    left = rounds_left(plan)
+    if left:
+        reporter.line(f"rounds that are not planned yet: {left} of {left + len(plan.rounds)}")
     reporter.line(f"{len(playing.results)} of {len(plan.matches)} matches have a lawful record")
     if reporter.fault:
         raise reporter.fault
-    return bool(missing) or lacks_pages
+    return bool(missing) or lacks_pages or bool(left)
 
 
 def run_table(asked: argparse.Namespace, referee: Referee) -> int:
     plan = read_plan(asked.folder, referee)
     results, is_faulty = known_results(plan, referee)
-    tables = tables_of(plan.competition, results)
+    tables = tables_of(plan.competition, results, plan.rounds)
     # It is there to be read also where it can't be written.
     say(table_text(plan, tables), end="")
     write_matches(plan, results)
@@ -201,11 +225,13 @@ def run_held_publish(asked: argparse.Namespace, referee: Referee) -> int:
     if pages.is_symlink():
         raise Refused(f"{pages} is a link, and `publish` makes that folder anew", "take the link away, and publish again")
     results, is_faulty = known_results(plan, referee)
-    missing = len(plan.matches) - len(results)
+    missing, left = len(plan.matches) - len(results), rounds_left(plan)
     faults = []
     if missing and (is_faulty or not asked.gaps):
         # What is wrong is not a gap: it is played again, or put right.
         faults = [f"{missing} matches have no lawful record{'' if is_faulty else '; with `--gaps` the others are'}"]
+    elif left and not asked.gaps:
+        faults = [f"{left} of {left + len(plan.rounds)} rounds are not planned yet; with `--gaps` the others are"]
     faults = faults or list(faults_of_descriptions(plan, plan.folder.description, f", and {WRITES}"))
     if not faults:
         write_matches(plan, results)
@@ -229,6 +255,7 @@ def run_check(asked: argparse.Namespace, referee: Referee) -> int:
 
 RUNS: dict[str, Callable[[argparse.Namespace, Referee], int]] = {
     "plan": run_plan,
+    "again": run_again,
     "play": run_play,
     "table": run_table,
     "pages": run_pages,

@@ -22,11 +22,15 @@ MOST_SHOWN = 10**20
 MOST_SECONDS, MOST_STRIKES, MOST_PLAYERS, MOST_ROUNDS, MOST_PORT = 86_400, 255, 1_000, 1_000, 65_535
 # The seconds in which a description is instantiated.
 INSTANTIATING, MOST_INSTANTIATING = 60, 1_000_000
-KINDS = ("round_robin", "gauntlet", "schedule")
+# Those that plan each round by the results of the one before.
+ROUND_KINDS = SWISS, KNOCKOUT = "swiss", "knockout"
+KINDS = ("round_robin", "gauntlet", "schedule", *ROUND_KINDS)
 ABSENT = ("leave", "play")
+# What the standings are ordered by.
+ORDERS = BY_GOALS, BY_POINTS = "goals", "points"
 # What START carries: the rules that the referee plays, or the description that they were made from.
 TOLD = ("ground", "variables")
-ROOT_KEYS = ("name", "start", "play", "strikes", "tries", "wait", "info", "absent", "forfeit", "hosts", "form", "games", "players")
+ROOT_KEYS = ("name", "start", "play", "strikes", "tries", "wait", "info", "absent", "forfeit", "order", "hosts", "form", "games", "players")
 
 
 @dataclass(frozen=True)
@@ -46,11 +50,16 @@ class Mistaken(Exception):
         self.mistakes = mistakes
 
 
+def told(path: object, mistakes: Iterable[Mistake]) -> str:
+    """Returns the mistakes of a file, a line for each."""
+    return "\n".join(f"{path}:{mistake.line}: {mistake.key + ': ' if mistake.key else ''}{mistake.words}" for mistake in mistakes)
+
+
 @dataclass(frozen=True)
 class Game:
     """A game that is played: its name, the file of its description, its clocks in seconds, and which rules its players get, with the line
-    that says so; the file of the description with variables, where it stands beside ground rules (else empty); and the seconds in which
-    it is instantiated."""
+    that says so; the file of the description with variables, where it stands beside ground rules (else empty); the seconds in which it is
+    instantiated; and whether it is planned though its random matches are aborted."""
 
     name: str
     file: str
@@ -61,6 +70,7 @@ class Game:
     told: str
     told_line: int
     line: int
+    aborts: bool = False
 
     def tells_variables(self) -> bool:
         """Returns whether players get the description with variables."""
@@ -90,7 +100,7 @@ class Text:
 
 @dataclass(frozen=True)
 class Form:
-    """The pairing: round robin, gauntlet of one against all, or the lines of a schedule, each of a game and its players."""
+    """The pairing: round robin, gauntlet of one against all, the lines of a schedule, each of a game and its players, or by rounds."""
 
     kind: str
     rounds: int
@@ -110,6 +120,7 @@ class Competition:
     info: int
     absent: str
     forfeit: bool
+    order: str
     hosts: tuple[str, ...]
     form: Form
     games: tuple[Game, ...]
@@ -226,13 +237,14 @@ def refuse_twice(sections: list[Section], key: str) -> None:
 def games_of(root: Section, clocks: list[int]) -> list[Game]:
     found, sections = [], root.sections("games")
     for section in sections:
-        section.refuse_others(("name", "file", "described", "seconds", "start", "play", "told"))
+        section.refuse_others(("name", "file", "described", "seconds", "start", "play", "told", "aborts"))
         name = section.name("name", NAME, 40, FIRST)
         start, play = (section.number(key, 1, MOST_SECONDS, clock) for key, clock in zip(("start", "play"), clocks))
         described = section.path_of_file("described") if "described" in section.table else ""
         seconds = section.number("seconds", 1, MOST_INSTANTIATING, INSTANTIATING)
         told = section.word("told", TOLD, TOLD[0])
-        found.append(Game(name, section.path_of_file("file"), described, seconds, start, play, told, section.line("told"), section.first))
+        lines, aborts = (section.line("told"), section.first), section.flag("aborts")
+        found.append(Game(name, section.path_of_file("file"), described, seconds, start, play, told, *lines, aborts))
     refuse_twice(sections, "name")
     return found
 
@@ -271,12 +283,12 @@ def form_of(root: Section, games: list[Game], players: list[Player]) -> Form:
     section = root.section("form")
     section.refuse_others(("kind", "rounds", "one", "lines"))
     kind = section.word("kind", KINDS, "round_robin")
-    rounds = section.number("rounds", 1, MOST_ROUNDS, 1)
+    rounds = section.number("rounds", 1, MOST_ROUNDS, None if kind == SWISS else 1)
     one = section.text("one") if kind == "gauntlet" else ""
     if one and all(player.name != one for player in players):
         section.mistake("one", f"there is no player {one!r}")
     lines = lines_of_schedule(section, games, players) if kind == "schedule" else []
-    for key, kinds in (("rounds", KINDS[:2]), ("one", KINDS[1:2]), ("lines", KINDS[2:])):
+    for key, kinds in (("rounds", (*KINDS[:2], SWISS)), ("one", KINDS[1:2]), ("lines", KINDS[2:3])):
         if key in section.table and kind not in kinds:
             section.mistake(key, f"the kind {kind} has no such key")
     return Form(kind, rounds, one, tuple(lines), section.first)
@@ -352,11 +364,14 @@ def read_competition(data: bytes) -> Competition:
         root.number("info", 1, 10, 10),
         root.word("absent", ABSENT, "leave"),
         root.flag("forfeit"),
+        root.word("order", ORDERS, BY_GOALS),
         hosts_of(root),
         form_of(root, games, players),
         tuple(games),
         tuple(players),
     )
+    if "order" in root.table and found.form.kind in ROUND_KINDS:
+        root.mistake("order", f"the kind {found.form.kind} has an order of its own")
     if mistakes:
         raise Mistaken(sorted(mistakes, key=lambda mistake: mistake.line))
     return found

@@ -97,6 +97,8 @@ class Folder:
         self.path = pathlib.Path(path)
         self.competition = self.path / "competition.toml"
         self.schedule = self.path / "schedule.tsv"
+        # competition.toml as it was when `plan` read it last, the files that were planned by before, and the matches ordered again.
+        self.planned, self.earlier, self.again = self.path / "planned.toml", self.path / "earlier", self.path / "again.tsv"
         self.rules, self.open = self.path / "rules", self.path / "open"
         self.records, self.accounts, self.logs = (self.path / name for name in ("records", "accounts", "logs"))
         self.matches, self.pages = self.path / "matches.jsonl", self.path / "pages"
@@ -160,6 +162,6 @@ class Folder:
     def drop_unfinished(self):
         """Takes away what a write that was broken off has left. Below the folder nobody writes but who holds it."""
         drop_unfinished(self.path)
-        for folder in (self.rules, self.records, self.accounts, self.logs):
+        for folder in (self.rules, self.earlier, self.records, self.accounts, self.logs):
             for file in folder.glob(f"{UNFINISHED}*"):
                 file.unlink()

@@ -2,12 +2,15 @@
 
 import contextlib
 import itertools
+import json
 import os
 import re
 
-from ggp_tools.competition.files import write_whole
-from ggp_tools.referee import Unchecked
-from ggp_tools.competition.results import fault_of_record, read_record, result_of
+from ggp_tools.competition.competition_file import Competition
+from ggp_tools.competition.files import Folder, write_whole
+from ggp_tools.competition.results import Result, fault_of_record, read_record, result_of
+from ggp_tools.competition.schedule import Match
+from ggp_tools.referee import Unchecked, is_text_list
 
 # So many matches are checked together, and so many bytes of their files unless one match has more, since all of these are in memory.
 TOGETHER, BYTES_TOGETHER = 250, 1 << 27
@@ -77,6 +80,29 @@ def fault_of_files(record, account):
     return None
 
 
+def has_shape(record: object, roles: int) -> bool:
+    """Returns whether what stands in a file has of a record what its result needs."""
+    if not isinstance(record, dict):
+        return False
+    goals, errors = record.get("goalValues"), record.get("errors")
+    if not isinstance(goals, list) or not isinstance(errors, list) or not isinstance(record.get("moves"), list):
+        return False
+    if len(goals) not in (0, roles) or not all(type(goal) is int for goal in goals):
+        return False
+    return all(is_text_list(turn) and len(turn) == roles for turn in errors)
+
+
+def result_in_file(folder: Folder, competition: Competition, match: Match) -> Result | None:
+    """Returns what the record of a match says, where it has one. Whether it counts is looked at later: then it is verified."""
+    try:
+        record = json.loads(read_at_most(folder.record(match.id), MOST_OF_RECORD + 1))
+    except (FileNotFoundError, ValueError, RecursionError):
+        return None
+    if not has_shape(record, len(match.players)) or "phase" not in record or fault_of_record(record, match, competition.strikes):
+        return None
+    return result_of({"cause": None, **record}, match, competition.forfeit)
+
+
 def looked_at(plan, referee, game, matches):
     """Gives for each of these matches of a game, which have records, its result, or why it does not count: because its files are wrong,
     or though they are right, since they are of another match. Where the referee can't tell, this ends with `Unchecked`."""
@@ -97,7 +123,7 @@ def looked_at(plan, referee, game, matches):
             continue
         record = read_record(records[at])
         misfit = fault_of_record(record, match, plan.competition.strikes)
-        yield match, None, misfit, None if misfit else result_of(record, match)
+        yield match, None, misfit, None if misfit else result_of(record, match, plan.competition.forfeit)
 
 
 def look_at_records(plan, referee):

@@ -189,4 +189,4 @@ class OpenMatch:
         self.why = fault_of_files(record, account) or fault_of_record(read, self.match, self.plan.competition.strikes)
         if not self.why:
             keep(self.plan.folder, self.match.id, record, account, log)
-            self.result = result_of(read, self.match)
+            self.result = result_of(read, self.match, self.plan.competition.forfeit)

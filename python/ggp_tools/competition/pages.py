@@ -7,9 +7,9 @@ import shutil
 import time
 
 from ggp_tools.competition.files import UNFINISHED, drop_unfinished, write_whole
-from ggp_tools.competition.results import times_of
+from ggp_tools.competition.results import remarks, times_of
 from ggp_tools.competition.table import tables_of
-from ggp_tools.competition.table_text import METHOD, crosstable_rows, notes, standings_rows, without_record
+from ggp_tools.competition.table_text import FORFEIT, METHOD, crosstable_rows, notes, standings_rows, without_record
 from ggp_tools.descriptions.loading import sum_of
 from ggp_tools.records.show import page_of, read_record
 
@@ -86,8 +86,10 @@ def match_row(result, times, up):
     who = ", ".join(f"{html.escape(player)} {goal}" for player, goal in zip(match.players, goals))
     replaced = ", ".join(f"{html.escape(name)} {result.replaced(role)}" for role, name in enumerate(match.players) if result.replaced(role))
     cause = f" ({html.escape(result.cause)})" if result.cause else ""
+    more = "".join(f'<br><span class="odd">{html.escape(remark)}</span>' for remark in remarks(result))
     links = link(f"{up}matches/{match.id}.html", match.id), link(f"{up}games/{match.game}.html", match.game)
-    return [*links, who + cause, str(result.turns), f'<span class="odd">{replaced}</span>', spelt(times["begin"]), seconds_between(times)]
+    odd = f'<span class="odd">{replaced}</span>'
+    return [*links, who + cause + more, str(result.turns), odd, spelt(times["begin"]), seconds_between(times)]
 
 
 MATCH_HEADS = ["match", "game", "players and goals", "turns", "replaced moves", "begin (UTC)", "seconds"]
@@ -134,7 +136,7 @@ class Pages:
             # Another run that knows fewer matches may have taken the page away.
             if result.match.id not in self.rows or not (self.folder / f"matches/{result.match.id}.html").exists():
                 self.add(result)
-        tables = tables_of(self.plan.competition, results)
+        tables = tables_of(self.plan.competition, results, self.plan.rounds)
         for table in tables[1:]:
             self.put(f"games/{table.game}.html", self.game_page(table, [result for result in results if result.match.game == table.game]))
         self.put("index.html", self.first_page(tables, results))
@@ -157,6 +159,7 @@ class Pages:
         match, folder = result.match, self.plan.folder
         made = page_of(read_record(folder.record(match.id).read_bytes()))
         way = f"<p>{link('../index.html', self.plan.competition.name)} / {link(f'../games/{match.game}.html', match.game)}</p>"
+        way += "".join(f"<p>{html.escape(remark)}</p>" for remark in remarks(result))
         self.put(f"matches/{match.id}.html", made.replace(b"<body>", b"<body>\n" + way.encode("ascii"), 1) + b"\n")
         times = times_of(folder.read_log(match.id), len(match.players))
         self.rows[match.id] = times["begin"], times["end"], match_row(result, times, ""), match_row(result, times, "../")
@@ -184,7 +187,7 @@ class Pages:
     def first_page(self, tables, results):
         plan = self.plan
         games = ", ".join(link(f"games/{game.name}.html", game.name) for game in plan.competition.games)
-        forfeit = " A match in which a player was retired is lost for it." if plan.competition.forfeit else ""
+        forfeit = f" {FORFEIT}" if plan.competition.forfeit else ""
         return page(
             plan.competition.name,
             f"<h1>{html.escape(plan.competition.name)}</h1>",

@@ -1,90 +1,106 @@
-"""Plans a competition: its rules and its schedule are written, once, and read again by whatever works on it later."""
+"""Plans a competition: its rules and its schedule are written, may grow, and are read again by whatever works on it later."""
 
+import functools
 import os
 import re
-from dataclasses import dataclass
+from collections.abc import Callable, Iterator, Mapping
+from dataclasses import dataclass, field, replace
+from pathlib import Path
 
-from ggp_tools.competition.competition_file import Competition, Mistake, Mistaken, read_competition
-from ggp_tools.descriptions.loading import NoDescription, Stopped, has_variables, load_described, load_description, rules_of, sum_of
-from ggp_tools.referee import Unchecked
+from ggp_tools.competition.competition_file import Competition, Game, Mistake, Mistaken, told
 from ggp_tools.competition.files import UNFINISHED, Folder, Refused, held, write_whole
-from ggp_tools.competition.schedule import planned, schedule_text
+from ggp_tools.competition.growth import Growing, History, Misfit, grown, refuse_changes, shape
+from ggp_tools.competition.history import competition_of_file, history_files, read_history
+from ggp_tools.competition.kept import result_in_file
+from ggp_tools.competition.results import Result
+from ggp_tools.competition.rounds import Round, rounds_of
+from ggp_tools.competition.schedule import Match, id_of, schedule_text
+from ggp_tools.competition.trial import trial
+from ggp_tools.descriptions.loading import NoDescription, Rules, Stopped, has_variables, load_described, load_description, rules_of, sum_of
+from ggp_tools.referee import Referee, Unchecked
 
 SUM_LINE = re.compile(rb"([0-9a-f]{64})  ([^\n]+)\n")
 SUMS_ALONE = re.compile(rb"(?:[0-9a-f]{64}  [^\n]+\n)*")
 WRITES = "`ggp_competition plan` writes it"
+PUT_BACK = "put back what was changed: once matches were played, the plan only grows"
 
 
 @dataclass
 class Plan:
-    """A competition with its rules by the names of the games, its matches in the schedule's order, and the bytes of competition.toml."""
+    """A competition with its rules by the names of the games, its matches in the schedule's order, the bytes of competition.toml, and how
+    it came to this schedule; the rounds of one by rounds; and how many of the matches were planned before it grew just now, or none."""
 
     folder: Folder
     competition: Competition
-    rules: dict
-    matches: list
+    rules: dict[str, Rules]
+    matches: list[Match]
     text: bytes = b""
+    history: History = History()
+    rounds: list[Round] = field(default_factory=list)
+    known: int | None = None
 
-    def roles(self, game):
+    def next_id(self) -> str:
+        """Returns the id of the match that is planned next."""
+        name = self.competition.name
+        return id_of(self.competition, len(self.matches) + 1, len(self.matches[0].id) - len(name) - 1)
+
+    def roles(self, game: str) -> tuple[str, ...]:
         return self.rules[game].roles
 
-    def told_path(self, game):
+    def told_path(self, game: str) -> Path | None:
         """Returns the file of what the game's players are told of its rules, or none where they are told the rules themselves."""
         return None if self.rules[game].told is None else self.folder.told_of(game)
 
 
-def read_file(path):
+def read_file(path: Path) -> bytes:
     try:
         return path.read_bytes()
     except OSError as why:
         raise Refused(f"{path} can't be read: {why.strerror}") from None
 
 
-def read_planned(path):
+def read_planned(path: Path) -> bytes:
     """Returns the bytes of a file that `plan` has written."""
     if not path.exists():
         raise Refused(f"{path} is not there", WRITES)
     return read_file(path)
 
 
-def is_played(folder):
+def is_played(folder: Folder) -> bool:
     """Returns whether a match has a record. What a killed `play` has left unfinished is none."""
     return folder.records.is_dir() and any(not file.name.startswith(UNFINISHED) for file in folder.records.glob("*.json"))
 
 
-def refused_plan(folder, path):
+def refused_plan(folder: Folder, path: Path) -> Refused:
     """Returns the fault of a file that `plan` has written for another competition.toml."""
-    advice = "matches were played, so put back what was changed" if is_played(folder) else f"{WRITES} anew"
+    advice = "matches were played, so put back what was changed, or add to it and plan again" if is_played(folder) else f"{WRITES} anew"
     return Refused(f"{path} is not what {folder.competition} says", advice)
 
 
-def told(path, mistakes):
-    """Returns the mistakes of a file, a line for each."""
-    return "\n".join(f"{path}:{mistake.line}: {mistake.key + ': ' if mistake.key else ''}{mistake.words}" for mistake in mistakes)
-
-
-def competition_of(folder):
+def competition_of(folder: Folder) -> tuple[Competition, bytes]:
     """Returns the competition, and the bytes that say it."""
     text = read_file(folder.competition)
+    return competition_of_file(folder.competition, text), text
+
+
+def schedule_of(folder: Folder, competition: Competition, rules: Mapping[str, Rules], history: History, most: int | None = None) -> Growing:
+    """Returns the schedule that follows from a competition, its history and its records; of one by rounds no round that begins after so
+    many matches."""
+    roles = {name: len(ground.roles) for name, ground in rules.items()}
     try:
-        return read_competition(text), text
+        return grown(history, competition, roles, functools.partial(result_in_file, folder, competition), most)
     except Mistaken as why:
         raise Refused(told(folder.competition, why.mistakes)) from None
+    except Misfit as why:
+        raise Refused(f"{folder.competition}: {why}", PUT_BACK) from None
 
 
-def matches_of(folder, competition, rules):
-    try:
-        return planned(competition, {name: len(ground.roles) for name, ground in rules.items()})
-    except Mistaken as why:
-        raise Refused(told(folder.competition, why.mistakes)) from None
-
-
-def is_in_rules(folder, path):
+def is_in_rules(folder: Folder, path: Path) -> bool:
     """Returns whether a file stands where `plan` writes the rules. Unlike a path's own `resolve` this bears links in a circle."""
     return os.path.dirname(os.path.realpath(path)) == os.path.realpath(folder.rules)
 
 
-def loaded_games(folder, competition, referee):
+def loaded_games(folder: Folder, competition: Competition, referee: Referee) -> dict[str, Rules]:
     """Returns the rules of each game by its name. All descriptions that are none are told at once."""
     found, mistakes = {}, []
     for game in competition.games:
@@ -105,44 +121,93 @@ def loaded_games(folder, competition, referee):
             continue
         if game.tells_variables() and rules.told is None:
             mistakes.append(Mistake(game.told_line, "games.told", f'{path} has no variables: "ground" is wanted'))
+        if not game.aborts:
+            why, note = trial(rules.text, referee, game.name)
+            mistakes += [Mistake(game.line, "games.file", f"{path}: {why}; with `aborts = true` it is planned all the same")] if why else []
+            found[game.name] = replace(rules, notes=(*rules.notes, *([note] if note else [])))
     if mistakes:
         raise Refused(told(folder.competition, mistakes))
     return found
 
 
-def sums_text(sums):
+def sums_text(sums: Mapping[str, str]) -> bytes:
     """Returns sums by names in the form of `sha256sum`."""
     return "".join(f"{digest}  {name}\n" for name, digest in sorted(sums.items())).encode("utf-8")
 
 
-def make_plan(path, referee):
-    """Writes the rules and the schedule of the competition in a folder, and returns it. Nothing is written where anything is wrong,
-    where matches of another schedule were played, or while any are."""
+def make_plan(path: str, referee: Referee) -> Plan:
+    """Writes the rules and the schedule of the competition in a folder, and returns it. Nothing is written where anything is wrong, where
+    the schedule of matches that were played does not grow but change, or while any are played."""
     folder = Folder(path)
     competition, text = competition_of(folder)
     rules = loaded_games(folder, competition, referee)
-    matches = matches_of(folder, competition, rules)
-    wanted = {folder.rules_of(name): ground.text for name, ground in rules.items()}
-    wanted |= {folder.told_of(name): ground.told for name, ground in rules.items() if ground.told is not None}
-    sums = sums_text({file.name: sum_of(data) for file, data in wanted.items()})
-    wanted[folder.description_sums()] = sums_text({f"{name}.kif": ground.description_sum for name, ground in rules.items()})
-    # Without these sums the other files do not count, so where this is broken off it has to be done again.
-    wanted[folder.rule_sums()] = sums
-    wanted[folder.schedule] = schedule_text(matches)
+    files = {folder.rules_of(name): ground.text for name, ground in rules.items()}
+    files |= {folder.told_of(name): ground.told for name, ground in rules.items() if ground.told is not None}
+    sums = sums_text({file.name: sum_of(data) for file, data in files.items()})
     with held(folder.path):
-        write_plan(folder, wanted)
-    return Plan(folder, competition, rules, matches, text)
+        # Where it grew, matches were played whose records are elsewhere.
+        is_begun = is_played(folder) or bool(history_files(folder))
+        known = count_of_matches(folder) if is_begun else None
+        history, wanted = history_of(folder, competition, rules) if is_begun else (History(), {})
+        schedule = schedule_of(folder, competition, rules, history, known)
+        wanted |= files
+        wanted[folder.description_sums()] = sums_text({f"{name}.kif": ground.description_sum for name, ground in rules.items()})
+        # Without these sums the other files do not count, so where this is broken off it has to be done again.
+        wanted[folder.rule_sums()] = sums
+        wanted[folder.planned] = text
+        wanted[folder.schedule] = schedule_text(schedule.matches)
+        write_plan(folder, wanted, is_begun)
+    return Plan(folder, competition, rules, schedule.matches, text, history, schedule.rounds.found, known)
 
 
-def write_plan(folder, wanted):
-    """Writes the files of a plan, where no match was played by another one."""
-    played = is_played(folder)
+def count_of_matches(folder: Folder) -> int | None:
+    """Returns how many matches the schedule has that is there, or none where none is."""
+    return read_file(folder.schedule).count(b"\n") - 1 if folder.schedule.exists() else None
+
+
+def history_of(folder: Folder, competition: Competition, rules: Mapping[str, Rules]) -> tuple[History, dict[Path, bytes]]:
+    """Returns how a competition that was played came to its schedule, where its file may have grown now; and the file that it grew from,
+    where that is to be kept."""
+    history = read_history(folder)
+    if not folder.planned.exists():
+        return history, {}
+    text = read_file(folder.planned)
+    before = competition_of_file(folder.planned, text)
+    try:
+        refuse_changes(before, competition)
+    except Misfit as why:
+        raise Refused(f"{folder.competition}: {why}", PUT_BACK) from None
+    if shape(before) == shape(competition):
+        return history, {}
+    until = len(schedule_of(folder, before, rules, history, count_of_matches(folder)).matches)
+    if history.earlier and history.earlier[-1][0] == until:
+        return history, {}
+    return History((*history.earlier, (until, before)), history.again), {folder.earlier / f"{until}.toml": text}
+
+
+def grows(folder: Folder, file: Path, old: bytes, new: bytes) -> bool:
+    """Returns whether a file of a plan may be written again though matches were played: nothing is changed of what it said before."""
+    if file in (folder.rule_sums(), folder.description_sums()):
+        return (read_sums(old) or {"": ""}).items() <= (read_sums(new) or {}).items()
+    if file == folder.schedule:
+        # A round may be planned anew as long as none of its matches has a record.
+        return new.startswith(old) or old.startswith(new) and not any(folder.record(match).exists() for match in ids_of(old[len(new) :]))
+    return old == new or file == folder.planned
+
+
+def ids_of(lines: bytes) -> list[str]:
+    """Returns the ids of the matches in lines of a schedule."""
+    return [line.partition("\t")[0] for line in lines.decode("ascii", "replace").splitlines()]
+
+
+def write_plan(folder: Folder, wanted: dict[Path, bytes], is_begun: bool) -> None:
+    """Writes the files of a plan. Where matches were played, what is there may only grow."""
     for file, data in wanted.items():
         # What is missing is written again.
-        if played and file.exists() and file.read_bytes() != data:
+        if is_begun and file.exists() and not grows(folder, file, read_file(file), data):
             raise Refused(f"{file} would change, and matches were played", "put back what was changed, or take another folder")
     try:
-        folder.make(folder.rules)
+        folder.make(folder.rules, *([folder.earlier] if any(file.parent == folder.earlier for file in wanted) else []))
         # The schedule is last, so that there is none without its rules.
         for file in sorted(wanted, key=lambda it: it == folder.schedule):
             write_whole(file, wanted[file])
@@ -150,18 +215,18 @@ def write_plan(folder, wanted):
         raise Refused(f"{folder.path} can't be written: {why.filename}: {os.strerror(why.errno)}") from None
 
 
-def read_sums(data):
+def read_sums(data: bytes) -> dict[str, str] | None:
     """Returns the sums that the bytes of a file spell, by names. None where it has a name twice, or anything else."""
     found = {name.decode(errors="replace"): digest.decode() for digest, name in SUM_LINE.findall(data)}
     return found if SUMS_ALONE.fullmatch(data) and len(found) == data.count(b"\n") else None
 
 
-def not_planned(path):
+def not_planned(path: Path) -> Refused:
     """Returns the fault of a file that was changed after `plan` wrote it."""
     return Refused(f"{path} is not what `ggp_competition plan` wrote", f"take it away, and {WRITES} again")
 
 
-def sums_of(path):
+def sums_of(path: Path) -> dict[str, str]:
     """Returns the sums of a file of sums that `plan` has written, by names."""
     found = read_sums(read_planned(path))
     if found is None:
@@ -169,7 +234,7 @@ def sums_of(path):
     return found
 
 
-def faults_of_descriptions(plan, path_of, advice=""):
+def faults_of_descriptions(plan: Plan, path_of: Callable[[Game], Path], advice: str = "") -> Iterator[str]:
     """Gives each description that is not the one that the rules were made from; `path_of` tells the file of a game, and the advice what
     helps where their sums are missing."""
     path = plan.folder.description_sums()
@@ -189,7 +254,7 @@ def faults_of_descriptions(plan, path_of, advice=""):
         yield f"{path} has a sum of {name}, which is no game of {plan.folder.competition}"
 
 
-def read_rules(folder, competition, referee):
+def read_rules(folder: Folder, competition: Competition, referee: Referee) -> dict[str, Rules]:
     """Returns the rules of each game by its name, as `plan` wrote them."""
     sums, found = sums_of(folder.rule_sums()), {}
     if sums.keys() != {file.name for game in competition.games for file in folder.rule_files(game)}:
@@ -207,12 +272,56 @@ def read_rules(folder, competition, referee):
     return found
 
 
-def read_plan(path, referee):
+def read_plan(path: str, referee: Referee) -> Plan:
     """Returns the competition that was planned in a folder. Refuses one whose rules or schedule are not those of the plan."""
     folder = Folder(path)
     competition, text = competition_of(folder)
-    schedule, rules = read_planned(folder.schedule), read_rules(folder, competition, referee)
-    matches = matches_of(folder, competition, rules)
-    if schedule != schedule_text(matches):
+    schedule, rules, history = read_planned(folder.schedule), read_rules(folder, competition, referee), read_history(folder)
+    found = schedule_of(folder, competition, rules, history, count_of_matches(folder))
+    if schedule != schedule_text(found.matches):
+        refuse_lost_record(folder, found, schedule)
         raise refused_plan(folder, folder.schedule)
-    return Plan(folder, competition, rules, matches, text)
+    return Plan(folder, competition, rules, found.matches, text, history, found.rounds.found)
+
+
+def refuse_lost_record(folder: Folder, found: Growing, schedule: bytes) -> None:
+    """Refuses a schedule with a round that can't be planned, since a match of the round before has no record."""
+    number = len(found.rounds.found)
+    lost = [match.id for match in found.of_round(number) if found.result_of(match) is None]
+    if lost and schedule.startswith(schedule_text(found.matches)):
+        words = f"{folder.schedule} has round {number + 1}, which was paired by {lost[0]}, and that has no record of this match"
+        raise Refused(words, f"put it back; where no match of a later round has a record, {WRITES} without these rounds")
+
+
+def refuse_lost_results(plan: Plan, results: Mapping[str, Result]) -> None:
+    """Refuses to go on where the record of a match does not count by which a later round was paired."""
+    last = len(plan.rounds)
+    lost = [match.id for match in plan.matches if match.round < last and not match.again and match.id not in results]
+    if last and lost:
+        raise Refused(f"{lost[0]} has no record that counts, and a later round was paired by it", "put its record, account and log back")
+
+
+def rounds_left(plan: Plan) -> int:
+    """Returns how many rounds are not planned yet."""
+    return rounds_of(plan.competition) - len(plan.rounds)
+
+
+def plan_next_round(plan: Plan, results: Mapping[str, Result]) -> list[Match]:
+    """Plans the next round where the last one is over, and writes the schedule. Returns its matches: none where there is no further round,
+    or the last one is not over."""
+    if not rounds_left(plan) or any(match.id not in results and not match.again for match in plan.matches):
+        return []
+    roles = {name: len(ground.roles) for name, ground in plan.rules.items()}
+    # Not yet another round after this one: no match of it has a result.
+    found = grown(plan.history, plan.competition, roles, lambda match: results.get(match.id))
+    write_whole(plan.folder.schedule, schedule_text(found.matches))
+    new = found.matches[len(plan.matches) :]
+    plan.matches += new
+    plan.rounds += found.rounds.found[len(plan.rounds) :]
+    return new
+
+
+def round_words(plan: Plan, matches: list[Match]) -> str:
+    """Returns what there is to say of the last round that was planned, with these matches."""
+    found = plan.rounds[-1]
+    return f"round {found.number} of {rounds_of(plan.competition)}: {matches[0].id} to {matches[-1].id}{found.byes_words()}"

@@ -14,6 +14,7 @@ from ggp_tools.competition.competition_file import is_place
 from ggp_tools.competition.files import Refused
 from ggp_tools.competition.kept import look_at_records, set_aside, strangers
 from ggp_tools.competition.open_match import OpenMatch
+from ggp_tools.competition.plan import plan_next_round, refuse_lost_results, round_words
 
 REST = 0.02
 # What counts as how many interrupts: the first has no more matches begin, the second ends those that are open.
@@ -53,7 +54,7 @@ class Playing:
             abort_matches(self.referee, {open_match.match.id: open_match.places}, self.plan.folder, self.reporter)
         if open_match.result:
             self.results[open_match.match.id] = open_match.result
-            self.reporter.ends(open_match.result, self.plan.competition.forfeit, open_match.seconds)
+            self.reporter.ends(open_match.result, open_match.seconds)
             self.ended(open_match.result)
         elif open_match.why:
             self.is_full |= says_full(open_match.why, open_match.is_broken and self.plan.competition.hosts)
@@ -101,6 +102,15 @@ class Playing:
             self.reporter.progress(len(self.results), len(self.open), len(self.waiting))
             time.sleep(REST)
         self.reporter.clear()
+
+    def add(self, matches):
+        """Lets further matches wait."""
+        self.waiting.extend(matches)
+        self.seats.look_again()
+
+    def may_go_on(self):
+        """Returns whether further matches may begin: nothing has hindered those before."""
+        return not (self.interrupts or self.is_full or self.reporter.fault)
 
     def say_interrupt(self):
         if self.interrupts == 1:
@@ -183,6 +193,7 @@ def prepared(playing):
         advice = f"move what is of no match out of {folder.records}, and play again"
         raise Refused(f"{folder.records / found[0]} is of no match of the schedule{more}", advice)
     playing.results, faults, misfits = look_at_records(plan, playing.referee)
+    refuse_lost_results(plan, playing.results)
     for match, why in misfits.items():
         raise Refused(f"{folder.record(match)} is lawful, and of another match: {why}")
     for match, why in faults.items():
@@ -192,7 +203,7 @@ def prepared(playing):
         if planned.id not in playing.results and planned.id not in faults and set_aside(plan, planned.id):
             reporter.line(f"aside {planned.id}: it has no record; its other files are set aside, and it is played")
     clear_open_rooms(playing)
-    playing.waiting.extend(planned for planned in plan.matches if planned.id not in playing.results)
+    playing.waiting.extend(planned for planned in plan.matches if planned.id not in playing.results and not planned.again)
 
 
 @contextlib.contextmanager
@@ -216,5 +227,9 @@ def play(playing):
     prepared(playing)
     with interrupts_counted(playing):
         playing.go()
+        while playing.may_go_on() and (matches := plan_next_round(playing.plan, playing.results)):
+            playing.reporter.line(round_words(playing.plan, matches))
+            playing.add(matches)
+            playing.go()
     missing = dict.fromkeys((planned.id for planned in playing.plan.matches if planned.id not in playing.results), "it was not begun")
     return {match: playing.left.get(match, why) for match, why in missing.items()}

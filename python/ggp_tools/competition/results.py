@@ -3,7 +3,10 @@
 import json
 import re
 from collections import Counter
+from collections.abc import Iterator
 from dataclasses import dataclass
+
+from ggp_tools.competition.schedule import Match
 
 # No number is longer, so that a log of an archive can't be one that Python refuses to read.
 LOG_LINE = re.compile(r"(\S+) role (\d{1,9}) (\S+) message (\d{1,9}) \((\w+) .*, (\d{1,18}) ms")
@@ -11,28 +14,100 @@ TIME_LINE = re.compile(r"(began|ended) (\d{4}-\d\d-\d\dT\d\d:\d\d:\d\d\.\d{3}Z)"
 HOST_LINE = re.compile(r"(host) (\S+)")
 
 
+WON, DRAWN, LOST = "won", "drawn", "lost"
+# What a player that is left alone by a forfeit gets, and several that are left share.
+FULL_GOAL = 100
+
+
+@dataclass(frozen=True)
+class Retirement:
+    """Why a role was retired: the kinds of the errors of those turns in a row that the strikes are, and the last of these turns."""
+
+    errors: tuple[str, ...]
+    turn: int
+
+    def words(self) -> str:
+        kinds = ", ".join(dict.fromkeys(self.errors))
+        first = self.turn - len(self.errors) + 1
+        return f"{kinds} in turn{f' {self.turn}' if first == self.turn else f's {first} to {self.turn}'}"
+
+
 @dataclass(frozen=True)
 class Result:
-    """What a record says of its match: by roles the goals (none where the match has none), how often each error came, and which
-    roles were retired."""
+    """What a record says of its match: by roles the goals (none where the match has none), how often each error came, and why roles
+    were retired. And whether the competition has a match lost for who was retired in it."""
 
-    match: object
-    goals: tuple
+    match: Match
+    goals: tuple[int, ...]
     turns: int
-    errors: tuple
-    retired: tuple
+    errors: tuple[Counter, ...]
+    retirements: tuple[Retirement | None, ...]
     phase: str
-    cause: object
+    cause: str | None
+    has_forfeits: bool = False
 
-    def replaced(self, role):
+    def replaced(self, role: int) -> int:
         return sum(self.errors[role].values())
 
-    def is_absent(self, role):
+    def is_absent(self, role: int) -> bool:
         """Returns whether each move of the role was replaced, so that its player has made none."""
         return 0 < self.turns == self.replaced(role)
 
+    def forfeits(self) -> dict[int, Retirement]:
+        """Returns the roles whose players have lost the match by forfeit, with the reason."""
+        return {role: why for role, why in enumerate(self.retirements) if why} if self.has_forfeits else {}
 
-def fault_of_record(record, match, strikes):
+    def counted(self) -> tuple[int | None, ...]:
+        """Returns the goals that count, by roles: none where none does. After a forfeit no goal of the match counts, since moves that no
+        player made have led to it: who forfeited it gets 0, and the others share the full goal."""
+        lost, roles = self.forfeits(), range(len(self.retirements))
+        if not lost:
+            return self.goals or (None,) * len(roles)
+        left = max(1, len(roles) - len(lost))
+        return tuple(0 if role in lost else FULL_GOAL // left for role in roles)
+
+    def worths(self) -> tuple[int, ...] | None:
+        """Returns what orders the players of the match, by roles: the goals that count, and below each of them a forfeit. None where
+        there are none."""
+        lost, goals = self.forfeits(), self.counted()
+        return None if None in goals else tuple(-1 if role in lost else goal for role, goal in enumerate(goals))
+
+    def outcome(self, role: int) -> str | None:
+        """Returns what the match was for a role: won, drawn or lost. None in a match of one role, or without goals that count."""
+        worth = self.worths() or ()
+        others = worth[:role] + worth[role + 1 :]
+        if not others:
+            return None
+        if worth[role] < max(others) or worth[role] < 0:
+            return LOST
+        return WON if worth[role] > max(others) else DRAWN
+
+
+def forfeit_words(result: Result) -> str:
+    """Returns who has lost a match by forfeit, why, and what counts of it for each player. Empty where nobody has."""
+    lost, players = result.forfeits(), result.match.players
+    if not lost:
+        return ""
+    counts = ", ".join(f"{player} {goal}" for player, goal in zip(players, result.counted()))
+    return f"forfeit: {', '.join(f'{players[role]} ({why.words()})' for role, why in lost.items())}, counts as {counts}"
+
+
+def again_words(match: Match) -> str:
+    """Returns why a match does not count any more."""
+    return f"{match.id} does not count: {match.again} was ordered in its place: {match.reason}"
+
+
+def remarks(result: Result) -> Iterator[str]:
+    """Gives what there is to say of a match beside its goals: by what it was decided, and whether it counts."""
+    if result.forfeits():
+        yield forfeit_words(result)
+    if result.match.again:
+        yield again_words(result.match)
+    if result.match.instead_of:
+        yield f"{result.match.id} was ordered in the place of {result.match.instead_of}"
+
+
+def fault_of_record(record: dict, match: Match, strikes: int) -> str | None:
     """Returns why a lawful record is not that of the match, or none."""
     wanted = {
         "matchId": match.id,
@@ -48,34 +123,39 @@ def fault_of_record(record, match, strikes):
     return None if record["phase"] in ("finished", "aborted") else f"its match is not over: {record['phase']}"
 
 
-def kind_of(error):
+def kind_of(error: str) -> str:
     """Returns the error without the text that was answered."""
     return "IL" if error.startswith("IL ") else error
 
 
-def was_retired(record, role):
-    """Returns whether the role's moves were replaced in as many turns in a row as the strikes say."""
-    row = longest = 0
-    for turn in record["errors"]:
-        row = row + 1 if turn[role] else 0
-        longest = max(longest, row)
-    return 0 < record["strikes"] <= longest
+def retirement_of(record: dict, role: int) -> Retirement | None:
+    """Returns why the role was retired: its moves were replaced in as many turns in a row as the strikes say. None where it was not."""
+    row: list[str] = []
+    for number, turn in enumerate(record["errors"] if record["strikes"] else (), 1):
+        if not turn[role]:
+            row.clear()
+            continue
+        row.append(kind_of(turn[role]))
+        if len(row) == record["strikes"]:
+            return Retirement(tuple(row), number)
+    return None
 
 
-def result_of(record, match):
-    """Returns what a record says of its match."""
+def result_of(record: dict, match: Match, has_forfeits: bool = False) -> Result:
+    """Returns what a record says of its match, in a competition with or without forfeits."""
     roles = range(len(match.players))
     errors = tuple(Counter(kind_of(turn[role]) for turn in record["errors"] if turn[role]) for role in roles)
-    retired = tuple(was_retired(record, role) for role in roles)
-    return Result(match, tuple(record["goalValues"]), len(record["moves"]), errors, retired, record["phase"], record["cause"])
+    retirements = tuple(retirement_of(record, role) for role in roles)
+    end = record["phase"], record["cause"]
+    return Result(match, tuple(record["goalValues"]), len(record["moves"]), errors, retirements, *end, has_forfeits)
 
 
-def read_record(data):
+def read_record(data: bytes) -> dict:
     """Returns the record that the bytes of a file spell, which `verify` has called lawful."""
     return json.loads(data)
 
 
-def times_of(log, roles):
+def times_of(log: bytes, roles: int) -> dict[str, object]:
     """Returns when a match began and ended, on which host, and of each role's messages the kind and the milliseconds."""
     found, messages = {}, [[] for _ in range(roles)]
     for line in log.decode("ascii", "replace").splitlines():
@@ -86,7 +166,22 @@ def times_of(log, roles):
     return {"begin": found.get("began"), "end": found.get("ended"), "host": found.get("host"), "messages": messages}
 
 
-def match_line(result, rules_sum, log):
+def forfeit_keys(result: Result) -> dict[str, object]:
+    """Returns what the line of a match says of its forfeit: who has lost it so, why, and which goals count in place of its own."""
+    lost, players = result.forfeits(), result.match.players
+    if not lost:
+        return {}
+    said = [{"player": players[role], "errors": why.errors, "turn": why.turn} for role, why in lost.items()]
+    return {"forfeit": said, "counted": result.counted()}
+
+
+def again_keys(match: Match) -> dict[str, object]:
+    """Returns what the line of a match says of its round, of the match that was ordered in its place and why, and in whose place it is."""
+    said = {"round": match.round, "again": match.again, "reason": match.reason, "insteadOf": match.instead_of}
+    return {key: value for key, value in said.items() if value}
+
+
+def match_line(result: Result, rules_sum: str, log: bytes) -> bytes:
     """Returns the match as one line of JSON."""
     match = result.match
     said = {
@@ -95,6 +190,8 @@ def match_line(result, rules_sum, log):
         "rules": rules_sum,
         "players": match.players,
         "goals": result.goals,
+        **forfeit_keys(result),
+        **again_keys(match),
         "turns": result.turns,
         "phase": result.phase,
         "cause": result.cause,

@@ -1,8 +1,10 @@
 """The matches of a competition: who meets whom in which game, and the file that says it. The same competition gives the same ones."""
 
+import itertools
+from collections.abc import Iterable, Iterator, Mapping, Sequence
 from dataclasses import dataclass
 
-from ggp_tools.competition.competition_file import Mistake, Mistaken
+from ggp_tools.competition.competition_file import ROUND_KINDS, Competition, Mistake, Mistaken
 
 HEAD = "id\tgame\tstart\tplay\tplayers\n"
 MOST_MATCHES = 100_000
@@ -10,19 +12,24 @@ MOST_MATCHES = 100_000
 
 @dataclass(frozen=True)
 class Match:
-    """A match: its id, its game, its clocks, and its players' names in the order of the roles."""
+    """A match: its id, its game, its clocks, and its players' names in the order of the roles. Its round, in a competition by rounds. And
+    where it does not count any more, the match that was ordered in its place, with the reason; that one names this one."""
 
     id: str
     game: str
     start: int
     play: int
-    players: tuple
+    players: tuple[str, ...]
+    round: int = 0
+    again: str = ""
+    reason: str = ""
+    instead_of: str = ""
 
-    def line(self):
+    def line(self) -> str:
         return f"{self.id}\t{self.game}\t{self.start}\t{self.play}\t{' '.join(self.players)}\n"
 
 
-def circle_steps(count, roles, rounds):
+def circle_steps(count: int, roles: int, rounds: int) -> Iterator[tuple[int, ...]]:
     """Gives, block by block, how far the player of each seat stands behind that of the first seat, where all players stand in a circle.
     A block has a match for each place of the circle, so in it each player sits in each seat once. Between two seats each step comes as
     often as can be: with two roles exactly once a round, else the step of which the players have met least."""
@@ -44,14 +51,14 @@ def circle_steps(count, roles, rounds):
         yield tuple(steps)
 
 
-def round_robin(players, roles, rounds):
+def round_robin(players: Sequence[str], roles: int, rounds: int) -> Iterator[tuple[str, ...]]:
     """Gives the players of each match: with two roles each pair in both orders, with one each player alone."""
     for steps in circle_steps(len(players), roles, rounds):
         for first in range(len(players)):
             yield tuple(players[(first + step) % len(players)] for step in steps)
 
 
-def gauntlet(players, one, roles, rounds):
+def gauntlet(players: Sequence[str], one: str, roles: int, rounds: int) -> Iterator[tuple[str, ...]]:
     """Gives the players of each match of one against all: the one sits in each seat in turn, the others in the seats beside it."""
     if roles == 1:
         yield from round_robin(players, 1, rounds)
@@ -63,7 +70,7 @@ def gauntlet(players, one, roles, rounds):
             yield (*beside[:seat], one, *beside[seat:])
 
 
-def mistakes_of_numbers(competition, roles):
+def mistakes_of_numbers(competition: Competition, roles: Mapping[str, int]) -> Iterator[Mistake]:
     """Gives where the number of players does not fit the roles of a game."""
     form, games = competition.form, {game.name: game for game in competition.games}
     if form.kind == "schedule":
@@ -73,12 +80,14 @@ def mistakes_of_numbers(competition, roles):
                 yield Mistake(line.line, "form.lines", f"{name} has {roles[name]} roles, and the line names {len(players)} players")
         return
     for name, game in games.items():
-        if roles[name] > len(competition.players):
+        if form.kind in ROUND_KINDS and roles[name] != 2:
+            yield Mistake(game.line, "games.file", f"the kind {form.kind} is for games of two roles, and {name} has {roles[name]}")
+        elif roles[name] > len(competition.players):
             words = f"{name} has {roles[name]} roles, and there are {len(competition.players)} players"
             yield Mistake(game.line, "games.file", words)
 
 
-def seatings(competition, roles):
+def seatings(competition: Competition, roles: Mapping[str, int]) -> Iterator[tuple[str, Sequence[str]]]:
     """Gives each match's game and players."""
     form, players = competition.form, [player.name for player in competition.players]
     if form.kind == "schedule":
@@ -92,22 +101,42 @@ def seatings(competition, roles):
         yield from ((game.name, seated) for seated in found)
 
 
-def planned(competition, roles):
-    """Returns the matches of a competition, where the numbers of roles of its games are known by their names."""
+def asked(competition: Competition, roles: Mapping[str, int]) -> list[tuple[str, tuple[str, ...]]]:
+    """Returns the matches that competition.toml asks for, each a game and its players, where the numbers of roles of its games are known by
+    their names."""
+    refuse_numbers(competition, roles)
+    found = list(itertools.islice(seatings(competition, roles), MOST_MATCHES + 1))
+    refuse_too_many(competition, len(found))
+    return [(name, tuple(players)) for name, players in found]
+
+
+def refuse_numbers(competition: Competition, roles: Mapping[str, int]) -> None:
+    """Refuses a competition whose players do not fit the roles of its games."""
     mistakes = list(mistakes_of_numbers(competition, roles))
     if mistakes:
         raise Mistaken(mistakes)
-    games, found = {game.name: game for game in competition.games}, []
-    for name, players in seatings(competition, roles):
-        found.append((games[name], players))
-        if len(found) > MOST_MATCHES:
-            raise Mistaken([Mistake(competition.form.line, "form", f"there are more than {MOST_MATCHES:,} matches")])
-    width = max(3, len(str(len(found))))
+
+
+def refuse_too_many(competition: Competition, count: int) -> None:
+    if count > MOST_MATCHES:
+        raise Mistaken([Mistake(competition.form.line, "form", f"there are more than {MOST_MATCHES:,} matches")])
+
+
+def id_of(competition: Competition, number: int, width: int) -> str:
+    """Returns the id of the match with a number, from 1 on. The numbers have as many digits as those of the matches that were planned
+    first need, or more."""
+    return f"{competition.name}-{number:0{max(3, width)}}"
+
+
+def planned(competition: Competition, roles: Mapping[str, int]) -> list[Match]:
+    """Returns the matches of a competition that has not begun."""
+    games, found = {game.name: game for game in competition.games}, asked(competition, roles)
+    width = len(str(len(found)))
     return [
-        Match(f"{competition.name}-{number:0{width}}", game.name, game.start, game.play, tuple(players))
-        for number, (game, players) in enumerate(found, 1)
+        Match(id_of(competition, number, width), name, games[name].start, games[name].play, players)
+        for number, (name, players) in enumerate(found, 1)
     ]
 
 
-def schedule_text(matches):
+def schedule_text(matches: Iterable[Match]) -> bytes:
     return (HEAD + "".join(match.line() for match in matches)).encode("ascii")

@@ -24,8 +24,12 @@ class Seats:
         for player in match.players:
             self.free[player] -= 1
 
-    def leave(self, match):
+    def look_again(self):
+        """Has the waiting matches be looked through again: there are others."""
         self.idle_until = 0.0
+
+    def leave(self, match):
+        self.look_again()
         for player in match.players:
             self.free[player] += 1
 

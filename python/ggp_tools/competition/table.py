@@ -2,11 +2,17 @@
 
 It follows from the records alone. A player's result in a match is won where its goal is above that of every other player, lost where
 one is above its own, else drawn; in a match of one role, or without goals, it is none of the three. With `forfeit` a player that was
-retired in a match has lost it, whatever the goals and also without any, against each player that was not, and its goal counts as 0."""
+retired in a match has lost it, whatever the goals and also without any, against each player that was not. Its goal counts as 0, and who
+is left gets 100, which several share and have drawn."""
 
+from collections.abc import Iterable, Sequence
 from dataclasses import dataclass, field
 
-from ggp_tools.competition.ratings import rated
+from ggp_tools.competition.competition_file import BY_POINTS, KNOCKOUT, SWISS, Competition
+from ggp_tools.competition.ratings import Rating, rated
+from ggp_tools.competition.results import DRAWN, LOST, WON, Result
+from ggp_tools.competition.rounds import Round, is_by_rounds, rounds_won, scores_of
+from ggp_tools.competition.schedule import Match
 
 ALL = "all games"
 
@@ -22,77 +28,92 @@ class Line:
     won: int = 0
     drawn: int = 0
     lost: int = 0
+    won_by_forfeit: int = 0
+    lost_by_forfeit: int = 0
     moves: int = 0
     replaced: int = 0
     absent: int = 0
     retired: int = 0
-    rating: object = None
+    rating: Rating | None = None
+    # In a competition by rounds, and of all games together.
+    byes: int = 0
+    bye_points: int = 0
+    buchholz: float | None = None
+    rounds_won: int | None = None
 
-    def mean(self):
+    def mean(self) -> float | None:
         return round(self.goals / self.scored, 2) if self.scored else None
 
-    def order(self):
-        """Returns what orders the line: the mean goals as they are printed, 0 where there are none, then wins, then losses."""
-        return -(self.mean() or 0), -self.won, self.lost
+    def points(self) -> float:
+        """Returns a point for each match that was won, half of one for each that was drawn, and those of byes."""
+        return self.won + self.drawn / 2 + self.bye_points
+
+    def order(self, by: str) -> tuple[float, ...]:
+        """Returns what orders the line: the mean goals as they are printed, 0 where there are none, then wins, then losses; or all of it
+        after the points; in a Swiss competition the points and Buchholz's number, and in a knockout the rounds."""
+        if by == SWISS:
+            return -self.points(), -(self.buchholz or 0)
+        if by == KNOCKOUT:
+            return (-(self.rounds_won or 0),)
+        goals = -(self.mean() or 0), -self.won, self.lost
+        return (-self.points(), *goals) if by == BY_POINTS else goals
 
 
 @dataclass
 class Table:
-    """The lines of a game, or of all, in the order of the standings; and by pairs of players the points of the first against the
-    second, and how often they met."""
+    """The lines of a game, or of all, in the order of the standings; by pairs of players the points of the first against the second, and
+    how often they met; what the lines are ordered by; the matches that do not count, since others were ordered in their place; and the
+    rounds, if it is of all games."""
 
     game: str
-    lines: dict
-    points: dict = field(default_factory=dict)
-    met: dict = field(default_factory=dict)
+    lines: dict[str, Line]
+    points: dict[tuple[str, str], float] = field(default_factory=dict)
+    met: dict[tuple[str, str], int] = field(default_factory=dict)
     matches: int = 0
+    by: str = ""
+    again: list[Match] = field(default_factory=list)
+    rounds: Sequence[Round] = ()
 
-    def standings(self):
+    def standings(self) -> list[Line]:
         """Returns the lines of who has played, in order; equal ones as they stand in competition.toml."""
-        return sorted((line for line in self.lines.values() if line.matches), key=Line.order)
+        return sorted((line for line in self.lines.values() if line.matches or line.byes), key=lambda line: line.order(self.by))
 
-    def places(self):
+    def places(self) -> list[int]:
         """Returns the places of the standings: lines that nothing orders share one, and the places behind it stay free."""
-        orders = list(map(Line.order, self.standings()))
-        return [1 + orders.index(order) for order in orders]
+        orders, first = [line.order(self.by) for line in self.standings()], {}
+        for at, order in enumerate(orders, 1):
+            first.setdefault(order, at)
+        return [first[order] for order in orders]
 
-    def is_of_pairs(self):
+    def is_of_pairs(self) -> bool:
         return bool(self.met)
 
-
-def worths(result, forfeit):
-    """Returns what orders the players of a match, by roles: the goals, and below each of them a forfeit. None where there are none."""
-    forfeits = [forfeit and was_retired for was_retired in result.retired]
-    if not result.goals and not any(forfeits):
-        return None
-    goals = result.goals or [0] * len(forfeits)
-    return [-1 if lost else goal for goal, lost in zip(goals, forfeits)]
+    def has_forfeits(self) -> bool:
+        return any(line.won_by_forfeit or line.lost_by_forfeit for line in self.lines.values())
 
 
-def count_player(line, result, role, worth):
+def count_player(line: Line, result: Result, role: int) -> None:
     line.matches += 1
     line.moves += result.turns
     line.replaced += result.replaced(role)
     line.absent += result.is_absent(role)
-    line.retired += result.retired[role]
-    if not worth:
-        return
-    # A match without goals has none for who did not forfeit it either.
-    if result.goals or worth[role] < 0:
+    line.retired += result.retirements[role] is not None
+    counted, outcome = result.counted()[role], result.outcome(role)
+    if counted is not None:
         line.scored += 1
-        line.goals += max(0, worth[role])
-    others = worth[:role] + worth[role + 1 :]
-    if others:
-        line.won += worth[role] > max(others)
-        line.lost += worth[role] < max(others) or worth[role] < 0
-        line.drawn += worth[role] == max(others) >= 0
+        line.goals += counted
+    line.won += outcome == WON
+    line.drawn += outcome == DRAWN
+    line.lost += outcome == LOST
+    line.won_by_forfeit += outcome == WON and bool(result.forfeits())
+    line.lost_by_forfeit += outcome == LOST and role in result.forfeits()
 
 
-def count_pairs(table, result, worth):
+def count_pairs(table: Table, result: Result) -> None:
     """Counts each two players of a match as having met: the higher goal has won, and equal ones are half a win for each. Two that both
     forfeited it have not."""
-    players = result.match.players
-    for one in range(len(players)):
+    players, worth = result.match.players, result.worths() or ()
+    for one in range(len(worth)):
         for other in range(one):
             if worth[one] == worth[other] < 0:
                 continue
@@ -103,21 +124,42 @@ def count_pairs(table, result, worth):
                 table.met[pair] = table.met.get(pair, 0) + 1
 
 
-def tables_of(competition, results):
+def count_rounds(table: Table, competition: Competition, results: Iterable[Result]) -> None:
+    """Counts in the table of all games what follows from the rounds."""
+    counted = [result for result in results if not result.match.again]
+    scores, won = scores_of(competition, table.rounds, counted), rounds_won(competition, table.rounds, counted)
+    for player, line in table.lines.items():
+        line.byes = scores.byes[player]
+        if competition.form.kind == SWISS:
+            line.bye_points, line.buchholz = line.byes * scores.meeting, scores.buchholz(player)
+        else:
+            line.rounds_won = won[player]
+
+
+def tables_of(competition: Competition, results: Sequence[Result], rounds: Sequence[Round] = ()) -> list[Table]:
     """Returns the tables: first that of all games, then that of each game."""
     names = [entrant.name for entrant in competition.players]
-    games = [ALL, *(game.name for game in competition.games)]
-    found = [Table(game, {name: Line(name) for name in names}) for game in games]
-    by_game = {table.game: table for table in found}
+    kind = competition.form.kind if is_by_rounds(competition) else ""
+    by = [(ALL, kind or competition.order), *((game.name, BY_POINTS if kind else competition.order) for game in competition.games)]
+    found = [Table(game, {name: Line(name) for name in names}, by=order) for game, order in by]
+    found[0].rounds = rounds
+    by_game = {table.game: table for table in found[1:]}
     for result in results:
-        worth = worths(result, competition.forfeit)
         for table in (found[0], by_game[result.match.game]):
-            table.matches += 1
-            for role, player in enumerate(result.match.players):
-                count_player(table.lines[player], result, role, worth)
-            if worth:
-                count_pairs(table, result, worth)
+            count_result(table, result)
+    if kind:
+        count_rounds(found[0], competition, results)
     for table in found:
         for player, rating in rated([name for name in names if table.lines[name].matches], table.points).items():
             table.lines[player].rating = rating
     return found
+
+
+def count_result(table: Table, result: Result) -> None:
+    if result.match.again:
+        table.again.append(result.match)
+        return
+    table.matches += 1
+    for role, player in enumerate(result.match.players):
+        count_player(table.lines[player], result, role)
+    count_pairs(table, result)

@@ -3,10 +3,20 @@
 import csv
 import io
 import json
+from collections.abc import Iterable, Iterator, Mapping, Sequence
 
+from ggp_tools.competition.competition_file import BY_POINTS, KNOCKOUT, SWISS
+from ggp_tools.competition.plan import Plan
 from ggp_tools.competition.ratings import MOST_STEPS
+from ggp_tools.competition.results import FULL_GOAL, Result, again_words
+from ggp_tools.competition.rounds import rounds_of
+from ggp_tools.competition.schedule import Match
+from ggp_tools.competition.table import Line, Table
 
-HEADS = ("player", "matches", "goals", "won", "drawn", "lost", "moves", "replaced", "absent", "retired", "rating", "half", "group")
+HEADS = (
+    *("player", "matches", "goals", "won", "drawn", "lost", "moves", "replaced", "absent", "retired", "rating", "half", "group"),
+    *("points", "won_by_forfeit", "lost_by_forfeit", "byes", "buchholz", "rounds_won"),
+)
 TABLE_FILES = "table.txt", "table.csv", "crosstable.csv", "table.json"
 METHOD = (
     "Bradley and Terry's model, by Hunter's MM iteration (The Annals of Statistics 32, 2004); a draw is half a win; "
@@ -14,34 +24,39 @@ METHOD = (
 )
 
 
-def in_order(plan, results):
+FORFEIT = f"A match in which a player was retired is lost for it; who is left gets {FULL_GOAL} goals, which several share."
+
+
+def in_order(plan: Plan, results: Mapping[str, Result]) -> list[Result]:
     """Returns the results in the schedule's order."""
     return [results[match.id] for match in plan.matches if match.id in results]
 
 
-def without_record(plan, results):
+def without_record(plan: Plan, results: Iterable[Result]) -> list[Match]:
     """Returns the matches that are not among the results, in the schedule's order."""
     known = {result.match.id for result in results}
     return [match for match in plan.matches if match.id not in known]
 
 
-def rounded(number, places):
+def rounded(number: float | None, places: int) -> float | None:
     """Returns the number for a file: the last places may differ from one machine to another, and are left away."""
     return None if number is None else round(number, places) + 0.0
 
 
-def fields(line):
+def fields(line: Line) -> tuple[object, ...]:
     """Returns what a line says, in the order of the heads."""
     rating = line.rating
     rest = (rounded(rating.rating, 1), rounded(rating.half, 1), rating.group) if rating else (None, None, None)
-    return line.player, line.matches, line.mean(), line.won, line.drawn, line.lost, line.moves, line.replaced, line.absent, line.retired, *rest
+    counts = line.won, line.drawn, line.lost, line.moves, line.replaced, line.absent, line.retired
+    more = line.points(), line.won_by_forfeit, line.lost_by_forfeit, line.byes, line.buchholz, line.rounds_won
+    return line.player, line.matches, line.mean(), *counts, *rest, *more
 
 
-def points_text(points):
+def points_text(points: float) -> str:
     return f"{points:.1f}".removesuffix(".0")
 
 
-def rating_text(table, line, sign="+-"):
+def rating_text(table: Table, line: Line, sign: str = "+-") -> str:
     """Returns the rating with its interval, and the group where there are more than one."""
     if not line.rating or line.rating.rating is None:
         return "none"
@@ -49,11 +64,11 @@ def rating_text(table, line, sign="+-"):
     return f"{round(line.rating.rating)} {sign} {round(line.rating.half)}" + (f" in {line.rating.group}" if several else "")
 
 
-def goals_text(line):
+def goals_text(line: Line) -> str:
     return "none" if line.mean() is None else f"{line.mean():.2f}"
 
 
-def columns(rows):
+def columns(rows: Sequence[list[str]]) -> Iterator[str]:
     """Returns rows of texts as lines: the first two columns to the left, the others to the right."""
     widths = [max(map(len, column)) for column in zip(*rows)]
     for row in rows:
@@ -61,16 +76,30 @@ def columns(rows):
         yield "  ".join(cells).rstrip()
 
 
-def standings_rows(table, sign="+-"):
+def order_cells(table: Table, line: Line) -> dict[str, str]:
+    """Returns what orders the line beside the goals, by the heads."""
+    said = {
+        "rounds won": str(line.rounds_won) if table.by == KNOCKOUT else "",
+        "points": points_text(line.points()) if table.by in (BY_POINTS, SWISS) else "",
+        "Buchholz": points_text(line.buchholz or 0.0) if table.by == SWISS else "",
+    }
+    return {head: cell for head, cell in said.items() if cell}
+
+
+def standings_rows(table: Table, sign: str = "+-") -> Iterator[list[str]]:
     """Gives the rows of the standings, the heads first."""
-    yield ["", "player", "matches", "goals", "won", "drawn", "lost", "replaced", "absent", "retired", "rating"]
+    forfeits, order = table.has_forfeits(), list(order_cells(table, Line("")))
+    head = ["", "player", "matches", *order, "goals", "won", "drawn", "lost", *["by forfeit"] * forfeits]
+    yield [*head, "replaced", "absent", "retired", "rating"]
     for place, line in zip(table.places(), table.standings()):
-        counts = [line.won, line.drawn, line.lost, f"{line.replaced} of {line.moves}", line.absent, line.retired]
-        name = f"{line.player} (no move of its own)" if line.absent == line.matches else line.player
-        yield [str(place), name, str(line.matches), goals_text(line), *map(str, counts), rating_text(table, line, sign)]
+        name = f"{line.player} (no move of its own)" if 0 < line.absent == line.matches else line.player
+        row = [str(place), name, str(line.matches), *order_cells(table, line).values(), goals_text(line)]
+        row += [str(line.won), str(line.drawn), str(line.lost)]
+        row += [f"{line.won_by_forfeit} won, {line.lost_by_forfeit} lost"] * forfeits
+        yield [*row, f"{line.replaced} of {line.moves}", str(line.absent), str(line.retired), rating_text(table, line, sign)]
 
 
-def crosstable_rows(table):
+def crosstable_rows(table: Table) -> Iterator[list[str]]:
     """Gives the rows of the crosstable, the heads first: points, and behind a stroke the meetings. Players are numbered in the order of
     the standings."""
     order = [line.player for line in table.standings()]
@@ -80,10 +109,12 @@ def crosstable_rows(table):
         yield [str(number), one, *(f"{points_text(points)}/{met}" if met else "." for points, met in cells)]
 
 
-def notes(table):
+def notes(table: Table) -> Iterator[str]:
     """Gives what a reader of the standings has to know."""
+    yield from map(again_words, table.again)
+    yield from (f"round {found.number}{found.byes_words()}" for found in table.rounds if found.byes)
     for line in table.standings():
-        if line.absent == line.matches:
+        if 0 < line.absent == line.matches:
             yield f"{line.player} made no move of its own: all of its moves were replaced"
         elif line.absent:
             yield f"{line.player} made no move of its own in {line.absent} of its {line.matches} matches"
@@ -94,11 +125,17 @@ def notes(table):
         yield f"rating not settled: {', '.join(unsettled)} (after {MOST_STEPS:,} steps it was still changing)"
 
 
-def table_text(plan, tables):
+def count_of_planned(plan: Plan) -> int:
+    """Returns how many matches of the schedule count, if each is played."""
+    return sum(not match.again for match in plan.matches)
+
+
+def table_text(plan: Plan, tables: list[Table]) -> str:
     """Returns the tables as text."""
-    lines = [f"{plan.competition.name}: {tables[0].matches} of {len(plan.matches)} matches"]
+    rounds = f", {len(plan.rounds)} of {rounds_of(plan.competition)} rounds" if plan.rounds else ""
+    lines = [f"{plan.competition.name}: {tables[0].matches} of {count_of_planned(plan)} matches{rounds}"]
     if plan.competition.forfeit:
-        lines.append("A match in which a player was retired is lost for it.")
+        lines.append(FORFEIT)
     for table in tables:
         lines += ["", table.game, "", *columns(list(standings_rows(table)))]
         if table.is_of_pairs():
@@ -107,7 +144,7 @@ def table_text(plan, tables):
     return "\n".join([*lines, "", f"Ratings: {METHOD}.", ""])
 
 
-def csv_text(tables):
+def csv_text(tables: list[Table]) -> str:
     """Returns the lines of all tables as CSV, each with its game."""
     text = io.StringIO()
     writer = csv.writer(text, lineterminator="\n")
@@ -117,7 +154,7 @@ def csv_text(tables):
     return text.getvalue()
 
 
-def crosstable_csv(tables):
+def crosstable_csv(tables: list[Table]) -> str:
     text = io.StringIO()
     writer = csv.writer(text, lineterminator="\n")
     writer.writerow(("game", "player", "opponent", "meetings", "points"))
@@ -130,12 +167,14 @@ def crosstable_csv(tables):
     return text.getvalue()
 
 
-def json_text(plan, tables):
+def json_text(plan: Plan, tables: list[Table]) -> str:
     said = {
         "name": plan.competition.name,
         "matches": tables[0].matches,
-        "planned": len(plan.matches),
+        "planned": count_of_planned(plan),
         "forfeit": plan.competition.forfeit,
+        "order": plan.competition.order,
+        "rounds": [{"round": found.number, "pairs": found.pairs, "byes": found.byes} for found in plan.rounds],
         "ratings": METHOD,
         "tables": [
             {
@@ -154,7 +193,7 @@ def json_text(plan, tables):
     return json.dumps(said, indent=1) + "\n"
 
 
-def table_files(plan, tables):
+def table_files(plan: Plan, tables: list[Table]) -> dict[str, bytes]:
     """Returns the files of the table by their names, each as bytes."""
     texts = table_text(plan, tables), csv_text(tables), crosstable_csv(tables), json_text(plan, tables)
     return {name: text.encode("ascii") for name, text in zip(TABLE_FILES, texts)}

@@ -1,0 +1,189 @@
+"""The schedule of a competition that grows: after its first match rounds, players, games and lines may be added, and matches be ordered
+again. What was planned before stays as it is, and what is new stands behind it.
+
+The schedule follows from the files by which the competition was planned one after the other, and from the matches that were ordered again.
+What a file adds is what it asks for beyond the one before it. A game of more than two roles, whose seats are shared out among all players,
+gets with new players those matches in which one of them sits."""
+
+import itertools
+from collections import Counter
+from collections.abc import Callable, Mapping, Sequence
+from dataclasses import dataclass, replace
+
+from ggp_tools.competition.competition_file import KNOCKOUT, SWISS, Competition
+from ggp_tools.competition.results import Result
+from ggp_tools.competition.rounds import Round, Rounds, is_by_rounds, meetings, rounds_of
+from ggp_tools.competition.schedule import Match, asked, id_of, refuse_numbers, refuse_too_many
+
+# The number of matches that were planned when a file was replaced; none of the present one.
+Until = int | None
+# A game and its players in the order of the roles.
+Seated = tuple[str, tuple[str, ...]]
+# Looks up what came of a match; none where nothing is known.
+ResultOf = Callable[[Match], Result | None]
+
+
+class Misfit(Exception):
+    """Why a schedule can't grow so."""
+
+
+@dataclass(frozen=True)
+class Again:
+    """A match that was ordered in the place of another one, and the reason."""
+
+    match: str
+    instead_of: str
+    reason: str
+
+
+@dataclass(frozen=True)
+class History:
+    """The files by which a competition was planned before, each with the number of matches that were planned when the next one replaced
+    it, and the matches that were ordered again."""
+
+    earlier: tuple[tuple[int, Competition], ...] = ()
+    again: tuple[Again, ...] = ()
+
+
+def shape(competition: Competition) -> tuple[object, ...]:
+    """Returns all of a competition that its schedule follows from."""
+    form, games = competition.form, [(game.name, game.start, game.play) for game in competition.games]
+    names = [player.name for player in competition.players]
+    return competition.name, form.kind, form.rounds, form.one, [line.text.split() for line in form.lines], games, names
+
+
+def refuse_changes(before: Competition, after: Competition) -> None:
+    """Refuses what can't change any more once matches were played, by its name."""
+    said = [("name", before.name, after.name), ("form.kind", before.form.kind, after.form.kind), ("strikes", before.strikes, after.strikes)]
+    if is_by_rounds(before):
+        # Who meets whom in later rounds follows from these too.
+        said += [("forfeit", before.forfeit, after.forfeit), ("the number of games", len(before.games), len(after.games))]
+        said += [("the number of players", len(before.players), len(after.players))] if after.form.kind == KNOCKOUT else []
+    for key, old, new in said:
+        if old != new:
+            raise Misfit(f"{key} was {old!r} and is {new!r}")
+    if after.form.kind == SWISS and after.form.rounds < before.form.rounds:
+        raise Misfit(f"form.rounds was {before.form.rounds} and is {after.form.rounds}")
+    clocks = {game.name: (game.start, game.play) for game in after.games}
+    for game in before.games:
+        if game.name not in clocks:
+            raise Misfit(f"the game {game.name} is there no more")
+        if clocks[game.name] != (game.start, game.play):
+            now = " and ".join(map(str, clocks[game.name]))
+            raise Misfit(f"the clocks of {game.name} were {game.start} and {game.play}, and are {now}")
+    if gone := new_players(after, before):
+        raise Misfit(f"the player {gone[0]} is there no more")
+
+
+def new_players(before: Competition, after: Competition) -> list[str]:
+    known = {player.name for player in before.players}
+    return [player.name for player in after.players if player.name not in known]
+
+
+def added(before: Competition, after: Competition, roles: Mapping[str, int], planned: Sequence[Match]) -> list[Seated]:
+    """Returns the matches that a file asks for beyond the one before it. Refuses one that does not ask for all that was planned."""
+    wanted, new = asked(after, roles), set(new_players(before, after))
+    shared = {game.name for game in before.games if new and roles[game.name] > 2 and after.form.lines == ()}
+    if shared and before.form.rounds != after.form.rounds:
+        raise Misfit(f"{min(shared)} has more than two roles, so rounds and players are added one after the other: plan in between")
+    known, found = Counter(asked(before, roles)), []
+    for game, players in wanted:
+        if game in shared:
+            found += [(game, players)] if new.intersection(players) else []
+        elif known[game, players]:
+            known[game, players] -= 1
+        else:
+            found.append((game, players))
+    for (game, players), count in known.items():
+        if count and game not in shared:
+            gone = [match.id for match in planned if (match.game, match.players) == (game, players)][-count:]
+            raise Misfit(f"{gone[0]} ({game} {' '.join(players)}) was planned, and is asked for no more")
+    return found
+
+
+class Growing:
+    """A schedule as it grows, where results are looked up by their matches."""
+
+    def __init__(self, history: History, roles: Mapping[str, int], result_of: ResultOf) -> None:
+        self.roles, self.result_of, self.width = roles, result_of, 0
+        self.matches: list[Match] = []
+        self.places: dict[str, int] = {}
+        self.again = {order.match: order for order in history.again}
+        self.rounds = Rounds()
+
+    def take(self, before: Competition | None, competition: Competition, until: Until) -> None:
+        """Plans what a file adds, up to so many matches, and what was ordered again until then."""
+        if is_by_rounds(competition):
+            refuse_numbers(competition, self.roles)
+            self.add_again(competition, until)
+            while (until is None or len(self.matches) < until) and (found := self.next_round(competition)):
+                self.add_all(competition, meetings(competition, found), found.number)
+                self.add_again(competition, until)
+            return
+        found = asked(competition, self.roles) if before is None else added(before, competition, self.roles, self.matches)
+        self.width = self.width or len(str(len(found)))
+        self.add_all(competition, found)
+        self.add_again(competition, until)
+
+    def next_round(self, competition: Competition) -> Round | None:
+        """Plans the next round, where there is one and the last one is over."""
+        number = len(self.rounds.found)
+        results = [self.result_of(match) for match in self.of_round(number)]
+        return None if number == rounds_of(competition) or None in results else self.rounds.plan(competition, results)
+
+    def of_round(self, number: int) -> list[Match]:
+        """Returns the matches of the last round that count."""
+        return [match for match in self.matches[-self.since(number) :] if not match.again] if number else []
+
+    def since(self, number: int) -> int:
+        """Returns how many matches were planned since a round began."""
+        return sum(1 for _ in itertools.takewhile(lambda match: match.round == number, reversed(self.matches)))
+
+    def add_all(self, competition: Competition, found: Sequence[Seated], round_number: int = 0) -> None:
+        refuse_too_many(competition, len(self.matches) + len(found))
+        games = {game.name: game for game in competition.games}
+        for name, players in found:
+            game = games[name]
+            self.add(Match(self.next_id(competition), name, game.start, game.play, players, round_number))
+
+    def add(self, match: Match) -> None:
+        self.places[match.id] = len(self.matches)
+        self.matches.append(match)
+
+    def next_id(self, competition: Competition) -> str:
+        return id_of(competition, len(self.matches) + 1, self.width)
+
+    def add_again(self, competition: Competition, until: Until) -> None:
+        """Adds the matches that were ordered again at this point."""
+        while (until is None or len(self.matches) < until) and (order := self.again.pop(self.next_id(competition), None)):
+            refuse_too_many(competition, len(self.matches) + 1)
+            at = self.places.get(order.instead_of)
+            if at is None or self.matches[at].again:
+                raise Misfit(f"{order.match} was ordered in the place of {order.instead_of}, which is no match that counts")
+            old = self.matches[at]
+            if old.round < len(self.rounds.found):
+                raise Misfit(f"{old.id} is of round {old.round}, by which the next one was paired, so it can't be played again")
+            self.matches[at] = replace(old, again=order.match, reason=order.reason)
+            self.add(replace(old, id=order.match, instead_of=old.id))
+
+
+def nothing_known(_: Match) -> None:
+    """The result of a match where no match has been played."""
+
+
+def grown(
+    history: History, competition: Competition, roles: Mapping[str, int], result_of: ResultOf = nothing_known, most: Until = None
+) -> Growing:
+    """Returns the schedule that follows from a competition, its history and its results; of one by rounds no round that begins after so
+    many matches."""
+    growing, before = Growing(history, roles, result_of), None
+    for until, version in (*history.earlier, (None, competition)):
+        if before is not None:
+            refuse_changes(before, version)
+        growing.take(before, version, until if until is not None else most if is_by_rounds(version) else None)
+        if until is not None and len(growing.matches) != until:
+            raise Misfit(f"{len(growing.matches)} matches were planned when earlier/{until}.toml was replaced, and not {until}")
+        before = version
+    if growing.again:
+        raise Misfit(f"{min(growing.again)}, which was ordered again, is not the next match")
+    return growing

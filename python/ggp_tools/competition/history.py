@@ -1,0 +1,59 @@
+"""The history of a competition that grew, in its folder: `earlier` has the files by which it was planned before, each under the number of
+matches that were planned when the next one replaced it, and `again.tsv` the matches that were ordered again, with the reasons."""
+
+import re
+from pathlib import Path
+
+from ggp_tools.competition.competition_file import Competition, Mistaken, read_competition, told
+from ggp_tools.competition.files import UNFINISHED, Folder, Refused
+from ggp_tools.competition.growth import Again, History
+
+HEAD = b"match\tinstead of\treason\n"
+LINE = re.compile(rb"([A-Za-z0-9_.-]{1,60})\t([A-Za-z0-9_.-]{1,60})\t([\x20-\x7e]{1,200})\n")
+REASON = re.compile(r"(?! )[\x20-\x7e]{1,200}(?<! )")
+EARLIER = re.compile(r"([1-9][0-9]{0,5})\.toml")
+
+
+def again_text(orders: tuple[Again, ...]) -> bytes:
+    """Returns the file of the matches that were ordered again."""
+    lines = [f"{order.match}\t{order.instead_of}\t{order.reason}\n".encode("ascii") for order in orders]
+    return HEAD + b"".join(lines)
+
+
+def read_again(folder: Folder) -> tuple[Again, ...]:
+    if not folder.again.exists():
+        return ()
+    text = folder.again.read_bytes()
+    lines = [LINE.fullmatch(line) for line in text.removeprefix(HEAD).splitlines(keepends=True)]
+    found = tuple(Again(*(word.decode("ascii") for word in line.groups())) for line in lines if line)
+    if not lines or again_text(found) != text or len({order.match for order in found}) != len(found):
+        raise Refused(f"{folder.again} is not what `ggp_competition again` writes")
+    return found
+
+
+def competition_of_file(path: Path, text: bytes) -> Competition:
+    """Returns the competition that the bytes of a file say."""
+    try:
+        return read_competition(text)
+    except Mistaken as why:
+        raise Refused(told(path, why.mistakes)) from None
+
+
+def earlier_files(folder: Folder) -> list[Path]:
+    """Returns the files by which a competition was planned before, the oldest first."""
+    found = [file for file in folder.earlier.iterdir() if not file.name.startswith(UNFINISHED)] if folder.earlier.is_dir() else []
+    for file in found:
+        if not EARLIER.fullmatch(file.name):
+            raise Refused(f"{file} is none of the files by which the competition was planned before")
+    return sorted(found, key=lambda file: int(file.stem))
+
+
+def read_history(folder: Folder) -> History:
+    """Returns how a competition came to its schedule."""
+    earlier = tuple((int(file.stem), competition_of_file(file, file.read_bytes())) for file in earlier_files(folder))
+    return History(earlier, read_again(folder))
+
+
+def history_files(folder: Folder) -> list[Path]:
+    """Returns the files that say it."""
+    return [*earlier_files(folder), *([folder.again] if folder.again.exists() else [])]

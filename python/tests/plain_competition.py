@@ -1,0 +1,176 @@
+"""What a competition has to come to, computed plainly from the words of docs/COMPETITION.md. It shares nothing with the package: a match
+is a plain record with the name of its game, and all else is counted from such records, one by one."""
+
+from fractions import Fraction
+
+
+def strikes_out(record, seat):
+    """Returns the turn in which the player in a seat was retired, counted from 1, or none."""
+    need = record["strikes"]
+    for turn in range(need, len(record["errors"]) + 1):
+        if need and all(record["errors"][earlier][seat] != "" for earlier in range(turn - need, turn)):
+            return turn
+    return None
+
+
+def counting_goals(record, forfeit):
+    """Returns the goals that count, and who has forfeited."""
+    seats = range(len(record["players"]))
+    gone = {seat for seat in seats if forfeit and strikes_out(record, seat)}
+    if not gone:
+        return list(record["goalValues"]) or None, gone
+    left = len(seats) - len(gone)
+    return [0 if seat in gone else 100 // left for seat in seats], gone
+
+
+def beats(goals, gone, one, other):
+    """Returns 1, 1/2 or 0: what the player in one seat gets against that in another, or none where both have forfeited."""
+    if one in gone and other in gone:
+        return None
+    if one in gone or other in gone:
+        return Fraction(int(other in gone))
+    return Fraction(1 if goals[one] > goals[other] else 0) if goals[one] != goals[other] else Fraction(1, 2)
+
+
+def verdict(goals, gone, seat):
+    """Returns what a match was for a seat: W, D, L or nothing."""
+    others = [beats(goals, gone, seat, other) for other in range(len(goals or ())) if other != seat]
+    if not others:
+        return ""
+    if seat in gone or 0 in others:
+        return "L"
+    return "W" if all(got == 1 for got in others) else "D"
+
+
+def standings(records, names, forfeit, order, games=None):
+    """Returns a row for each player that has played, in order: place, name, and counts."""
+    rows = []
+    for name in names:
+        row = {"player": name, "matches": 0, "goals": [], "W": 0, "D": 0, "L": 0, "moves": 0, "replaced": 0, "absent": 0, "retired": 0, "won_by": 0, "lost_by": 0}
+        for record in records:
+            if name not in record["players"] or games and record["game"] not in games:
+                continue
+            seat = record["players"].index(name)
+            goals, gone = counting_goals(record, forfeit)
+            wrong = sum(turn[seat] != "" for turn in record["errors"])
+            row["matches"] += 1
+            row["goals"] += [goals[seat]] if goals else []
+            row["moves"] += len(record["errors"])
+            row["replaced"] += wrong
+            row["absent"] += wrong == len(record["errors"]) > 0
+            row["retired"] += strikes_out(record, seat) is not None
+            was = verdict(goals, gone, seat)
+            if was:
+                row[was] += 1
+                row["won_by"] += was == "W" and bool(gone)
+                row["lost_by"] += seat in gone
+        row["mean"] = float(round(Fraction(sum(row["goals"]), len(row["goals"])), 2)) if row["goals"] else None
+        row["points"] = row["W"] + row["D"] / 2
+        rows += [row] if row["matches"] else []
+    keys = {"goals": lambda row: (row["mean"] or 0, row["W"], -row["L"]), "points": lambda row: (row["points"], row["mean"] or 0, row["W"], -row["L"])}
+    return placed(rows, keys[order])
+
+
+def placed(rows, key):
+    """Returns the rows in order, the best first, each with its place: one more than the rows that are better."""
+    for row in rows:
+        row["place"] = 1 + sum(key(other) > key(row) for other in rows)
+    return sorted(rows, key=lambda row: row["place"])
+
+
+def crosstable(records, forfeit, games=None):
+    """Returns by pairs of players the points of the first against the second, and how often they met."""
+    found = {}
+    for record in records:
+        goals, gone = counting_goals(record, forfeit)
+        if games and record["game"] not in games or goals is None:
+            continue
+        for one, first in enumerate(record["players"]):
+            for other, second in enumerate(record["players"]):
+                got = beats(goals, gone, one, other) if one != other else None
+                if got is not None:
+                    points, met = found.get((first, second), (0, 0))
+                    found[first, second] = points + got, met + 1
+    return found
+
+
+# ---- Rounds --------------------------------------------------------------------------------------
+
+
+def points_of(records, forfeit):
+    """Returns the points of each player, and the goals."""
+    points, goals = {}, {}
+    for record in records:
+        counting, gone = counting_goals(record, forfeit)
+        for seat, name in enumerate(record["players"]):
+            points[name] = points.get(name, 0) + {"W": 1, "D": 0.5}.get(verdict(counting, gone, seat), 0)
+            goals[name] = goals.get(name, 0) + (counting[seat] if counting else 0)
+    return points, goals
+
+
+def swiss_standings(names, games, rounds, records, forfeit):
+    """Returns the players in order with points and Buchholz's number, after rounds, each of pairs and a bye or none."""
+    points, _ = points_of(records, forfeit)
+    total = {name: points.get(name, 0) + sum(2 * games for _, bye in rounds if bye == name) for name in names}
+    buchholz = {name: sum(total[(set(pair) - {name}).pop()] for pairs, _ in rounds for pair in pairs if name in pair) for name in names}
+    return sorted(names, key=lambda name: (-total[name], -buchholz[name], names.index(name))), total, buchholz
+
+
+def swiss_pairs(names, games, rounds, records, forfeit):
+    """Returns the pairs of the next round, and who has the bye."""
+    order, _, _ = swiss_standings(names, games, rounds, records, forfeit)
+    bye = None
+    if len(order) % 2:
+        had = {name: sum(1 for _, other in rounds if other == name) for name in order}
+        bye = [name for name in order if had[name] == min(had.values())][-1]
+        order = [name for name in order if name != bye]
+
+    def met(one, other):
+        return sum(1 for pairs, _ in rounds for pair in pairs if set(pair) == {one, other})
+
+    pairs = []
+    while order:
+        top, *others = order
+        least = min(met(top, other) for other in others)
+        partner = [other for other in others if met(top, other) == least][0]
+        pairs.append((top, partner))
+        order = [name for name in others if name != partner]
+    for low in reversed(range(len(pairs))):
+        if not met(*pairs[low]):
+            continue
+        above, below = list(reversed(range(low))), list(range(low + 1, len(pairs)))
+        for high in above + below:
+            (a, b), (c, d) = pairs[high], pairs[low]
+            fresh = [new for new in (((a, c), (b, d)), ((a, d), (b, c))) if not met(*new[0]) and not met(*new[1])]
+            if fresh:
+                pairs[high], pairs[low] = fresh[0]
+                break
+    return pairs, bye
+
+
+def knockout_winner(pair, records, names, forfeit):
+    points, goals = points_of([record for record in records if set(record["players"]) == set(pair)], forfeit)
+    return sorted(pair, key=lambda name: (-points.get(name, 0), -goals.get(name, 0), names.index(name)))[0]
+
+
+def knockout_places(names):
+    """Returns the seeds in the order of the bracket: the best of each half, quarter and so on meets the worst of it. None where nobody is."""
+    size = 1
+    while size < len(names):
+        size *= 2
+
+    def part(seed, width):
+        # The seed is alone, or meets at the end of its part the one with which it makes up the sum of such a round.
+        return [seed] if width == size else part(seed, 2 * width) + part(2 * width - 1 - seed, 2 * width)
+
+    return [names[seed] if seed < len(names) else None for seed in part(0, 1)]
+
+
+def knockout_round(names, by_round, forfeit):
+    """Returns the pairs and the byes of the next round, by the records of each round before it."""
+    places = knockout_places(names)
+    for records in by_round:
+        halves = [(places[at], places[at + 1]) for at in range(0, len(places), 2)]
+        places = [one if other is None else other if one is None else knockout_winner((one, other), records, names, forfeit) for one, other in halves]
+    halves = [(places[at], places[at + 1]) for at in range(0, len(places), 2)]
+    return [pair for pair in halves if None not in pair], [one or other for one, other in halves if None in (one, other)]

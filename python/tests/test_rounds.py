@@ -1,0 +1,233 @@
+"""Competitions by rounds, in a folder: each round follows from the records of the one before, and a schedule that does not is refused. The
+referee is a stand-in here, and the records are only what results are read from."""
+
+import json
+import pathlib
+import tempfile
+import types
+import unittest
+from unittest import mock
+
+from ggp_tools.competition.again import order_again
+from ggp_tools.competition.competition_file import Mistaken, read_competition
+from ggp_tools.competition.files import Folder, Refused
+from ggp_tools.competition.kept import result_in_file
+from ggp_tools.competition.plan import make_plan, plan_next_round, read_plan, refuse_lost_results, round_words, rounds_left
+from ggp_tools.competition.rounds import bracket
+from ggp_tools.competition.schedule import Match, asked
+from ggp_tools.competition.table import tables_of
+from ggp_tools.competition.table_text import notes, standings_rows, table_files
+from tests.support import toml
+
+REFEREE = types.SimpleNamespace(roles=lambda *_: ("a", "b"))
+SWISS = 'kind = "swiss"\nrounds = {}'
+
+
+def record(match, goals, **more):
+    """Returns what of a record its result is read from."""
+    said = {"matchId": match.id, "players": list(match.players), "startClock": match.start, "playClock": match.play, "strikes": 0, "phase": "finished"}
+    return {**said, "cause": None, "goalValues": goals, "moves": [["m", "m"]], "errors": [["", ""]], **more}
+
+
+class ByRounds(unittest.TestCase):
+    def setUp(self):
+        room = tempfile.TemporaryDirectory()
+        self.addCleanup(room.cleanup)
+        self.folder = Folder(pathlib.Path(room.name))
+        (self.folder.path / "game.kif").write_text("(role a)\n(role b)\n")
+        self.folder.make(self.folder.records)
+
+    def write(self, count, form, head=""):
+        text = toml([(f"p{at}", f"h:{at + 1}") for at in range(count)], [("game", "game.kif", "aborts = true")], form, head)
+        self.folder.competition.write_text(text)
+
+    def make(self):
+        return make_plan(self.folder.path, REFEREE)
+
+    def read(self):
+        return read_plan(self.folder.path, REFEREE)
+
+    def play(self, plan, goals_of=lambda match: [100, 0] if match.players < match.players[::-1] else [0, 100]):
+        """Writes records of all matches that have none: the player with the lower number wins, unless it is said otherwise."""
+        for match in plan.matches:
+            if not self.folder.record(match.id).exists() and not match.again:
+                self.folder.record(match.id).write_text(json.dumps(record(match, goals_of(match))) + "\n")
+        return {match.id: found for match in plan.matches if (found := result_in_file(self.folder, plan.competition, match))}
+
+    def pairs(self, plan):
+        return [(found.pairs, found.byes) for found in plan.rounds]
+
+    def assert_refused(self, words, call=None):
+        with self.assertRaises(Refused) as why:
+            (call or self.read)()
+        self.assertIn(words, str(why.exception))
+
+    def test_a_swiss_competition_from_its_first_round_to_its_table(self):
+        self.write(5, SWISS.format(3))
+        plan = self.make()
+        self.assertEqual(round_words(plan, plan.matches), "round 1 of 3: cup-001 to cup-004; bye: p4")
+        self.assertEqual([match.players for match in plan.matches], [("p0", "p1"), ("p2", "p3"), ("p1", "p0"), ("p3", "p2")])
+        self.assertEqual((rounds_left(plan), plan_next_round(plan, {})), (2, []))
+        results = self.play(plan)
+        new = plan_next_round(plan, results)
+        # p0, p2 and p4 have two points; the bye has no opponent whose points would count.
+        self.assertEqual(round_words(plan, new), "round 2 of 3: cup-005 to cup-008; bye: p3")
+        self.assertEqual(self.pairs(plan)[1], ((("p0", "p2"), ("p4", "p1")), ("p3",)))
+        self.assertEqual((self.read().matches, self.pairs(self.read())), (plan.matches, self.pairs(plan)))
+        plan_next_round(plan, self.play(plan))
+        results = self.play(plan)
+        self.assertEqual((plan_next_round(plan, results), rounds_left(plan)), ([], 0))
+        tables = tables_of(plan.competition, list(results.values()), plan.rounds)
+        heads, *rows = standings_rows(tables[0])
+        self.assertEqual(heads[:6], ["", "player", "matches", "points", "Buchholz", "goals"])
+        # By hand: p0 has beaten p1, p2 and p4, p1 has beaten p4 and p3, p2 has beaten p3.
+        wanted = [["1", "p0", "6", "6", "10"], ["2", "p1", "6", "4", "10"], ["3", "p2", "4", "4", "8"], ["4", "p4", "4", "2", "10"], ["5", "p3", "4", "2", "8"]]
+        self.assertEqual([row[:5] for row in rows], wanted)
+        self.assertEqual(list(notes(tables[0]))[:3], [f"round {found.number}; bye: {found.byes[0]}" for found in plan.rounds])
+        files = table_files(plan, tables)
+        self.assertTrue(files["table.txt"].startswith(b"cup: 12 of 12 matches, 3 of 3 rounds\n"))
+        self.assertEqual([[found["round"], *found["byes"]] for found in json.loads(files["table.json"])["rounds"]], [[1, "p4"], [2, "p3"], [3, plan.rounds[2].byes[0]]])
+
+    def test_a_knockout_from_its_first_round_to_its_table(self):
+        self.write(6, 'kind = "knockout"')
+        plan = self.make()
+        self.assertEqual(self.pairs(plan), [((("p3", "p4"), ("p2", "p5")), ("p0", "p1"))])
+        # All draws: the better seed goes on.
+        plan_next_round(plan, self.play(plan, lambda _: [50, 50]))
+        self.assertEqual(self.pairs(plan)[1], ((("p0", "p3"), ("p1", "p2")), ()))
+        # One win each: the goals decide.
+        plan_next_round(plan, self.play(plan, lambda match: [40, 0] if match.players[0] in ("p0", "p1") else [60, 0]))
+        self.assertEqual(self.pairs(plan)[2], ((("p3", "p2"),), ()))
+        results = self.play(plan, lambda match: [100, 0] if match.players[0] == "p2" else [0, 100])
+        self.assertEqual((plan_next_round(plan, results), rounds_left(plan)), ([], 0))
+        table = tables_of(plan.competition, list(results.values()), plan.rounds)[0]
+        heads, *rows = standings_rows(table)
+        self.assertEqual(heads[3], "rounds won")
+        self.assertEqual([(row[0], row[1], row[3]) for row in rows], [("1", "p2", "3"), ("2", "p3", "2"), ("3", "p0", "1"), ("3", "p1", "1"), ("5", "p4", "0"), ("5", "p5", "0")])
+
+    def test_a_schedule_that_does_not_follow_from_the_records(self):
+        self.write(4, SWISS.format(3))
+        plan = self.make()
+        plan_next_round(plan, self.play(plan))
+        text = self.folder.schedule.read_text()
+        self.assertIn("cup-005\tgame\t10\t10\tp0 p2\n", text)
+        self.folder.schedule.write_text(text.replace("cup-005\tgame\t10\t10\tp0 p2", "cup-005\tgame\t10\t10\tp0 p3"))
+        self.assert_refused("schedule.tsv is not what")
+        self.folder.schedule.write_text(text)
+        self.read()
+        first = self.folder.record("cup-001")
+        before = first.read_text()
+        # p1 has won against p0 by now, so they stand otherwise.
+        for number in (1, 3):
+            self.folder.record(f"cup-00{number}").write_text(json.dumps(record(plan.matches[number - 1], [0, 100] if number == 1 else [100, 0])))
+        self.assert_refused("schedule.tsv is not what")
+        self.folder.record("cup-003").write_text(json.dumps(record(plan.matches[2], [0, 100])))
+        first.unlink()
+        lost = "schedule.tsv has round 2, which was paired by cup-001, and that has no record of this match"
+        self.assert_refused(lost)
+        # As long as none of its matches has a record the round may be planned anew.
+        self.make()
+        self.assertEqual(len(self.read().matches), 4)
+        first.write_text(before)
+        plan_next_round(plan := self.read(), self.play(plan))
+        self.play(plan)
+        first.unlink()
+        self.assert_refused(lost)
+        self.assert_refused("schedule.tsv would change, and matches were played", self.make)
+        first.write_text(before)
+        plan = self.read()
+        self.assertEqual(len(plan.matches), 8)
+        results = self.play(plan)
+        refuse_lost_results(plan, results)
+        refuse_lost_results(plan, {match: found for match, found in results.items() if match != "cup-007"})
+        self.assert_refused("cup-002 has no record that counts, and a later round was paired by it", lambda: refuse_lost_results(plan, {match: found for match, found in results.items() if match != "cup-002"}))
+
+    def test_it_grows(self):
+        self.write(4, SWISS.format(1))
+        plan = self.make()
+        results = self.play(plan)
+        self.assertEqual(plan_next_round(plan, results), [])
+        self.write(5, SWISS.format(3))
+        plan = self.make()
+        self.assertEqual((len(plan.matches), plan.known), (4, 4))
+        plan_next_round(plan, self.play(plan))
+        self.assertEqual(self.pairs(plan)[1], ((("p0", "p2"), ("p1", "p3")), ("p4",)))
+        self.write(6, SWISS.format(3))
+        self.make()
+        plan = self.read()
+        plan_next_round(plan, self.play(plan))
+        self.assertEqual({name for pair in self.pairs(plan)[2][0] for name in pair}, {f"p{at}" for at in range(6)})
+        self.assertEqual(self.read().matches, plan.matches)
+        self.assertEqual(sorted(file.name for file in self.folder.earlier.iterdir()), ["4.toml", "8.toml"])
+        for count, form, head, words in (
+            (6, SWISS.format(2), "", "form.rounds was 3 and is 2"), (5, SWISS.format(3), "", "the player p5 is there no more"),
+            (6, SWISS.format(3), "forfeit = true", "forfeit was False and is True"), (6, 'kind = "knockout"', "", "form.kind was 'swiss' and is 'knockout'"),
+        ):
+            self.write(count, form, head)
+            self.assert_refused(words, self.make)
+
+    def test_a_knockout_takes_no_further_player(self):
+        self.write(3, 'kind = "knockout"')
+        self.play(self.make())
+        self.write(4, 'kind = "knockout"')
+        self.assert_refused("the number of players was 3 and is 4", self.make)
+
+    def test_a_match_of_the_last_round_may_be_ordered_again(self):
+        self.write(4, SWISS.format(2))
+        plan = self.make()
+        self.play(plan)
+
+        def is_lawful(_, __, ___, matches):
+            return iter([(matches[0], None, None, object())])
+
+        with mock.patch("ggp_tools.competition.again.looked_at", is_lawful):
+            new = order_again(self.folder.path, REFEREE, "cup-001", "the power was out")
+            self.assertEqual((new.id, new.players, new.round, new.instead_of), ("cup-005", ("p0", "p1"), 1, "cup-001"))
+            plan = self.read()
+            results = {match.id: found for match in plan.matches if (found := result_in_file(self.folder, plan.competition, match))}
+            self.assertEqual((sorted(results), plan_next_round(plan, results)), (["cup-001", "cup-002", "cup-003", "cup-004"], []))
+            results = self.play(plan, lambda match: [0, 100])
+            self.assertEqual([match.id for match in plan_next_round(plan, results)], ["cup-006", "cup-007", "cup-008", "cup-009"])
+            self.assertEqual(self.read().matches, plan.matches)
+            self.assert_refused("cup-002 is of round 1, by which the next one was paired, so it can't be played again", lambda: order_again(self.folder.path, REFEREE, "cup-002", "x"))
+
+    def test_what_stands_in_a_file_may_be_anything(self):
+        self.write(2, SWISS.format(2))
+        plan = self.make()
+        match, good = plan.matches[0], record(plan.matches[0], [100, 0])
+        for wrong in (
+            [], 7, None, {**good, "goalValues": ["a", "b"]}, {**good, "goalValues": [1]}, {**good, "goalValues": 3}, {**good, "errors": [["", 1]]}, {**good, "errors": [[""]]},
+            {**good, "errors": None}, {**good, "moves": 1}, {**good, "goalValues": [True, False]}, {**good, "matchId": "cup-002"}, {key: good[key] for key in good if key != "phase"},
+        ):
+            self.folder.record(match.id).write_text(json.dumps(wrong))
+            self.assertIsNone(result_in_file(self.folder, plan.competition, match), wrong)
+            self.assertEqual(len(self.read().matches), 2)
+        for wrong in ("", "{", "[" * 100_000):
+            self.folder.record(match.id).write_text(wrong)
+            self.assertIsNone(result_in_file(self.folder, plan.competition, match))
+        self.folder.record(match.id).write_text(json.dumps({key: good[key] for key in good if key != "cause"}))
+        self.assertEqual(result_in_file(self.folder, plan.competition, match).goals, (100, 0))
+
+
+class Refusals(unittest.TestCase):
+    def test_games_of_other_numbers_of_roles(self):
+        found = read_competition(toml([("ann", "h:1"), ("bob", "h:2"), ("cid", "h:3")], [("one", "f"), ("two", "f"), ("three", "f")], 'kind = "knockout"').encode())
+        with self.assertRaises(Mistaken) as why:
+            asked(found, {"one": 1, "two": 2, "three": 3})
+        words = ["the kind knockout is for games of two roles, and one has 1", "the kind knockout is for games of two roles, and three has 3"]
+        self.assertEqual([(mistake.line, mistake.words) for mistake in why.exception.mistakes], [(4, words[0]), (10, words[1])])
+
+    def test_a_bracket_has_each_seed_once(self):
+        for count in range(1, 70):
+            seeds = bracket(count)
+            self.assertEqual(sorted(seeds), list(range(len(seeds))))
+            self.assertTrue(len(seeds) == 1 or len(seeds) < 2 * count)
+            sums = [one + other for one, other in zip(seeds[::2], seeds[1::2])]
+            self.assertEqual(set(sums), {len(seeds) - 1} if sums else set())
+
+    def test_a_line_has_no_round(self):
+        self.assertEqual(Match("cup-1", "game", 1, 2, ("a", "b"), 3).line(), "cup-1\tgame\t1\t2\ta b\n")
+
+
+if __name__ == "__main__":
+    unittest.main()
