@@ -63,14 +63,15 @@ class PagesOfMany(unittest.TestCase):
         pages = Pages(self.plan)
         pages.write(self.results)
         files = [path for path in pages.folder.rglob("*") if path.is_file()]
-        self.assertEqual(len(files), 302)
+        # Those of 300 matches, 25 players, one game, all matches, and the first one.
+        self.assertEqual(len(files), 328)
         linked = {pages.folder / "index.html"}
         for file in files:
             found = Links(file.read_text("ascii"))
             self.assertFalse(found.tags & {"b", "img"} and file.parent.name != "matches")
             for link in found.links:
                 if not link.startswith("#"):
-                    linked.add((file.parent / link).resolve())
+                    linked.add((file.parent / link.partition("#")[0]).resolve())
         self.assertEqual({path.resolve() for path in linked}, {path.resolve() for path in files})
         first = (pages.folder / "index.html").read_text()
         self.assertIn("300 of 300 matches are over. From 2026-01-02 03:04:05 to 2026-01-02 03:04:07 UTC.", first)
@@ -113,7 +114,7 @@ class PagesOfMany(unittest.TestCase):
         with subprocess.Popen(["sleep", "60"]) as alive:
             gone = subprocess.Popen(["true"])
             gone.wait()
-            places = [one.folder, one.folder / "matches", one.folder / "games"]
+            places = [one.folder, *(one.folder / name for name in ("matches", "games", "players"))]
             for number in (alive.pid, gone.pid, os.getpid(), "cup"):
                 for spot in places:
                     (spot / f".unfinished-{number}-x.html").touch()
@@ -121,11 +122,11 @@ class PagesOfMany(unittest.TestCase):
             other.write(self.results[:2])
             left = [file.name for place in places for file in place.iterdir() if file.name.startswith(".")]
             alive.kill()
-        self.assertEqual(left, [f".unfinished-{alive.pid}-x.html"] * 3)
+        self.assertEqual(left, [f".unfinished-{alive.pid}-x.html"] * 4)
         one.write(self.results[:3])
         matches = {f"{result.match.id}.html" for result in self.results[:3]}
         self.assertEqual({file.name for file in (one.folder / "matches").iterdir()}, {*matches, "mine"})
-        self.assertEqual([file.name for file in one.folder.iterdir() if file.is_file()], ["index.html"])
+        self.assertEqual(sorted(file.name for file in one.folder.iterdir() if file.is_file()), ["index.html", "matches.html"])
 
 
 if __name__ == "__main__":

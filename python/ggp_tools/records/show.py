@@ -49,6 +49,32 @@ ERRORS = {
     "IL": "the answer was no legal move",
 }
 
+BOARD_STYLE = """
+.board { display: inline-grid; margin: .4rem 1.6rem .4rem 0; grid-template-columns: 1.8rem repeat(var(--across), var(--cell, 2.9rem));
+  grid-template-rows: repeat(var(--up), var(--cell, 2.9rem)) 1.6rem; }
+.upside .board { grid-template-rows: 1.6rem repeat(var(--up), var(--cell, 2.9rem)); }
+.turned .board { grid-template-columns: 1.8rem repeat(var(--up), var(--cell, 2.9rem)); grid-template-rows: repeat(var(--across), var(--cell, 2.9rem)) 1.6rem; }
+.turned.upside .board { grid-template-rows: 1.6rem repeat(var(--across), var(--cell, 2.9rem)); }
+.board > * { grid-column: calc(var(--x) + 1); grid-row: calc(var(--up) - var(--y) + 1); font-style: normal; text-align: center;
+  place-content: center; display: grid; overflow: hidden; font-size: .75rem; line-height: 1.1; }
+.upside .board > * { grid-row: calc(var(--y) + 1); }
+.turned .board > * { grid-column: calc(var(--y) + 1); grid-row: calc(var(--across) - var(--x) + 1); }
+.turned.upside .board > * { grid-row: calc(var(--x) + 1); }
+.board b { color: var(--dim); font-weight: normal; } .board i { margin: 1px; font-weight: bold; z-index: 1; }
+.board i.new { background: var(--new); } .board i.glyph { font-size: 1.7rem; line-height: 1; font-weight: normal; }
+.board i.white { color: #fff; text-shadow: 0 0 1px #000, 0 0 1px #000, 0 0 2px #000; }
+.board i.black { color: #000; text-shadow: 0 0 1px #fff, 0 0 1px #fff, 0 0 2px #fff; }
+.board i.red { color: #d92d20; } .board i.blue { color: #2e6be6; } .board i.green { color: #1f9d4d; } .board i.yellow { color: #d99a06; }
+.board i.ground { color: var(--dim); font-weight: normal; text-shadow: none; } .board i:focus { outline: 2px solid var(--odd-ink); }
+.board i:focus::after { content: attr(title); position: fixed; inset: auto 0 0 0; padding: .4rem 1.6rem; background: var(--band);
+  color: var(--ink); text-shadow: none; font: 1rem/1.4 system-ui, sans-serif; text-align: left; z-index: 2; }
+.board .squares { grid-column: 2 / span var(--across); grid-row: 1 / span var(--up); border: solid var(--line); border-width: 0 1px 1px 0;
+  background: repeating-linear-gradient(90deg, var(--line) 0 1px, transparent 1px var(--cell, 2.9rem)), repeating-linear-gradient(var(--line) 0 1px, transparent 1px var(--cell, 2.9rem)); }
+.upside .board .squares { grid-row: 2 / span var(--up); }
+.turned .board .squares { grid-column: 2 / span var(--up); grid-row: 1 / span var(--across); }
+.turned.upside .board .squares { grid-row: 2 / span var(--across); }
+"""
+
 STYLE = """
 :root { color-scheme: light dark; --ink: #1d2330; --dim: #6b7280; --paper: #fff; --band: #f3f4f6; --line: #d5d9e0;
   --new: #d8f0d4; --odd: #ffe2cf; --odd-ink: #9a3412; --here: #dbe8fb; }
@@ -69,30 +95,7 @@ td.substituted, .turns tr.here td.substituted { background: var(--odd); } .why {
 ul { list-style: none; padding: 0; margin: .6rem 0; display: flex; flex-wrap: wrap; gap: .3rem; }
 li { background: var(--band); padding: .1rem .5rem; border-radius: .2rem; } li.new { background: var(--new); }
 li.gone { background: none; text-decoration: line-through; color: var(--dim); }
-.board { display: inline-grid; margin: .4rem 1.6rem .4rem 0; grid-template-columns: 1.8rem repeat(var(--across), 2.9rem);
-  grid-template-rows: repeat(var(--up), 2.9rem) 1.6rem; }
-.upside .board { grid-template-rows: 1.6rem repeat(var(--up), 2.9rem); }
-.turned .board { grid-template-columns: 1.8rem repeat(var(--up), 2.9rem); grid-template-rows: repeat(var(--across), 2.9rem) 1.6rem; }
-.turned.upside .board { grid-template-rows: 1.6rem repeat(var(--across), 2.9rem); }
-.board > * { grid-column: calc(var(--x) + 1); grid-row: calc(var(--up) - var(--y) + 1); font-style: normal; text-align: center;
-  place-content: center; display: grid; overflow: hidden; font-size: .75rem; line-height: 1.1; }
-.upside .board > * { grid-row: calc(var(--y) + 1); }
-.turned .board > * { grid-column: calc(var(--y) + 1); grid-row: calc(var(--across) - var(--x) + 1); }
-.turned.upside .board > * { grid-row: calc(var(--x) + 1); }
-.board b { color: var(--dim); font-weight: normal; } .board i { margin: 1px; font-weight: bold; z-index: 1; }
-.board i.new { background: var(--new); } .board i.glyph { font-size: 1.7rem; line-height: 1; font-weight: normal; }
-.board i.white { color: #fff; text-shadow: 0 0 1px #000, 0 0 1px #000, 0 0 2px #000; }
-.board i.black { color: #000; text-shadow: 0 0 1px #fff, 0 0 1px #fff, 0 0 2px #fff; }
-.board i.red { color: #d92d20; } .board i.blue { color: #2e6be6; } .board i.green { color: #1f9d4d; } .board i.yellow { color: #d99a06; }
-.board i.ground { color: var(--dim); font-weight: normal; text-shadow: none; } .board i:focus { outline: 2px solid var(--odd-ink); }
-.board i:focus::after { content: attr(title); position: fixed; inset: auto 0 0 0; padding: .4rem 1.6rem; background: var(--band);
-  color: var(--ink); text-shadow: none; font: 1rem/1.4 system-ui, sans-serif; text-align: left; z-index: 2; }
 .wide { overflow-x: auto; } @media (max-width: 40rem) { body { margin: .8rem; } th, td { padding: .2rem .4rem; } }
-.board .squares { grid-column: 2 / span var(--across); grid-row: 1 / span var(--up); border: solid var(--line); border-width: 0 1px 1px 0;
-  background: repeating-linear-gradient(90deg, var(--line) 0 1px, transparent 1px 2.9rem), repeating-linear-gradient(var(--line) 0 1px, transparent 1px 2.9rem); }
-.upside .board .squares { grid-row: 2 / span var(--up); }
-.turned .board .squares { grid-column: 2 / span var(--up); grid-row: 1 / span var(--across); }
-.turned.upside .board .squares { grid-row: 2 / span var(--across); }
 """
 
 SCRIPT = """
@@ -494,7 +497,7 @@ def page_of(record):
         "<!DOCTYPE html>",
         '<html lang="en"><head><meta charset="utf-8"><meta name="viewport" content="width=device-width">',
         f'<meta http-equiv="Content-Security-Policy" content="{policy}">',
-        f"<title>Match {shown(record['matchId'])}</title><style>{STYLE}</style></head><body>",
+        f"<title>Match {shown(record['matchId'])}</title><style>{STYLE}{BOARD_STYLE}</style></head><body>",
         f"<h1>Match {shown(record['matchId'])}: {who}</h1>",
         f'<p>{ending(record)} <span class="dim">Turns: {len(record["moves"])}. Clocks: {record["startClock"]} s for START,',
         f"{record['playClock']} s for every other message.{strikes} Record version {record['version']}.</span></p>",
