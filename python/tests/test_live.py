@@ -47,7 +47,7 @@ class Lines(InRoom):
 
     def test_a_file_is_read_on(self):
         path = self.plan.folder.path / "log"
-        tail = Tail(path)
+        tail = Tail(str(path))
         self.assertEqual(tail.lines(), ([], False))
         path.write_text("one\ntw")
         self.assertEqual((tail.lines(), tail.place), ((["one"], False), 6))
@@ -119,7 +119,7 @@ class Lines(InRoom):
 class States(InRoom):
     def board(self, log, strikes=0):
         path = begin(self.plan, self.match, started(self.match) + log)
-        board = LiveBoard(Game(expressions(RULES.decode())), Tail(path), strikes)
+        board = LiveBoard(Game(expressions(RULES.decode())), Tail(str(path)), strikes)
         self.assertTrue(board.follow(NEVER))
         return board
 
@@ -164,7 +164,7 @@ class States(InRoom):
         move = f"(say {'x' * 300})"
         rules = f"(role a) (init s) (legal a {move}) (legal a (say y)) (<= (next (did ?)) (true s)) (next s) (goal a 0)".replace("?", "1")
         path = begin(self.plan, self.match, line(self.match, 0, 2, "(PLAY m NIL)", f"{move[:200].upper()}.."))
-        board = LiveBoard(Game(expressions(rules)), Tail(path), 0)
+        board = LiveBoard(Game(expressions(rules)), Tail(str(path)), 0)
         board.follow(NEVER)
         self.assertEqual((board.turns[-1].moves, board.turns[-1].errors), ((move,), ("",)))
 

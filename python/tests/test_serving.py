@@ -199,6 +199,8 @@ class Limits(Served):
         # Those who are told of changes leave some connections free.
         answers = [self.events(page) for _ in range(self.MOST)]
         self.assertEqual([answer.status for answer in answers], [200] * 7 + [503])
+        while len(self.server.connections) > 7:
+            time.sleep(0.01)
         self.assertEqual(self.ask("/")[0], 200)
 
 

@@ -25,7 +25,7 @@ MOST_REPLACED, MOST_OF_MATCH = 20, 3
 class Tail:
     """A file that grows. It is read on from where it was; where it was replaced or cut, from its beginning."""
 
-    def __init__(self, path: pathlib.Path) -> None:
+    def __init__(self, path: str) -> None:
         self.path, self.place, self.rest, self.number, self.changed = path, 0, b"", None, 0.0
 
     def lines(self) -> tuple[list[str], bool]:
@@ -58,9 +58,11 @@ class Seen:
     roles are waited for. Its version counts what has changed."""
 
     match: Match
+    room: str
     tail: Tail
     roles: int
     stage: str = ""
+    room_changed: int = 0
     version: int = 0
     turns: dict[int, int] = field(default_factory=dict)
     last: dict[int, LogLine] = field(default_factory=dict)
@@ -109,15 +111,22 @@ class Seen:
         elif is_first:
             self.since = moment - line.milliseconds / 1_000
 
-    def look(self, room: pathlib.Path) -> list[LogLine]:
-        """Reads what has come, and returns the new lines of messages."""
-        stage = stage_of(room)
+    def look_at_stage(self) -> None:
+        """Looks how far the match is, where files have come into its room."""
+        changed = os.stat(self.room).st_mtime_ns
+        if changed == self.room_changed:
+            return
+        self.room_changed, stage = changed, stage_of(self.room)
         if stage != self.stage:
-            self.stage, self.version, self.since = stage, self.version + 1, time.time()
+            self.stage, self.version, self.since = stage, self.version + 1, changed / 1e9
+
+    def look(self) -> list[LogLine]:
+        """Reads what has come, and returns the new lines of messages."""
+        self.look_at_stage()
         texts, is_other = self.tail.lines()
         if is_other:
             self.forget()
-        if not self.turns and self.tail.changed and stage == "playing":
+        if not self.turns and self.tail.changed and self.stage == "playing":
             self.since = self.tail.changed
         found = [line for line in map(log_line, texts) if line]
         for line in found:
@@ -126,11 +135,11 @@ class Seen:
         return found
 
 
-def stage_of(room: pathlib.Path) -> str:
+def stage_of(room: str) -> str:
     """Returns what happens to a match, by the files that its processes write."""
-    if os.path.exists(room / "verified"):
+    if os.path.exists(f"{room}/verified"):
         return "checking"
-    return "playing" if os.path.exists(room / "played") else "asking"
+    return "playing" if os.path.exists(f"{room}/played") else "asking"
 
 
 @dataclass(frozen=True)
@@ -189,12 +198,12 @@ class Reader:
         for name in sorted(names - self.open.keys() - self.results.keys(), key=self.place.__getitem__):
             match = self.known[name]
             self.faults.pop(name, None)
-            self.open[name] = Seen(match, Tail(folder / name / "played.said"), len(match.players))
+            self.open[name] = Seen(match, f"{folder}/{name}", Tail(f"{folder}/{name}/played.said"), len(match.players))
         changed = len(gone)
         for name, seen in self.open.items():
             before = seen.version
             with contextlib.suppress(OSError):
-                self.note_missed(seen, seen.look(folder / name))
+                self.note_missed(seen, seen.look())
             changed += seen.version - before
         self.version += changed
         return gone

@@ -31,19 +31,19 @@ LEFT = {0, 1, 2, 4, 5}
 
 
 def standings(found: Table, up: str) -> PageParts:
-    """Returns the standings of a table, the plot of its ratings, and the crosstable. The players' pages stand below `up`."""
+    """Returns the standings of a table, the plot of its ratings, and the crosstable; a part of which there is nothing yet is empty. The
+    players' pages stand below `up`."""
     heads, *rows = [list(map(html.escape, row)) for row in standings_rows(found, "\u00b1")]
     players = [line.player for line in found.standings()]
     for cells, player in zip(rows, players):
         cells[1] = cells[1].replace(html.escape(player), player_link(player, up), 1)
     said = "".join(f'<p class="odd">{html.escape(note)}</p>' for note in notes(found))
-    parts: PageParts = [Part("standings", f"<h2>Standings</h2>{table([heads, *rows], {1})}{said}")]
-    if not found.is_of_pairs():
-        return parts
-    if plot := rating_plot(found.standings()):
-        parts.append(Part("ratings", f"<h2>Ratings</h2>{plot}"))
-    parts.append(Part("crosstable", f"<h2>Points / meetings</h2>{crosstable(found)}"))
-    return parts
+    plot = rating_plot(found.standings()) if found.is_of_pairs() else ""
+    return [
+        Part("standings", f"<h2>Standings</h2>{table([heads, *rows], {1})}{said}"),
+        Part("ratings", f"<h2>Ratings</h2>{plot}" if plot else ""),
+        Part("crosstable", f"<h2>Points / meetings</h2>{crosstable(found)}" if found.is_of_pairs() else ""),
+    ]
 
 
 def crosstable(found: Table) -> str:

@@ -90,12 +90,12 @@ def player_parts(competition: str, player: str, standing: str, sittings: list[Si
     goals = [goal for sitting in ordered if (goal := sitting.goal()) is not None]
     times = [sum(counts) for counts in zip(*(sitting.times for sitting in ordered))] or [0] * BARS
     way = f"<p>{link('../index.html', competition)}</p><h1>{html.escape(player)}</h1><p>{html.escape(standing)}</p>"
-    parts = [Part("player", way)]
-    if sittings:
-        parts.append(Part("seats", f"<h2>Goals by game and seat</h2>{seats_table(ordered)}"))
-    if plot := goals_plot(goals):
-        parts.append(Part("goals", f"<h2>Goals over time</h2><p class=\"dim\">Each dot is a match, in the order of their ends; the line is the mean until then.</p>{plot}"))
-    if plot := times_plot(times):
-        parts.append(Part("times", f"<h2>Response times to PLAY</h2>{plot}"))
-    parts.append(Part("errors", f"<h2>Errors</h2>{errors_part(ordered)}"))
-    return parts
+    over_time, response = goals_plot(goals), times_plot(times)
+    said = '<p class="dim">Each dot is a match, in the order of their ends; the line is the mean until then.</p>'
+    return [
+        Part("player", way),
+        Part("seats", f"<h2>Goals by game and seat</h2>{seats_table(ordered)}" if sittings else ""),
+        Part("goals", f"<h2>Goals over time</h2>{said}{over_time}" if over_time else ""),
+        Part("times", f"<h2>Response times to PLAY</h2>{response}" if response else ""),
+        Part("errors", f"<h2>Errors</h2>{errors_part(ordered)}"),
+    ]
