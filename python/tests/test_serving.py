@@ -5,17 +5,20 @@ import http.client
 import json
 import os
 import re
+import signal
 import socket
 import tempfile
 import threading
 import time
 import unittest
+import urllib.request
 
 from ggp_tools.competition import serving
 from ggp_tools.competition.live_site import LiveSite
 from ggp_tools.competition.page_changes import changes
 from ggp_tools.competition.page_parts import Items, Part
 from tests.live_support import begin, end, line, plan_in, record_of, started
+from tests.support import GAMES, InFolder, run, start
 from tests.test_pages import Links
 
 HOSTILE = ["<script>alert(1)</script>", "\"'><img src=x onerror=alert(1)>", "</tbody></table><b>", "&lt;&#65;", "<!--"]
@@ -277,6 +280,25 @@ class Hostile(Served):
             self.assertLessEqual(text.count("<script"), 1, path)
             self.assertNotIn("onerror=alert(1)>", text)
         self.assertIn("&lt;script&gt;alert(1)&lt;/script&gt;", self.page(f"/players/player-{other.players[0]}.html"))
+
+
+class Command(InFolder):
+    def test_it_is_served_until_it_is_interrupted(self):
+        self.plan([("ann", "127.0.0.1:9"), ("bob", "127.0.0.1:10")], [("tictactoe", GAMES / "tictactoe.kif")])
+        with start(self.folder, "serve", "--port", "0") as serving_it:
+            address = serving_it.stdout.readline().strip()
+            self.assertRegex(address, r"http://127\.0\.0\.1:[0-9]+/")
+            port = address.rpartition(":")[2].strip("/")
+            self.assertIn("can't be served: Address already in use", run(self.folder, "serve", "--port", port)[2])
+            with urllib.request.urlopen(address, timeout=60) as answer:
+                self.assertIn(b"0 of 2 matches are over.", answer.read())
+            serving_it.send_signal(signal.SIGINT)
+            self.assertEqual((serving_it.communicate(timeout=60), serving_it.returncode), (("", ""), 0))
+
+    def test_what_is_asked_wrong(self):
+        for words in (("--port", "65536"), ("--port", "x"), ("--bind", "localhost"), ("--connections", "0")):
+            self.assertEqual(run(self.folder, "serve", *words)[0], 2, words)
+        self.assertEqual(run(self.folder, "serve")[0], 2)
 
 
 class Changes(unittest.TestCase):

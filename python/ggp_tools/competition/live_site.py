@@ -82,6 +82,7 @@ class LiveSite:
         self.rows: dict[str, tuple[int, tuple[str, str]]] = {}
         self.tables: list[Table] = []
         self.results: list[Result] = []
+        self.counted: dict[str, Result] = {}
         self.standing: dict[str, str] = {}
         self.own: dict[str, list[Result]] = {}
         self.tables_version, self.next_tables = -1, 0.0
@@ -138,8 +139,10 @@ class LiveSite:
             return
         self.results = in_order(self.plan, self.reader.results)
         for result in self.results:
-            if result.match.id not in self.site.told:
+            # A match that was played again has another result.
+            if self.counted.get(result.match.id) is not result:
                 self.site.add(result)
+                self.counted[result.match.id] = result
         self.tables = tables_of(self.plan.competition, self.results)
         self.standing = standing_texts(self.tables[0])
         self.own = {f"/games/{name}.html": found for name, found in by_game(self.results).items()}
