@@ -13,6 +13,7 @@ from ggp_tools.competition.live_pages import board_html
 from ggp_tools.competition.log_lines import log_line
 from ggp_tools.ground_games import Game
 from ggp_tools.kif import expressions
+from tests.support import GAMES
 from tests.live_support import RULES, begin, end, line, plan_in, record_of, started
 
 NEVER = float("inf")
@@ -175,6 +176,12 @@ class States(InRoom):
         self.assertEqual(board.turn, 0)
         self.assertTrue(board.follow(NEVER))
         self.assertEqual(board.turn, 1)
+
+    def test_a_label_looks_the_same_in_each_state(self):
+        # At first there is one kind of label, which alone might mean anything.
+        rules = (GAMES / "tictactoe.kif").read_text()
+        board = LiveBoard(Game(expressions(rules)), Tail("/nowhere"), 0)
+        self.assertEqual(re.findall("<i class=\"ground\"[^>]*>(.*?)</i>", board_html(board)), ["\u00b7"] * 9)
 
     def test_the_board(self):
         text = board_html(self.board(self.play(2, "NIL", ["(take 2)", "noop"])))

@@ -9,6 +9,8 @@ from ggp_tools.competition.live import Tail
 from ggp_tools.competition.log_lines import MORE, SHOWN, LogLine, log_line
 from ggp_tools.ground_games import Game, State, text_of, texts_of
 from ggp_tools.kif import Expression, Refused, expressions
+from ggp_tools.records.marks import Mark, marks_of
+from ggp_tools.records.show import Board, visible, words_of
 
 # Boards are formed from so many of the last states, and so many of the last turns are listed.
 MOST_STATES, MOST_TURNS = 30, 50
@@ -54,8 +56,18 @@ class LiveBoard:
     def __init__(self, game: Game, tail: Tail, strikes: int) -> None:
         self.game, self.tail, self.strikes = game, tail, strikes
         self.lines: deque[LogLine] = deque()
-        self.version = 0
+        self.version, self.known_marks = 0, {}
         self.begin()
+
+    def marks(self, board: Board) -> dict[str, Mark]:
+        """Returns what a board shows of each label that may stand on it in whatever state, so that a label looks the same in all."""
+        forms = tuple(sorted((form, tuple(labels)) for form, (_, labels) in board.forms.items()))
+        if forms not in self.known_marks:
+            known = dict(forms)
+            words = filter(None, (words_of(text_of(head[1])) for name in ("init", "next") for head in self.game.heads.get((name, 1), ())))
+            found = ([term[at] for at in known[term[0], len(term)]] for term in words if (term[0], len(term)) in known)
+            self.known_marks[forms] = marks_of(visible(" ".join(label)) for label in found)
+        return self.known_marks[forms]
 
     def begin(self) -> None:
         """Begins with the first state, also where the match begins again on another host."""

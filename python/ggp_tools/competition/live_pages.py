@@ -8,7 +8,7 @@ from ggp_tools.competition.live_board import LiveBoard, Turn
 from ggp_tools.competition.page_parts import Items, PageParts, Part, link, row, rows_part, table
 from ggp_tools.competition.player_pages import player_link, reason_of
 from ggp_tools.competition.schedule import Match
-from ggp_tools.records.show import board_page, board_places, boards_of, ground_of, marks_of_board, shown, words_of
+from ggp_tools.records.show import board_page, board_places, boards_of, ground_of, shown, words_of
 
 # The first page has boards of so many open matches, and lists so many that wait.
 BOARDS, QUEUE = 12, 20
@@ -66,7 +66,7 @@ def board_html(board: LiveBoard) -> str:
         before = places[0] if len(places) > 1 else None
         # What an empty place shows is what stands at most places at first.
         ground = ground_of(one, board_places(one, board.first))
-        drawn.append(board_page(one, places[-1], before, ground, marks_of_board(one, [board.first, *states])))
+        drawn.append(board_page(one, places[-1], before, ground, board.marks(one)))
     terms = [term for term in states[-1] if not (words_of(term) and (words_of(term)[0], len(words_of(term))) in on_boards)]
     more = f" and {len(terms) - MOST_TERMS:,} more" if len(terms) > MOST_TERMS else ""
     said = f'<p class="terms">{shown("  ".join(terms[:MOST_TERMS]))}{more}</p>' if terms else ""
