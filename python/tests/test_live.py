@@ -43,6 +43,8 @@ class Lines(InRoom):
         long = f"(START m {'x' * 191}.."
         self.assertEqual(log_line(f"m role 0 a message 1 {long}: CE (no connection), 4 ms").message, long)
         self.assertTrue(log_line(f"m role 0 a message 1 {long}: CE (no connection), 4 ms").is_no_answer())
+        timed = log_line("2026-01-02T03:04:05.500Z m role 0 ann message 1 (START m): ready, 7 ms")
+        self.assertEqual((timed.kind, timed.moment(), found.moment()), ("START", 1767323045.5, None))
         for text in ("", "began now", "m role 0 a message 1 (START m)", "m role 0 a message 1 (START m) ready, 4 ms"):
             self.assertIsNone(log_line(text))
 
@@ -77,8 +79,9 @@ class Lines(InRoom):
         version = reader.version
         reader.look()
         self.assertEqual(reader.version, version)
-        self.say(log, line(self.match, 1, 2, f"(PLAY {self.match.id} NIL)", "TO", 5_000))
+        self.say(log, "1970-01-01T00:20:00.000Z " + line(self.match, 1, 2, f"(PLAY {self.match.id} NIL)", "TO", 5_000))
         reader.look()
+        self.assertEqual(seen.since, 1_200.0)
         self.assertEqual((seen.turn(), seen.awaited(), seen.missed), (2, [0, 1], {1: 1}))
         self.assertEqual([(its.player, its.turn, its.error) for its in reader.replaced], [(self.match.players[1], 1, "TO")])
         # A role that is not asked any more is retired.

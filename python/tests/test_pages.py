@@ -92,7 +92,9 @@ class PagesOfMany(unittest.TestCase):
     def test_the_page_of_a_player(self):
         match, player = self.plan.matches[0], self.plan.matches[0].players[1]
         lines = [b"%s role 1 %s message 2 (PLAY %s NIL): <script>, 1500 ms" % (match.id.encode(), player.encode(), match.id.encode())]
-        self.plan.folder.log(match.id).write_bytes(LOG + b"\n".join(lines) + b"\n")
+        # What was said before the match began anew on another host does not count.
+        before = b"%s role 1 %s message 2 (PLAY %s NIL): lost, 9000 ms\n" % (match.id.encode(), player.encode(), match.id.encode())
+        self.plan.folder.log(match.id).write_bytes(before + LOG + b"\n".join(lines) + b"\n")
         pages = Pages(self.plan)
         pages.write(self.results[:1])
         text = (pages.folder / f"players/player-{player}.html").read_text()

@@ -92,7 +92,7 @@ class Seen:
         return self.missing() or [role for role in range(self.roles) if self.turns.get(role, -1) == latest]
 
     def take(self, line: LogLine, moment: float) -> None:
-        """Takes a line that was written at this time."""
+        """Takes a line that came at this time."""
         if line.role >= self.roles:
             return
         if line.kind == "START" and line.role in self.turns:
@@ -130,7 +130,7 @@ class Seen:
             self.since = self.tail.changed
         found = [line for line in map(log_line, texts) if line]
         for line in found:
-            self.take(line, self.tail.changed)
+            self.take(line, line.moment() or self.tail.changed)
         self.version += bool(found)
         return found
 

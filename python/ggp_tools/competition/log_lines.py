@@ -1,10 +1,11 @@
 """The lines of a match's log: who was asked what, the answer, and the time that it took. Of a message and of an answer the referee shows
-the first 200 bytes."""
+the first 200 bytes. The time of day at which a line came may stand before it."""
 
+import datetime
 import re
 from dataclasses import dataclass
 
-LINE = re.compile(r"(\S+) role (\d{1,9}) (\S+) message (\d{1,9}) (\((\w+) .*), (\d{1,18}) ms")
+LINE = re.compile(r"(?:(\d{4}-\d\d-\d\dT\d\d:\d\d:\d\d\.\d{3}Z) )?\S+ role (\d{1,9}) (\S+) message (\d{1,9}) (\((\w+) .*), (\d{1,18}) ms")
 SHOWN = 200
 MORE = ".."
 NO_ANSWER = re.compile(r"(TO|CE|lost)( \(.*\))?")
@@ -21,6 +22,14 @@ class LogLine:
     message: str
     answer: str
     milliseconds: int
+    time: str | None = None
+
+    def moment(self) -> float | None:
+        """Returns when the answer was there, in seconds, where the log says it."""
+        try:
+            return datetime.datetime.fromisoformat(self.time.replace("Z", "+00:00")).timestamp() if self.time else None
+        except ValueError:
+            return None
 
     def turn(self) -> int:
         """Returns the turn that a PLAY asks for, from 1 on; START comes before turn 1."""
@@ -50,4 +59,4 @@ def log_line(text: str) -> LogLine | None:
     end = message_end(said)
     if said[end : end + 2] != ": ":
         return None
-    return LogLine(int(found[2]), found[3], int(found[4]), found[6], said[:end], said[end + 2 :], int(found[7]))
+    return LogLine(int(found[2]), found[3], int(found[4]), found[6], said[:end], said[end + 2 :], int(found[7]), found[1])

@@ -68,9 +68,11 @@ def faults_of_role(record: dict, role: int, lines: list[LogLine]) -> tuple[Fault
 
 
 def sittings_of(result: Result, record: dict, log: bytes, ended: str | None) -> list[Sitting]:
-    """Returns what each role's player did in a match."""
+    """Returns what each role's player did in a match. Where it has begun again on another host, what was before that does not count."""
     by_role: list[list[LogLine]] = [[] for _ in result.match.players]
     for text in log.decode("ascii", "replace").splitlines():
+        if text.startswith("began "):
+            by_role = [[] for _ in result.match.players]
         line = log_line(text)
         if line and line.role < len(by_role):
             by_role[line.role].append(line)
