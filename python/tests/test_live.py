@@ -62,7 +62,9 @@ class Lines(InRoom):
         self.say(path, "four\n")
         self.assertEqual(tail.lines(), (["four"], False))
         path.write_text("new\n")
-        self.assertEqual(tail.lines(), (["new"], True))
+        self.assertEqual((tail.has_changed(), tail.lines(), tail.has_changed()), (True, (["new"], True), False))
+        path.unlink()
+        self.assertEqual((tail.has_changed(), tail.lines()), (False, ([], False)))
 
     def test_whom_a_match_waits_for(self):
         log, reader = begin(self.plan, self.match), Reader(self.plan)
@@ -171,6 +173,14 @@ class States(InRoom):
         board = LiveBoard(Game(expressions(rules)), Tail(str(path)), 0)
         board.follow(NEVER)
         self.assertEqual((board.turns[-1].moves, board.turns[-1].errors), ((move,), ("",)))
+
+    def test_rules_that_are_too_deep(self):
+        chain = "".join(f"(<= a{number} a{number + 1})" for number in range(2_000))
+        for rules in (f"(role a) {chain} (a2000) (<= (init s) a0)", f"(role a) (init s) {chain} (a2000) (<= (legal a x) a0) (next s)"):
+            path = begin(self.plan, self.match, line(self.match, 0, 2, "(PLAY m NIL)", "x"))
+            board = LiveBoard(Game(expressions(rules)), Tail(str(path)), 0)
+            board.follow(NEVER)
+            self.assertIn("too deep", board.trouble)
 
     def test_the_time_is_limited(self):
         board = self.board("")

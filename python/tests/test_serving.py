@@ -150,7 +150,7 @@ class Refused(Served):
         self.plan.folder.competition.write_text("secret")
         places = (
             "/competition.toml", "/../competition.toml", "/matches/../competition.toml", "/matches/%2e%2e/competition.toml", "/matches/none.html",
-            "/games/..html", "/players/ann.html", "/players/player-zoe.html", "/records/", "//etc/passwd", "/index.html/", "/events/", "/events/x",
+            "/games/..html", "/players/ann.html", "/players/player-zoe.html", "/records/", "//etc/passwd", "//[", "/index.html/", "/events/", "/events/x",
             "/matches/..%2f..%2fcompetition.html", "/index", "/%00", "/matches/\\..\\x.html", "*", "/?x", "/index.html?x",
         )
         for path in places:

@@ -7,6 +7,7 @@ import pathlib
 import time
 from collections import deque
 from dataclasses import dataclass, field
+from typing import BinaryIO
 
 from ggp_tools.competition.log_lines import LogLine, log_line
 from ggp_tools.competition.plan import Plan
@@ -29,22 +30,30 @@ class Tail:
         self.path, self.place, self.rest, self.number, self.changed = path, 0, b"", None, 0.0
 
     def lines(self) -> tuple[list[str], bool]:
-        """Returns the lines that were added, and whether they are those of another file than before."""
+        """Returns the lines that were added, and whether they are those of another file than before. A file that can't be read has none."""
+        try:
+            with open(self.path, "rb") as file:
+                return self.lines_of(file)
+        except OSError:
+            return [], False
+
+    def has_changed(self) -> bool:
+        """Returns whether the file is another one, or longer or shorter, than when it was read."""
         try:
             found = os.stat(self.path)
         except OSError:
-            return [], False
+            return False
+        self.changed = self.changed or found.st_mtime
+        return found.st_ino != self.number or found.st_size != self.place
+
+    def lines_of(self, file: BinaryIO) -> tuple[list[str], bool]:
+        found = os.fstat(file.fileno())
         is_other = self.number is not None and (found.st_ino != self.number or found.st_size < self.place)
         if is_other:
             self.place, self.rest = 0, b""
-        self.number = found.st_ino
-        if found.st_size == self.place:
-            self.changed = self.changed or found.st_mtime
-            return [], is_other
-        self.changed = found.st_mtime
-        with open(self.path, "rb") as file:
-            file.seek(self.place)
-            data = file.read(MOST_READ)
+        self.number, self.changed = found.st_ino, found.st_mtime
+        file.seek(self.place)
+        data = file.read(MOST_READ)
         self.place += len(data)
         *whole, self.rest = (self.rest + data).split(b"\n")
         # What has no end is no line of the referee.
@@ -123,7 +132,7 @@ class Seen:
     def look(self) -> list[LogLine]:
         """Reads what has come, and returns the new lines of messages."""
         self.look_at_stage()
-        texts, is_other = self.tail.lines()
+        texts, is_other = self.tail.lines() if self.tail.has_changed() else ([], False)
         if is_other:
             self.forget()
         if not self.turns and self.tail.changed and self.stage == "playing":

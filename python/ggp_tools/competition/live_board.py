@@ -14,6 +14,7 @@ from ggp_tools.records.show import Board, visible, words_of
 
 # Boards are formed from so many of the last states, and so many of the last turns are listed.
 MOST_STATES, MOST_TURNS = 30, 50
+TOO_DEEP = "the rules are too deep for the interpreter of the pages, so the state is not known"
 CUT_OFF = "the log shows too little of a long move, so the state is not known from here on"
 
 
@@ -71,11 +72,15 @@ class LiveBoard:
 
     def begin(self) -> None:
         """Begins with the first state, also where the match begins again on another host."""
-        self.state: State = self.game.initial()
+        self.trouble = ""
+        try:
+            self.state: State = self.game.initial()
+        except RecursionError:
+            self.state, self.trouble = frozenset(), TOO_DEEP
         self.first = texts_of(self.state)
         self.states = deque([self.first], maxlen=MOST_STATES)
         self.turns: deque[Turn] = deque(maxlen=MOST_TURNS)
-        self.turn, self.trouble = 0, ""
+        self.turn = 0
         self.answers: dict[int, LogLine] = {}
         self.started: set[int] = set()
         self.runs, self.retired = [0] * len(self.game.roles), set()
@@ -83,7 +88,7 @@ class LiveBoard:
 
     def follow(self, until: float) -> bool:
         """Goes on until all lines are followed, or until a moment. Returns whether all are."""
-        texts, is_other = self.tail.lines()
+        texts, is_other = self.tail.lines() if self.tail.has_changed() else ([], False)
         if is_other:
             self.begin()
         self.lines.extend(line for line in map(log_line, texts) if line)
@@ -94,7 +99,7 @@ class LiveBoard:
             except Lost as why:
                 self.trouble, self.version = str(why), self.version + 1
             except (RecursionError, ValueError, IndexError):
-                self.trouble, self.version = "the rules are too deep for the interpreter of the pages", self.version + 1
+                self.trouble, self.version = TOO_DEEP, self.version + 1
         return not self.lines
 
     def take(self, line: LogLine) -> None:

@@ -9,7 +9,6 @@ import socket
 import sys
 import threading
 import time
-import urllib.parse
 from collections import OrderedDict
 from http import HTTPStatus
 from http.server import BaseHTTPRequestHandler, ThreadingHTTPServer
@@ -113,13 +112,13 @@ class Handler(BaseHTTPRequestHandler):
         if not self.server.is_open_to(self.headers["Host"] or ""):
             self.send_error(HTTPStatus.FORBIDDEN)
             return
-        parts = urllib.parse.urlsplit(self.path)
-        is_event = parts.path.startswith("/events/")
-        path = "/index.html" if parts.path == "/" else parts.path.removeprefix("/events") if is_event else parts.path
+        asked, _, query = self.path.partition("?")
+        is_event = asked.startswith("/events/")
+        path = "/index.html" if asked == "/" else asked.removeprefix("/events") if is_event else asked
         if not PATH.fullmatch(path):
             self.send_error(HTTPStatus.NOT_FOUND)
         elif is_event:
-            self.send_events(path, self.headers["Last-Event-ID"] or parts.query.removeprefix("after="))
+            self.send_events(path, self.headers["Last-Event-ID"] or query.removeprefix("after="))
         else:
             self.send_page(path)
 
