@@ -263,8 +263,9 @@ class Events(Served):
 class Hostile(Served):
     def test_what_players_say_is_text(self):
         match, other = self.plan.matches[:2]
-        log = started(match) + "".join(line(match, 0, number, f"(PLAY m {text})", text) for number, text in enumerate(HOSTILE, 2))
-        log += "".join(line(match, 1, number, f"(PLAY m {text})", f"CE ({text})") for number, text in enumerate(HOSTILE, 2))
+        log = started(match)
+        for number, text in enumerate(HOSTILE, 2):
+            log += line(match, 0, number, f"(PLAY m {text})", text) + line(match, 1, number, f"(PLAY m {text})", f"CE ({text})")
         begin(self.plan, match, log + "".join(f"{text}\n" for text in HOSTILE))
         moves, errors = [[text, "noop"] for text in HOSTILE], [[f"IL {text}", text] for text in HOSTILE]
         record = record_of(other, moves, errors, [0, 100]) | {"roles": HOSTILE[:2]}
@@ -278,7 +279,9 @@ class Hostile(Served):
             found = Links(text)
             self.assertFalse(found.tags & {"img", "plaintext"}, path)
             self.assertLessEqual(text.count("<script"), 1, path)
-            self.assertNotIn("onerror=alert(1)>", text)
+            self.assertEqual([word for word in HOSTILE if word in text], [], path)
+        own = self.page(f"/matches/{match.id}.html")
+        self.assertEqual((own.count('id="turn-'), own.count("IL &lt;!--"), own.count("&lt;!--")), (len(HOSTILE), 1, 6))
         self.assertIn("&lt;script&gt;alert(1)&lt;/script&gt;", self.page(f"/players/player-{other.players[0]}.html"))
 
 
