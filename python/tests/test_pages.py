@@ -63,14 +63,15 @@ class PagesOfMany(unittest.TestCase):
         pages = Pages(self.plan)
         pages.write(self.results)
         files = [path for path in pages.folder.rglob("*") if path.is_file()]
-        self.assertEqual(len(files), 302)
+        # Those of 300 matches, 25 players, one game, all matches, and the first one.
+        self.assertEqual(len(files), 328)
         linked = {pages.folder / "index.html"}
         for file in files:
             found = Links(file.read_text("ascii"))
             self.assertFalse(found.tags & {"b", "img"} and file.parent.name != "matches")
             for link in found.links:
                 if not link.startswith("#"):
-                    linked.add((file.parent / link).resolve())
+                    linked.add((file.parent / link.partition("#")[0]).resolve())
         self.assertEqual({path.resolve() for path in linked}, {path.resolve() for path in files})
         first = (pages.folder / "index.html").read_text()
         self.assertIn("300 of 300 matches are over. From 2026-01-02 03:04:05 to 2026-01-02 03:04:07 UTC.", first)
@@ -87,6 +88,37 @@ class PagesOfMany(unittest.TestCase):
         for name in ("index.html", "games/one.html"):
             self.assertNotIn("plaintext", (pages.folder / name).read_text())
         self.assertEqual((spelt("<b>2026-01-02T03:04:05.678Z"), spelt(None)), ("&lt;b&gt;2026-01-02 03:04", ""))
+
+    def test_the_page_of_a_player(self):
+        match, player = self.plan.matches[0], self.plan.matches[0].players[1]
+        lines = [b"%s role 1 %s message 2 (PLAY %s NIL): <script>, 1500 ms" % (match.id.encode(), player.encode(), match.id.encode())]
+        # What was said before the match began anew on another host does not count.
+        before = b"%s role 1 %s message 2 (PLAY %s NIL): lost, 9000 ms\n" % (match.id.encode(), player.encode(), match.id.encode())
+        self.plan.folder.log(match.id).write_bytes(before + LOG + b"\n".join(lines) + b"\n")
+        pages = Pages(self.plan)
+        pages.write(self.results[:1])
+        text = (pages.folder / f"players/player-{player}.html").read_text()
+        self.assertIn("Place 1 of 2 in all games: 1 matches, mean goal 50.00, 1 won, 0 drawn, 0 lost; 1 of 1 moves replaced", text)
+        self.assertIn("<td class=\"left\">b<td>1<td>50.00<td>1 of 1<td><td>1,500 ms", text)
+        for word in (f"<code>(PLAY {match.id} NIL)</code>", "<code>&lt;script&gt;</code>", "<code>noop</code>", "the answer was no legal move", "<svg"):
+            self.assertIn(word, text)
+        self.assertIn("It has played no match.", (pages.folder / "players/player-p24.html").read_text())
+        self.assertIn("No move of it was replaced.", (pages.folder / f"players/player-{match.players[0]}.html").read_text())
+
+    def test_a_page_is_made_again_only_where_something_has_changed(self):
+        pages = Pages(self.plan)
+        pages.write(self.results[:2])
+        untouched, changed = pages.folder / "players/player-p24.html", pages.folder / "games/one.html"
+        self.assertNotIn("p24", {player for result in self.results[:3] for player in result.match.players})
+        before = untouched.stat().st_ino, changed.stat().st_ino
+        pages.write(self.results[:3])
+        self.assertEqual((untouched.stat().st_ino == before[0], changed.stat().st_ino == before[1]), (True, False))
+        # What another run has written there in the meantime is made again.
+        text = untouched.read_text()
+        untouched.unlink()
+        untouched.write_text("another")
+        pages.write(self.results[:3])
+        self.assertEqual(untouched.read_text(), text)
 
     def test_now_and_then(self):
         pages, began, asked = Pages(self.plan), time.monotonic(), []
@@ -113,7 +145,7 @@ class PagesOfMany(unittest.TestCase):
         with subprocess.Popen(["sleep", "60"]) as alive:
             gone = subprocess.Popen(["true"])
             gone.wait()
-            places = [one.folder, one.folder / "matches", one.folder / "games"]
+            places = [one.folder, *(one.folder / name for name in ("matches", "games", "players"))]
             for number in (alive.pid, gone.pid, os.getpid(), "cup"):
                 for spot in places:
                     (spot / f".unfinished-{number}-x.html").touch()
@@ -121,11 +153,11 @@ class PagesOfMany(unittest.TestCase):
             other.write(self.results[:2])
             left = [file.name for place in places for file in place.iterdir() if file.name.startswith(".")]
             alive.kill()
-        self.assertEqual(left, [f".unfinished-{alive.pid}-x.html"] * 3)
+        self.assertEqual(left, [f".unfinished-{alive.pid}-x.html"] * 4)
         one.write(self.results[:3])
         matches = {f"{result.match.id}.html" for result in self.results[:3]}
         self.assertEqual({file.name for file in (one.folder / "matches").iterdir()}, {*matches, "mine"})
-        self.assertEqual([file.name for file in one.folder.iterdir() if file.is_file()], ["index.html"])
+        self.assertEqual(sorted(file.name for file in one.folder.iterdir() if file.is_file()), ["index.html", "matches.html"])
 
 
 if __name__ == "__main__":

@@ -18,6 +18,7 @@ from ggp_tools.competition.plan import WRITES, Plan, faults_of_descriptions, mak
 from ggp_tools.competition.playing import Playing, play
 from ggp_tools.referee import NoReferee, Referee, Unchecked, find_program
 from ggp_tools.competition.seats import Seats
+from ggp_tools.competition.serving import add_serve, run_serve
 from ggp_tools.competition.table import tables_of
 from ggp_tools.competition.table_text import in_order, table_files, table_text
 from ggp_tools.reporting import Reporter, ready_streams, say
@@ -31,6 +32,7 @@ COMMANDS = {
     "table": "prints the table, and writes it as table.txt, table.csv, crosstable.csv and table.json",
     "pages": "writes the folder `pages`, to be opened in a browser",
     "publish": "writes one archive of the whole competition, with sums",
+    "serve": "serves live pages of the matches, the standings and the players to browsers, read only",
     "check": "checks an archive that `publish` has written, by what is in it alone",
 }
 STATUS = """status 0: all is well; of `play`, each match has a lawful record. 1: it is not. 2: the command or competition.toml is wrong. 3: the
@@ -69,6 +71,8 @@ def arguments(words: list[str]) -> argparse.Namespace:
         if name == "play":
             command.add_argument("--at-once", type=count, default=4, metavar="N", help="at most N matches at once (4)")
             command.add_argument("--watch", action="store_true", help="write the pages anew as matches end")
+        if name == "serve":
+            add_serve(command)
         if name == "publish":
             command.add_argument("--to", metavar="FILE", help="the archive (NAME.tar.gz in the folder)")
             command.add_argument("--gaps", action="store_true", help="also if matches have no record; the archive names them")
@@ -260,6 +264,7 @@ RUNS: dict[str, Callable[[argparse.Namespace, Referee], int]] = {
     "table": run_table,
     "pages": run_pages,
     "publish": run_publish,
+    "serve": run_serve,
     "check": run_check,
     "game": run_game,
 }

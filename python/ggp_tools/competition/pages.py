@@ -3,69 +3,56 @@
 import contextlib
 import datetime
 import html
+import os
 import shutil
 import time
+from collections.abc import Callable, Iterator
+from dataclasses import dataclass
 
 from ggp_tools.competition.files import UNFINISHED, drop_unfinished, write_whole
-from ggp_tools.competition.results import remarks, times_of
-from ggp_tools.competition.table import tables_of
+from ggp_tools.competition.page_parts import Items, PageParts, Part, link, page, row, rows_part, table
+from ggp_tools.competition.plan import Plan
+from ggp_tools.competition.player_pages import page_name, player_link, player_parts, standing_texts
+from ggp_tools.competition.plots import rating_plot
+from ggp_tools.competition.results import Result, remarks, times_of
+from ggp_tools.competition.sittings import Sitting, sittings_of
+from ggp_tools.competition.table import Table, tables_of
 from ggp_tools.competition.table_text import FORFEIT, METHOD, crosstable_rows, notes, standings_rows, without_record
-from ggp_tools.descriptions.loading import sum_of
+from ggp_tools.descriptions.loading import Rules, sum_of
 from ggp_tools.records.show import page_of, read_record
 
 # While matches are played, the pages are written again after SECONDS seconds at the earliest, and for at most a tenth of the time.
 SECONDS, SHARE = 2, 10
+# The first page has so many matches, the last ones; and a crosstable of so many players at most is drawn.
+LAST, MOST_CROSSED = 20, 100
 
-STYLE = """
-:root { color-scheme: light dark; --ink: #1d2330; --dim: #6b7280; --paper: #fff; --band: #f3f4f6; --line: #d5d9e0; --odd: #9a3412; }
-@media (prefers-color-scheme: dark) { :root { --ink: #e5e7eb; --dim: #9ca3af; --paper: #14171d; --band: #1f242d; --line: #39404c;
-  --odd: #fdba74; } }
-body { font: 15px/1.45 system-ui, sans-serif; color: var(--ink); background: var(--paper); margin: 1.2rem 1.6rem; }
-h1 { font-size: 1.35rem; margin: 0 0 .3rem; } h2 { font-size: 1.05rem; margin: 1.6rem 0 .5rem; }
-p { margin: .2rem 0 .8rem; max-width: 60rem; } .dim { color: var(--dim); } a { color: inherit; }
-.wide { overflow-x: auto; } table { border-collapse: collapse; font-size: .9rem; }
-th { color: var(--dim); font-weight: normal; background: var(--band); } td, th { padding: .2rem .6rem; border-bottom: 1px solid var(--line);
-  text-align: right; white-space: nowrap; } .left { text-align: left; } .odd { color: var(--odd); }
-pre { font: .85rem/1.4 ui-monospace, "DejaVu Sans Mono", monospace; overflow-x: auto; background: var(--band); padding: .8rem; }
-@media (max-width: 40rem) { body { margin: .8rem; } td, th { padding: .2rem .4rem; } }
-"""
-POLICY = "default-src 'none'; style-src 'unsafe-inline'; base-uri 'none'; form-action 'none'"
+MATCH_HEADS = ["match", "game", "players and goals", "turns", "replaced moves", "begin (UTC)", "seconds"]
+LEFT = {0, 1, 2, 4, 5}
 
 
-def page(title, *parts):
-    """Returns a page, in ASCII."""
-    lines = [
-        "<!DOCTYPE html>",
-        '<html lang="en"><head><meta charset="utf-8"><meta name="viewport" content="width=device-width">',
-        f'<meta http-equiv="Content-Security-Policy" content="{POLICY}">',
-        f"<title>{html.escape(title)}</title><style>{STYLE}</style></head><body>",
-        *parts,
-        "</body></html>\n",
+def standings(found: Table, up: str) -> PageParts:
+    """Returns the standings of a table, the plot of its ratings, and the crosstable; a part of which there is nothing yet is empty. The
+    players' pages stand below `up`."""
+    heads, *rows = [list(map(html.escape, row)) for row in standings_rows(found, "\u00b1")]
+    players = [line.player for line in found.standings()]
+    for cells, player in zip(rows, players):
+        cells[1] = cells[1].replace(html.escape(player), player_link(player, up), 1)
+    said = "".join(f'<p class="odd">{html.escape(note)}</p>' for note in notes(found))
+    plot = rating_plot(found.standings()) if found.is_of_pairs() else ""
+    return [
+        Part("standings", f"<h2>Standings</h2>{table([heads, *rows], {1})}{said}"),
+        Part("ratings", f"<h2>Ratings</h2>{plot}" if plot else ""),
+        Part("crosstable", f"<h2>Points / meetings</h2>{crosstable(found)}" if found.is_of_pairs() else ""),
     ]
-    return "\n".join(lines).encode("ascii", "xmlcharrefreplace")
 
 
-def table(rows, left):
-    """Returns a table of HTML; the first row has its heads, and `left` says which columns stand to the left."""
-    kinds = [' class="left"' if at in left else "" for at in range(len(rows[0]))]
-    lines = ["".join(f"<{tag}{kind}>{cell}" for kind, cell in zip(kinds, row)) for tag, row in zip(["th"] + ["td"] * len(rows), rows)]
-    return '<div class="wide"><table>\n' + "\n".join(f"<tr>{line}</tr>" for line in lines) + "\n</table></div>"
+def crosstable(found: Table) -> str:
+    if len(found.standings()) > MOST_CROSSED:
+        return "<p>The file <code>crosstable.csv</code> has them.</p>"
+    return table([list(map(html.escape, row)) for row in crosstable_rows(found)], {1})
 
 
-def link(target, text):
-    return f'<a href="{html.escape(target)}">{html.escape(text)}</a>'
-
-
-def standings(found):
-    """Returns the standings and the crosstable of a table."""
-    parts = ["<h2>Standings</h2>", table([list(map(html.escape, row)) for row in standings_rows(found, "\u00b1")], {1})]
-    parts += [f'<p class="odd">{html.escape(note)}</p>' for note in notes(found)]
-    if found.is_of_pairs():
-        parts += ["<h2>Points / meetings</h2>", table([list(map(html.escape, row)) for row in crosstable_rows(found)], {1})]
-    return parts
-
-
-def seconds_between(times):
+def seconds_between(times: dict) -> str:
     """Returns how long a match took, as text; nothing where its log does not tell."""
     try:
         began, ended = (datetime.datetime.fromisoformat(times[key].replace("Z", "+00:00")) for key in ("begin", "end"))
@@ -74,29 +61,29 @@ def seconds_between(times):
     return f"{(ended - began).total_seconds():.1f}"
 
 
-def spelt(time):
+def spelt(time: str | None) -> str:
     """Returns a time of a log as HTML, to the second."""
     return html.escape((time or "").replace("T", " ")[:19])
 
 
-def match_row(result, times, up):
+def match_row(result: Result, times: dict, up: str) -> tuple[str, str]:
     """Returns what the list of matches says of one: its links go from a page that stands so far below the first."""
     match = result.match
     goals = result.goals or ["none"] * len(match.players)
-    who = ", ".join(f"{html.escape(player)} {goal}" for player, goal in zip(match.players, goals))
+    who = ", ".join(f"{player_link(player, up)} {goal}" for player, goal in zip(match.players, goals))
     replaced = ", ".join(f"{html.escape(name)} {result.replaced(role)}" for role, name in enumerate(match.players) if result.replaced(role))
     cause = f" ({html.escape(result.cause)})" if result.cause else ""
     more = "".join(f'<br><span class="odd">{html.escape(remark)}</span>' for remark in remarks(result))
     links = link(f"{up}matches/{match.id}.html", match.id), link(f"{up}games/{match.game}.html", match.game)
-    odd = f'<span class="odd">{replaced}</span>'
-    return [*links, who + cause + more, str(result.turns), odd, spelt(times["begin"]), seconds_between(times)]
+    odd = f'<span class="odd">{replaced}</span>' if replaced else ""
+    return row(f"match-{match.id}", [*links, who + cause + more, str(result.turns), odd, spelt(times["begin"]), seconds_between(times)], LEFT)
 
 
-MATCH_HEADS = ["match", "game", "players and goals", "turns", "replaced moves", "begin (UTC)", "seconds"]
-LEFT = {0, 1, 2, 4, 5}
+def matches_part(rows: list[tuple[str, str]], title: str = "Matches") -> Items:
+    return rows_part("matches", f"<h2>{title}</h2>", MATCH_HEADS, LEFT, rows, "No match is over.")
 
 
-def rules_parts(rules):
+def rules_parts(rules: Rules) -> Iterator[str]:
     """Returns the rules of a game, and before them what its players are told in their place, where they are."""
     if rules.told is not None:
         yield "<h2>Rules for players</h2><p>Players are told these rules, with variables; the referee plays the ground rules below.</p>"
@@ -107,18 +94,129 @@ def rules_parts(rules):
     yield rules_text(rules.text)
 
 
-def rules_text(text):
+def rules_text(text: bytes) -> str:
     return f'<p class="dim">SHA-256: {sum_of(text)}</p><pre>{html.escape(text.decode("ascii", "backslashreplace"))}</pre>'
 
 
+@dataclass(frozen=True)
+class Told:
+    """What is told of a match that is over: when it began and ended, and its row, on the first page and on a page below it."""
+
+    begin: str | None
+    end: str | None
+    above: tuple[str, str]
+    below: tuple[str, str]
+    sittings: list[Sitting]
+
+
+class Site:
+    """What the pages of a competition say of results. What is told of a match is made once. With gaps the first page names the matches
+    that have no record."""
+
+    def __init__(self, plan: Plan, shows_gaps: bool = False) -> None:
+        self.plan, self.shows_gaps = plan, shows_gaps
+        self.told: dict[str, Told] = {}
+
+    def add(self, result: Result) -> bytes:
+        """Reads what is to be told of a match that is over, and returns its record."""
+        match, folder = result.match, self.plan.folder
+        data, log = folder.record(match.id).read_bytes(), folder.read_log(match.id)
+        times = times_of(log, len(match.players))
+        rows = match_row(result, times, ""), match_row(result, times, "../")
+        self.told[match.id] = Told(times["begin"], times["end"], *rows, sittings_of(result, read_record(data), log, times["end"]))
+        return data
+
+    def match_page(self, result: Result, data: bytes) -> bytes:
+        """Returns the page of a match, as `show-record` makes it, with the way back."""
+        match = result.match
+        players = ", ".join(player_link(player, "../") for player in match.players)
+        way = f"<p>{link('../index.html', self.plan.competition.name)} / {link(f'../games/{match.game}.html', match.game)} / {players}</p>"
+        way += "".join(f"<p>{html.escape(remark)}</p>" for remark in remarks(result))
+        return page_of(read_record(data)).replace(b"<body>", b"<body>\n" + way.encode("ascii"), 1) + b"\n"
+
+    def below(self, results: list[Result]) -> list[tuple[str, str]]:
+        return [self.told[result.match.id].below for result in results]
+
+    def last_matches(self, results: list[Result]) -> Items:
+        """Returns the matches that ended last, the newest first."""
+        told = sorted((self.told[result.match.id] for result in results), key=lambda told: told.end or "", reverse=True)[:LAST]
+        return matches_part([one.above for one in told], "Last matches")
+
+    def gaps(self, results: list[Result]) -> Iterator[Part]:
+        """Gives what the first page says of the matches that have no record, where it does."""
+        missing = without_record(self.plan, results) if self.shows_gaps else []
+        if missing:
+            rows = [["match", "game", "players"], *([match.id, match.game, ", ".join(match.players)] for match in missing)]
+            said = "<h2>Matches without a record</h2><p>These count for nobody.</p>"
+            yield Part("gaps", said + table(rows, {0, 1, 2}))
+
+    def span(self, results: list[Result]) -> str:
+        """Returns when the first match began and the last one ended, as text."""
+        told = [self.told[result.match.id] for result in results]
+        begins, ends = [one.begin for one in told if one.begin], [one.end for one in told if one.end]
+        if not begins or not ends:
+            return ""
+        return f" From {spelt(min(begins))} to {spelt(max(ends))} UTC."
+
+    def head(self, results: list[Result]) -> Part:
+        plan = self.plan
+        games = ", ".join(link(f"games/{game.name}.html", game.name) for game in plan.competition.games)
+        forfeit = f" {FORFEIT}" if plan.competition.forfeit else ""
+        lines = [
+            f"<h1>{html.escape(plan.competition.name)}</h1>",
+            f"<p>{len(results)} of {len(plan.matches)} matches are over.{self.span(results)}{forfeit}</p>",
+            f"<p>Games: {games}. In each the standings of that game, and its rules. {link('matches.html', 'All matches')} that are over.</p>",
+        ]
+        return Part("head", "".join(lines))
+
+    def first_parts(self, tables: list[Table], results: list[Result]) -> PageParts:
+        method = Part("method", f'<p class="dim">Ratings: {html.escape(METHOD)}.</p>')
+        return [self.head(results), *standings(tables[0], ""), method, *self.gaps(results), self.last_matches(results)]
+
+    def way_back(self, title: str) -> str:
+        return f"<p>{link('../index.html', self.plan.competition.name)}</p><h1>{html.escape(title)}</h1>"
+
+    def all_matches(self, results: list[Result]) -> PageParts:
+        way = f"<p>{link('index.html', self.plan.competition.name)}</p><h1>All matches that are over</h1>"
+        return [Part("head", way), matches_part([self.told[result.match.id].above for result in results])]
+
+    def game_parts(self, found: Table, results: list[Result]) -> PageParts:
+        """Returns the page of a game, from its table and its own results."""
+        game = next(candidate for candidate in self.plan.competition.games if candidate.name == found.game)
+        rules = self.plan.rules[found.game]
+        said = f"<p>Roles: {html.escape(', '.join(rules.roles))}. Clocks: {game.start} s for START, {game.play} s for every other message.</p>"
+        head = Part("head", self.way_back(found.game) + said)
+        return [head, *standings(found, "../"), matches_part(self.below(results)), Part("rules", "\n".join(rules_parts(rules)))]
+
+    def player_parts(self, player: str, standing: str, results: list[Result]) -> PageParts:
+        """Returns the page of a player, from its own results."""
+        own = [sitting for result in results for sitting in self.told[result.match.id].sittings if result.match.players[sitting.role] == player]
+        return [*player_parts(self.plan.competition.name, player, standing, own), matches_part(self.below(results))]
+
+
+def by_game(results: list[Result]) -> dict[str, list[Result]]:
+    found: dict[str, list[Result]] = {}
+    for result in results:
+        found.setdefault(result.match.game, []).append(result)
+    return found
+
+
+def by_player(results: list[Result]) -> dict[str, list[Result]]:
+    found: dict[str, list[Result]] = {}
+    for result in results:
+        for player in dict.fromkeys(result.match.players):
+            found.setdefault(player, []).append(result)
+    return found
+
+
 class Pages:
-    """The pages of a competition. A match's page and its row are made once. With gaps they name the matches that have no record."""
+    """The pages as files of a folder. A page is made again only where what it tells has changed."""
 
-    def __init__(self, plan, shows_gaps=False):
-        self.plan, self.folder, self.shows_gaps = plan, plan.folder.pages, shows_gaps
-        self.rows, self.next = {}, 0.0
+    def __init__(self, plan: Plan, shows_gaps: bool = False) -> None:
+        self.site, self.plan, self.folder = Site(plan, shows_gaps), plan, plan.folder.pages
+        self.next, self.stamps = 0.0, {}
 
-    def write_now_and_then(self, results):
+    def write_now_and_then(self, results: Callable[[], list[Result]]) -> None:
         """Writes the pages of the results that a function gives, if that was not tried just before."""
         began = time.monotonic()
         if began < self.next:
@@ -129,92 +227,72 @@ class Pages:
             ended = time.monotonic()
             self.next = ended + max(SECONDS, SHARE * (ended - began))
 
-    def write(self, results):
-        for name in ("matches", "games"):
+    def write(self, results: list[Result]) -> None:
+        for name in ("matches", "games", "players"):
             (self.folder / name).mkdir(parents=True, exist_ok=True)
         for result in results:
             # Another run that knows fewer matches may have taken the page away.
-            if result.match.id not in self.rows or not (self.folder / f"matches/{result.match.id}.html").exists():
-                self.add(result)
+            if result.match.id not in self.site.told or not (self.folder / f"matches/{result.match.id}.html").exists():
+                self.put(f"matches/{result.match.id}.html", self.site.match_page(result, self.site.add(result)))
         tables = tables_of(self.plan.competition, results, self.plan.rounds)
-        for table in tables[1:]:
-            self.put(f"games/{table.game}.html", self.game_page(table, [result for result in results if result.match.game == table.game]))
-        self.put("index.html", self.first_page(tables, results))
+        self.write_games(tables[1:], by_game(results))
+        self.write_players(tables[0], by_player(results))
+        self.put_parts("matches.html", "all matches", self.site.all_matches(results))
+        self.put_parts("index.html", "", self.site.first_parts(tables, results))
         drop_unfinished(self.folder)
-        self.drop_others("matches", {result.match.id for result in results})
-        self.drop_others("games", {table.game for table in tables[1:]})
+        self.drop_others("matches", {f"{result.match.id}.html" for result in results})
+        self.drop_others("games", {f"{table.game}.html" for table in tables[1:]})
+        self.drop_others("players", {page_name(player.name).partition("/")[2] for player in self.plan.competition.players})
 
-    def put(self, name, data):
+    def write_games(self, tables: list[Table], results: dict[str, list[Result]]) -> None:
+        for table in tables:
+            own = results.get(table.game, [])
+            if self.has_changed(f"games/{table.game}.html", own, ""):
+                self.put_parts(f"games/{table.game}.html", table.game, self.site.game_parts(table, own))
+                self.was_made(f"games/{table.game}.html", own, "")
+
+    def write_players(self, found: Table, results: dict[str, list[Result]]) -> None:
+        texts = standing_texts(found)
+        for player in self.plan.competition.players:
+            own, standing = results.get(player.name, []), texts.get(player.name, "It has played no match.")
+            if self.has_changed(page_name(player.name), own, standing):
+                self.put_parts(page_name(player.name), player.name, self.site.player_parts(player.name, standing, own))
+                self.was_made(page_name(player.name), own, standing)
+
+    def stamp(self, name: str, results: list[Result], words: str) -> tuple | None:
+        """Returns what a page was made of, and which file it is: another run may have written it too. None where it is not there."""
+        try:
+            found = os.stat(self.folder / name)
+        except FileNotFoundError:
+            return None
+        return hash(tuple(result.match.id for result in results)), words, found.st_ino, found.st_mtime_ns
+
+    def has_changed(self, name: str, results: list[Result], words: str) -> bool:
+        return name not in self.stamps or self.stamps[name] != self.stamp(name, results, words)
+
+    def was_made(self, name: str, results: list[Result], words: str) -> None:
+        self.stamps[name] = self.stamp(name, results, words)
+
+    def put(self, name: str, data: bytes) -> None:
         write_whole(self.folder / name, data, is_lasting=False)
 
-    def drop_others(self, folder, names):
+    def put_parts(self, name: str, title: str, parts: PageParts) -> None:
+        self.put(name, page(titled(self.plan, title), parts))
+
+    def drop_others(self, folder: str, names: set[str]) -> None:
         """Takes away the pages of what is no longer there, and those that were never finished. All else is left alone."""
-        for page in (self.folder / folder).glob("*.html"):
-            if page.stem not in names and not page.name.startswith(UNFINISHED):
-                page.unlink(missing_ok=True)
+        for file in (self.folder / folder).glob("*.html"):
+            if file.name not in names and not file.name.startswith(UNFINISHED):
+                file.unlink(missing_ok=True)
         drop_unfinished(self.folder / folder)
 
-    def add(self, result):
-        """Writes the page of a match, as `show-record` makes it, with the way back."""
-        match, folder = result.match, self.plan.folder
-        made = page_of(read_record(folder.record(match.id).read_bytes()))
-        way = f"<p>{link('../index.html', self.plan.competition.name)} / {link(f'../games/{match.game}.html', match.game)}</p>"
-        way += "".join(f"<p>{html.escape(remark)}</p>" for remark in remarks(result))
-        self.put(f"matches/{match.id}.html", made.replace(b"<body>", b"<body>\n" + way.encode("ascii"), 1) + b"\n")
-        times = times_of(folder.read_log(match.id), len(match.players))
-        self.rows[match.id] = times["begin"], times["end"], match_row(result, times, ""), match_row(result, times, "../")
 
-    def matches(self, results, is_below):
-        if not results:
-            return "<p>No match is over.</p>"
-        return table([MATCH_HEADS, *(self.rows[result.match.id][2 + is_below] for result in results)], LEFT)
-
-    def gaps(self, results):
-        """Gives what the first page says of the matches that have no record, where it does."""
-        missing = without_record(self.plan, results) if self.shows_gaps else []
-        if missing:
-            yield "<h2>Matches without a record</h2><p>These count for nobody.</p>"
-            yield table([["match", "game", "players"], *([match.id, match.game, ", ".join(match.players)] for match in missing)], {0, 1, 2})
-
-    def span(self, results):
-        """Returns when the first match began and the last one ended, as text."""
-        times = [self.rows[result.match.id][:2] for result in results]
-        begins, ends = ([span[at] for span in times if span[at]] for at in (0, 1))
-        if not begins or not ends:
-            return ""
-        return f" From {spelt(min(begins))} to {spelt(max(ends))} UTC."
-
-    def first_page(self, tables, results):
-        plan = self.plan
-        games = ", ".join(link(f"games/{game.name}.html", game.name) for game in plan.competition.games)
-        forfeit = f" {FORFEIT}" if plan.competition.forfeit else ""
-        return page(
-            plan.competition.name,
-            f"<h1>{html.escape(plan.competition.name)}</h1>",
-            f"<p>{len(results)} of {len(plan.matches)} matches are over.{self.span(results)}{forfeit}</p>",
-            f"<p>Games: {games}. In each the standings of that game, and its rules.</p>",
-            *standings(tables[0]),
-            f'<p class="dim">Ratings: {html.escape(METHOD)}.</p>',
-            *self.gaps(results),
-            "<h2>Matches</h2>",
-            self.matches(results, False),
-        )
-
-    def game_page(self, found, results):
-        plan, game = self.plan, next(candidate for candidate in self.plan.competition.games if candidate.name == found.game)
-        rules = plan.rules[found.game]
-        return page(
-            f"{plan.competition.name}: {found.game}",
-            f"<p>{link('../index.html', plan.competition.name)}</p><h1>{html.escape(found.game)}</h1>",
-            f"<p>Roles: {html.escape(', '.join(rules.roles))}. Clocks: {game.start} s for START, {game.play} s for every other message.</p>",
-            *standings(found),
-            "<h2>Matches</h2>",
-            self.matches(results, True),
-            *rules_parts(rules),
-        )
+def titled(plan: Plan, title: str) -> str:
+    """Returns the title of a page, of which the first one has none of its own."""
+    return f"{plan.competition.name}: {title}" if title else plan.competition.name
 
 
-def made_anew(plan, results):
+def made_anew(plan: Plan, results: list[Result]) -> None:
     """Writes the pages that are published, into an empty folder."""
     with contextlib.suppress(FileNotFoundError):
         shutil.rmtree(plan.folder.pages)

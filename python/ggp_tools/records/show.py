@@ -10,6 +10,8 @@ import re
 import sys
 from dataclasses import dataclass
 
+from ggp_tools.records.marks import PIECES, Mark, marks_of
+
 ABOUT = (
     "Makes a page of a match's record, to be looked at in a browser. The page says who played and how it ended, has a table of the turns "
     "with each move that was substituted, and shows each state with what changed, as a board where its terms name places and the page has "
@@ -20,7 +22,6 @@ STATUS = "status 0: the page is written. 1: there is no record, or it can't be r
 LONGEST_RECORD = 16 << 20
 VERSIONS = (1, 2)
 LONGEST_AXIS = 32
-LONGEST_LABEL = 6
 # A page that would draw more boards, in all states together, lists their terms instead: a board is some hundred times as long as its terms.
 MOST_DRAWN = 32_768
 
@@ -48,6 +49,32 @@ ERRORS = {
     "IL": "the answer was no legal move",
 }
 
+BOARD_STYLE = """
+.board { display: inline-grid; margin: .4rem 1.6rem .4rem 0; grid-template-columns: 1.8rem repeat(var(--across), var(--cell, 2.9rem));
+  grid-template-rows: repeat(var(--up), var(--cell, 2.9rem)) 1.6rem; }
+.upside .board { grid-template-rows: 1.6rem repeat(var(--up), var(--cell, 2.9rem)); }
+.turned .board { grid-template-columns: 1.8rem repeat(var(--up), var(--cell, 2.9rem)); grid-template-rows: repeat(var(--across), var(--cell, 2.9rem)) 1.6rem; }
+.turned.upside .board { grid-template-rows: 1.6rem repeat(var(--across), var(--cell, 2.9rem)); }
+.board > * { grid-column: calc(var(--x) + 1); grid-row: calc(var(--up) - var(--y) + 1); font-style: normal; text-align: center;
+  place-content: center; display: grid; overflow: hidden; font-size: .75rem; line-height: 1.1; }
+.upside .board > * { grid-row: calc(var(--y) + 1); }
+.turned .board > * { grid-column: calc(var(--y) + 1); grid-row: calc(var(--across) - var(--x) + 1); }
+.turned.upside .board > * { grid-row: calc(var(--x) + 1); }
+.board b { color: var(--dim); font-weight: normal; } .board i { margin: 1px; font-weight: bold; z-index: 1; }
+.board i.new { background: var(--new); } .board i.glyph { font-size: 1.7rem; line-height: 1; font-weight: normal; }
+.board i.white { color: #fff; text-shadow: 0 0 1px #000, 0 0 1px #000, 0 0 2px #000; }
+.board i.black { color: #000; text-shadow: 0 0 1px #fff, 0 0 1px #fff, 0 0 2px #fff; }
+.board i.red { color: #d92d20; } .board i.blue { color: #2e6be6; } .board i.green { color: #1f9d4d; } .board i.yellow { color: #d99a06; }
+.board i.ground { color: var(--dim); font-weight: normal; text-shadow: none; } .board i:focus { outline: 2px solid var(--odd-ink); }
+.board i:focus::after { content: attr(title); position: fixed; inset: auto 0 0 0; padding: .4rem 1.6rem; background: var(--band);
+  color: var(--ink); text-shadow: none; font: 1rem/1.4 system-ui, sans-serif; text-align: left; z-index: 2; }
+.board .squares { grid-column: 2 / span var(--across); grid-row: 1 / span var(--up); border: solid var(--line); border-width: 0 1px 1px 0;
+  background: repeating-linear-gradient(90deg, var(--line) 0 1px, transparent 1px var(--cell, 2.9rem)), repeating-linear-gradient(var(--line) 0 1px, transparent 1px var(--cell, 2.9rem)); }
+.upside .board .squares { grid-row: 2 / span var(--up); }
+.turned .board .squares { grid-column: 2 / span var(--up); grid-row: 1 / span var(--across); }
+.turned.upside .board .squares { grid-row: 2 / span var(--across); }
+"""
+
 STYLE = """
 :root { color-scheme: light dark; --ink: #1d2330; --dim: #6b7280; --paper: #fff; --band: #f3f4f6; --line: #d5d9e0;
   --new: #d8f0d4; --odd: #ffe2cf; --odd-ink: #9a3412; --here: #dbe8fb; }
@@ -68,23 +95,7 @@ td.substituted, .turns tr.here td.substituted { background: var(--odd); } .why {
 ul { list-style: none; padding: 0; margin: .6rem 0; display: flex; flex-wrap: wrap; gap: .3rem; }
 li { background: var(--band); padding: .1rem .5rem; border-radius: .2rem; } li.new { background: var(--new); }
 li.gone { background: none; text-decoration: line-through; color: var(--dim); }
-.board { display: inline-grid; margin: .4rem 1.6rem .4rem 0; grid-template-columns: 1.8rem repeat(var(--across), 2.9rem);
-  grid-template-rows: repeat(var(--up), 2.9rem) 1.6rem; }
-.upside .board { grid-template-rows: 1.6rem repeat(var(--up), 2.9rem); }
-.turned .board { grid-template-columns: 1.8rem repeat(var(--up), 2.9rem); grid-template-rows: repeat(var(--across), 2.9rem) 1.6rem; }
-.turned.upside .board { grid-template-rows: 1.6rem repeat(var(--across), 2.9rem); }
-.board > * { grid-column: calc(var(--x) + 1); grid-row: calc(var(--up) - var(--y) + 1); font-style: normal; text-align: center;
-  place-content: center; display: grid; overflow: hidden; font-size: .75rem; line-height: 1.1; }
-.upside .board > * { grid-row: calc(var(--y) + 1); }
-.turned .board > * { grid-column: calc(var(--y) + 1); grid-row: calc(var(--across) - var(--x) + 1); }
-.turned.upside .board > * { grid-row: calc(var(--x) + 1); }
-.board b { color: var(--dim); font-weight: normal; } .board i { margin: 1px; font-weight: bold; z-index: 1; }
-.board i.new { background: var(--new); } .board i.ground { color: var(--dim); font-weight: normal; }
-.board .squares { grid-column: 2 / span var(--across); grid-row: 1 / span var(--up); border: solid var(--line); border-width: 0 1px 1px 0;
-  background: repeating-linear-gradient(90deg, var(--line) 0 1px, transparent 1px 2.9rem), repeating-linear-gradient(var(--line) 0 1px, transparent 1px 2.9rem); }
-.upside .board .squares { grid-row: 2 / span var(--up); }
-.turned .board .squares { grid-column: 2 / span var(--up); grid-row: 1 / span var(--across); }
-.turned.upside .board .squares { grid-row: 2 / span var(--across); }
+.wide { overflow-x: auto; } @media (max-width: 40rem) { body { margin: .8rem; } th, td { padding: .2rem .4rem; } }
 """
 
 SCRIPT = """
@@ -207,7 +218,7 @@ def check_lengths(record):
     for key in ("moves", "errors"):
         for turn, texts in enumerate(record[key]):
             if len(texts) != roles:
-                raise NoRecord(f"turn {turn} of {key!r} has {len(texts)} texts, and there are {roles} roles")
+                raise NoRecord(f"turn {turn + 1} of {key!r} has {len(texts)} texts, and there are {roles} roles")
     for key, wanted in (("errors", turns), ("states", turns + 1)):
         if len(record[key]) != wanted:
             raise NoRecord(f"the length of {key!r} is {len(record[key])} and not {wanted}, for {turns} turns in 'moves'")
@@ -295,6 +306,9 @@ def form_of(words_by_state, number):
     # (on X Y); (cell X Y V) and (cell X Y V W); (piece V X Y)
     for at, labels in {3: [(1, [0])], 4: [(1, [3]), (2, [1])], 5: [(1, [3, 4])]}.get(number, []):
         if axis_of({term[at] for term in terms}) and axis_of({term[at + 1] for term in terms}):
+            if terms[0][0] in PIECES:
+                # Of (king white X Y) and (rook X Y) the relation is the piece, of which there may be one.
+                return at, sorted({0, *labels})
             is_function = is_pairing(words_by_state) if number == 3 else max(map(len, words_by_state)) < 2
             return None if is_function else (at, labels)
     return None
@@ -323,9 +337,14 @@ def boards_of(states):
 # ---- the page
 
 
+def visible(text: str) -> str:
+    """Returns a record's text with anything but visible ASCII and the space as its code."""
+    return "".join(letter if " " <= letter <= "~" else f"\\u{{{ord(letter):x}}}" for letter in text)
+
+
 def shown(text):
-    """Returns a record's text for the page: escaped, and anything but visible ASCII and the space as its code."""
-    return html.escape("".join(letter if " " <= letter <= "~" else f"\\u{{{ord(letter):x}}}" for letter in text))
+    """Returns a record's text for the page, escaped."""
+    return html.escape(visible(text))
 
 
 def why_of(error):
@@ -355,11 +374,11 @@ def players_table(record):
         f"<tr><td>{at}<td>{shown(role)}<td>{shown(player)}<td>{goal}<td>{count}<td>{mark_text(start)}<td>{mark_text(end)}</tr>"
         for at, (role, player, goal, count, start, end) in enumerate(rows)
     ]
-    return "\n".join(['<table class="players">', head, *lines, "</table>"])
+    return "\n".join(['<div class="wide"><table class="players">', head, *lines, "</table></div>"])
 
 
 def turns_table(record):
-    """Returns the turns, each with the moves of all roles. A turn is numbered as the state that it leaves."""
+    """Returns the turns, each with the moves of all roles. They are counted from 1: a turn has the number of the state that it leads to."""
 
     def cell(move, error):
         if not error:
@@ -367,8 +386,8 @@ def turns_table(record):
         return f'<td class="substituted" title="{html.escape(why_of(error))}">{shown(move)}<span class="why">{shown(error)}</span>'
 
     head = "<tr><th>Turn" + "".join(f"<th>{shown(role)}" for role in record["roles"]) + "</tr>"
-    turns = enumerate(zip(record["moves"], record["errors"]))
-    lines = [f'<tr class="turn"><td><a href="#state-{at + 1}">{at}</a>{"".join(map(cell, *turn))}</tr>' for at, turn in turns]
+    turns = enumerate(zip(record["moves"], record["errors"]), 1)
+    lines = [f'<tr class="turn"><td><a href="#state-{at}">{at}</a>{"".join(map(cell, *turn))}</tr>' for at, turn in turns]
     return "\n".join(["<table>", head, *lines, "</table>"])
 
 
@@ -399,19 +418,38 @@ def ground_of(board, places):
     return next((label for label in sorted(set(labels)) if 2 * labels.count(label) > len(labels)), None)
 
 
-def board_page(board, places, before, ground):
-    def cell(at):
-        labels = places.get(at, [])
-        kinds = ["new"] * (before is not None and before.get(at, []) != labels) + ["ground"] * (labels == [ground])
+def marks_of_board(board: Board, states: list[list[str]]) -> dict[str, Mark]:
+    """Returns what the board shows of each label that stands on it in any of these states."""
+    return marks_of({visible(label) for state in states for labels in board_places(board, state).values() for label in labels})
+
+
+def mark_page(mark: Mark) -> str:
+    """Returns a mark beside others in its cell."""
+    text = html.escape(mark.text)
+    return f'<span class="{mark.side}">{text}</span>' if mark.side else text
+
+
+def board_page(board: Board, places: dict, before: dict | None, ground: str | None, marks: dict[str, Mark]) -> str:
+    """Returns a board; places where something else stands than before are marked as new. What a cell shows in place of its words has
+    these as its title, which can also be reached by the keyboard."""
+
+    def cell(at: tuple[int, int]) -> str:
+        labels, is_ground = list(map(visible, places.get(at, []))), places.get(at) == [ground]
+        found = [marks[label] for label in labels]
+        kinds = ["new"] * (before is not None and before.get(at, []) != places.get(at, [])) + ["ground"] * is_ground
+        kinds += found[0].kinds() if len(found) == 1 else []
         kind = f' class="{" ".join(kinds)}"' if kinds else ""
-        title = f' title="{shown(", ".join(labels))}"' if any(len(label) > LONGEST_LABEL for label in labels) else ""
-        return f'<i{kind}{title} style="--x:{at[0]};--y:{at[1]}">{"<br>".join(shown(label[:LONGEST_LABEL]) for label in labels)}</i>'
+        is_told = bool(labels) and [mark.text for mark in found] != labels
+        told = f"{board.across[at[0] - 1]} {board.up[at[1] - 1]}: {', '.join(labels)}"
+        title = f' title="{html.escape(told)}"{"" if is_ground else " tabindex=0"}' if is_told or len(labels) > 1 else ""
+        text = html.escape(found[0].text) if len(found) == 1 else "<br>".join(map(mark_page, found))
+        return f'<i{kind}{title} style="--x:{at[0]};--y:{at[1]}">{text}</i>'
 
     axes = [f'<b style="--x:{at};--y:0">{name}</b>' for at, name in enumerate(board.across, 1)]
     axes += [f'<b style="--x:0;--y:{at}">{name}</b>' for at, name in enumerate(board.up, 1)]
     cells = [cell(at) for at in sorted({*places, *(before or {})})]
     size = f"--across:{len(board.across)};--up:{len(board.up)}"
-    return f'<div class="board" style="{size}"><div class="squares"></div>{"".join(axes)}{"".join(cells)}</div>'
+    return f'<div class="wide"><div class="board" style="{size}"><div class="squares"></div>{"".join(axes)}{"".join(cells)}</div></div>'
 
 
 def terms_page(terms, before):
@@ -426,6 +464,7 @@ def states_page(record):
     boards = boards_of(record["states"])
     boards = boards if len(boards) * len(record["states"]) <= MOST_DRAWN else []
     on_boards = {form for board in boards for form in board.forms}
+    marks = [marks_of_board(board, record["states"]) for board in boards]
     places, rest, ground, lines = None, None, None, []
     for at, state in enumerate(record["states"]):
         before, rest_before = places or [None] * len(boards), rest
@@ -434,8 +473,8 @@ def states_page(record):
         words = ((term, words_of(term)) for term in state)
         terms = [term for term, found in words if not found or (found[0], len(found)) not in on_boards]
         rest = set(terms)
-        title = f"State {at}, after turn {at - 1}" if at else "State 0, before the first turn"
-        drawn = [board_page(*parts) for parts in zip(boards, places, before, ground)]
+        title = f"State {at}, after turn {at}" if at else "State 0, before turn 1"
+        drawn = [board_page(*parts) for parts in zip(boards, places, before, ground, marks)]
         nothing = "" if state else '<p class="dim">A state without terms.</p>'
         lines.append(f'<section class="state" id="state-{at}"><h2>{title}</h2>{"".join(drawn)}{terms_page(terms, rest_before)}{nothing}</section>')
     return "\n".join(lines), bool(boards)
@@ -458,7 +497,7 @@ def page_of(record):
         "<!DOCTYPE html>",
         '<html lang="en"><head><meta charset="utf-8"><meta name="viewport" content="width=device-width">',
         f'<meta http-equiv="Content-Security-Policy" content="{policy}">',
-        f"<title>Match {shown(record['matchId'])}</title><style>{STYLE}</style></head><body>",
+        f"<title>Match {shown(record['matchId'])}</title><style>{STYLE}{BOARD_STYLE}</style></head><body>",
         f"<h1>Match {shown(record['matchId'])}: {who}</h1>",
         f'<p>{ending(record)} <span class="dim">Turns: {len(record["moves"])}. Clocks: {record["startClock"]} s for START,',
         f"{record['playClock']} s for every other message.{strikes} Record version {record['version']}.</span></p>",

@@ -1,0 +1,175 @@
+"""What the live pages say of matches that are open: their boards, whose answer is awaited, what was replaced, and what waits."""
+
+import datetime
+import html
+
+from ggp_tools.competition.live import Reader, Replaced, Seen
+from ggp_tools.competition.live_board import LiveBoard, Turn
+from ggp_tools.competition.page_parts import Items, PageParts, Part, link, row, rows_part, table
+from ggp_tools.competition.player_pages import player_link, reason_of
+from ggp_tools.competition.schedule import Match
+from ggp_tools.records.show import board_page, board_places, boards_of, ground_of, shown, words_of
+
+# The first page has boards of so many open matches, and lists so many that wait.
+BOARDS, QUEUE = 12, 20
+# Of what no board shows so many terms are listed.
+MOST_TERMS = 60
+LIVE_STYLE = """
+.boards { display: flex; flex-wrap: wrap; gap: 1rem 2rem; align-items: flex-start; } .boards > div { max-width: 100%; --cell: 1.7rem; }
+.boards .board i { font-size: .6rem; } .boards .board i.glyph { font-size: 1rem; } .board { margin: .2rem 1rem .2rem 0; }
+.terms { font: .8rem ui-monospace, "DejaVu Sans Mono", monospace; color: var(--dim); max-width: 30rem; overflow-wrap: anywhere; }
+#lost { position: sticky; top: 0; background: var(--band); padding: .3rem .6rem; }
+"""
+STAGES = {"asking": "its players are asked whether they are free", "checking": "its record is being checked"}
+OPEN_HEADS = ["match", "game", "players", "turn", "awaited", "for", "no answer"]
+OPEN_LEFT = {0, 1, 2, 4, 6}
+
+
+def since_text(moment: float) -> str:
+    """Returns an element that says since when something is so. The page's script says how long that is, and counts on."""
+    clock = datetime.datetime.fromtimestamp(moment, datetime.timezone.utc).strftime("%H:%M:%S")
+    return f'<span data-since="{moment:.1f}">since {clock} UTC</span>'
+
+
+def awaited_text(seen: Seen, up: str) -> str:
+    """Returns whom an open match waits for, and for what."""
+    if seen.stage in STAGES:
+        return STAGES[seen.stage]
+    players = [player_link(seen.match.players[role], up) for role in range(seen.roles)]
+    if seen.is_ending:
+        return f"{', '.join(players)}: the end"
+    return f"{', '.join(players[role] for role in seen.awaited())}: {f'turn {seen.turn()}' if seen.turn() else 'START'}"
+
+
+def missed_text(seen: Seen) -> str:
+    return ", ".join(f"{html.escape(seen.match.players[role])} {count}" for role, count in sorted(seen.missed.items()))
+
+
+def open_row(seen: Seen) -> tuple[str, str]:
+    """Returns the row of an open match."""
+    match = seen.match
+    links = link(f"matches/{match.id}.html", match.id), link(f"games/{match.game}.html", match.game)
+    players = ", ".join(player_link(player, "") for player in match.players)
+    missed = missed_text(seen)
+    turn = str(seen.turn()) if seen.stage == "playing" else ""
+    texts = [*links, players, turn, awaited_text(seen, ""), since_text(seen.since), f'<span class="odd">{missed}</span>' if missed else ""]
+    return row(f"open-{match.id}", texts, OPEN_LEFT)
+
+
+def board_html(board: LiveBoard) -> str:
+    """Returns the state after the last turn that was followed: its boards, and the terms that none shows."""
+    states = list(board.states)
+    boards = boards_of([board.first, *states])
+    drawn, on_boards = [], {form for one in boards for form in one.forms}
+    for one in boards:
+        places = [board_places(one, state) for state in states[-2:]]
+        before = places[0] if len(places) > 1 else None
+        # What an empty place shows is what stands at most places at first.
+        ground = ground_of(one, board_places(one, board.first))
+        drawn.append(board_page(one, places[-1], before, ground, board.marks(one)))
+    terms = [term for term in states[-1] if not (words_of(term) and (words_of(term)[0], len(words_of(term))) in on_boards)]
+    more = f" and {len(terms) - MOST_TERMS:,} more" if len(terms) > MOST_TERMS else ""
+    said = f'<p class="terms">{shown("  ".join(terms[:MOST_TERMS]))}{more}</p>' if terms else ""
+    trouble = f'<p class="odd">{html.escape(board.trouble)}</p>' if board.trouble else ""
+    return "".join(drawn) + said + trouble
+
+
+def board_item(seen: Seen, state: str, turn: int) -> tuple[str, str]:
+    """Returns the board of an open match on the first page."""
+    match, name = seen.match, f"board-{seen.match.id}"
+    head = f"<h3>{link(f'matches/{match.id}.html', match.id)} {link(f'games/{match.game}.html', match.game)}</h3>"
+    players = ", ".join(player_link(player, "") for player in match.players)
+    said = f'<div class="dim">{players}; after turn {turn}</div>' if turn else f'<div class="dim">{players}; before turn 1</div>'
+    return name, f'<div id="{name}">{head}{said}{state}</div>'
+
+
+def now_part(reader: Reader, waiting: int, trouble: str) -> Part:
+    """Returns how many matches are open, and whether they are played at all."""
+    run = "" if reader.is_held else " No run is at work in the folder, so what is open goes on with the next <code>play</code>."
+    count = len(reader.open)
+    said = f"<p>{count} {'match is' if count == 1 else 'matches are'} open, {waiting} {'waits' if waiting == 1 else 'wait'}.{run}</p>"
+    faults = [f"{name} does not count: {why}" for name, why in list(reader.faults.items())[:QUEUE]]
+    lines = [f'<p class="odd">{html.escape(line)}</p>' for line in [*faults, *[trouble] * bool(trouble)]]
+    return Part("now", f"<h2>Now</h2>{said}{''.join(lines)}")
+
+
+def replaced_part(replaced: list[Replaced]) -> Part:
+    """Returns the last moves that were replaced, the newest first."""
+    if not replaced:
+        return Part("replaced", "<h2>Replaced moves</h2><p>No move was replaced.</p>")
+    rows = [["match", "player", "turn", "why", "what came", "played in its place"]]
+    for its in reversed(replaced):
+        what = its.error.partition(" ")[2]
+        links = link(f"matches/{its.match.id}.html", its.match.id), player_link(its.player, "")
+        texts = f"<code>{shown(what)}</code>" if what else "", f"<code>{shown(its.move)}</code>" if its.move else ""
+        rows.append([*links, str(its.turn), f'<span class="odd">{html.escape(reason_of(its.error))}</span>', *texts])
+    return Part("replaced", f"<h2>Replaced moves</h2>{table(rows, {0, 1, 3, 4, 5}, {4, 5})}")
+
+
+def queue_part(waiting: list[Match]) -> Part:
+    """Returns the matches that wait, in the schedule's order, the first ones by name."""
+    if not waiting:
+        return Part("queue", "")
+    rows = [["match", "game", "players"]]
+    rows += [[match.id, link(f"games/{match.game}.html", match.game), html.escape(", ".join(match.players))] for match in waiting[:QUEUE]]
+    more = f'<p class="dim">and {len(waiting) - QUEUE:,} more</p>' if len(waiting) > QUEUE else ""
+    return Part("queue", f"<h2>Waiting matches</h2><p>Each begins once its players are free.</p>{table(rows, {0, 1, 2})}{more}")
+
+
+def live_parts(reader: Reader, boards: list[tuple[str, str]], rows: list[tuple[str, str]], trouble: str) -> PageParts:
+    """Returns what the first page says of the matches that are not over."""
+    waiting = reader.waiting()
+    return [
+        now_part(reader, len(waiting), trouble),
+        Items("boards", '<div class="boards" id="boards">', tuple(boards), "</div>"),
+        rows_part("open", "<h2>Open matches</h2>", OPEN_HEADS, OPEN_LEFT, rows, "No match is open."),
+        replaced_part(list(reader.replaced)),
+        queue_part(waiting),
+    ]
+
+
+# ---- the page of a match that is open
+
+
+def match_head(match: Match, competition: str) -> Part:
+    way = f"<p>{link('../index.html', competition)} / {link(f'../games/{match.game}.html', match.game)}</p>"
+    players = ", ".join(player_link(player, "../") for player in match.players)
+    clocks = f'<p class="dim">Clocks: {match.start} s for START, {match.play} s for every other message.</p>'
+    return Part("head", f"{way}<h1>Match {html.escape(match.id)}: {players}</h1>{clocks}")
+
+
+def turn_row(turn: Turn) -> tuple[str, str]:
+    """Returns the row of a turn: the moves, and why one was replaced."""
+    texts = [
+        f"<code>{shown(move)}</code>" + (f' <span class="odd">{shown(error)}</span>' if error else "") for move, error in zip(turn.moves, turn.errors)
+    ]
+    return row(f"turn-{turn.number}", [str(turn.number), *texts], set(range(1, 1 + len(texts))))
+
+
+def answers_part(seen: Seen) -> Part:
+    """Returns the last answer of each role."""
+    rows = [["player", "message", "what came back", "ms"]]
+    for role, line in sorted(seen.last.items()):
+        texts = [f"<code>{shown(text)}</code>" for text in (line.message, line.answer)]
+        rows.append([player_link(seen.match.players[role], "../"), *texts, f"{line.milliseconds:,}"])
+    return Part("answers", f"<h2>Last answers</h2>{table(rows, {0, 1, 2}, {1, 2})}" if len(rows) > 1 else "")
+
+
+def open_match_parts(seen: Seen, state: str, turn: int, turns: tuple[Turn, ...], head: Part, roles: tuple[str, ...]) -> PageParts:
+    """Returns the page of a match that is open, of which the state after a turn is shown."""
+    now = Part("now", f"<p>It is open. Awaited: {awaited_text(seen, '../')} ({since_text(seen.since)}).</p>")
+    title = f"State {turn}, after turn {turn}" if turn else "State 0, before turn 1"
+    heads, left = ["turn", *(html.escape(role) for role in roles)], set(range(1, 1 + len(roles)))
+    return [
+        head,
+        now,
+        Part("state", f"<h2>{title}</h2>{state}"),
+        rows_part("turns", "<h2>Last turns</h2>", heads, left, [turn_row(one) for one in reversed(turns)], "No turn is over."),
+        answers_part(seen),
+    ]
+
+
+def waiting_match_parts(match: Match, why: str, competition: str) -> PageParts:
+    """Returns the page of a match that is neither open nor over."""
+    said = f"Its record does not count: {why}" if why else "It has not begun."
+    return [match_head(match, competition), Part("now", f"<p>{html.escape(said)}</p>")]

@@ -1,0 +1,283 @@
+"""The live pages of a competition, as they are at this moment: each is made when somebody looks at it, and again where its data changed."""
+
+import re
+import threading
+import time
+from collections import OrderedDict, deque
+from collections.abc import Callable
+from dataclasses import dataclass, field
+
+from ggp_tools.competition import live_pages
+from ggp_tools.competition.files import Refused
+from ggp_tools.competition.live import Reader, Seen, Tail
+from ggp_tools.competition.live_board import LiveBoard, Turn
+from ggp_tools.competition.page_changes import changes, event_text
+from ggp_tools.competition.page_parts import PageParts
+from ggp_tools.competition.pages import Site, by_game, by_player, titled
+from ggp_tools.competition.plan import Plan
+from ggp_tools.competition.player_pages import page_name, standing_texts
+from ggp_tools.competition.results import Result
+from ggp_tools.competition.table import Table, tables_of
+from ggp_tools.competition.table_text import in_order
+from ggp_tools.ground_games import Game
+from ggp_tools.kif import expressions
+from ggp_tools.referee import NoReferee, Unchecked
+
+# The tables are computed anew for at most so small a part of the time, and boards are followed for at most so many seconds in a look.
+SHARE, FOLLOW = 10, 0.25
+# A page that nobody looks at any more is kept for a while, and of all pages so many at most; of a page so many changes.
+IDLE, MOST_PAGES, MOST_EVENTS = 30.0, 200, 60
+NAME = "[A-Za-z0-9_.-]+"
+PATH = re.compile(rf"/(?:(index|matches)|(matches|games)/({NAME})|players/player-({NAME}))\.html")
+
+
+@dataclass(frozen=True)
+class Followed:
+    """How far a match was followed: its state as HTML, after so many turns, and the last turns."""
+
+    version: int
+    state: str
+    turn: int
+    turns: tuple[Turn, ...]
+
+
+@dataclass
+class OpenPage:
+    """A page that somebody looks at, or did a moment ago. `stamp` is what it was made of."""
+
+    title: str
+    parts: PageParts
+    stamp: tuple
+    version: int = 0
+    events: deque[tuple[int, bytes]] = field(default_factory=lambda: deque(maxlen=MOST_EVENTS))
+    viewers: int = 0
+    touched: float = 0.0
+    is_final: bool = False
+
+    def since(self, version: int) -> list[bytes] | None:
+        """Returns the changes since a version; none where they are known no more."""
+        if version > self.version or self.version - version > len(self.events):
+            return None
+        return [text for number, text in self.events if number > version]
+
+
+class LiveSite:
+    """The pages, and the matches behind them. One thread looks at the folder; others ask for pages, one at a time."""
+
+    def __init__(self, plan: Plan, read_plan: Callable[[], Plan]) -> None:
+        self.read_plan, self.changed = read_plan, threading.Condition()
+        # Versions of pages of another run, or of another plan, are none of this one's.
+        self.token = f"{time.time_ns():x}"
+        self.pages: OrderedDict[str, OpenPage] = OrderedDict()
+        self.begin(plan)
+
+    def begin(self, plan: Plan) -> None:
+        """Begins with a plan."""
+        self.plan, self.reader, self.site, self.trouble = plan, Reader(plan), Site(plan), ""
+        self.plan_stamp = self.stamp_of_plan()
+        self.names = {player.name for player in plan.competition.players}
+        self.games: dict[str, Game] = {}
+        self.boards: dict[str, LiveBoard] = {}
+        self.followed: dict[str, Followed] = {}
+        self.rows: dict[str, tuple[int, tuple[str, str]]] = {}
+        self.tables: list[Table] = []
+        self.results: list[Result] = []
+        self.counted: dict[str, Result] = {}
+        self.standing: dict[str, str] = {}
+        self.own: dict[str, list[Result]] = {}
+        self.tables_version, self.next_tables = -1, 0.0
+
+    def stamp_of_plan(self) -> tuple:
+        """Returns what tells whether the plan was written anew."""
+        folder = self.plan.folder
+        found = []
+        for file in (folder.competition, folder.schedule, folder.rule_sums()):
+            try:
+                it = file.stat()
+                found.append((it.st_ino, it.st_mtime_ns, it.st_size))
+            except OSError:
+                found.append(None)
+        return tuple(found)
+
+    # ---- looking at the folder
+
+    def look(self) -> None:
+        """Reads what has come, and tells those who look at a page of which something has changed."""
+        with self.changed:
+            self.look_at_plan()
+            self.reader.look()
+            self.count_results()
+            wanted = self.wanted_boards()
+        followed = self.follow(wanted)
+        with self.changed:
+            self.followed |= followed
+            self.drop_idle_pages()
+            if any([self.renew(path, found) for path, found in self.pages.items() if found.viewers]):
+                self.changed.notify_all()
+
+    def look_at_plan(self) -> None:
+        """Begins anew where the competition was planned anew."""
+        stamp = self.stamp_of_plan()
+        if stamp == self.plan_stamp:
+            return
+        try:
+            plan = self.read_plan()
+        except (Refused, NoReferee, Unchecked, OSError) as why:
+            self.plan_stamp, self.trouble = stamp, f"the plan has changed, and can't be read: {why}"
+            self.reader.version += 1
+            return
+        self.token = f"{time.time_ns():x}"
+        for found in self.pages.values():
+            found.is_final = True
+        self.pages = OrderedDict()
+        self.begin(plan)
+
+    def count_results(self) -> None:
+        """Computes the tables where results have come, if that was not done just before."""
+        began = time.monotonic()
+        if self.tables_version == self.reader.results_version or began < self.next_tables:
+            return
+        self.results = in_order(self.plan, self.reader.results)
+        for result in self.results:
+            # A match that was played again has another result.
+            if self.counted.get(result.match.id) is not result:
+                self.site.add(result)
+                self.counted[result.match.id] = result
+        self.tables = tables_of(self.plan.competition, self.results, self.plan.rounds)
+        self.standing = standing_texts(self.tables[0])
+        self.own = {f"/games/{name}.html": found for name, found in by_game(self.results).items()}
+        self.own |= {f"/{page_name(name)}": found for name, found in by_player(self.results).items()}
+        self.tables_version = self.reader.results_version
+        ended = time.monotonic()
+        self.next_tables = ended + SHARE * (ended - began)
+
+    def wanted_boards(self) -> list[Seen]:
+        """Returns the open matches whose boards somebody looks at; the others are followed no more."""
+        now = time.monotonic()
+        looked = {path for path, found in self.pages.items() if found.viewers or now - found.touched < IDLE}
+        shown = self.reader.open_ones()[: live_pages.BOARDS] if "/index.html" in looked else []
+        names = {seen.match.id for seen in shown}
+        matches = (PATH.fullmatch(path) for path in looked)
+        names |= {found[3] for found in matches if found and found[2] == "matches" and found[3] in self.reader.open}
+        for name in self.boards.keys() - names:
+            del self.boards[name]
+            self.followed.pop(name, None)
+        self.rows = {name: found for name, found in self.rows.items() if name in self.reader.open}
+        return [self.reader.open[name] for name in names]
+
+    def follow(self, wanted: list[Seen]) -> dict[str, Followed]:
+        """Follows matches by their rules, each for its share of the time, and returns those that have gone on. Only the thread that looks
+        at the folder does so, and meanwhile others may ask for pages."""
+        ends, found = time.monotonic() + FOLLOW, {}
+        for at, seen in enumerate(wanted):
+            name, left = seen.match.id, max(0.0, ends - time.monotonic())
+            board = self.boards.get(name) or self.begin_board(seen)
+            board.follow(time.monotonic() + left / (len(wanted) - at))
+            if name not in self.followed or self.followed[name].version != board.version:
+                found[name] = Followed(board.version, live_pages.board_html(board), board.turn, tuple(board.turns))
+        return found
+
+    def begin_board(self, seen: Seen) -> LiveBoard:
+        game = self.games.get(seen.match.game)
+        if not game:
+            text = self.plan.rules[seen.match.game].text.decode("latin-1")
+            game = self.games[seen.match.game] = Game(expressions(text))
+        board = self.boards[seen.match.id] = LiveBoard(game, Tail(seen.tail.path), self.plan.competition.strikes)
+        return board
+
+    # ---- pages
+
+    def stamp(self, path: str) -> tuple | None:
+        """Returns what a page is made of: none where there is no such page. Where this is the same the page is the same."""
+        found = PATH.fullmatch(path)
+        if not found:
+            return None
+        if found[1] == "index":
+            return self.reader.version, self.tables_version, tuple(followed.version for followed in self.followed.values())
+        if found[1]:
+            return (self.tables_version,)
+        own = tuple(result.match.id for result in self.own.get(path, []))
+        if found[4]:
+            return (own, self.standing.get(found[4])) if found[4] in self.names else None
+        if found[2] == "games":
+            return (own,) if found[3] in self.plan.rules else None
+        return self.match_stamp(found[3])
+
+    def match_stamp(self, name: str) -> tuple | None:
+        if name not in self.reader.known or name in self.reader.results:
+            return None
+        seen = self.reader.open.get(name)
+        followed = self.followed.get(name)
+        return (seen.version, followed and followed.version) if seen else ("waits", self.reader.faults.get(name))
+
+    def make(self, path: str) -> tuple[str, PageParts]:
+        """Returns the title and the parts of a page that is there."""
+        found, competition = PATH.fullmatch(path), self.plan.competition.name
+        if found[1] == "index":
+            first, *rest = self.site.first_parts(self.tables, self.results)
+            live = live_pages.live_parts(self.reader, self.board_items(), self.open_rows(), self.trouble)
+            return titled(self.plan, ""), [first, *live[:3], *rest, *live[3:]]
+        if found[1]:
+            return titled(self.plan, "all matches"), self.site.all_matches(self.results)
+        if found[4]:
+            standing = self.standing.get(found[4], "It has played no match.")
+            return titled(self.plan, found[4]), self.site.player_parts(found[4], standing, self.own.get(path, []))
+        if found[2] == "games":
+            table = next(table for table in self.tables[1:] if table.game == found[3])
+            return titled(self.plan, found[3]), self.site.game_parts(table, self.own.get(path, []))
+        match, seen = self.reader.known[found[3]], self.reader.open.get(found[3])
+        if not seen:
+            return titled(self.plan, match.id), live_pages.waiting_match_parts(match, self.reader.faults.get(match.id, ""), competition)
+        followed = self.followed.get(match.id, Followed(0, "", 0, ()))
+        heads = live_pages.match_head(match, competition), self.plan.roles(match.game)
+        return titled(self.plan, match.id), live_pages.open_match_parts(seen, followed.state, followed.turn, followed.turns, *heads)
+
+    def board_items(self) -> list[tuple[str, str]]:
+        shown = [seen for seen in self.reader.open_ones()[: live_pages.BOARDS] if seen.match.id in self.followed and seen.stage != "asking"]
+        states = [self.followed[seen.match.id] for seen in shown]
+        return [live_pages.board_item(seen, followed.state, followed.turn) for seen, followed in zip(shown, states)]
+
+    def open_rows(self) -> list[tuple[str, str]]:
+        """Returns the rows of the open matches. A row is made again only where its match has changed."""
+        for seen in self.reader.open_ones():
+            if self.rows.get(seen.match.id, (None,))[0] != seen.version:
+                self.rows[seen.match.id] = seen.version, live_pages.open_row(seen)
+        return [self.rows[seen.match.id][1] for seen in self.reader.open_ones()]
+
+    def renew(self, path: str, found: OpenPage) -> bool:
+        """Makes a page again where its data changed. Returns whether those who look at it are to be told."""
+        stamp = self.stamp(path)
+        if stamp == found.stamp or found.is_final:
+            return False
+        found.stamp = stamp
+        if stamp is None:
+            # The match is over, and its page another one.
+            told, found.is_final = {"reload": True}, True
+        else:
+            found.title, parts = self.make(path)
+            told, found.parts = changes(found.parts, parts), parts
+        if told:
+            found.version += 1
+            found.events.append((found.version, event_text(f"{self.token}-{found.version}", told, time.time())))
+        return bool(told)
+
+    def opened(self, path: str) -> OpenPage | None:
+        """Returns a page as it is now, none where there is no such page, or it is that of a match that is over. To be called under the lock."""
+        found = self.pages.get(path)
+        if found:
+            self.renew(path, found)
+        if not found or found.is_final:
+            stamp = self.stamp(path)
+            if stamp is None or not self.tables:
+                return None
+            found = self.pages[path] = OpenPage(*self.make(path), stamp)
+        found.touched = time.monotonic()
+        self.pages.move_to_end(path)
+        return found
+
+    def drop_idle_pages(self) -> None:
+        now = time.monotonic()
+        idle = [path for path, found in self.pages.items() if not found.viewers and now - found.touched > IDLE]
+        rest = [path for path, found in self.pages.items() if not found.viewers and path not in idle]
+        for path in [*idle, *rest[: max(0, len(self.pages) - len(idle) - MOST_PAGES)]]:
+            del self.pages[path]

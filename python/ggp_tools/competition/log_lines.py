@@ -1,0 +1,62 @@
+"""The lines of a match's log: who was asked what, the answer, and the time that it took. Of a message and of an answer the referee shows
+the first 200 bytes. The time of day at which a line came may stand before it."""
+
+import datetime
+import re
+from dataclasses import dataclass
+
+LINE = re.compile(r"(?:(\d{4}-\d\d-\d\dT\d\d:\d\d:\d\d\.\d{3}Z) )?\S+ role (\d{1,9}) (\S+) message (\d{1,9}) (\((\w+) .*), (\d{1,18}) ms")
+SHOWN = 200
+MORE = ".."
+NO_ANSWER = re.compile(r"(TO|CE|lost)( \(.*\))?")
+
+
+@dataclass(frozen=True)
+class LogLine:
+    """A message to the player of a role, with its number from 1 on, and what came back after so many milliseconds."""
+
+    role: int
+    player: str
+    number: int
+    kind: str
+    message: str
+    answer: str
+    milliseconds: int
+    time: str | None = None
+
+    def moment(self) -> float | None:
+        """Returns when the answer was there, in seconds, where the log says it."""
+        try:
+            return datetime.datetime.fromisoformat(self.time.replace("Z", "+00:00")).timestamp() if self.time else None
+        except ValueError:
+            return None
+
+    def turn(self) -> int:
+        """Returns the turn that a PLAY asks for, from 1 on; START comes before turn 1."""
+        return self.number - 1
+
+    def is_no_answer(self) -> bool:
+        """Returns whether no answer came. A player that answers with these very words makes no legal move by them either."""
+        return NO_ANSWER.fullmatch(self.answer) is not None
+
+
+def message_end(text: str) -> int:
+    """Returns where the message ends that a text begins with: at its last parenthesis, or where the referee cut it."""
+    level = 0
+    for at, letter in enumerate(text[:SHOWN]):
+        level += (letter == "(") - (letter == ")")
+        if not level:
+            return at + 1
+    return SHOWN + len(MORE)
+
+
+def log_line(text: str) -> LogLine | None:
+    """Returns what a line says, none where it is no line of a message."""
+    found = LINE.fullmatch(text)
+    if not found:
+        return None
+    said = found[5]
+    end = message_end(said)
+    if said[end : end + 2] != ": ":
+        return None
+    return LogLine(int(found[2]), found[3], int(found[4]), found[6], said[:end], said[end + 2 :], int(found[7]), found[1])

@@ -1,0 +1,371 @@
+"""Serves the live pages of a competition to browsers: only these, read only, and to so many at a time."""
+
+import argparse
+import base64
+import contextlib
+import hashlib
+import ipaddress
+import socket
+import sys
+import threading
+import time
+from collections import OrderedDict
+from http import HTTPStatus
+from http.server import BaseHTTPRequestHandler, ThreadingHTTPServer
+
+from ggp_tools.competition.files import Refused
+from ggp_tools.competition.live_pages import LIVE_STYLE
+from ggp_tools.competition.live_site import PATH, LiveSite, OpenPage
+from ggp_tools.competition.page_parts import page
+from ggp_tools.competition.plan import read_plan
+from ggp_tools.competition.results import Result
+from ggp_tools.ground_games import MOST_CALLS
+from ggp_tools.human.server import is_own_name
+from ggp_tools.records.show import BOARD_STYLE, NoRecord
+from ggp_tools.referee import Referee
+from ggp_tools.reporting import say
+
+# The folder is looked at once in so many seconds, and a page that is told nothing for so many gets a line, by which a connection that is
+# gone is noticed. A browser without a script loads the page again after so many.
+INTERVAL, ALIVE, RELOAD = 1.0, 10.0, 10
+# A request has to be there after so many seconds, and what is sent has to be taken.
+PATIENCE = 20
+MOST_CONNECTIONS = 4_096
+# Of the pages of matches that are over so many bytes are kept.
+MOST_KEPT = 64 << 20
+BUSY = b"HTTP/1.0 503 Service Unavailable\r\nRetry-After: 10\r\nContent-Length: 0\r\nConnection: close\r\n\r\n"
+SCRIPT = """
+"use strict";
+const $ = (id) => document.getElementById(id);
+let skew = Date.now() / 1000 - Number(document.body.dataset.now);
+
+function spelled(seconds) {
+  const whole = Math.max(0, Math.floor(seconds)), two = (number) => String(number).padStart(2, "0");
+  return whole < 100 ? `${whole} s` : `${Math.floor(whole / 3600)}:${two(Math.floor(whole / 60) % 60)}:${two(whole % 60)}`;
+}
+
+function tick() {
+  const now = Date.now() / 1000 - skew;
+  for (const it of document.querySelectorAll("[data-since]")) it.textContent = spelled(now - Number(it.dataset.since));
+}
+
+function made(html) {
+  const room = document.createElement("template");
+  room.innerHTML = html;
+  return room.content.firstElementChild;
+}
+
+// The keyboard stays where it was: at the same link, or the same cell, of what is new.
+function replace(old, other) {
+  const reached = (it) => [...it.querySelectorAll("a, [tabindex]")], at = reached(old).indexOf(document.activeElement);
+  old.replaceWith(other);
+  if (at >= 0) reached(other)[at]?.focus({ preventScroll: true });
+}
+
+function change(told) {
+  if (told.reload) { location.reload(); return; }
+  skew = Date.now() / 1000 - told.now;
+  for (const name of told.drop) $(name)?.remove();
+  for (const [name, html] of told.set) if ($(name)) replace($(name), made(html));
+  for (const [place, before, html] of told.add) $(place)?.insertBefore(made(html), before && $(before));
+  tick();
+}
+
+function listen() {
+  const events = new EventSource(document.body.dataset.events);
+  events.onmessage = (event) => { $("lost").hidden = true; change(JSON.parse(event.data)); };
+  events.onopen = () => { $("lost").hidden = true; };
+  events.onerror = () => {
+    $("lost").hidden = false;
+    if (events.readyState === EventSource.CLOSED) setTimeout(() => location.reload(), 10000);
+  };
+}
+
+setInterval(tick, 1000);
+tick();
+listen();
+"""
+LOST = '<p id="lost" class="odd" role="status" hidden>The page is not told of changes: the server does not answer, or has too many visitors.</p>'
+
+
+def script_policy() -> str:
+    digest = base64.b64encode(hashlib.sha256(SCRIPT.encode()).digest()).decode()
+    return f"default-src 'none'; style-src 'unsafe-inline'; script-src 'sha256-{digest}'; connect-src 'self'; base-uri 'none'; form-action 'none'"
+
+
+def live_page(found: OpenPage, path: str, token: str) -> bytes:
+    """Returns a page that is told of changes from its version on."""
+    events = f"/events{path}?after={token}-{found.version}"
+    body = f' data-now="{time.time():.1f}" data-events="{events}"'
+    again = f'<noscript><meta http-equiv="refresh" content="{RELOAD}"></noscript>'
+    return page(found.title, found.parts, LIVE_STYLE + BOARD_STYLE, script_policy(), body, f"{LOST}{again}<script>{SCRIPT}</script>")
+
+
+class Handler(BaseHTTPRequestHandler):
+    """One request."""
+
+    timeout = PATIENCE
+    server: "Server"
+
+    def do_GET(self) -> None:
+        self.server.has_asked(self.connection)
+        if not self.server.is_open_to(self.headers["Host"] or ""):
+            self.send_error(HTTPStatus.FORBIDDEN)
+            return
+        asked, _, query = self.path.partition("?")
+        is_event = asked.startswith("/events/")
+        path = "/index.html" if asked == "/" else asked.removeprefix("/events") if is_event else asked
+        if not PATH.fullmatch(path):
+            self.send_error(HTTPStatus.NOT_FOUND)
+        elif is_event:
+            self.send_events(path, self.headers["Last-Event-ID"] or query.removeprefix("after="))
+        else:
+            self.send_page(path)
+
+    def refuse(self) -> None:
+        self.send_error(HTTPStatus.METHOD_NOT_ALLOWED)
+
+    do_HEAD = do_POST = do_PUT = do_DELETE = do_OPTIONS = do_PATCH = refuse
+
+    def send_page(self, path: str) -> None:
+        data = self.server.page(path)
+        if data is None:
+            self.send_error(HTTPStatus.NOT_FOUND)
+            return
+        self.begin("text/html; charset=utf-8")
+        self.send_header("Content-Length", str(len(data)))
+        self.end_headers()
+        self.wfile.write(data)
+
+    def begin(self, kind: str) -> None:
+        self.send_response(HTTPStatus.OK)
+        for name, value in (
+            ("Content-Type", kind), ("Cache-Control", "no-store"), ("X-Content-Type-Options", "nosniff"),
+            ("Referrer-Policy", "no-referrer"), ("X-Frame-Options", "DENY"),
+        ):
+            self.send_header(name, value)
+
+    def send_events(self, path: str, known: str) -> None:
+        """Sends what changes of a page, as long as the browser takes it."""
+        with self.server.viewing(path) as found:
+            if found is None:
+                self.send_error(HTTPStatus.SERVICE_UNAVAILABLE)
+                return
+            self.begin("text/event-stream")
+            self.end_headers()
+            version, is_last = self.server.version_of(known), False
+            while not is_last:
+                texts, version, is_last = self.server.next_events(found, version)
+                self.wfile.write(b"".join(texts) or b": still there\n\n")
+
+    def handle(self) -> None:
+        # A browser that goes, or that is too slow, ends its own connection alone.
+        with contextlib.suppress(OSError):
+            super().handle()
+
+    def log_message(self, format: str, *arguments: object) -> None:
+        pass
+
+    def version_string(self) -> str:
+        return "ggp_competition"
+
+
+class Server(ThreadingHTTPServer):
+    """The server of a competition's live pages."""
+
+    daemon_threads = True
+    request_queue_size = 128
+
+    def __init__(self, address: tuple[str, int], site: LiveSite, most: int) -> None:
+        if ":" in address[0]:
+            self.address_family = socket.AF_INET6
+        self.site, self.most, self.lock = site, most, threading.Lock()
+        # Of each connection since when it has not asked for anything yet; none once it has.
+        self.connections: dict[socket.socket, float | None] = {}
+        self.viewers, self.is_over = 0, threading.Event()
+        self.kept: OrderedDict[str, tuple[Result, bytes]] = OrderedDict()
+        super().__init__(address, Handler)
+
+    def server_bind(self) -> None:
+        # That of HTTPServer looks the address up, which may take long.
+        self.socket.setsockopt(socket.SOL_SOCKET, socket.SO_REUSEADDR, 1)
+        self.socket.bind(self.server_address)
+        self.server_address = self.socket.getsockname()
+        self.server_name, self.server_port = self.server_address[0], self.server_address[1]
+
+    # ---- connections
+
+    def process_request(self, request: socket.socket, client_address: object) -> None:
+        """Has a thread answer, unless there are too many already."""
+        with self.lock:
+            is_full = len(self.connections) >= self.most
+            if not is_full:
+                self.connections[request] = time.monotonic()
+        if is_full:
+            with contextlib.suppress(OSError):
+                request.settimeout(0)
+                request.send(BUSY)
+            self.close_request(request)
+            return
+        try:
+            super().process_request(request, client_address)
+        except RuntimeError:
+            # There is no thread for it.
+            self.shutdown_request(request)
+
+    def shutdown_request(self, request: socket.socket) -> None:
+        with self.lock:
+            self.connections.pop(request, None)
+        super().shutdown_request(request)
+
+    def has_asked(self, request: socket.socket) -> None:
+        with self.lock:
+            if request in self.connections:
+                self.connections[request] = None
+
+    def end_idle(self) -> None:
+        """Ends connections that ask for nothing."""
+        now = time.monotonic()
+        with self.lock:
+            idle = [request for request, since in self.connections.items() if since is not None and now - since > PATIENCE]
+        for request in idle:
+            with contextlib.suppress(OSError):
+                request.shutdown(socket.SHUT_RDWR)
+
+    def handle_error(self, request: object, client_address: object) -> None:
+        print(f"ggp_competition: a page could not be made: {sys.exc_info()[1]!r}", file=sys.stderr)
+
+    def is_open_to(self, host: str) -> bool:
+        """Returns whether a browser may ask under this name: at a loopback address no other site may give it a name of its own."""
+        return not host or not ipaddress.ip_address(self.server_name).is_loopback or is_own_name(host, "localhost")
+
+    # ---- pages
+
+    def page(self, path: str) -> bytes | None:
+        """Returns the page at a path, none where there is none."""
+        with self.site.changed:
+            found = self.site.opened(path)
+            if found:
+                return live_page(found, path, self.site.token)
+            match = PATH.fullmatch(path)
+            result = self.site.reader.results.get(match[3]) if match[2] == "matches" else None
+            if not result:
+                return None
+            if path in self.kept and self.kept[path][0] is result:
+                self.kept.move_to_end(path)
+                return self.kept[path][1]
+        return self.keep(path, result)
+
+    def keep(self, path: str, result: Result) -> bytes | None:
+        """Returns the page of a match that is over, and keeps it for a while; none where its record is there no more."""
+        try:
+            record = self.site.plan.folder.record(result.match.id).read_bytes()
+            data = self.site.site.match_page(result, record)
+        except (OSError, NoRecord):
+            return None
+        with self.site.changed:
+            self.kept[path] = result, data
+            while sum(len(kept) for _, kept in self.kept.values()) > MOST_KEPT:
+                self.kept.popitem(last=False)
+        return data
+
+    @contextlib.contextmanager
+    def viewing(self, path: str):
+        """Gives a page to somebody who is told of its changes: none where there is none, or too many look at pages."""
+        with self.site.changed:
+            found = self.site.opened(path) if self.viewers < self.most - self.most // 8 else None
+            if found:
+                found.viewers, self.viewers = found.viewers + 1, self.viewers + 1
+        try:
+            yield found
+        finally:
+            if found:
+                with self.site.changed:
+                    found.viewers, self.viewers = found.viewers - 1, self.viewers - 1
+                    found.touched = time.monotonic()
+
+    def version_of(self, known: str) -> int:
+        """Returns the version that a browser knows: one before all others where it is none of this run."""
+        token, _, number = known.rpartition("-")
+        return int(number) if token == self.site.token and number.isdecimal() and len(number) < 12 else -1
+
+    def next_events(self, found: OpenPage, version: int) -> tuple[list[bytes], int, bool]:
+        """Waits until a page has changed since a version. Returns what has changed, the version, and whether nothing more will."""
+        changed = self.site.changed
+        with changed:
+            changed.wait_for(lambda: found.version != version or found.is_final or self.is_over.is_set(), ALIVE)
+            texts = found.since(version)
+            if texts is None or found.is_final:
+                return [b'data: {"reload": true}\n\n'], found.version, True
+            return texts, found.version, self.is_over.is_set()
+
+    def watch(self) -> None:
+        """Looks at the folder until the server is over."""
+        sys.setrecursionlimit(MOST_CALLS)
+        told = ""
+        while not self.is_over.wait(INTERVAL):
+            try:
+                self.site.look()
+            except Exception as why:
+                # The next look may do better; what is there already stays as it is.
+                if repr(why) != told:
+                    told = repr(why)
+                    print(f"ggp_competition: the folder could not be looked at: {told}", file=sys.stderr)
+            self.end_idle()
+
+
+def port(text: str) -> int:
+    found = int(text)
+    if not 0 <= found <= 65_535:
+        raise argparse.ArgumentTypeError(f"{found} is not from 0 to 65,535")
+    return found
+
+
+def visitors(text: str) -> int:
+    found = int(text)
+    if not 1 <= found <= MOST_CONNECTIONS:
+        raise argparse.ArgumentTypeError(f"{found} is not from 1 to {MOST_CONNECTIONS:,}")
+    return found
+
+
+def address(text: str) -> str:
+    try:
+        return str(ipaddress.ip_address(text))
+    except ValueError:
+        raise argparse.ArgumentTypeError(f"{text} is no address, as 127.0.0.1 or ::1") from None
+
+
+def add_serve(command: argparse.ArgumentParser) -> None:
+    """Adds what `serve` may be told."""
+    command.add_argument("--port", type=port, default=8_000, metavar="P", help="the port (8000); 0: any that is free")
+    text = "the address at which it listens (127.0.0.1, which this computer alone can reach; 0.0.0.0: all)"
+    command.add_argument("--bind", type=address, default="127.0.0.1", metavar="ADDRESS", help=text)
+    command.add_argument("--connections", type=visitors, default=256, metavar="N", help="at most N connections at once (256)")
+
+
+def run_serve(asked: argparse.Namespace, referee: Referee) -> int:
+    site = LiveSite(read_plan(asked.folder, referee), lambda: read_plan(asked.folder, referee))
+    site.look()
+    try:
+        server = Server((asked.bind, asked.port), site, asked.connections)
+    except OSError as why:
+        raise Refused(f"{asked.bind} port {asked.port} can't be served: {why.strerror}") from None
+    host = f"[{server.server_name}]" if ":" in server.server_name else server.server_name
+    say(f"http://{host}:{server.server_port}/")
+    serve(server)
+    return 0
+
+
+def serve(server: Server) -> None:
+    """Serves until it is interrupted."""
+    watching = threading.Thread(target=server.watch, daemon=True)
+    watching.start()
+    try:
+        server.serve_forever()
+    except KeyboardInterrupt:
+        pass
+    finally:
+        server.is_over.set()
+        with server.site.changed:
+            server.site.changed.notify_all()
+        server.server_close()
