@@ -13,12 +13,21 @@ returns-in-Ok-clause-fails g c =
     let checked = c.in-Ok.ensures.verdicts in
     let no_fault = c.in-Ok.ensures.no_fault in
     rw c.in-VerifyLines.is (IfErr-weaker c.unless_none-in-Ok.result _ _
-        (λ fault it. inl (c.in-Ok.counts.unlawful, it.0, it.1, (checked.0, verdict_lines checked.1,
-            record {
-              read = checked.2;
-              ended = checked.3;
-              wrote = checked.5;
-              no_read_fault = no_fault.0;
-              no_write_fault = no_fault.1;
-            }, (checked.1, checked.4, refl, checked.6))))
-        c.unless_none-in-Ok.ensures.some)
+    (λ fault it. inl (
+      c.in-Ok.counts.unlawful,
+      it.0,
+      it.1,
+      (
+        checked.0,
+        verdict_lines checked.1,
+        record {
+          read = checked.2;
+          ended = checked.3;
+          wrote = checked.5;
+          no_read_fault = no_fault.0;
+          no_write_fault = no_fault.1;
+        },
+        (checked.1, checked.4, refl, checked.6),
+      ),
+    ))
+    c.unless_none-in-Ok.ensures.some)
