@@ -14,7 +14,7 @@ import unittest
 
 from ggp_tools.competition.children import UNSAID, end_with
 from ggp_tools.competition.files import held
-from ggp_tools.competition.playing import interrupts_counted
+from ggp_tools.competition.playing import MOST_LINES, interrupts_counted
 from tests.players import TestPlayer
 from tests.support import GAMES, InFolder, program, program_but, run, run_into_full, start
 
@@ -232,8 +232,36 @@ class Play(InFolder):
     def test_one_interrupt_waits_for_open_matches(self):
         out = self.interrupted(signal.SIGINT)
         self.assertEqual(len(lines(out, "begin")), len(lines(out, "end")))
-        self.assertEqual(len(lines(out, "missing")), 12 - len(lines(out, "end")))
+        missing = 12 - len(lines(out, "end"))
+        self.assertEqual(len(lines(out, "missing")), missing if missing <= MOST_LINES else 1)
         self.assertEqual([player.aborted for player in self.players], [[]] * 4)
+
+    def test_one_interrupt_tells_the_number_of_what_is_missing(self):
+        self.planned(["slow"] * 8)
+        playing = start(self.folder, "play", "--at-once", "1")
+        while not list((self.folder / "open").glob("*/players")):
+            time.sleep(0.02)
+        playing.send_signal(signal.SIGINT)
+        out, said = playing.communicate(timeout=600)
+        self.assertEqual((playing.returncode, said, len(lines(out, "missing"))), (1, "", 1))
+        count = 56 - len(lines(out, "end"))
+        self.assertIn(f"missing {count} matches, {self.schedule[56 - count][0]} to cup-056: it was not begun\n{56 - count} of 56 matches have", out)
+
+    def test_a_run_after_a_killed_one_tells_at_once_for_whom_it_waits(self):
+        self.planned(["slow", "slow"])
+        playing = start(self.folder, "play")
+        while not self.players[0].matches:
+            time.sleep(0.02)
+        playing.kill()
+        playing.communicate()
+        # It comes before anything is looked at or sent.
+        waiting = program_but(self.folder / "waiting", '"$1" = abort', "sleep 60")
+        playing = start(self.folder, "play", "--program", waiting)
+        self.assertEqual(playing.stdout.readline(), "open 1 matches, when a play before this one was ended; their players are sent ABORT\n")
+        self.assertEqual([player.aborted for player in self.players], [[], []])
+        playing.kill()
+        playing.communicate()
+        self.assertEqual(run(self.folder, "play")[0], 0)
 
     def test_a_second_interrupt_ends_them_and_frees_the_players(self):
         self.look_at_ended_ones(self.interrupted(signal.SIGINT, signal.SIGINT))
@@ -344,13 +372,15 @@ class Play(InFolder):
         self.assertEqual((status, away.aborted, lines(out, "no answer"), len(lines(out, "end"))), (0, ["cup-001"], [], 1), out)
         self.assertFalse(players.exists())
 
-    def test_a_referee_that_is_killed_on_a_host_costs_its_match_alone(self):
-        self.planned(["good"] * 3, head=f'{HEAD}hosts = ["nowhere"]\n')
-        parallel = self.folder / "parallel"
-        parallel.write_text('#!/bin/bash\nmkdir "$0.once" 2> /dev/null && exit 1\nexec bash -c "$(cat)"\n')
-        parallel.chmod(0o755)
-        status, out, _ = run(self.folder, "play", env={**os.environ, "PATH": f"{self.folder}:{os.environ['PATH']}"})
-        self.assertEqual((status, len(lines(out, "no record")), len(lines(out, "abort")), len(lines(out, "end"))), (1, 1, 1, 5), out)
+    def test_a_journal_that_can_not_be_written_ends_no_open_match(self):
+        self.planned(["good"] * 3)
+        (self.folder / "play.log").symlink_to("/dev/full")
+        status, out, _ = run(self.folder, "play", "--at-once", "1")
+        told = ["play.log is not written, and no more matches begin: No space left on device"]
+        self.assertEqual((status, lines(out, "play.log"), [player.matches for player in self.players]), (1, told, [{}] * 3), out)
+        (self.folder / "play.log").unlink()
+        self.assertEqual(run(self.folder, "play")[0], 0)
+        self.assert_sound(self.schedule)
 
     def test_two_runs_in_one_folder(self):
         self.planned(["slow", "slow"])
