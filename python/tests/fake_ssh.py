@@ -11,6 +11,8 @@ lost() {
     exit 255
 }
 [ -e "$folder/lost.$host" ] && lost
+# So a shell may greet who logs in.
+echo "welcome to $host" >&2
 exec 3<&0
 setsid bash -c "$command" <&3 3<&- &
 exec 3<&- < /dev/null

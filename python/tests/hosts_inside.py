@@ -32,6 +32,7 @@ PasswordAuthentication no
 KbdInteractiveAuthentication no
 UsePAM no
 StrictModes no
+SetEnv HOME={room}
 """
 SSH = """#!/bin/sh
 exec {ssh} -F /dev/null -i {room}/key -o StrictHostKeyChecking=no -o UserKnownHostsFile=/dev/null -o LogLevel=ERROR "$@"
@@ -56,7 +57,7 @@ class Machine:
 
     def __init__(self, number):
         self.link, self.at = f"line{number}", f"10.77.{number}.2"
-        self.holder = subprocess.Popen(["unshare", "--net", "sleep", "300"], **QUIET)
+        self.holder = subprocess.Popen(["unshare", "--net", "sleep", "3000"], **QUIET)
         self.sshd = None
         while os.readlink(f"/proc/{self.holder.pid}/ns/net") == os.readlink("/proc/self/ns/net"):
             time.sleep(0.01)

@@ -187,7 +187,7 @@ class ManyHosts(InFolder):
         self.assertEqual([player.begun for player in self.players], [["cup-001"] * 2] * 2)
         self.assertEqual([(player.aborted, player.clashes) for player in self.players], [(["cup-001"], [])] * 2)
         log = (self.folder / "logs/cup-001.txt").read_text()
-        form = rf"began {MOMENT}\nhost a\n(?:{MOMENT} .*\n)+lost {MOMENT} ssh: .*\nbegan {MOMENT}\nhost b\n(?:{MOMENT} .*\n)+ended {MOMENT}\n"
+        form = rf"{MOMENT} welcome to a\nbegan {MOMENT}\nhost a\n(?:{MOMENT} .*\n)+lost {MOMENT} ssh: .*\n{MOMENT} welcome to b\nbegan {MOMENT}\nhost b\n(?:{MOMENT} .*\n)+ended {MOMENT}\n"
         self.assertRegex(log, rf"\A{form}\Z")
         began = re.findall(r"(?m)^began (.*)$", log)
         match = json.loads((self.folder / "matches.jsonl").read_text())

@@ -382,25 +382,30 @@ class Play(InFolder):
         self.assertEqual(run(self.folder, "play")[0], 0)
         self.assert_sound(self.schedule)
 
-    def test_two_runs_in_one_folder(self):
+    def held_up(self):
+        """Plays until a match is open, which goes on once the file `go` is there."""
         self.planned(["slow", "slow"])
-        playing = start(self.folder, "play")
+        waiting = program_but(self.folder / "waiting", '"$1" = run', f"until [ -e {self.folder}/go ]; do sleep 0.05; done")
+        playing = start(self.folder, "play", "--program", waiting)
         while not list((self.folder / "open").glob("*/players")):
             time.sleep(0.02)
+        return playing
+
+    def test_two_runs_in_one_folder(self):
+        playing = self.held_up()
         self.assertEqual(run(self.folder, "play"), (2, "", "ggp_competition: .: another run plans, plays or publishes this competition\n"))
+        (self.folder / "go").touch()
         playing.communicate(timeout=600)
         self.assertEqual(playing.returncode, 0)
 
     def test_no_plan_is_made_while_matches_are_played(self):
-        self.planned(["slow", "slow"])
+        playing = self.held_up()
         file, before = self.folder / "competition.toml", (self.folder / "schedule.tsv").read_bytes()
         text = file.read_text()
-        playing = start(self.folder, "play")
-        while not list((self.folder / "open").glob("*/players")):
-            time.sleep(0.02)
         file.write_text(text.replace("play = 5", "play = 6"))
         self.assertEqual(run(self.folder, "plan"), (2, "", "ggp_competition: .: another run plans, plays or publishes this competition\n"))
         file.write_text(text)
+        (self.folder / "go").touch()
         playing.communicate(timeout=600)
         self.assertEqual((playing.returncode, (self.folder / "schedule.tsv").read_bytes()), (0, before))
         self.assertEqual(run(self.folder, "play"), (0, "2 of 2 matches have a lawful record\n", ""))

@@ -188,16 +188,25 @@ class OpenMatch:
 
     def connect(self, child):
         """Waits until a process plays the match on its host, or is over."""
-        while not child.is_over() and not self.was_reached(child):
-            yield
+        is_reached = yield from self.hear(child, CONNECTED)
         self.end_connecting()
-        if self.was_reached(child):
+        if is_reached:
             self.reporter.begins(self.match, self.host)
-        message = f"{self.match.id} role ".encode()
-        while not (is_played := message in child.said.read_bytes()) and not child.is_over():
-            yield
-        if is_played:
+        if (yield from self.hear(child, f" {self.match.id} role ")):
             self.shared.hosts.was_there(self.host)
+
+    def hear(self, child, text):
+        """Waits until a process has said a text, or is over. Returns whether it has."""
+        count = -1
+        while True:
+            is_over = child.is_over()
+            if child.lines.count != count:
+                count = child.lines.count
+                if text.encode() in child.said.read_bytes():
+                    return True
+            if is_over:
+                return False
+            yield
 
     def begin_connecting(self):
         self.connects = True
@@ -209,8 +218,8 @@ class OpenMatch:
         self.connects = False
 
     def was_reached(self, child):
-        """Returns whether a process has reached its host."""
-        return CONNECTED in child.said.read_text("ascii", "replace").partition("\n")[0]
+        """Returns whether a process has reached its host. The shell there may say something before."""
+        return CONNECTED.encode() in child.said.read_bytes()
 
     def log_of(self, child, host):
         """Returns what a process that played the match has said, with the times, and when the match began. On a host it begins when that
@@ -218,10 +227,11 @@ class OpenMatch:
         timed = child.timed_bytes()
         if not host:
             return f"began {child.began_at}\n".encode() + timed
-        if not self.was_reached(child):
+        before, _, after = timed.partition(f" {CONNECTED}\n".encode())
+        if not after and not self.was_reached(child):
             return timed
-        first, _, rest = timed.partition(b"\n")
-        return b"began %s\nhost %s\n" % (first.split()[0], host.encode()) + rest
+        lines = before.splitlines(keepends=True)
+        return b"".join(lines[:-1]) + b"began %s\nhost %s\n" % (lines[-1], host.encode()) + after
 
     def move_on(self, child, times_left):
         """Leaves a host that is lost. Returns whether the match has another one, on which it can begin."""

@@ -30,6 +30,8 @@ class TimedLines:
     def __init__(self, pipe: IO[bytes], path: pathlib.Path, beaten: IO[bytes] | None) -> None:
         self.pipe, self.file, self.beaten = pipe, open(path, "wb", buffering=0), beaten
         self.rest, self.is_over = b"", False
+        # How often something was written, so that nobody has to read the file to see that.
+        self.count = 0
         # The first fault of the file. What comes after it is lost, and the pipe is read to its end all the same.
         self.fault: OSError | None = None
 
@@ -45,6 +47,7 @@ class TimedLines:
                 self.file.write(b"".join(b"%s %s\n" % (now, line) for line in lines))
             except OSError as why:
                 self.fault = OSError(why.errno, why.strerror, self.file.name)
+            self.count += 1
         return bool(data)
 
     def beat(self) -> None:
