@@ -4,6 +4,7 @@ import json
 import os
 import pathlib
 import pty
+import resource
 import shutil
 import signal
 import subprocess
@@ -202,6 +203,15 @@ class Play(InFolder):
         found = self.most_at_once(("concurrent = 3",), 3)
         self.assertGreater(found, 1)
         self.assertLessEqual(found, 3)
+
+    def test_more_matches_than_a_shell_lets_files_be_open(self):
+        self.planned(["good"] * 4, more=("concurrent = 12",), most=12)
+        (self.folder / "begun").mkdir()
+        together = f"mkdir {self.folder}/begun/$$; until [ $(ls {self.folder}/begun | wc -l) -ge 12 ]; do sleep 0.1; done"
+        few = {"preexec_fn": lambda: resource.setrlimit(resource.RLIMIT_NOFILE, (24, resource.getrlimit(resource.RLIMIT_NOFILE)[1]))}
+        words = "play", "--at-once", "12", "--program", program_but(self.folder / "waiting", '"$1" = run', together)
+        self.assertEqual(run(self.folder, *words, **few)[::2], (0, ""))
+        self.assert_sound(self.schedule)
 
     def test_a_short_outage_is_one_try_of_a_player_with_several_seats(self):
         self.planned(["good"] * 3, head=HEAD.replace("wait = 1", "wait = 4"), more=("concurrent = 4",), most=4)

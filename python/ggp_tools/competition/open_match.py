@@ -3,6 +3,7 @@
 import dataclasses
 import shutil
 import time
+from collections.abc import Generator
 
 from ggp_tools.competition import described
 from ggp_tools.competition.children import Child, TimedChild
@@ -10,6 +11,7 @@ from ggp_tools.competition.files import write_whole
 from ggp_tools.competition.hosts import CONNECTED, LOST, SILENCE, Hosts, remote_words
 from ggp_tools.competition.kept import fault_of_files, keep
 from ggp_tools.competition.plan import Plan
+from ggp_tools.competition.schedule import Match
 from ggp_tools.competition.seats import Seats
 from ggp_tools.competition.timed_lines import LineReader
 from ggp_tools.referee import PROGRAM, Referee, is_no_answer, is_not_lawful, is_not_replayed
@@ -39,7 +41,7 @@ class OpenMatch:
     """A match that is open. `stage` is asking, playing, checking or over; then there is a result, or a word why there is none, or
     neither where the match is to be put back. Its host has room for it, where there are any."""
 
-    def __init__(self, shared, match, host=None):
+    def __init__(self, shared: Shared, match: Match, host: str | None = None) -> None:
         self.shared, self.match, self.host = shared, match, host
         self.plan, self.referee, self.seats, self.reporter = shared.plan, shared.referee, shared.seats, shared.reporter
         self.room = self.plan.folder.open / match.id
@@ -66,12 +68,12 @@ class OpenMatch:
             yield from self.check(*played)
         self.close()
 
-    def leave(self):
+    def leave(self) -> None:
         """Has its players and its host go to other matches."""
         self.seats.leave(self.match)
         self.leave_host()
 
-    def leave_host(self):
+    def leave_host(self) -> None:
         if self.host:
             self.end_connecting()
             self.shared.hosts.leave(self.host)
@@ -136,7 +138,7 @@ class OpenMatch:
                 self.reporter.line(f"absent {self.match.id}: {name} is silent, and the match is played")
         return not left and not again
 
-    def outcome(self, child):
+    def outcome(self, child: Child) -> str:
         """Returns what came of an INFO. Who was refused, or lost the connection, is told from who let the seconds pass by the time alone."""
         seconds = time.monotonic() - child.began
         if not child.is_over():
@@ -145,7 +147,7 @@ class OpenMatch:
             return f"{'refused' if seconds < WHOLE else 'silent'}, {seconds:.1f} s"
         return f"{child.last_words() if child.status() else child.output().decode().strip()}, {seconds:.1f} s"
 
-    def play(self):
+    def play(self) -> Generator[None, None, tuple[bytes, bytes] | None]:
         """Plays the match; where its host is lost, again on another one. Returns what the referee wrote, and the log of what it said and
         when; none where it gives no record."""
         competition = self.plan.competition
@@ -160,13 +162,13 @@ class OpenMatch:
                 return child.output(), log + f"ended {moment()}\n".encode()
             if not host or self.was_reached(child) and child.status() not in LOST:
                 break
-            log += f"lost {moment()} {child.last_words()}\n".encode()
+            log += f"lost {moment()} {child.last_words()}\n".encode("ascii", "replace")
             if not (yield from self.move_on(child, times_left)):
                 break
         self.why, self.is_broken = self.why or child.last_words(self.is_word), True
         return None
 
-    def run(self):
+    def run(self) -> Generator[None, None, TimedChild]:
         """Has the referee play the match, and returns its process once that is over."""
         competition, match = self.plan.competition, self.match
         rules, told = self.plan.folder.rules_of(match.game).absolute(), self.plan.told_path(match.game)
@@ -186,7 +188,7 @@ class OpenMatch:
             yield
         return child
 
-    def connect(self, child):
+    def connect(self, child: TimedChild) -> Generator[None, None, None]:
         """Waits until a process plays the match on its host, or is over."""
         is_reached = yield from self.hear(child, CONNECTED)
         self.end_connecting()
@@ -195,7 +197,7 @@ class OpenMatch:
         if (yield from self.hear(child, f" {self.match.id} role ")):
             self.shared.hosts.was_there(self.host)
 
-    def hear(self, child, text):
+    def hear(self, child: TimedChild, text: str) -> Generator[None, None, bool]:
         """Waits until a process has said a text, or is over. Returns whether it has."""
         count = -1
         while True:
@@ -208,20 +210,20 @@ class OpenMatch:
                 return False
             yield
 
-    def begin_connecting(self):
+    def begin_connecting(self) -> None:
         self.connects = True
         self.shared.hosts.connecting[self.host] += 1
 
-    def end_connecting(self):
+    def end_connecting(self) -> None:
         if self.connects:
             self.shared.hosts.connecting[self.host] -= 1
         self.connects = False
 
-    def was_reached(self, child):
+    def was_reached(self, child: TimedChild) -> bool:
         """Returns whether a process has reached its host. The shell there may say something before."""
         return CONNECTED.encode() in child.said.read_bytes()
 
-    def log_of(self, child, host):
+    def log_of(self, child: TimedChild, host: str | None) -> bytes:
         """Returns what a process that played the match has said, with the times, and when the match began. On a host it begins when that
         is reached."""
         timed = child.timed_bytes()
@@ -233,7 +235,7 @@ class OpenMatch:
         lines = before.splitlines(keepends=True)
         return b"".join(lines[:-1]) + b"began %s\nhost %s\n" % (lines[-1], host.encode()) + after
 
-    def move_on(self, child, times_left):
+    def move_on(self, child: TimedChild, times_left: int) -> Generator[None, None, bool]:
         """Leaves a host that is lost. Returns whether the match has another one, on which it can begin."""
         hosts, lost = self.shared.hosts, self.host
         follows = hosts.was_lost(lost, child.began)
@@ -253,7 +255,7 @@ class OpenMatch:
         self.why = f"its host is lost: {child.last_words()}"
         return False
 
-    def free_players(self):
+    def free_players(self) -> Generator[None, None, None]:
         """Sends its players ABORT, since the match that they sit in is lost."""
         sent = [self.child(self.referee.abort_words(self.match.id, place), f"abort-{at}") for at, place in enumerate(self.places)]
         until = time.monotonic() + ABORT_SECONDS
@@ -264,7 +266,7 @@ class OpenMatch:
             self.reporter.note(f"abort {self.match.id} {player}: {'answered' if is_freed else 'no answer'}")
             child.end()
 
-    def is_word(self, line):
+    def is_word(self, line: str) -> bool:
         """Returns whether a line of the referee's standard error says more than its log, which may be cut off."""
         if self.plan.competition.hosts:
             return not line.startswith((f"{self.match.id} role ", CONNECTED))

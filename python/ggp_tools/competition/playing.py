@@ -4,9 +4,11 @@ import collections
 import contextlib
 import errno
 import os
+import resource
 import shutil
 import signal
 import time
+from collections.abc import Iterator
 
 from ggp_tools.competition.aborts import send_aborts
 from ggp_tools.competition.children import UNSAID
@@ -15,12 +17,15 @@ from ggp_tools.competition.files import Refused
 from ggp_tools.competition.hosts import Hosts
 from ggp_tools.competition.kept import look_at_records, set_aside, strangers
 from ggp_tools.competition.open_match import OpenMatch, Shared
+from ggp_tools.competition.schedule import Match
 from ggp_tools.competition.time_left import TimeLeft
 from ggp_tools.competition.timed_lines import LineReader
 
 REST = 0.02
 # Who ends open matches does not wait longer than so many seconds for their players to answer ABORT.
 ABORT_SECONDS = 3
+# So many open files are enough for as many matches at once as may be.
+DESCRIPTORS = 4_096
 NOT_BEGUN = "it was not begun"
 # So many matches that are missing for one reason have a line each; of more the number is told.
 MOST_LINES = 10
@@ -42,12 +47,12 @@ class Playing:
         self.time_left = TimeLeft(competition)
         self.ended = lambda result: None
 
-    def wait(self, match):
+    def wait(self, match: Match) -> None:
         """Has a match wait behind the others."""
         self.waiting.append(match)
         self.time_left.add(match)
 
-    def may_begin(self):
+    def may_begin(self) -> bool:
         """Returns whether further matches may begin."""
         return not self.interrupts and not self.is_full and not (self.hosts and self.hosts.are_all_lost())
 
@@ -134,13 +139,13 @@ class Playing:
         self.look_at_journal()
         self.reporter.clear()
 
-    def look_at_journal(self):
+    def look_at_journal(self) -> None:
         """Has no further match begin where nothing can be added to the journal."""
         if (fault := self.reporter.journal.fault) and not self.is_full:
             self.is_full = True
             self.reporter.line(f"{fault.filename} is not written, and no more matches begin: {fault.strerror}")
 
-    def seconds_left(self):
+    def seconds_left(self) -> float | None:
         """Returns how many seconds the rest takes; none where that is not known yet."""
         now = time.monotonic()
         at_once = min(self.at_once, self.hosts.all_room()) if self.hosts else self.at_once
@@ -262,8 +267,17 @@ def interrupts_counted(playing):
             signal.signal(number, handler)
 
 
+def allow_descriptors() -> None:
+    """Has this process open more files than a shell mostly lets it: each open match takes up to three."""
+    soft, hard = resource.getrlimit(resource.RLIMIT_NOFILE)
+    wanted = DESCRIPTORS if hard == resource.RLIM_INFINITY else min(hard, DESCRIPTORS)
+    if soft != resource.RLIM_INFINITY and soft < wanted:
+        resource.setrlimit(resource.RLIMIT_NOFILE, (wanted, hard))
+
+
 def play(playing):
     """Plays, in a folder that is held. Returns for each match that has no lawful record why."""
+    allow_descriptors()
     prepared(playing)
     with interrupts_counted(playing):
         playing.go()
@@ -271,9 +285,9 @@ def play(playing):
     return {match: playing.left.get(match, why) for match, why in missing.items()}
 
 
-def said_of_missing(missing):
+def said_of_missing(missing: dict[str, str]) -> Iterator[str]:
     """Gives lines that say which matches are missing, and why: the number alone where many are for one reason, or were not begun."""
-    by_reason = {}
+    by_reason: dict[str, list[str]] = {}
     for match, why in missing.items():
         by_reason.setdefault(why, []).append(match)
     for why, matches in by_reason.items():
