@@ -1,12 +1,18 @@
 """Reports while matches are played: a line when each begins and ends, and on a terminal the progress of all of them."""
 
+import errno
 import os
+import pathlib
+import re
 import sys
 import time
+from collections.abc import Callable
 
 from ggp_tools.competition.results import forfeit_words
+from ggp_tools.moments import moment
 
 REDRAWN = 0.5
+NOT_PLAIN = re.compile(r"[^\x20-\x7e]")
 
 
 def lead_nowhere(output):
@@ -44,15 +50,45 @@ def spell(seconds):
     return f"{minutes // 60}:{minutes % 60:02}:{rest:02}"
 
 
+class Journal:
+    """A file to which lines are added, each with its time. It is opened for the first line, and a line that was cut off is ended before."""
+
+    def __init__(self, path: pathlib.Path) -> None:
+        self.path, self.file = path, -1
+        self.fault: OSError | None = None
+
+    def is_open(self) -> bool:
+        return self.file >= 0
+
+    def open(self) -> None:
+        self.file = os.open(self.path, os.O_RDWR | os.O_APPEND | os.O_CREAT | os.O_CLOEXEC, 0o666)
+        size = os.fstat(self.file).st_size
+        if size and os.pread(self.file, 1, size - 1) != b"\n":
+            os.write(self.file, b"\n")
+
+    def write(self, text: str) -> None:
+        """Adds a line. The first fault is kept, and ends the file; who is at play looks at it."""
+        if self.fault:
+            return
+        line = f"{moment()} {NOT_PLAIN.sub('?', text)}\n".encode("ascii")
+        try:
+            if not self.is_open():
+                self.open()
+            if os.write(self.file, line) < len(line):
+                raise OSError(errno.ENOSPC, os.strerror(errno.ENOSPC))
+        except OSError as why:
+            self.fault = OSError(why.errno, why.strerror, str(self.path))
+
+
 class Reporter:
     """Writes lines to standard output and, if standard error is a terminal, one line there that is rewritten. The first fault of
     standard output is kept, since matches are open whose players must not be left. A terminal that is gone is no fault: that line shows
     nothing that is not said elsewhere."""
 
-    def __init__(self):
-        self.fault = None
+    def __init__(self, journal: Journal | None = None) -> None:
+        self.fault, self.journal = None, journal
         self.is_shown = sys.stderr.isatty()
-        self.drawn, self.began, self.over_at_first = 0.0, time.monotonic(), None
+        self.drawn = 0.0
 
     def draw(self, text):
         """Rewrites the line of the terminal."""
@@ -67,15 +103,32 @@ class Reporter:
     def clear(self):
         self.draw("")
 
-    def line(self, text):
+    def note(self, text: str) -> None:
+        """Has a line in the journal alone."""
+        if self.journal:
+            self.journal.write(text)
+
+    def line(self, text: str) -> None:
+        """Writes a line, also into the journal."""
+        self.note(text)
+        self.say(text)
+
+    def sum_up(self, text: str) -> None:
+        """Writes a line that says how it stands. The journal has it where it has what led to it."""
+        if self.journal and self.journal.is_open():
+            self.note(text)
+        self.say(text)
+
+    def say(self, text: str) -> None:
         self.clear()
         try:
             say(text)
         except OSError as why:
             self.fault = why
 
-    def begins(self, match):
-        self.line(f"begin {match.id} {match.game} {' '.join(match.players)}")
+    def begins(self, match, host=None):
+        place = f" on {host}" if host else ""
+        self.line(f"begin {match.id} {match.game} {' '.join(match.players)}{place}")
 
     def ends(self, result, seconds):
         """Says of each player its goal, how many of its moves were replaced, and whether it has lost by forfeit, why, and what counts."""
@@ -89,13 +142,11 @@ class Reporter:
         said += [forfeit_words(result)] if result.forfeits() else []
         self.line(f"end {match.id} {match.game} {', '.join(said)}, {seconds:.1f} s")
 
-    def progress(self, over, open_ones, to_come):
-        """Shows how far the matches are, and how long the rest takes if it goes on so."""
+    def progress(self, over: int, open_ones: int, to_come: int, left: Callable[[], float | None]) -> None:
+        """Shows how far the matches are, and how many seconds the rest takes, which is asked for only where it is shown."""
         now = time.monotonic()
-        if self.over_at_first is None:
-            self.over_at_first = over
         if not self.is_shown or now - self.drawn < REDRAWN:
             return
-        self.drawn, done = now, over - self.over_at_first
-        left = spell((now - self.began) / done * (open_ones / 2 + to_come)) if done else "unknown"
-        self.draw(f"over {over}, open {open_ones}, to come {to_come}, left {left}")
+        self.drawn, seconds = now, left()
+        said = "unknown" if seconds is None else spell(seconds)
+        self.draw(f"over {over}, open {open_ones}, to come {to_come}, left {said}")

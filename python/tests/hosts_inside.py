@@ -1,9 +1,12 @@
-"""Plays a competition on two machines that are network namespaces of this computer, each with an sshd of its own, and takes one of them
-away while a match is open there. It runs in a namespace of its own, so that nothing of it is reached from outside, and all of it is gone
-with its processes:
+"""Plays a competition on machines that are network namespaces of this computer, each with an sshd of its own, and takes one of them away
+while a match is open there. It runs in a namespace of its own, so that nothing of it is reached from outside, and all of it is gone with
+its processes:
 
-    unshare --net python3 -m tests.hosts_inside"""
+    unshare --net python3 -m tests.hosts_inside
 
+HOSTS_MATCHES=400 before it has what a match costs measured with so many open."""
+
+import collections
 import os
 import pathlib
 import re
@@ -29,6 +32,7 @@ PasswordAuthentication no
 KbdInteractiveAuthentication no
 UsePAM no
 StrictModes no
+SetEnv HOME={room}
 """
 SSH = """#!/bin/sh
 exec {ssh} -F /dev/null -i {room}/key -o StrictHostKeyChecking=no -o UserKnownHostsFile=/dev/null -o LogLevel=ERROR "$@"
@@ -53,7 +57,7 @@ class Machine:
 
     def __init__(self, number):
         self.link, self.at = f"line{number}", f"10.77.{number}.2"
-        self.holder = subprocess.Popen(["unshare", "--net", "sleep", "300"], **QUIET)
+        self.holder = subprocess.Popen(["unshare", "--net", "sleep", "3000"], **QUIET)
         self.sshd = None
         while os.readlink(f"/proc/{self.holder.pid}/ns/net") == os.readlink("/proc/self/ns/net"):
             time.sleep(0.01)
@@ -100,7 +104,11 @@ class Machine:
         subprocess.run(["ip", "link", "delete", self.link], **QUIET)
 
 
-class Hosts(InFolder):
+class Machines(InFolder):
+    """Tests with so many machines."""
+
+    count = 2
+
     def setUp(self):
         super().setUp()
         self.room = pathlib.Path(tempfile.mkdtemp())
@@ -113,7 +121,7 @@ class Hosts(InFolder):
         ssh.chmod(0o755)
         pathlib.Path("/run/sshd").mkdir(exist_ok=True)
         self.machines = []
-        for number in (1, 2):
+        for number in range(1, self.count + 1):
             self.machines.append(Machine(number))
             self.addCleanup(self.machines[-1].end)
             self.machines[-1].connect(number, self.room)
@@ -122,8 +130,11 @@ class Hosts(InFolder):
             time.sleep(0.1)
         self.environment = {**os.environ, "PATH": f"{self.room}:{os.environ['PATH']}"}
 
+
+class Hosts(Machines):
     def hosts(self):
-        return [line.split()[1] for file in sorted((self.folder / "logs").iterdir()) for line in file.read_text().splitlines() if line.startswith("host ")]
+        """Returns the host on which each match was played to its end."""
+        return [re.findall(r"(?m)^host (.*)$", file.read_text())[-1] for file in sorted((self.folder / "logs").iterdir())]
 
     def planned(self, count=4, game=("countdown", GAMES / "countdown.kif")):
         self.players = [TestPlayer(f"p{number}", "slow", number, at=PLAYERS_AT) for number in range(count)]
@@ -178,6 +189,62 @@ class Hosts(InFolder):
         status, out, said = run(self.folder, "play", "--at-once", "2", env=self.environment)
         self.assertEqual((status, said), (0, ""), out)
         self.assert_whole()
+
+
+# A referee that plays for as long as the test likes.
+PLAYS_ON = """#!/bin/sh
+case $1 in
+info) echo available ;;
+run) echo "cup-1 role 0 p0 message 1" >&2; exec sleep 3000 ;;
+abort) ;;
+*) exec {program} "$@" ;;
+esac
+"""
+MATCHES = int(os.environ.get("HOSTS_MATCHES", "24"))
+
+
+def memory_of(process):
+    """Returns the bytes of memory of a process, of what it shares with others its part."""
+    return int(re.search(r"(?m)^Pss: +(\d+) kB", pathlib.Path(f"/proc/{process}/smaps_rollup").read_text())[1]) * 1024
+
+
+def seconds_of(process):
+    """Returns the seconds of a processor that a process has used."""
+    fields = pathlib.Path(f"/proc/{process}/stat").read_text().rpartition(")")[2].split()
+    return (int(fields[11]) + int(fields[12])) / os.sysconf("SC_CLK_TCK")
+
+
+class Cost(Machines):
+    """What an open match on a host costs the machine that holds the competition."""
+
+    count = 4
+
+    def test_open_matches(self):
+        room = MATCHES // 4
+        hosts = ", ".join(f'{{name = "root@{machine.at}", matches = {room}}}' for machine in self.machines)
+        players = [(f"p{number}", f"h:{number + 1}", "concurrent = 1024") for number in range(2)]
+        lines = ", ".join(['"countdown p0 p1"'] * (MATCHES + 1))
+        self.plan(players, [("countdown", GAMES / "countdown.kif")], f'kind = "schedule"\nlines = [{lines}]', f"hosts = [{hosts}]")
+        referee = self.folder / "referee"
+        referee.write_text(PLAYS_ON.format(program=program()))
+        referee.chmod(0o755)
+        playing = start(self.folder, "play", "--at-once", "1024", "--program", referee, env=self.environment)
+        begun = [playing.stdout.readline().split() for _ in range(4 * room)]
+        self.assertEqual({words[0] for words in begun}, {"begin"})
+        self.assertEqual(collections.Counter(words[-1] for words in begun), {f"root@{machine.at}": room for machine in self.machines})
+        children = pathlib.Path(f"/proc/{playing.pid}/task/{playing.pid}/children").read_text().split()
+        processes = [str(playing.pid), *children]
+        before, began = sum(map(seconds_of, processes)), time.monotonic()
+        time.sleep(20)
+        used = sum(map(seconds_of, processes)) - before
+        memory, share = sum(map(memory_of, processes)) / len(begun), used / (time.monotonic() - began) / len(begun)
+        print(f"{len(begun)} matches open on four hosts: {memory / 1e6:.1f} MB and {share:.5f} of a processor each, after {before / len(begun):.3f} s to begin", flush=True)
+        self.assertEqual(len(children), len(begun))
+        self.assertLess(memory, 5e6)
+        self.assertLess(share, 0.01)
+        playing.send_signal(signal.SIGTERM)
+        out, said = playing.communicate(timeout=600)
+        self.assertEqual((playing.returncode, said, out.splitlines()[-1]), (1, "", f"0 of {MATCHES + 1} matches have a lawful record"))
 
 
 if __name__ == "__main__":

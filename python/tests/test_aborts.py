@@ -4,6 +4,7 @@ import pathlib
 import socket
 import tempfile
 import threading
+import time
 import unittest
 import unittest.mock
 
@@ -46,6 +47,16 @@ class Aborts(unittest.TestCase):
             self.assertEqual(self.silent({f"cup-{number:03}": [answering, "bob@a..b:80"] for number in range(3)}), {
                 f"cup-{number:03}": ["bob@a..b:80"] for number in range(3)
             })
+
+    def test_players_that_do_not_answer_are_not_waited_for(self):
+        with tempfile.TemporaryDirectory() as room:
+            waiting = pathlib.Path(room) / "waiting"
+            waiting.write_text("#!/bin/sh\nexec sleep 600\n")
+            waiting.chmod(0o755)
+            places = [f"bob@127.0.0.1:{port}" for port in range(1000, 1030)]
+            began = time.monotonic()
+            self.assertEqual(send_aborts(Referee(str(waiting)), {"cup-001": places}, 1), {"cup-001": places})
+            self.assertLess(time.monotonic() - began, 500)
 
     def test_a_host_that_is_no_name(self):
         places = ["ann@a..b:80", f"bob@{'a' * 64}.example:80"]

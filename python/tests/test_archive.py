@@ -256,6 +256,9 @@ class Archive(unittest.TestCase):
         self.assertEqual(run(self.folder, "publish", "--program", other), (2, "", said))
         self.assertEqual(self.archive.read_bytes(), published)
 
+    def test_an_archive_that_is_not_there(self):
+        self.assertEqual(run(self.folder, "check", "none.tar.gz"), (2, "", "ggp_competition: none.tar.gz is not there\n"))
+
     def test_an_archive_that_can_not_be_checked(self):
         short = program_but(self.other / "short", '"$1" = replay', "kill -9 $$")
         said = "ggp_competition: `ggp_manager replay` came to no verdict with cup/rules/countdown.kif: it said nothing, status -9; nothing is changed\n"

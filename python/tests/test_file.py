@@ -4,7 +4,7 @@ import random
 import unittest
 
 from ggp_tools.competition.command import MOST_AT_ONCE
-from ggp_tools.competition.competition_file import MOST_PLAYERS, MOST_ROUNDS, MOST_SECONDS, MOST_STRIKES, Mistaken, read_competition
+from ggp_tools.competition.competition_file import Host, MOST_PLAYERS, MOST_ROUNDS, MOST_SECONDS, MOST_STRIKES, Mistaken, read_competition
 from ggp_tools.competition.schedule import MOST_MATCHES, planned
 from tests.support import TOP, toml
 
@@ -35,6 +35,11 @@ MISTAKES = [
     *(('"me@two"', f'"{host}"', [(4, "hosts", f"'{host}' is no host: NAME or USER@NAME is wanted")]) for host in NO_HOSTS),
     ('"me@two"', '"one"', [(4, "hosts", "twice")]),
     ('"me@two"', "2", [(4, "hosts", "a text in quotes")]),
+    ('"me@two"', "{matches = 2}", [(4, "hosts.name", "the key is missing")]),
+    ('"me@two"', '{name = "two", matches = 0}', [(4, "hosts.matches", "0 is not from 1 to 1,024")]),
+    ('"me@two"', '{name = "two", matches = "2"}', [(4, "hosts.matches", "a whole number is wanted")]),
+    ('"me@two"', '{name = "two", cores = 2}', [(4, "hosts.cores", "no such key; there are name, matches")]),
+    ('"me@two"', '{name = "one", matches = 2}', [(4, "hosts", "twice")]),
     ("[form]", "[from]", [(1, "form", "one [form]"), (5, "from", "no such key")]),
     ('"round_robin"', '"league"', [(6, "form.kind", "none of round_robin, gauntlet, schedule, swiss, knockout")]),
     ('"round_robin"', '"knockout"', [(7, "form.rounds", "the kind knockout has no such key")]),
@@ -94,7 +99,7 @@ class CompetitionFile(unittest.TestCase):
 
     def test_reads(self):
         found = read_competition(GOOD.encode())
-        self.assertEqual((found.name, found.strikes, found.hosts), ("cup", 3, ("one", "me@two")))
+        self.assertEqual((found.name, found.strikes, found.hosts), ("cup", 3, (Host("one", 0), Host("me@two", 0))))
         self.assertEqual([(player.name, player.place(), player.concurrent) for player in found.players][1:], [("bob", "bob@[::1]:9148", 1), ("cid", "cid@host.example:9149", 3)])
         self.assertEqual([(game.name, game.start, game.play) for game in found.games], [("chess", 30, 10), ("go", 30, 10)])
 
@@ -107,7 +112,9 @@ class CompetitionFile(unittest.TestCase):
     def test_hosts(self):
         hosts = ("localhost", "10.0.0.1", "me@host.example", "a_b-c", "me@two:2222", "::1", "me@2001:db8::1")
         for host in hosts:
-            self.assertEqual(read_competition(GOOD.replace("me@two", host).encode()).hosts, ("one", host))
+            self.assertEqual(read_competition(GOOD.replace("me@two", host).encode()).hosts, (Host("one", 0), Host(host, 0)))
+        told = read_competition(GOOD.replace('"me@two"', '{name = "me@two", matches = 32}').encode()).hosts
+        self.assertEqual(told, (Host("one", 0), Host("me@two", 32)))
 
     def test_what_players_are_told(self):
         found = read_competition(GOOD.replace('file = "go.kif"', 'file = "go.kif"\ntold = "variables"').encode())

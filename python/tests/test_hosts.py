@@ -1,4 +1,4 @@
-"""Several machines, where this computer can make them up: as root, with sshd, GNU parallel and network namespaces."""
+"""Several machines, where this computer can make them up: as root, with sshd and network namespaces."""
 
 import os
 import shutil
@@ -9,7 +9,7 @@ import unittest
 from tests.support import TOP, program
 
 SECONDS = 900
-TOOLS = ("sshd", "ssh-keygen", "parallel", "ip", "unshare", "nsenter", "setpriv")
+TOOLS = ("sshd", "ssh", "ssh-keygen", "ip", "unshare", "nsenter")
 
 
 def why_not():

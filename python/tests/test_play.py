@@ -4,6 +4,7 @@ import json
 import os
 import pathlib
 import pty
+import resource
 import shutil
 import signal
 import subprocess
@@ -14,7 +15,7 @@ import unittest
 
 from ggp_tools.competition.children import UNSAID, end_with
 from ggp_tools.competition.files import held
-from ggp_tools.competition.playing import interrupts_counted
+from ggp_tools.competition.playing import MOST_LINES, interrupts_counted
 from tests.players import TestPlayer
 from tests.support import GAMES, InFolder, program, program_but, run, run_into_full, start
 
@@ -207,6 +208,15 @@ class Play(InFolder):
         self.assertGreater(found, 1)
         self.assertLessEqual(found, 3)
 
+    def test_more_matches_than_a_shell_lets_files_be_open(self):
+        self.planned(["good"] * 4, more=("concurrent = 12",), most=12)
+        (self.folder / "begun").mkdir()
+        together = f"mkdir {self.folder}/begun/$$; until [ $(ls {self.folder}/begun | wc -l) -ge 12 ]; do sleep 0.1; done"
+        few = {"preexec_fn": lambda: resource.setrlimit(resource.RLIMIT_NOFILE, (24, resource.getrlimit(resource.RLIMIT_NOFILE)[1]))}
+        words = "play", "--at-once", "12", "--program", program_but(self.folder / "waiting", '"$1" = run', together)
+        self.assertEqual(run(self.folder, *words, **few)[::2], (0, ""))
+        self.assert_sound(self.schedule)
+
     def test_a_short_outage_is_one_try_of_a_player_with_several_seats(self):
         self.planned(["good"] * 3, head=HEAD.replace("wait = 1", "wait = 4"), more=("concurrent = 4",), most=4)
         for player in self.players:
@@ -236,8 +246,36 @@ class Play(InFolder):
     def test_one_interrupt_waits_for_open_matches(self):
         out = self.interrupted(signal.SIGINT)
         self.assertEqual(len(lines(out, "begin")), len(lines(out, "end")))
-        self.assertEqual(len(lines(out, "missing")), 12 - len(lines(out, "end")))
+        missing = 12 - len(lines(out, "end"))
+        self.assertEqual(len(lines(out, "missing")), missing if missing <= MOST_LINES else 1)
         self.assertEqual([player.aborted for player in self.players], [[]] * 4)
+
+    def test_one_interrupt_tells_the_number_of_what_is_missing(self):
+        self.planned(["slow"] * 8)
+        playing = start(self.folder, "play", "--at-once", "1")
+        while not list((self.folder / "open").glob("*/players")):
+            time.sleep(0.02)
+        playing.send_signal(signal.SIGINT)
+        out, said = playing.communicate(timeout=600)
+        self.assertEqual((playing.returncode, said, len(lines(out, "missing"))), (1, "", 1))
+        count = 56 - len(lines(out, "end"))
+        self.assertIn(f"missing {count} matches, {self.schedule[56 - count][0]} to cup-056: it was not begun\n{56 - count} of 56 matches have", out)
+
+    def test_a_run_after_a_killed_one_tells_at_once_for_whom_it_waits(self):
+        self.planned(["slow", "slow"])
+        playing = start(self.folder, "play")
+        while not self.players[0].matches:
+            time.sleep(0.02)
+        playing.kill()
+        playing.communicate()
+        # It comes before anything is looked at or sent.
+        waiting = program_but(self.folder / "waiting", '"$1" = abort', "sleep 60")
+        playing = start(self.folder, "play", "--program", waiting)
+        self.assertEqual(playing.stdout.readline(), "open 1 matches, when a play before this one was ended; their players are sent ABORT\n")
+        self.assertEqual([player.aborted for player in self.players], [[], []])
+        playing.kill()
+        playing.communicate()
+        self.assertEqual(run(self.folder, "play")[0], 0)
 
     def test_a_second_interrupt_ends_them_and_frees_the_players(self):
         self.look_at_ended_ones(self.interrupted(signal.SIGINT, signal.SIGINT))
@@ -348,33 +386,40 @@ class Play(InFolder):
         self.assertEqual((status, away.aborted, lines(out, "no answer"), len(lines(out, "end"))), (0, ["cup-001"], [], 1), out)
         self.assertFalse(players.exists())
 
-    def test_a_referee_that_is_killed_on_a_host_costs_its_match_alone(self):
-        self.planned(["good"] * 3, head=f'{HEAD}hosts = ["nowhere"]\n')
-        parallel = self.folder / "parallel"
-        parallel.write_text('#!/bin/bash\nmkdir "$0.once" 2> /dev/null && exit 1\nexec bash -c "$(cat)"\n')
-        parallel.chmod(0o755)
-        status, out, _ = run(self.folder, "play", env={**os.environ, "PATH": f"{self.folder}:{os.environ['PATH']}"})
-        self.assertEqual((status, len(lines(out, "no record")), len(lines(out, "abort")), len(lines(out, "end"))), (1, 1, 1, 5), out)
+    def test_a_journal_that_can_not_be_written_ends_no_open_match(self):
+        self.planned(["good"] * 3)
+        (self.folder / "play.log").symlink_to("/dev/full")
+        status, out, _ = run(self.folder, "play", "--at-once", "1")
+        told = ["play.log is not written, and no more matches begin: No space left on device"]
+        self.assertEqual((status, lines(out, "play.log"), [player.matches for player in self.players]), (1, told, [{}] * 3), out)
+        (self.folder / "play.log").unlink()
+        self.assertEqual(run(self.folder, "play")[0], 0)
+        self.assert_sound(self.schedule)
 
-    def test_two_runs_in_one_folder(self):
+    def held_up(self):
+        """Plays until a match is open, which goes on once the file `go` is there."""
         self.planned(["slow", "slow"])
-        playing = start(self.folder, "play")
+        waiting = program_but(self.folder / "waiting", '"$1" = run', f"until [ -e {self.folder}/go ]; do sleep 0.05; done")
+        playing = start(self.folder, "play", "--program", waiting)
         while not list((self.folder / "open").glob("*/players")):
             time.sleep(0.02)
+        return playing
+
+    def test_two_runs_in_one_folder(self):
+        playing = self.held_up()
         self.assertEqual(run(self.folder, "play"), (2, "", "ggp_competition: .: another run plans, plays or publishes this competition\n"))
+        (self.folder / "go").touch()
         playing.communicate(timeout=600)
         self.assertEqual(playing.returncode, 0)
 
     def test_no_plan_is_made_while_matches_are_played(self):
-        self.planned(["slow", "slow"])
+        playing = self.held_up()
         file, before = self.folder / "competition.toml", (self.folder / "schedule.tsv").read_bytes()
         text = file.read_text()
-        playing = start(self.folder, "play")
-        while not list((self.folder / "open").glob("*/players")):
-            time.sleep(0.02)
         file.write_text(text.replace("play = 5", "play = 6"))
         self.assertEqual(run(self.folder, "plan"), (2, "", "ggp_competition: .: another run plans, plays or publishes this competition\n"))
         file.write_text(text)
+        (self.folder / "go").touch()
         playing.communicate(timeout=600)
         self.assertEqual((playing.returncode, (self.folder / "schedule.tsv").read_bytes()), (0, before))
         self.assertEqual(run(self.folder, "play"), (0, "2 of 2 matches have a lawful record\n", ""))

@@ -22,7 +22,7 @@ class Packages(unittest.TestCase):
 
     def test_the_list_is_read(self):
         needed = {need.package for need in read_needs() if not need.is_optional}
-        self.assertLessEqual({"gringo", "parallel", "openssh-server", "iproute2", "util-linux"}, needed)
+        self.assertLessEqual({"gringo", "openssh-client", "openssh-server", "iproute2", "util-linux"}, needed)
 
     def test_what_is_there_or_optional_is_not_missing(self):
         self.assertEqual(missing([Need("dash", ["sh"], "shells", False), GONE._replace(is_optional=True)]), [])

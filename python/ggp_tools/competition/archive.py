@@ -109,6 +109,8 @@ def contents(plan, referee, results):
             yield str(file.relative_to(folder.path)), file
         yield str(folder.log(result.match.id).relative_to(folder.path)), folder.read_log(result.match.id)
     yield "matches.jsonl", matches_text(plan, results)
+    if folder.journal.is_file():
+        yield folder.journal.name, folder.journal
     yield from gaps_files(plan, results).items()
     for name, data in table_files(plan, tables_of(plan.competition, results, plan.rounds)).items():
         yield name, data
@@ -126,7 +128,7 @@ def own_files(plan):
     # The last four are there where the folder comes out of an archive.
     others = (folder.path / name for name in (*TABLE_FILES, SUMS, VERSION, HOW, GAPS))
     descriptions = (file for game in plan.competition.games for file in (folder.description(game), folder.given(game)))
-    return [folder.competition, folder.schedule, folder.planned, folder.again, folder.matches, *others, *descriptions]
+    return [folder.competition, folder.schedule, folder.planned, folder.again, folder.matches, folder.journal, *others, *descriptions]
 
 
 def publish(plan, referee, results, path):
@@ -225,7 +227,8 @@ def faults_of_files(folder, plan, results, wanted):
     for name in sorted(pages.keys() | said.keys()):
         if name not in pages or name not in said or pages[name].read_bytes() != said[name].read_bytes():
             yield f"pages/{name} does not follow from the records"
-    known = {SUMS, VERSION, HOW, "competition.toml", "schedule.tsv", *wanted}
+    # Archives that were published without a journal have none.
+    known = {SUMS, VERSION, HOW, "competition.toml", "schedule.tsv", plan.folder.journal.name, *wanted}
     known |= {str(file.relative_to(plan.folder.path)) for file in history_files(plan.folder)}
     known |= {f"rules/{sums.name}" for sums in (plan.folder.rule_sums(), plan.folder.description_sums())}
     for game in plan.competition.games:

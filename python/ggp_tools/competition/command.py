@@ -15,13 +15,14 @@ from ggp_tools.competition.game import add_game, run_game
 from ggp_tools.competition.kept import look_at_records
 from ggp_tools.competition.pages import Pages
 from ggp_tools.competition.plan import WRITES, Plan, faults_of_descriptions, make_plan, read_plan, round_words, rounds_left
-from ggp_tools.competition.playing import Playing, play
+from ggp_tools.competition.playing import Playing, play, said_of_missing
 from ggp_tools.referee import NoReferee, Referee, Unchecked, find_program
 from ggp_tools.competition.seats import Seats
 from ggp_tools.competition.serving import add_serve, run_serve
 from ggp_tools.competition.table import tables_of
 from ggp_tools.competition.table_text import in_order, table_files, table_text
-from ggp_tools.reporting import Reporter, ready_streams, say
+from ggp_tools.competition.why import said_of_match
+from ggp_tools.reporting import Journal, Reporter, ready_streams, say
 
 MOST_AT_ONCE = 1_024
 HELP = "A competition in one folder, of which competition.toml says what is played."
@@ -33,6 +34,7 @@ COMMANDS = {
     "pages": "writes the folder `pages`, to be opened in a browser",
     "publish": "writes one archive of the whole competition, with sums",
     "serve": "serves live pages of the matches, the standings and the players to browsers, read only",
+    "why": "tells what happened to the players of a match, turn by turn, with the times",
     "check": "checks an archive that `publish` has written, by what is in it alone",
 }
 STATUS = """status 0: all is well; of `play`, each match has a lawful record. 1: it is not. 2: the command or competition.toml is wrong. 3: the
@@ -64,6 +66,11 @@ def arguments(words: list[str]) -> argparse.Namespace:
             command.add_argument("archive", metavar="ARCHIVE", help="the file of the archive")
             continue
         text = "the folder of the competition, with competition.toml (the present one)"
+        if name == "why":
+            command.add_argument("folder", metavar="FOLDER", help="the folder of the competition, or of an archive that was unpacked")
+            command.add_argument("match", metavar="MATCH", help="the id of the match")
+            command.add_argument("player", nargs="?", metavar="PLAYER", help="the name of a player (all of the match)")
+            continue
         command.add_argument("folder", nargs="?", default=".", metavar="FOLDER", help=text)
         if name == "again":
             command.add_argument("match", metavar="MATCH", help="the match, which has a lawful record")
@@ -160,7 +167,8 @@ def are_written(write, results, reporter):
 
 
 def run_held_play(asked: argparse.Namespace, referee: Referee) -> int:
-    plan, reporter = read_plan(asked.folder, referee), Reporter()
+    plan = read_plan(asked.folder, referee)
+    reporter = Reporter(Journal(plan.folder.journal))
     playing = Playing(plan, referee, Seats(plan.competition), reporter, asked.at_once)
     if asked.watch:
         pages = Pages(plan)
@@ -168,12 +176,12 @@ def run_held_play(asked: argparse.Namespace, referee: Referee) -> int:
     missing = play(playing)
     write_matches(plan, in_order(plan, playing.results))
     lacks_pages = asked.watch and not are_written(pages.write, in_order(plan, playing.results), reporter)
-    for match, why in missing.items():
-        reporter.line(f"missing {match}: {why}")
+    for line in said_of_missing(missing):
+        reporter.sum_up(line)
     left = rounds_left(plan)
     if left:
-        reporter.line(f"rounds that are not planned yet: {left} of {left + len(plan.rounds)}")
-    reporter.line(f"{len(playing.results)} of {len(plan.matches)} matches have a lawful record")
+        reporter.sum_up(f"rounds that are not planned yet: {left} of {left + len(plan.rounds)}")
+    reporter.sum_up(f"{len(playing.results)} of {len(plan.matches)} matches have a lawful record")
     if reporter.fault:
         raise reporter.fault
     return bool(missing) or lacks_pages or bool(left)
@@ -248,7 +256,15 @@ def run_held_publish(asked: argparse.Namespace, referee: Referee) -> int:
     return bool(faults)
 
 
+def run_why(asked: argparse.Namespace, referee: Referee) -> int:
+    for line in said_of_match(read_plan(asked.folder, referee), asked.match, asked.player):
+        say(line)
+    return 0
+
+
 def run_check(asked: argparse.Namespace, referee: Referee) -> int:
+    if not os.path.exists(asked.archive):
+        raise Refused(f"{asked.archive} is not there")
     faults, said = check_archive(pathlib.Path(asked.archive), referee)
     for fault in faults:
         print(f"ggp_competition: {asked.archive}: {fault}", file=sys.stderr)
@@ -265,6 +281,7 @@ RUNS: dict[str, Callable[[argparse.Namespace, Referee], int]] = {
     "pages": run_pages,
     "publish": run_publish,
     "serve": run_serve,
+    "why": run_why,
     "check": run_check,
     "game": run_game,
 }

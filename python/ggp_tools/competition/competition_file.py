@@ -14,11 +14,12 @@ PLAYER_NAME = re.compile(r"[A-Za-z0-9_.-]{1,64}")
 ADDRESS = re.compile(r"(\[[0-9A-Fa-f:.]+(?:%[A-Za-z0-9_.-]+)?\]|[A-Za-z0-9_.-]+):([0-9]{1,5})")
 MARK = b"\xef\xbb\xbf"
 CONTROL = re.compile(r"[\x00-\x1f\x7f-\x9f]")
-# What ssh reaches: a name with or without a port, or an IPv6 address. A `:` alone is for parallel this machine, without ssh, and what runs
-# there does not end with it.
+# What ssh reaches: a name with or without a port, or an IPv6 address.
 HOST = re.compile(r"(?:[A-Za-z0-9_][A-Za-z0-9_.-]*@)?(?:[A-Za-z0-9_][A-Za-z0-9_.-]*(?::[0-9]{1,5})?|([0-9A-Fa-f:]*:[0-9A-Fa-f:]*))")
 # Numbers from here on are not shown.
 MOST_SHOWN = 10**20
+# Of matches at a time: of a player, of a host, and of all.
+MOST_AT_A_TIME = 1_024
 MOST_SECONDS, MOST_STRIKES, MOST_PLAYERS, MOST_ROUNDS, MOST_PORT = 86_400, 255, 1_000, 1_000, 65_535
 # The seconds in which a description is instantiated.
 INSTANTIATING, MOST_INSTANTIATING = 60, 1_000_000
@@ -91,6 +92,14 @@ class Player:
 
 
 @dataclass(frozen=True)
+class Host:
+    """A machine on which matches are played, as ssh reaches it, and how many at a time: 0 where it says no number."""
+
+    name: str
+    matches: int
+
+
+@dataclass(frozen=True)
 class Text:
     """A text in quotes, with its line in the file."""
 
@@ -121,7 +130,7 @@ class Competition:
     absent: str
     forfeit: bool
     order: str
-    hosts: tuple[str, ...]
+    hosts: tuple[Host, ...]
     form: Form
     games: tuple[Game, ...]
     players: tuple[Player, ...]
@@ -271,7 +280,7 @@ def players_of(root: Section) -> list[Player]:
     for section in sections:
         section.refuse_others(("name", "address", "concurrent"))
         name = section.name("name", PLAYER_NAME, 64)
-        found.append(Player(name, address_of(section), section.number("concurrent", 1, 1_024, 1), section.first))
+        found.append(Player(name, address_of(section), section.number("concurrent", 1, MOST_AT_A_TIME, 1), section.first))
     refuse_twice(sections, "name")
     refuse_twice(sections, "address")
     if len(found) > MOST_PLAYERS:
@@ -324,15 +333,33 @@ def is_host(text: str) -> bool:
         return False
 
 
-def hosts_of(root: Section) -> tuple[str, ...]:
-    hosts, known = root.texts("hosts"), set()
-    for host in hosts:
-        if not is_host(host.text):
-            root.mistake("hosts", f"{host.text!r} is no host: NAME or USER@NAME is wanted", host.line)
-        if host.text in known:
-            root.mistake("hosts", f"the host {host.text!r} stands there twice", host.line)
-        known.add(host.text)
-    return tuple(host.text for host in hosts)
+def host_tables(root: Section) -> list[Section]:
+    """Returns a table for each host. A text is a table that has a name alone."""
+    found = []
+    for number, member in enumerate(root.value("hosts", list, "an array of hosts", [])):
+        table = {"name": member} if type(member) is str else member
+        if type(table) is dict:
+            path = ("hosts", number)
+            lines = {(*path, key): root.lines.get((*path, key), root.line("hosts", number)) for key in table}
+            found.append(Section(table, path, {path: root.line("hosts", number), **lines}, root.mistakes))
+        else:
+            root.mistake("hosts", 'a text in quotes is wanted, or {name = "..", matches = N}', root.line("hosts", number))
+    return found
+
+
+def hosts_of(root: Section) -> tuple[Host, ...]:
+    hosts: dict[str, Host] = {}
+    for section in host_tables(root):
+        section.refuse_others(("name", "matches"))
+        name, line = section.text("name"), section.line("name")
+        matches = section.number("matches", 1, MOST_AT_A_TIME, 1) if "matches" in section.table else 0
+        if name is not None and not is_host(name):
+            root.mistake("hosts", f"{name!r} is no host: NAME or USER@NAME is wanted", line)
+        if name in hosts:
+            root.mistake("hosts", f"the host {name!r} stands there twice", line)
+        if name is not None:
+            hosts[name] = Host(name, matches)
+    return tuple(hosts.values())
 
 
 def root_of(data: bytes, mistakes: list[Mistake]) -> Section:

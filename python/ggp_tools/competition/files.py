@@ -102,6 +102,8 @@ class Folder:
         self.rules, self.open = self.path / "rules", self.path / "open"
         self.records, self.accounts, self.logs = (self.path / name for name in ("records", "accounts", "logs"))
         self.matches, self.pages = self.path / "matches.jsonl", self.path / "pages"
+        # What `play` has done and seen, with the times.
+        self.journal = self.path / "play.log"
 
     def rules_of(self, game):
         return self.rules / f"{game}.kif"

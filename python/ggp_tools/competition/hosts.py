@@ -1,36 +1,99 @@
-"""Has a match played on one of several machines: GNU parallel chooses it, over ssh, and takes another where that one is lost."""
+"""The machines on which matches are played: which of them has room, and how a match is played there, by an ssh of its own."""
 
-import pathlib
+import math
 import shlex
+import time
 
-from ggp_tools.referee import Referee
+from ggp_tools.competition.competition_file import Host
 
-# An ssh ends with the parallel that started it, and what it runs on the host then ends too.
-SSH = "setpriv --pdeathsig KILL ssh -o BatchMode=yes -o ConnectTimeout=5 -o ServerAliveInterval=2 -o ServerAliveCountMax=3"
-# There is one parallel for each open match, with all hosts to choose from. Fed through a pipe, one for all matches would see that a match
-# is over only when it reads the next line, which waits for just that.
-# A player of a match whose referee is lost waits for it, so each try begins with an ABORT, which may take ABORT_SECONDS.
-ABORT_SECONDS = 5
+# Each match has a connection of its own: a shared one takes ten sessions, unless the host's sshd is told otherwise. The key exchange is
+# the cheap one, where both sides have it.
+SSH = ["ssh", "-T", "-oBatchMode=yes", "-oConnectTimeout=5", "-oServerAliveInterval=2", "-oServerAliveCountMax=3", "-oControlPath=none"]
+SSH += ["-oKexAlgorithms=^curve25519-sha256"]
+# So many connections to a host are being made at a time: an sshd drops some of them where there are more than ten.
+CONNECTING = 4
+# What is said first on a host, before the match is played.
+CONNECTED = "ggp_competition: connected"
+# A match that hears nothing of its `play` for so many seconds is ended: where a host is lost, the match can begin elsewhere after these.
+SILENCE = 20
+# The statuses of an ssh without a connection, of a match that heard nothing, and of a shell that can't run the program.
+LOST = 255, 254, 127, 126
+ON_HOST = """exec 3<&0 < /dev/null
+echo {said} >&2
+{run} 3<&- &
+match=$!
+{{ while read -r -t {silence} -u 3; do :; done; kill -KILL $match; }} > /dev/null 2>&1 &
+watch=$!
+wait $match
+status=$?
+kill $watch 2> /dev/null || status=254
+exit $status"""
 
 
-def abort_line(referee: Referee, match: str, place: str) -> str:
-    return f"{shlex.join(['timeout', str(ABORT_SECONDS), *referee.abort_words(match, place)])} > /dev/null 2>&1"
+def destination(host: str) -> list[str]:
+    """Returns the words for ssh that name a host: NAME, NAME:PORT or an IPv6 address, with USER@ before it where it has one."""
+    name, colon, port = host.rpartition(":")
+    return ["-p", port, name] if colon and ":" not in name else [host]
 
 
-def remote_line(referee: Referee, run_words: list[str], match: str, places: list[str]) -> str:
-    """Returns the line for parallel: it frees the players, and then plays the match."""
-    aborts = [abort_line(referee, match, place) for place in places]
-    return "; ".join([*aborts, f"exec {shlex.join(run_words)}"]) + "\n"
+def remote_words(host: str, run_words: list[str]) -> list[str]:
+    """Returns the command that plays a match on a host. Its standard input has to have a byte now and then."""
+    script = ON_HOST.format(said=shlex.quote(CONNECTED), run=shlex.join(run_words), silence=SILENCE)
+    *options, name = destination(host)
+    return [*SSH, *options, "--", name, f"exec bash -c {shlex.quote(script)}"]
 
 
-def parallel_words(hosts: tuple[str, ...], tries: int, job_log: pathlib.Path) -> list[str]:
-    """Returns the command that has the line on its input run on one of the hosts."""
-    options = "--will-cite", "--jobs=1", f"--retries={tries}", f"--joblog={job_log}", f"--ssh={SSH}"
-    return ["parallel", *options, *(word for host in hosts for word in ("--sshlogin", f"1/{host}"))]
+class Hosts:
+    """Where matches are played. A host that was lost is left alone for a while, and after so many times in a row for good."""
 
+    def __init__(self, hosts: tuple[Host, ...], tries: int, wait: int, at_once: int) -> None:
+        self.room = {host.name: host.matches or at_once for host in hosts}
+        self.tries, self.wait = tries, wait
+        self.open = dict.fromkeys(self.room, 0)
+        self.connecting = dict.fromkeys(self.room, 0)
+        self.failed = dict.fromkeys(self.room, 0)
+        self.rested = dict.fromkeys(self.room, 0.0)
+        # When each was lost the last time.
+        self.missed = dict.fromkeys(self.room, -math.inf)
 
-def host_of(job_log: pathlib.Path) -> str:
-    """Returns the host on which the match was played, by parallel's job log."""
-    lines = job_log.read_text().splitlines() if job_log.exists() else []
-    fields = lines[-1].split("\t") if len(lines) > 1 else []
-    return fields[1] if len(fields) > 1 else "unknown"
+    def has_room(self, host: str, now: float) -> bool:
+        """Returns whether one more match may go to a host. One that was lost gets a single match first, to see whether it is there again."""
+        room = 1 if self.failed[host] else self.room[host]
+        return self.open[host] < room and self.failed[host] < self.tries and self.rested[host] <= now
+
+    def take(self, now: float, lost: str | None = None) -> str | None:
+        """Returns a host with room, that of which the smallest part is taken, and takes room for a match there; none where none has room. A
+        match that was lost on a host goes to another one where it can."""
+        found = [host for host in self.room if self.has_room(host, now)]
+        found = [host for host in found if host != lost] or found
+        if not found:
+            return None
+        host = min(found, key=lambda host: self.open[host] / self.room[host])
+        self.open[host] += 1
+        return host
+
+    def leave(self, host: str) -> None:
+        self.open[host] -= 1
+
+    def can_connect(self, host: str) -> bool:
+        return self.connecting[host] < CONNECTING
+
+    def was_there(self, host: str) -> None:
+        self.failed[host] = 0
+
+    def was_lost(self, host: str, since: float) -> str:
+        """Counts that a host was lost to a match that was begun there at this time, and says what follows. Several matches that were open
+        there lose it once."""
+        if since > self.missed[host]:
+            self.missed[host] = time.monotonic()
+            self.failed[host] += 1
+            self.rested[host] = self.missed[host] + self.wait
+        return "no match goes there any more" if self.failed[host] >= self.tries else f"no match goes there for {self.wait} s"
+
+    def are_all_lost(self) -> bool:
+        """Returns whether no match goes to any host any more."""
+        return all(failed >= self.tries for failed in self.failed.values())
+
+    def all_room(self) -> int:
+        """Returns how many matches can be open at a time."""
+        return sum(room for host, room in self.room.items() if self.failed[host] < self.tries)

@@ -17,7 +17,7 @@ TOGETHER, BYTES_TOGETHER = 250, 1 << 27
 # What the referee reads of a record, before its line's end, and of an account.
 MOST_OF_RECORD, MOST_OF_ACCOUNT = 16_777_216, 268_435_456
 # A line of an account: its line of the desk, the word of its call, and the match.
-CALL = re.compile(rb"[0-9]+\t[a-z]+ ([^ \t\n]+)[ \t]")
+CALL = re.compile(rb"^[0-9]+\t[a-z]+ ([^ \t\n]+)[ \t]", re.MULTILINE)
 
 
 def read_at_most(path, most):
@@ -54,11 +54,8 @@ def batches(folder, matches):
 def is_of_one_match(account):
     """Returns whether each line of an account is a call on the match of its first line. Many accounts are replayed as one, where it makes no
     difference in which of them a call stands."""
-    first = CALL.match(account)
-    if not first:
-        return False
-    calls = re.finditer(rb"^[0-9]+\t[a-z]+ %s[ \t]" % re.escape(first[1]), account, re.MULTILINE)
-    return sum(1 for _ in calls) == account.count(b"\n")
+    called = CALL.findall(account)
+    return len(called) == account.count(b"\n") > 0 and len(set(called)) == 1
 
 
 def fault_of_files(record, account):

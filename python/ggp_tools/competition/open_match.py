@@ -1,36 +1,54 @@
 """A match from INFO to its files. It goes on in steps, and returns between them, so that many are played at once."""
 
-import datetime
+import dataclasses
 import shutil
 import time
+from collections.abc import Generator
 
 from ggp_tools.competition import described
-from ggp_tools.competition.children import Child
+from ggp_tools.competition.children import Child, TimedChild
 from ggp_tools.competition.files import write_whole
-from ggp_tools.competition.hosts import host_of, parallel_words, remote_line
+from ggp_tools.competition.hosts import CONNECTED, LOST, SILENCE, Hosts, remote_words
 from ggp_tools.competition.kept import fault_of_files, keep
-from ggp_tools.referee import PROGRAM, is_no_answer, is_not_lawful, is_not_replayed
+from ggp_tools.competition.plan import Plan
+from ggp_tools.competition.schedule import Match
+from ggp_tools.competition.seats import Seats
+from ggp_tools.competition.timed_lines import LineReader
+from ggp_tools.referee import PROGRAM, Referee, is_no_answer, is_not_lawful, is_not_replayed
 from ggp_tools.competition.results import fault_of_record, read_record, result_of
+from ggp_tools.reporting import Reporter, moment
 
 # The referee ends INFO by itself after so many seconds, and soon after that it has said whether it was short of something itself.
 WHOLE, SOON = 10, 1
 THERE = ("available", "ready", "unknown")
+# The players of a match that was lost with its host are given so many seconds for ABORT.
+ABORT_SECONDS = 5
 
 
-def moment():
-    """Returns the present time, in UTC, to the millisecond."""
-    return datetime.datetime.now(datetime.timezone.utc).isoformat(timespec="milliseconds").replace("+00:00", "Z")
+@dataclasses.dataclass
+class Shared:
+    """What all open matches have in common. Without hosts they are played on this computer."""
+
+    plan: Plan
+    referee: Referee
+    seats: Seats
+    reporter: Reporter
+    reader: LineReader
+    hosts: Hosts | None
 
 
 class OpenMatch:
     """A match that is open. `stage` is asking, playing, checking or over; then there is a result, or a word why there is none, or
-    neither where the match is to be put back."""
+    neither where the match is to be put back. Its host has room for it, where there are any."""
 
-    def __init__(self, plan, referee, seats, match, reporter):
-        self.plan, self.referee, self.seats, self.match, self.reporter = plan, referee, seats, match, reporter
-        self.room = plan.folder.open / match.id
-        self.places = [plan.competition.player(player).place() for player in match.players]
+    def __init__(self, shared: Shared, match: Match, host: str | None = None) -> None:
+        self.shared, self.match, self.host = shared, match, host
+        self.plan, self.referee, self.seats, self.reporter = shared.plan, shared.referee, shared.seats, shared.reporter
+        self.room = self.plan.folder.open / match.id
+        self.places = [self.plan.competition.player(player).place() for player in match.players]
         self.stage, self.children, self.seconds = "asking", [], 0.0
+        # Whether its ssh is being connected.
+        self.connects = False
         # When its players sat down. Where one of them is missed, all matches that were open by then asked it in one try.
         self.seated = time.monotonic()
         self.result, self.why = None, None
@@ -44,18 +62,29 @@ class OpenMatch:
             self.close()
             return
         played = yield from self.play()
-        self.seats.leave(self.match)
+        self.leave()
         self.stage = "checking"
         if played:
             yield from self.check(*played)
         self.close()
+
+    def leave(self) -> None:
+        """Has its players and its host go to other matches."""
+        self.seats.leave(self.match)
+        self.leave_host()
+
+    def leave_host(self) -> None:
+        if self.host:
+            self.end_connecting()
+            self.shared.hosts.leave(self.host)
+        self.host = None
 
     def close(self):
         """Ends the match, and removes its room unless its players have yet to be freed: it broke off, or did so in a `play` before, and
         has not begun again since."""
         is_abort_due = self.stage == "asking" and (self.room / "players").exists()
         if self.stage == "asking":
-            self.seats.leave(self.match)
+            self.leave()
         self.stage = "over"
         if not self.is_broken and not is_abort_due:
             shutil.rmtree(self.room, ignore_errors=True)
@@ -73,7 +102,10 @@ class OpenMatch:
         asked = [self.child(self.referee.info_words(place), f"info-{at}") for at, place in enumerate(self.places)]
         seconds = self.plan.competition.info
         until = time.monotonic() + (seconds if seconds < WHOLE else WHOLE + SOON)
-        while time.monotonic() < until and not all(child.is_over() for child in asked):
+        left = dict(zip(self.match.players, asked))
+        while left:
+            for player in [player for player, child in left.items() if child.is_over() or time.monotonic() >= until]:
+                self.reporter.note(f"info {self.match.id} {player}: {self.outcome(left.pop(player))}")
             yield
         said, faults = [], []
         for player, child in zip(self.match.players, asked):
@@ -106,34 +138,138 @@ class OpenMatch:
                 self.reporter.line(f"absent {self.match.id}: {name} is silent, and the match is played")
         return not left and not again
 
-    def play(self):
-        """Plays the match. Returns what the referee wrote and said, and when it began and ended; none where it gives no record."""
-        competition, match = self.plan.competition, self.match
+    def outcome(self, child: Child) -> str:
+        """Returns what came of an INFO. Who was refused, or lost the connection, is told from who let the seconds pass by the time alone."""
+        seconds = time.monotonic() - child.began
+        if not child.is_over():
+            return f"silent for {seconds:.1f} s"
+        if is_no_answer(child.status(), child.last_words()):
+            return f"{'refused' if seconds < WHOLE else 'silent'}, {seconds:.1f} s"
+        return f"{child.last_words() if child.status() else child.output().decode().strip()}, {seconds:.1f} s"
+
+    def play(self) -> Generator[None, None, tuple[bytes, bytes] | None]:
+        """Plays the match; where its host is lost, again on another one. Returns what the referee wrote, and the log of what it said and
+        when; none where it gives no record."""
+        competition = self.plan.competition
         write_whole(self.room / "players", "".join(f"{place}\n" for place in self.places).encode())
+        self.stage, log = "playing", b""
+        for times_left in reversed(range(competition.tries)):
+            host = self.host
+            child = yield from self.run()
+            self.seconds = time.monotonic() - child.began
+            log += self.log_of(child, host)
+            if not child.status():
+                return child.output(), log + f"ended {moment()}\n".encode()
+            if not host or self.was_reached(child) and child.status() not in LOST:
+                break
+            log += f"lost {moment()} {child.last_words()}\n".encode("ascii", "replace")
+            if not (yield from self.move_on(child, times_left)):
+                break
+        self.why, self.is_broken = self.why or child.last_words(self.is_word), True
+        return None
+
+    def run(self) -> Generator[None, None, TimedChild]:
+        """Has the referee play the match, and returns its process once that is over."""
+        competition, match = self.plan.competition, self.match
         rules, told = self.plan.folder.rules_of(match.game).absolute(), self.plan.told_path(match.game)
         words = self.referee.run_words(rules, told and told.absolute(), match, competition.strikes, self.places)
-        given, job_log, host = "/dev/null", self.room / "joblog", b""
-        if competition.hosts:
-            given = self.room / "line"
-            given.write_text(remote_line(self.referee, words, match.id, self.places))
-            words = parallel_words(competition.hosts, competition.tries, job_log)
-        self.stage, began = "playing", moment()
-        child = self.child(words, "played", given)
-        self.reporter.begins(match)
+        if self.host:
+            while not self.shared.hosts.can_connect(self.host):
+                yield
+            self.begin_connecting()
+            words = remote_words(self.host, words)
+        child = TimedChild(words, self.room, "played", self.shared.reader, is_beaten=bool(self.host))
+        self.children.append(child)
+        if self.host:
+            yield from self.connect(child)
+        else:
+            self.reporter.begins(match)
         while not child.is_over():
             yield
-        self.seconds = time.monotonic() - child.began
-        if child.status():
-            self.why, self.is_broken = child.last_words(self.is_word), True
-            return None
-        if competition.hosts:
-            host = f"host {host_of(job_log)}\n".encode()
-        return child.output(), f"began {began}\n".encode() + host + child.said.read_bytes() + f"ended {moment()}\n".encode()
+        return child
 
-    def is_word(self, line):
+    def connect(self, child: TimedChild) -> Generator[None, None, None]:
+        """Waits until a process plays the match on its host, or is over."""
+        is_reached = yield from self.hear(child, CONNECTED)
+        self.end_connecting()
+        if is_reached:
+            self.reporter.begins(self.match, self.host)
+        if (yield from self.hear(child, f" {self.match.id} role ")):
+            self.shared.hosts.was_there(self.host)
+
+    def hear(self, child: TimedChild, text: str) -> Generator[None, None, bool]:
+        """Waits until a process has said a text, or is over. Returns whether it has."""
+        count = -1
+        while True:
+            is_over = child.is_over()
+            if child.lines.count != count:
+                count = child.lines.count
+                if text.encode() in child.said.read_bytes():
+                    return True
+            if is_over:
+                return False
+            yield
+
+    def begin_connecting(self) -> None:
+        self.connects = True
+        self.shared.hosts.connecting[self.host] += 1
+
+    def end_connecting(self) -> None:
+        if self.connects:
+            self.shared.hosts.connecting[self.host] -= 1
+        self.connects = False
+
+    def was_reached(self, child: TimedChild) -> bool:
+        """Returns whether a process has reached its host. The shell there may say something before."""
+        return CONNECTED.encode() in child.said.read_bytes()
+
+    def log_of(self, child: TimedChild, host: str | None) -> bytes:
+        """Returns what a process that played the match has said, with the times, and when the match began. On a host it begins when that
+        is reached."""
+        timed = child.timed_bytes()
+        if not host:
+            return f"began {child.began_at}\n".encode() + timed
+        before, _, after = timed.partition(f" {CONNECTED}\n".encode())
+        if not after and not self.was_reached(child):
+            return timed
+        lines = before.splitlines(keepends=True)
+        return b"".join(lines[:-1]) + b"began %s\nhost %s\n" % (lines[-1], host.encode()) + after
+
+    def move_on(self, child: TimedChild, times_left: int) -> Generator[None, None, bool]:
+        """Leaves a host that is lost. Returns whether the match has another one, on which it can begin."""
+        hosts, lost = self.shared.hosts, self.host
+        follows = hosts.was_lost(lost, child.began)
+        self.reporter.line(f"lost {self.match.id} on {lost}: {child.last_words()}; {follows}")
+        self.leave_host()
+        if self.was_reached(child):
+            # Until then it may go on there.
+            until = time.monotonic() + SILENCE
+            while time.monotonic() < until:
+                yield
+            yield from self.free_players()
+        while times_left and not hosts.are_all_lost():
+            if host := hosts.take(time.monotonic(), lost):
+                self.host = host
+                return True
+            yield
+        self.why = f"its host is lost: {child.last_words()}"
+        return False
+
+    def free_players(self) -> Generator[None, None, None]:
+        """Sends its players ABORT, since the match that they sit in is lost."""
+        sent = [self.child(self.referee.abort_words(self.match.id, place), f"abort-{at}") for at, place in enumerate(self.places)]
+        until = time.monotonic() + ABORT_SECONDS
+        while time.monotonic() < until and not all(child.is_over() for child in sent):
+            yield
+        for player, child in zip(self.match.players, sent):
+            is_freed = child.is_over() and child.status() == 0
+            self.reporter.note(f"abort {self.match.id} {player}: {'answered' if is_freed else 'no answer'}")
+            child.end()
+
+    def is_word(self, line: str) -> bool:
         """Returns whether a line of the referee's standard error says more than its log, which may be cut off."""
         if self.plan.competition.hosts:
-            return not line.startswith(f"{self.match.id} role ")
+            return not line.startswith((f"{self.match.id} role ", CONNECTED))
         return line.startswith(f"{PROGRAM}: ")
 
     def check(self, played, log):

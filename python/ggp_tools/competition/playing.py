@@ -4,19 +4,32 @@ import collections
 import contextlib
 import errno
 import os
+import resource
 import shutil
 import signal
 import time
+from collections.abc import Iterator
 
 from ggp_tools.competition.aborts import send_aborts
 from ggp_tools.competition.children import UNSAID
 from ggp_tools.competition.competition_file import is_place
 from ggp_tools.competition.files import Refused
+from ggp_tools.competition.hosts import Hosts
 from ggp_tools.competition.kept import look_at_records, set_aside, strangers
-from ggp_tools.competition.open_match import OpenMatch
+from ggp_tools.competition.open_match import OpenMatch, Shared
 from ggp_tools.competition.plan import plan_next_round, refuse_lost_results, round_words
+from ggp_tools.competition.schedule import Match
+from ggp_tools.competition.time_left import TimeLeft
+from ggp_tools.competition.timed_lines import LineReader
 
 REST = 0.02
+# Who ends open matches does not wait longer than so many seconds for their players to answer ABORT.
+ABORT_SECONDS = 3
+# So many open files are enough for as many matches at once as may be.
+DESCRIPTORS = 4_096
+NOT_BEGUN = "it was not begun"
+# So many matches that are missing for one reason have a line each; of more the number is told.
+MOST_LINES = 10
 # What counts as how many interrupts: the first has no more matches begin, the second ends those that are open.
 INTERRUPTS = {signal.SIGINT: 1, signal.SIGTERM: 2, signal.SIGHUP: 2}
 
@@ -26,19 +39,38 @@ class Playing:
 
     def __init__(self, plan, referee, seats, reporter, at_once):
         self.plan, self.referee, self.seats, self.reporter, self.at_once = plan, referee, seats, reporter, at_once
+        competition = plan.competition
+        self.hosts = Hosts(competition.hosts, competition.tries, competition.wait, at_once) if competition.hosts else None
+        self.shared = Shared(plan, referee, seats, reporter, LineReader(), self.hosts)
         self.results, self.left, self.open = {}, {}, []
         self.waiting = collections.deque()
         self.interrupts, self.is_full, self.stopped = 0, False, {}
+        self.time_left = TimeLeft(competition)
         self.ended = lambda result: None
+
+    def wait(self, match: Match) -> None:
+        """Has a match wait behind the others."""
+        self.waiting.append(match)
+        self.time_left.add(match)
+
+    def may_begin(self) -> bool:
+        """Returns whether further matches may begin."""
+        return not self.interrupts and not self.is_full and not (self.hosts and self.hosts.are_all_lost())
 
     def begin(self):
         """Opens matches as long as fewer than may be are at play and one can begin."""
         at_play = sum(open_match.stage in ("asking", "playing") for open_match in self.open)
         while at_play < self.at_once:
+            host = self.hosts.take(time.monotonic()) if self.hosts else None
+            if self.hosts and not host:
+                return
             match = self.seats.next_match(self.waiting, time.monotonic())
             if not match:
+                if host:
+                    self.hosts.leave(host)
                 return
-            self.open.append(OpenMatch(self.plan, self.referee, self.seats, match, self.reporter))
+            self.time_left.add(match, -1)
+            self.open.append(OpenMatch(self.shared, match, host))
             at_play += 1
 
     def step(self, open_match):
@@ -54,6 +86,7 @@ class Playing:
             abort_matches(self.referee, {open_match.match.id: open_match.places}, self.plan.folder, self.reporter)
         if open_match.result:
             self.results[open_match.match.id] = open_match.result
+            self.time_left.ended(open_match.match, time.monotonic() - open_match.seated)
             self.reporter.ends(open_match.result, open_match.seconds)
             self.ended(open_match.result)
         elif open_match.why:
@@ -65,12 +98,14 @@ class Playing:
         elif open_match.match.game in self.stopped:
             self.left[open_match.match.id] = self.stopped[open_match.match.game]
         else:
-            self.waiting.append(open_match.match)
+            self.wait(open_match.match)
 
     def stop_game(self, match):
         """Has no further match begin of a game whose rules are wrong. Those that are open are played to their ends."""
         self.stopped[match.game] = f"{match.game} is not played on, since {match.id} is no match of its description"
         others = [waiting for waiting in self.waiting if waiting.game == match.game]
+        for other in others:
+            self.time_left.add(other, -1)
         self.left.update((other.id, self.stopped[match.game]) for other in others)
         self.waiting = collections.deque(waiting for waiting in self.waiting if waiting.game != match.game)
         self.reporter.line(f"stopped {self.stopped[match.game]}; {len(others)} matches of it do not begin")
@@ -80,17 +115,18 @@ class Playing:
         open_match.end_children()
         open_match.is_broken = open_match.stage == "playing"
         if open_match.stage in ("asking", "playing"):
-            self.seats.leave(open_match.match)
+            open_match.leave()
         open_match.stage, open_match.why = "over", why
 
     def go(self):
         """Goes on until no match is open, and none waits or may begin."""
         told = 0
-        while self.open or self.waiting and not self.interrupts and not self.is_full:
+        while self.open or self.waiting and self.may_begin():
             if self.reporter.fault and not self.interrupts:
                 # No more matches begin whose lines nobody gets; the open ones are played to their ends.
                 self.interrupts = 1
-            if not self.interrupts and not self.is_full:
+            self.look_at_journal()
+            if self.may_begin():
                 self.begin()
             for open_match in self.open:
                 open_match.may_begin = not self.interrupts and not self.is_full and open_match.match.game not in self.stopped
@@ -99,18 +135,32 @@ class Playing:
                 told = self.interrupts
                 self.say_interrupt()
             self.open = [open_match for open_match in self.open if open_match.stage != "over"]
-            self.reporter.progress(len(self.results), len(self.open), len(self.waiting))
+            self.reporter.progress(len(self.results), len(self.open), len(self.waiting), self.seconds_left)
             time.sleep(REST)
+        self.look_at_journal()
         self.reporter.clear()
 
     def add(self, matches):
         """Lets further matches wait."""
-        self.waiting.extend(matches)
+        for match in matches:
+            self.wait(match)
         self.seats.look_again()
 
     def may_go_on(self):
         """Returns whether further matches may begin: nothing has hindered those before."""
         return not (self.interrupts or self.is_full or self.reporter.fault)
+
+    def look_at_journal(self) -> None:
+        """Has no further match begin where nothing can be added to the journal."""
+        if (fault := self.reporter.journal.fault) and not self.is_full:
+            self.is_full = True
+            self.reporter.line(f"{fault.filename} is not written, and no more matches begin: {fault.strerror}")
+
+    def seconds_left(self) -> float | None:
+        """Returns how many seconds the rest takes; none where that is not known yet."""
+        now = time.monotonic()
+        at_once = min(self.at_once, self.hosts.all_room()) if self.hosts else self.at_once
+        return self.time_left.left([(open_match.match, now - open_match.seated) for open_match in self.open], max(at_once, 1))
 
     def say_interrupt(self):
         if self.interrupts == 1:
@@ -131,18 +181,19 @@ class Playing:
                 open_match.close()
             elif open_match.stage == "playing":
                 self.lose(open_match, None)
-        abort_matches(self.referee, places, self.plan.folder, self.reporter)
+        abort_matches(self.referee, places, self.plan.folder, self.reporter, ABORT_SECONDS)
 
 
-def says_full(why, is_of_parallel):
+def says_full(why, is_on_host):
     """Returns whether a match has no record since the disk is full, which the referee may be the first to see. It says so with status 1,
-    or can't write that either. Of parallel that status says only that its job has ended in whatever way."""
-    return why.endswith("write fault") or not is_of_parallel and why.endswith(UNSAID.format(1))
+    or can't write that either. On a host that status may have other reasons."""
+    return why.endswith("write fault") or not is_on_host and why.endswith(UNSAID.format(1))
 
 
-def abort_matches(referee, places, folder, reporter):
-    """Sends the players of these matches ABORT. The room of a match is kept where one does not answer, so that it is sent again."""
-    silent = send_aborts(referee, places)
+def abort_matches(referee, places, folder, reporter, seconds=None):
+    """Sends the players of these matches ABORT, within so many seconds where they are given. The room of a match is kept where one does not
+    answer, so that it is sent again."""
+    silent = send_aborts(referee, places, seconds)
     for match, found in places.items():
         reporter.line(f"abort {match}: {', '.join(found)}")
         if match in silent:
@@ -192,6 +243,10 @@ def prepared(playing):
         more = f", and {len(found) - 1} more" if found[1:] else ""
         advice = f"move what is of no match out of {folder.records}, and play again"
         raise Refused(f"{folder.records / found[0]} is of no match of the schedule{more}", advice)
+    if found := sum(bool(places_in(room)) and not folder.record(room.name).exists() for room in rooms(plan)):
+        # Records take a while to look at, and players that do not answer take longer.
+        reporter.line(f"open {found} matches, when a play before this one was ended; their players are sent ABORT")
+    reporter.draw("looking at the records")
     playing.results, faults, misfits = look_at_records(plan, playing.referee)
     refuse_lost_results(plan, playing.results)
     for match, why in misfits.items():
@@ -203,7 +258,9 @@ def prepared(playing):
         if planned.id not in playing.results and planned.id not in faults and set_aside(plan, planned.id):
             reporter.line(f"aside {planned.id}: it has no record; its other files are set aside, and it is played")
     clear_open_rooms(playing)
-    playing.waiting.extend(planned for planned in plan.matches if planned.id not in playing.results and not planned.again)
+    for planned in plan.matches:
+        if planned.id not in playing.results and not planned.again:
+            playing.wait(planned)
 
 
 @contextlib.contextmanager
@@ -222,8 +279,17 @@ def interrupts_counted(playing):
             signal.signal(number, handler)
 
 
+def allow_descriptors() -> None:
+    """Has this process open more files than a shell mostly lets it: each open match takes up to three."""
+    soft, hard = resource.getrlimit(resource.RLIMIT_NOFILE)
+    wanted = DESCRIPTORS if hard == resource.RLIM_INFINITY else min(hard, DESCRIPTORS)
+    if soft != resource.RLIM_INFINITY and soft < wanted:
+        resource.setrlimit(resource.RLIMIT_NOFILE, (wanted, hard))
+
+
 def play(playing):
     """Plays, in a folder that is held. Returns for each match that has no lawful record why."""
+    allow_descriptors()
     prepared(playing)
     with interrupts_counted(playing):
         playing.go()
@@ -231,5 +297,17 @@ def play(playing):
             playing.reporter.line(round_words(playing.plan, matches))
             playing.add(matches)
             playing.go()
-    missing = dict.fromkeys((planned.id for planned in playing.plan.matches if planned.id not in playing.results), "it was not begun")
+    missing = dict.fromkeys((planned.id for planned in playing.plan.matches if planned.id not in playing.results), NOT_BEGUN)
     return {match: playing.left.get(match, why) for match, why in missing.items()}
+
+
+def said_of_missing(missing: dict[str, str]) -> Iterator[str]:
+    """Gives lines that say which matches are missing, and why: the number alone where many are for one reason, or were not begun."""
+    by_reason: dict[str, list[str]] = {}
+    for match, why in missing.items():
+        by_reason.setdefault(why, []).append(match)
+    for why, matches in by_reason.items():
+        if len(matches) > MOST_LINES:
+            yield f"missing {len(matches):,} matches, {matches[0]} to {matches[-1]}: {why}"
+        else:
+            yield from (f"missing {match}: {why}" for match in matches)

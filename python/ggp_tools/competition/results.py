@@ -7,10 +7,11 @@ from collections.abc import Iterator
 from dataclasses import dataclass
 
 from ggp_tools.competition.schedule import Match
+from ggp_tools.moments import MOMENT
 
 # No number is longer, so that a log of an archive can't be one that Python refuses to read.
-LOG_LINE = re.compile(r"(\S+) role (\d{1,9}) (\S+) message (\d{1,9}) \((\w+) .*, (\d{1,18}) ms")
-TIME_LINE = re.compile(r"(began|ended) (\d{4}-\d\d-\d\dT\d\d:\d\d:\d\d\.\d{3}Z)")
+LOG_LINE = re.compile(rf"(?:{MOMENT} )?(\S+) role (\d{{1,9}}) (\S+) message (\d{{1,9}}) \((\w+) .*, (\d{{1,18}}) ms")
+TIME_LINE = re.compile(rf"(began|ended) ({MOMENT})")
 HOST_LINE = re.compile(r"(host) (\S+)")
 
 
@@ -156,9 +157,12 @@ def read_record(data: bytes) -> dict:
 
 
 def times_of(log: bytes, roles: int) -> dict[str, object]:
-    """Returns when a match began and ended, on which host, and of each role's messages the kind and the milliseconds."""
+    """Returns when a match began and ended, on which host, and of each role's messages the kind and the milliseconds. A match that was lost
+    with its host has begun again, and what was before that does not count."""
     found, messages = {}, [[] for _ in range(roles)]
     for line in log.decode("ascii", "replace").splitlines():
+        if line.startswith("began "):
+            found, messages = {}, [[] for _ in range(roles)]
         if it := TIME_LINE.fullmatch(line) or HOST_LINE.fullmatch(line):
             found[it[1]] = it[2]
         elif (it := LOG_LINE.fullmatch(line)) and int(it[2]) < roles:

@@ -1,0 +1,169 @@
+"""Tells what happened to the players of a match, turn by turn: by its record, by its log, and by what `play` has noted."""
+
+import re
+from collections.abc import Iterator
+from dataclasses import dataclass
+
+from ggp_tools.competition.files import Refused
+from ggp_tools.competition.plan import Plan
+from ggp_tools.competition.results import read_record
+from ggp_tools.competition.schedule import Match
+from ggp_tools.moments import MOMENT
+
+TIMED = re.compile(rf"({MOMENT}) (.*)")
+MESSAGE = re.compile(r"\S+ role (\d{1,9}) \S+ message (\d{1,9}) (.*), (\d{1,18}) ms")
+# So many bytes of a message stand in the log, and two dots if more follow.
+SHOWN, MORE = 200, ".."
+# What stands in place of an answer.
+NO_ANSWER = re.compile(r"TO|(?:CE|lost) \(.*\)")
+MARKS = {
+    "TO": "no whole answer within {seconds} s",
+    "CE": "no connection, or no whole reply",
+    "RT": "not asked, since it is retired",
+    "IL ?": "the answer is not one expression, or too long",
+}
+
+
+@dataclass
+class Event:
+    """What happened at a time, or nobody knows when; to one role, or to all."""
+
+    time: str
+    role: int | None
+    words: str
+
+
+def parts_of(said: str) -> tuple[str, str]:
+    """Returns the message and the answer of a line of a log. In a message that is whole each bracket is closed."""
+    if said[SHOWN : SHOWN + len(MORE) + 2] == f"{MORE}: ":
+        return said[: SHOWN + len(MORE)], said[SHOWN + len(MORE) + 2 :]
+    depth = 0
+    for at, sign in enumerate(said):
+        depth += {"(": 1, ")": -1}.get(sign, 0)
+        if not depth:
+            return said[: at + 1], said[at + 3 :]
+    return said, ""
+
+
+class Told:
+    """What is told of one match."""
+
+    def __init__(self, plan: Plan, match: Match) -> None:
+        self.plan, self.match, self.folder = plan, match, plan.folder
+        file = self.folder.record(match.id)
+        self.record = read_record(file.read_bytes()) if file.is_file() else None
+        self.roles = plan.roles(match.game)
+
+    def noted(self) -> Iterator[Event]:
+        """Gives what `play` has noted of the match, with the player of an INFO or an ABORT."""
+        if not self.folder.journal.is_file():
+            return
+        word = re.compile(rf"(?<![\w.-]){re.escape(self.match.id)}(?![\w-]|\.\w)")
+        with open(self.folder.journal, encoding="ascii", errors="replace") as file:
+            for line in file:
+                found = TIMED.fullmatch(line.rstrip("\n"))
+                if found and word.search(found[2]):
+                    yield Event(found[1], self.role_of(found[2]), found[2])
+
+    def role_of(self, words: str) -> int | None:
+        """Returns the role whose player alone a line is about."""
+        kind, _, rest = words.partition(f" {self.match.id} ")
+        player = rest.partition(": ")[0]
+        return self.match.players.index(player) if kind in ("info", "abort") and player in self.match.players else None
+
+    def log(self) -> list[str]:
+        """Returns the lines of the log; of a match that is open, those that came so far."""
+        said = self.folder.open / self.match.id / "played.said"
+        file = said if not self.record and said.is_file() else self.folder.log(self.match.id)
+        return file.read_bytes().decode("ascii", "replace").splitlines() if file.is_file() else []
+
+    def logged(self, is_noted: bool) -> Iterator[Event]:
+        """Gives what the log says. When a match began and ended is noted too, unless `play` noted nothing then."""
+        counts, time = [0] * len(self.roles), ""
+        for line in self.log():
+            found = TIMED.fullmatch(line)
+            time, line = (found[1], found[2]) if found else (time, line)
+            if line.startswith(("began ", "host ", "lost ", "ended ")):
+                word, _, rest = line.partition(" ")
+                counts = [0] * len(self.roles) if word == "began" else counts
+                time = rest.partition(" ")[0] if word != "host" else time
+                if not is_noted:
+                    yield Event(time, None, line)
+            elif (said := MESSAGE.fullmatch(line)) and int(said[1]) < len(self.roles):
+                role = int(said[1])
+                counts[role] += 1
+                yield Event(time if found else "", role, self.message_words(role, int(said[2]), said[3], said[4]))
+            elif found:
+                yield Event(time, None, f"said: {line}")
+
+    def message_words(self, role: int, number: int, said: str, ms: str) -> str:
+        """Returns what came of a message to a role; the first is START, and then comes one each turn."""
+        message, answer = parts_of(said)
+        kind = message[1:].partition(" ")[0]
+        head = f"turn {number - 1}: {kind}" if kind == "PLAY" else kind
+        words = f"{head} brought {answer} after {ms} ms" if NO_ANSWER.fullmatch(answer) else f"{head} was answered `{answer}` after {ms} ms"
+        if self.record and kind == "PLAY":
+            words += f"; {self.turn_words(role, number - 2)}"
+        elif self.record:
+            mark = self.record["startMarks" if kind == "START" else "endMarks"][role]
+            words += f"; {self.mark_words(mark, kind)}" if mark else ""
+        return f"{words}. Message {number} to it: {message}"
+
+    def mark_words(self, mark: str, kind: str) -> str:
+        """Returns what the error of a record means."""
+        seconds = self.match.start if kind == "START" else self.match.play
+        if mark in MARKS:
+            return f"{mark}: {MARKS[mark].format(seconds=seconds)}"
+        return f"{mark}: no legal move of its role in that state"
+
+    def turn_words(self, role: int, turn: int) -> str:
+        """Returns what was played for a role in a turn, and why."""
+        if turn >= len(self.record["moves"]):
+            return "the match was given up before that turn was played"
+        move, error = self.record["moves"][turn][role], self.record["errors"][turn][role]
+        if not error:
+            return f"it is legal, and was played: {move}"
+        row = next(count for count in range(1, turn + 2) if count > turn or not self.record["errors"][turn - count][role])
+        again = f", turn {row} in a row without a move of its own" if row > 1 else ""
+        retired = ", so it is retired" if self.record["strikes"] and row == self.record["strikes"] else ""
+        return f"{self.mark_words(error, 'PLAY')}; its first legal move was played: {move}{again}{retired}"
+
+    def outcome(self, role: int) -> list[str]:
+        """Returns how the match ended for a role."""
+        record = self.record
+        if not record:
+            return ["the match has no record that counts"]
+        errors = [turn[role] for turn in record["errors"]]
+        late = [turn for turn, error in enumerate(errors, 1) if error == "RT"]
+        said = [f"turns {late[0]} to {late[-1]}: {self.mark_words('RT', 'PLAY')}; its first legal moves were played"] if late else []
+        replaced = sum(bool(error) for error in errors)
+        goal = f"goal {record['goalValues'][role]}" if record["goalValues"] else f"no goal, since the match was given up: {record['cause']}"
+        return [*said, f"{goal}; {replaced} of {len(errors)} moves replaced"]
+
+    def lines(self, players: list[str]) -> Iterator[str]:
+        """Gives all that is known of these players in the match."""
+        match, notes = self.match, list(self.noted())
+        who = ", ".join(f"{player} is {role}" for player, role in zip(match.players, self.roles))
+        strikes = self.plan.competition.strikes
+        more = f", retired after {strikes} turns in a row without a move of its own" if strikes else ""
+        yield f"{match.id}, {match.game}: {who}; {match.start} s for START, {match.play} s for each other message{more}"
+        is_noted = any(note.words.startswith(f"begin {match.id} ") for note in notes)
+        # Where two things happened in the same moment, what was noted first stays first.
+        events = sorted([*notes, *self.logged(is_noted)], key=lambda event: event.time) if is_noted else [*notes, *self.logged(is_noted)]
+        for player in players:
+            role = match.players.index(player)
+            yield f"\n{player}, {self.roles[role]}:"
+            for event in events:
+                if event.role in (None, role):
+                    yield f"{event.time or '(no time)'} {event.words}"
+            yield from self.outcome(role)
+
+
+def said_of_match(plan: Plan, match_id: str, player: str | None) -> Iterator[str]:
+    """Gives what happened in a match, to one player or to each."""
+    match = next((planned for planned in plan.matches if planned.id == match_id), None)
+    if match is None:
+        raise Refused(f"{match_id} is no match of {plan.folder.schedule}")
+    if player and player not in match.players:
+        raise Refused(f"{player} is no player of {match_id}: {', '.join(match.players)}")
+    yield from Told(plan, match).lines([player] if player else list(match.players))

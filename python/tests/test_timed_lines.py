@@ -1,0 +1,104 @@
+"""The lines of a pipe, each with the time when it came."""
+
+import os
+import pathlib
+import re
+import tempfile
+import time
+import unittest
+
+from ggp_tools.competition.timed_lines import LineReader, untimed
+from ggp_tools.reporting import MOMENT, Journal
+
+
+class Lines(unittest.TestCase):
+    def setUp(self):
+        room = tempfile.TemporaryDirectory()
+        self.addCleanup(room.cleanup)
+        self.file = pathlib.Path(room.name) / "lines"
+
+    def read(self, reader, *beaten):
+        """Has a pipe read, and returns its other end, and what is read of it."""
+        ours, theirs = os.pipe()
+        return theirs, reader.read(open(ours, "rb", buffering=0), self.file, *beaten)
+
+    def wait_for(self, is_so):
+        while not is_so():
+            time.sleep(0.005)
+
+    def test_each_line_has_the_time_when_it_came(self):
+        theirs, lines = self.read(LineReader())
+        os.write(theirs, b"one\ntw")
+        self.wait_for(lambda: self.file.read_bytes())
+        time.sleep(0.01)
+        os.write(theirs, b"o\nthree")
+        os.close(theirs)
+        self.wait_for(lambda: lines.is_over)
+        said = self.file.read_text()
+        self.assertRegex(said, rf"\A{MOMENT} one\n{MOMENT} two\n{MOMENT} three\n\Z")
+        times = re.findall(MOMENT, said)
+        self.assertLess(times[0], times[1])
+        self.assertEqual(untimed(said.encode()), b"one\ntwo\nthree\n")
+
+    def test_a_line_without_an_end_is_cut(self):
+        theirs, lines = self.read(LineReader())
+        for _ in range(5):
+            os.write(theirs, b"x" * 32768)
+        os.close(theirs)
+        self.wait_for(lambda: lines.is_over)
+        said = untimed(self.file.read_bytes())
+        self.assertEqual((said.replace(b"\n", b""), said.count(b"\n")), (b"x" * 163840, 2))
+
+    def test_a_file_that_is_full_is_told_and_the_pipe_is_read_on(self):
+        self.file = pathlib.Path("/dev/full")
+        theirs, lines = self.read(LineReader())
+        for _ in range(100):
+            os.write(theirs, b"x" * 8191 + b"\n")
+        os.close(theirs)
+        self.wait_for(lambda: lines.is_over)
+        self.assertEqual((lines.fault.filename, lines.fault.strerror), ("/dev/full", "No space left on device"))
+
+    def test_many_pipes_and_numbers_that_come_again(self):
+        reader, folder = LineReader(), self.file.parent
+        for turn in range(3):
+            found = []
+            for number in range(100):
+                self.file = folder / f"{turn}-{number}"
+                found.append((self.file, *self.read(reader)))
+            for file, theirs, _ in found:
+                os.write(theirs, f"{file.name}\n".encode())
+                os.close(theirs)
+            self.wait_for(lambda: all(lines.is_over for _, _, lines in found))
+            self.assertEqual([untimed(file.read_bytes()).decode() for file, _, _ in found], [f"{file.name}\n" for file, _, _ in found])
+
+    def test_who_is_beaten_has_a_byte_until_it_is_over(self):
+        ours, beaten = os.pipe()
+        theirs, lines = self.read(LineReader(), open(beaten, "wb", buffering=0))
+        self.assertEqual(os.read(ours, 1), b"\n")
+        os.close(theirs)
+        while os.read(ours, 64):
+            pass
+        self.wait_for(lambda: lines.is_over)
+        os.close(ours)
+
+
+class SomeJournal(unittest.TestCase):
+    def test_lines_are_added_with_their_times(self):
+        with tempfile.TemporaryDirectory() as room:
+            path = pathlib.Path(room) / "play.log"
+            self.assertFalse(Journal(path).is_open() or path.exists())
+            Journal(path).write("one")
+            with open(path, "ab") as file:
+                file.write(b"cut")
+            Journal(path).write("two \x1b[1m\u00e4")
+            self.assertRegex(path.read_text(), rf"\A{MOMENT} one\ncut\n{MOMENT} two \?\[1m\?\n\Z")
+
+    def test_the_first_fault_is_kept(self):
+        journal = Journal(pathlib.Path("/dev/full"))
+        for word in ("one", "two"):
+            journal.write(word)
+        self.assertEqual((journal.fault.filename, journal.fault.strerror), ("/dev/full", "No space left on device"))
+
+
+if __name__ == "__main__":
+    unittest.main()

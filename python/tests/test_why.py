@@ -1,0 +1,122 @@
+"""What `why` tells of a match: of its record, its log and the journal of `play`; and the times in these."""
+
+import json
+import re
+import shutil
+import time
+
+from ggp_tools.competition.results import times_of
+from ggp_tools.competition.why import parts_of
+from ggp_tools.moments import MOMENT
+from tests.players import TestPlayer
+from tests.support import GAMES, InFolder, run
+
+HEAD = "start = 5\nplay = 5\nstrikes = 2\nwait = 0\ninfo = 5\ntries = 2\n"
+
+
+class Why(InFolder):
+    def planned(self, *kinds, head=HEAD):
+        self.players = [TestPlayer(f"p{at}", kind, at) for at, kind in enumerate(kinds)]
+        form = 'kind = "schedule"\nlines = ["countdown p0 p1"]'
+        self.plan([(player.name, player.place()) for player in self.players], [("countdown", GAMES / "countdown.kif")], form, head)
+
+    def why(self, *words):
+        status, out, said = run(self.folder, "why", ".", *words)
+        self.assertEqual((status, said), (0, ""), out)
+        return out
+
+    def journal(self):
+        return (self.folder / "play.log").read_text().splitlines()
+
+    def test_turn_by_turn_with_the_times(self):
+        self.planned("good", "lying")
+        self.assertEqual(run(self.folder, "play")[0], 0)
+        record = self.records()["cup-001"]
+        said = self.why("cup-001", "p1")
+        self.assertTrue(said.startswith("cup-001, countdown: p0 is red, p1 is blue; 5 s for START, 5 s for each other message, retired after 2 turns"))
+        self.assertRegex(said, rf"(?m)^{MOMENT} info cup-001 p1: available, \d\.\d s$")
+        self.assertRegex(said, rf"(?m)^{MOMENT} begin cup-001 countdown p0 p1$")
+        self.assertRegex(said, rf"(?m)^{MOMENT} START was answered `ready` after \d+ ms\. Message 1 to it: \(START cup-001 blue ")
+        wrong = r"IL \(no such move\): no legal move of its role in that state; its first legal move was played: "
+        first, second = (re.escape(turn[1]) for turn in record["moves"][:2])
+        self.assertRegex(said, rf"(?m)^{MOMENT} turn 1: PLAY was answered `\(no such move\)` after \d+ ms; {wrong}{first}\. Message 2 to it: \(PLAY cup-001 NIL\)$")
+        self.assertRegex(said, rf"(?m)^{MOMENT} turn 2: PLAY .*; {wrong}{second}, turn 2 in a row without a move of its own, so it is retired\. ")
+        self.assertNotIn("p0: available", said)
+        self.assertEqual(said.splitlines()[-1], f"goal {record['goalValues'][1]}; {len(record['moves'])} of {len(record['moves'])} moves replaced")
+        both = self.why("cup-001")
+        self.assertIn("it is legal, and was played: ", both)
+        self.assertIn(said.partition("\n\n")[2].strip(), both)
+
+    def test_each_message_has_a_time_of_its_own(self):
+        self.planned("good", "slow")
+        self.assertEqual(run(self.folder, "play")[0], 0)
+        log = (self.folder / "logs/cup-001.txt").read_text().splitlines()
+        times = [line.partition(" ")[0] for line in log if " role 1 p1 message " in line]
+        self.assertEqual((len(times), times), (len(self.records()["cup-001"]["moves"]) + 2, sorted(set(times))))
+        self.assertRegex(log[0], rf"^began {MOMENT}$")
+        self.assertTrue(all(log[0].split()[1] <= time <= log[-1].split()[1] for time in times), log)
+
+    def test_a_match_that_was_not_played(self):
+        self.planned("good", "good", head=HEAD.replace("info = 5", "info = 4"))
+        self.players[0].status = "busy"
+        self.players[1].leave()
+        self.assertEqual(run(self.folder, "play")[0], 1)
+        said = self.why("cup-001")
+        self.assertEqual(len(re.findall(rf"(?m)^{MOMENT} info cup-001 p0: busy, \d\.\d s$", said)), 2)
+        self.assertEqual(len(re.findall(rf"(?m)^{MOMENT} info cup-001 p1: refused, \d\.\d s$", said)), 2)
+        self.assertRegex(said, rf"(?m)^{MOMENT} back cup-001: p0 is busy, p1 is silent$")
+        self.assertRegex(said, rf"(?m)^{MOMENT} no record cup-001: p0 is busy, p1 is silent$")
+        self.assertEqual(said.splitlines()[-1], "the match has no record that counts")
+        self.assertRegex("\n".join(self.journal()), rf"\n{MOMENT} missing cup-001: .*\n{MOMENT} 0 of 1 matches have a lawful record$")
+
+    def test_a_player_that_lets_the_seconds_pass_is_silent(self):
+        self.planned("good", "good", head=HEAD.replace("info = 5", "info = 1"))
+        self.players[1].serve = lambda connection: time.sleep(1.5)
+        self.assertEqual(run(self.folder, "play")[0], 1)
+        self.assertRegex(self.why("cup-001", "p1"), r"info cup-001 p1: silent for 1\.\d s\n")
+
+    def test_a_play_with_nothing_to_do_adds_nothing_to_the_journal(self):
+        self.planned("good", "good")
+        self.assertEqual(run(self.folder, "play")[0], 0)
+        before = self.journal()
+        self.assertEqual(run(self.folder, "play")[0], 0)
+        self.assertEqual(self.journal(), before)
+        self.assertTrue(all(re.match(rf"{MOMENT} ", line) for line in before))
+
+    def test_an_archive_with_and_without_times(self):
+        self.planned("good", "good")
+        self.assertEqual(run(self.folder, "play")[0], 0)
+        self.assertEqual([run(self.folder, *words)[0] for words in (("publish",), ("check", "cup.tar.gz"))], [0, 0])
+        shutil.unpack_archive(self.folder / "cup.tar.gz", self.folder / "there")
+        told = self.why("cup-001")
+        self.assertEqual(run(self.folder, "why", "there/cup", "cup-001"), (0, told, ""))
+        # So a log was written before there were times, and before there was a journal.
+        (self.folder / "play.log").unlink()
+        log = self.folder / "logs/cup-001.txt"
+        log.write_text(re.sub(rf"(?m)^{MOMENT} ", "", log.read_text()))
+        self.assertEqual([run(self.folder, *words)[0] for words in (("publish",), ("check", "cup.tar.gz"))], [0, 0])
+        self.assertRegex(self.why("cup-001"), r"(?m)^\(no time\) turn 1: PLAY was answered ")
+        self.assertRegex(self.why("cup-001"), rf"(?m)^{MOMENT} began {MOMENT}$")
+
+    def test_what_is_no_match_and_who_is_no_player(self):
+        self.planned("good", "good")
+        self.assertEqual(run(self.folder, "why", ".", "cup-9")[::2], (2, "ggp_competition: cup-9 is no match of schedule.tsv\n"))
+        self.assertEqual(run(self.folder, "why", ".", "cup-001", "p9")[::2], (2, "ggp_competition: p9 is no player of cup-001: p0, p1\n"))
+
+    def test_a_message_is_told_from_its_answer(self):
+        long = f"(START {'x' * 193}.."
+        for said, parts in (
+            ("(PLAY m ((a: b) c)): (d: e)", ("(PLAY m ((a: b) c))", "(d: e)")),
+            ("(PLAY m NIL): CE (no connection)", ("(PLAY m NIL)", "CE (no connection)")),
+            (f"{long}: ready", (long, "ready")),
+            ("(PLAY m NIL): ", ("(PLAY m NIL)", "")),
+        ):
+            self.assertEqual(parts_of(said), parts)
+
+    def test_a_match_begun_again_has_the_times_of_its_last_beginning(self):
+        message = "m role 0 a message {} (START m a (x)): ready, {} ms\n"
+        times = [f"2026-01-01T00:00:0{second}.000Z" for second in range(6)]
+        log = f"began {times[0]}\nhost one\n{times[1]} {message.format(1, 5)}lost {times[2]} why\nbegan {times[3]}\nhost two\n"
+        log += f"{times[4]} {message.format(1, 7)}ended {times[5]}\n"
+        wanted = {"begin": times[3], "end": times[5], "host": "two", "messages": [[["start", 7]]]}
+        self.assertEqual(json.dumps(times_of(log.encode(), 1)), json.dumps(wanted))
