@@ -10,7 +10,7 @@ from collections.abc import Callable
 from typing import Any
 
 from ggp_tools.competition.timed_lines import LineReader, untimed
-from ggp_tools.reporting import moment
+from ggp_tools.moments import moment
 
 END_WITH_PARENT = 1
 # What is known of a process that could say nothing.

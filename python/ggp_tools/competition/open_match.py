@@ -16,7 +16,8 @@ from ggp_tools.competition.seats import Seats
 from ggp_tools.competition.timed_lines import LineReader
 from ggp_tools.referee import PROGRAM, Referee, is_no_answer, is_not_lawful, is_not_replayed
 from ggp_tools.competition.results import fault_of_record, read_record, result_of
-from ggp_tools.reporting import Reporter, moment
+from ggp_tools.moments import moment
+from ggp_tools.reporting import Reporter
 
 # The referee ends INFO by itself after so many seconds, and soon after that it has said whether it was short of something itself.
 WHOLE, SOON = 10, 1
