@@ -189,7 +189,7 @@ class BadInput(InFolder):
         self.write(PLAYERS, [("game", "game.kif")])
         place = "competition.toml:4: games.file: game.kif:"
         self.assert_refused([
-            f"{place} dear: sentence 68, {rule}: 4,225 ground sentences\n{place} dear: sentence 0, ",
+            f"{place} dear: sentence 68, line 3: {rule}: 4,225 ground sentences\n{place} dear: sentence 0, line 1: ",
             f"\n{place} ggp-instantiate: nothing is written, since this is past the limit: moves of a (4,225 of 4,096)\n",
         ])
 

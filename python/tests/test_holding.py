@@ -1,27 +1,18 @@
-"""Records are held against the published description: what is not by it is found, in games that are instantiated wrongly too."""
+"""Records are held against the published description: what is not by it is found, and said by the sentence that shows it."""
 
-import contextlib
-import io
 import json
-import random
-import shutil
 import subprocess
 import sys
 import unittest
-from unittest import mock
 
-from ggp_tools import ground_games
 from ggp_tools.holding.command import MOST_CALLS
-from ggp_tools.holding.following import Differs, Following
 from ggp_tools.holding.game import Game
 from ggp_tools.holding.reading import NotFollowed
-from ggp_tools.instantiating import making, rounds
-from ggp_tools.kif import expressions, relation
+from ggp_tools.kif import expressions
+from tests.ground_matches import differs, played
 from tests.support import GAMES, TOP
 
 COMMAND = TOP / "python/ggp-hold-against"
-PLANTED_IN = "tictactoe", "nim", "connectfour", "auction", "blocks", "hanoi", "hex", "river", "lightcycles", "quarto"
-MOST_TURNS, TRIES = 60, 40
 # A game of three turns, in which the order of moves is clear.
 STEPS = """(role ann) (role bob) (init (at 1)) (after 1 2) (after 2 3) (after 3 4)
 (<= (legal ann (go ?n)) (true (at ?m)) (after ?m ?n))
@@ -31,141 +22,6 @@ STEPS = """(role ann) (role bob) (init (at 1)) (after 1 2) (after 2 3) (after 3 
 (<= terminal (true (at 4)))
 (<= (goal ann 100) (true (at 4))) (<= (goal ann 10) (not (true (at 4)))) (goal bob 50)
 """
-
-
-def instantiated(name):
-    """The ground sentences of a game of this repository."""
-    with contextlib.redirect_stderr(io.StringIO()):
-        return expressions(making.Making(description(name), 60, making.WHERE_NEEDED).run())
-
-
-def description(name):
-    return (GAMES / f"general/{name}.kif").read_text("latin-1")
-
-
-def begun(sentences):
-    """A match by ground rules, ready for its first turn."""
-    game = ground_games.Game(sentences)
-    match = ground_games.Match(game, "m", 1, 1, [f"p{at}" for at in range(len(game.roles))])
-    match.marks["start"] = dict.fromkeys(range(len(game.roles)), "")
-    return match
-
-
-def played(sentences, seed):
-    """The record of a match by ground rules: some answers are late, and some illegal."""
-    match = begun(sentences)
-    game = match.game
-    every = {role: sorted((head[2] for head in game.heads[("legal", 2)] if head[1] == role), key=repr) for role in game.roles}
-    while len(match.moves) < MOST_TURNS and match.phase()[0] == "playing":
-        dice = [random.Random(f"{seed} {len(match.moves)} {role}") for role in game.roles]
-        legal = [game.legal(match.states[-1], role) for role in game.roles]
-        match.turn([judged(one, found, every[role]) for one, found, role in zip(dice, legal, game.roles)])
-    match.marks["end"] = dict(match.marks["start"])
-    return match.record()
-
-
-def played_again(sentences, record):
-    """The record that the same answers make by other ground rules."""
-    match = begun(sentences)
-    for moves, errors in zip(record["moves"], record["errors"]):
-        if match.phase()[0] != "playing":
-            break
-        turn = []
-        for role, move, error in zip(match.game.roles, moves, errors):
-            legal = match.game.legal(match.states[-1], role)
-            answer = expressions(error.removeprefix("IL ") if error.startswith("IL ") else move)[0]
-            is_late = error == "TO"
-            turn.append((answer, "") if answer in legal and not is_late else (legal[0], "TO" if is_late else f"IL {ground_games.text_of(answer)}"))
-        match.turn(turn)
-    match.marks["end"] = dict(match.marks["start"])
-    return match.record()
-
-
-def judged(dice, legal, every):
-    """A move, and the error that it stands for."""
-    kind = dice.random()
-    if kind < 0.2:
-        return legal[0], "TO"
-    answer = dice.choice(every if kind < 0.4 else sorted(legal, key=repr))
-    return (answer, "") if answer in legal else (legal[0], f"IL {ground_games.text_of(answer)}")
-
-
-def differs(game, record):
-    """Words for where a record differs from the description; none where it does not."""
-    try:
-        Following(game).follow(json.loads(json.dumps(record)))
-    except Differs as why:
-        return str(why)
-    return None
-
-
-def head_of(sentence):
-    return sentence[1] if sentence[0] == "<=" else sentence
-
-
-def dropped(sentences, dice):
-    """The sentences without one of a `legal` or a `next`."""
-    at = dice.choice([at for at, one in enumerate(sentences) if relation(head_of(one))[0] in ("legal", "next")])
-    return sentences[:at] + sentences[at + 1 :]
-
-
-def swapped(sentences, dice):
-    """The sentences with two legal moves of a role in each other's place."""
-    heads = list(dict.fromkeys(head_of(one) for one in sentences if relation(head_of(one)) == ("legal", 2)))
-    role = dice.choice(heads)[1]
-    moves = [head for head in heads if head[1] == role]
-    one, other = dice.sample(moves, 2) if len(moves) > 1 else moves * 2
-    instead = {one: other, other: one}
-    found, seen = [], set()
-    for sentence in sentences:
-        head = head_of(sentence)
-        if head not in instead:
-            found.append(sentence)
-        elif head not in seen:
-            found += [sentence for sentence in sentences if head_of(sentence) == instead[head]]
-        seen.add(head)
-    return found
-
-
-def goals_off(sentences, dice):
-    """The sentences with a goal that is off by one."""
-    at = dice.choice([at for at, one in enumerate(sentences) if relation(head_of(one)) == ("goal", 2)])
-    _, role, value = head_of(sentences[at])
-    head = ("goal", role, str(int(value) + (1 if value == "0" else -1)))
-    found = list(sentences)
-    found[at] = ("<=", head, *found[at][2:]) if found[at][0] == "<=" else head
-    return found
-
-
-class Planted(unittest.TestCase):
-    """What is wrong in ground rules is found in the first match in which it matters."""
-
-    def look_for(self, name, plant):
-        game, sentences = Game(description(name)), instantiated(name)
-        for number in range(TRIES):
-            wrong = played(plant(sentences, random.Random(f"{name} {number}")), number)
-            right = played_again(sentences, wrong)
-            self.assertIsNone(differs(game, right), name)
-            if wrong != right:
-                self.assertIsNotNone(differs(game, wrong), f"{name}, {plant.__name__}, {number}")
-                return
-        self.fail(f"{name}: nothing that was planted matters")
-
-    @unittest.skipUnless(shutil.which("gringo"), "gringo is not installed")
-    def test_what_is_planted(self):
-        for name in PLANTED_IN:
-            for plant in (dropped, swapped, goals_off):
-                with self.subTest(name, plant=plant.__name__):
-                    self.look_for(name, plant)
-
-    @unittest.skipUnless(shutil.which("gringo"), "gringo is not installed")
-    def test_a_halved_cycle(self):
-        whole, last = Game(description("hex")), rounds.last_round
-        with mock.patch.object(rounds, "last_round", lambda circle, rules_for: last(circle, rules_for) // 8):
-            wrong = instantiated("hex")
-        found = [differs(whole, played(wrong, number)) for number in range(TRIES)]
-        self.assertTrue(any(found))
-        self.assertIn("terminal", next(filter(None, found)))
 
 
 class Words(unittest.TestCase):

@@ -102,6 +102,27 @@ class Folding(unittest.TestCase):
         costs = folding.folded(rules, 10_000, 1 << 20).costs(True)
         self.assertGreater(costs[3], costs[2])
 
+    def test_what_is_put_into_others_costs_whose_it_is(self):
+        # The long relation is asked for once, and stands in the rule that asks: what it costs there is its own.
+        long = " ".join(f"(true (a-long-name {k}))" for k in range(20))
+        text = f"(role r) (legal r m) (<= (next s) w (true s)) (<= w {long})"
+        game = folding.folded(all_rules(expressions(text)), 3, 1 << 20)
+        self.assertEqual(game.sentences(), 3)
+        costs = game.costs(True)
+        self.assertGreater(costs[3], 10 * costs[2])
+        self.assertEqual(round(costs.total()), game.bytes())
+
+    def test_parts_cost_those_who_ask_for_them(self):
+        # Two rules of one head; only the second has the body that all the others share, which becomes a part.
+        long = " ".join(f"(true (a-long-name {k}))" for k in range(9))
+        rules = [Rule(2, ("next", "c0"), (Literal(True, ("true", "s")),))]
+        rules += [Rule(3, ("next", f"c{k}"), tuple(Literal(True, one) for one in expressions(long))) for k in range(5)]
+        game = folding.folded([*all_rules(expressions("(role r) (legal r m)")), *rules], 10_000, 1 << 20)
+        self.assertEqual(game.part_count, 1)
+        costs = game.costs(True)
+        self.assertGreater(costs[3], 5 * costs[2])
+        self.assertEqual(round(costs.total()), game.bytes())
+
     def compare(self, plain, found, seed):
         for count in range(len(STATE) + 1):
             for state in itertools.combinations(STATE, count):

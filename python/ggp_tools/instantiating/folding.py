@@ -28,11 +28,11 @@ class Hopeless(Refused):
 
 class Folded:
     """The game as formulas: of each head its bodies, each a set of formulas that all have to be true. `origins` has for each body of a head
-    how many ground rules of which sentences it comes from, and `shares`, once it is known, what part of a head's cost is whose."""
+    how many bytes come from which sentences of the description; of a part that several ask for they are those of who asks."""
 
     def __init__(self, rules):
         self.formulas, self.bodies, self.sources = Formulas(), {}, {}
-        self.origins, self.shares = defaultdict(lambda: defaultdict(Counter)), {}
+        self.origins = defaultdict(lambda: defaultdict(Counter))
         moves = {}
         for rule in rules:
             if relation(rule.head) == ("legal", 2):
@@ -48,7 +48,7 @@ class Folded:
             self.bodies.setdefault(head, [])
             if body is not None:
                 self.bodies[head].append(body)
-                self.origins[head][body][rule.sentence] += 1
+                self.origins[head][body][rule.sentence] += self.sentence_size(head, body)
         self.own = {head for head in self.bodies if relation(made.nodes[head][1])[0] in GAME}
         self.word = fresh_before_digits("part", {name for rule in rules for name in atoms(rule.head)})
         self.part_count = 0
@@ -65,24 +65,55 @@ class Folded:
     def bytes(self):
         return sum(self.sentence_size(head, body) for head, bodies in self.bodies.items() for body in bodies)
 
-    def share_costs(self):
-        """Notes what part of the cost of each head is whose: its bodies' bytes, by the sentences that they come from."""
-        for head, bodies in self.bodies.items():
-            self.shares[head] = shares = Counter()
-            for body in bodies:
-                origins = self.origins[head][body] or Counter([self.sources[head]])
-                for sentence, count in origins.items():
-                    shares[sentence] += self.sentence_size(head, body) * count / origins.total()
+    # ---- Whose it is -----------------------------------------------------------------------------
 
     def costs(self, is_bytes):
         """What the sentences of the description cost in what is written."""
-        found = Counter()
+        found, asked_by, known = Counter(), self.asked_by(), {}
         for head, bodies in self.bodies.items():
-            cost = sum(self.sentence_size(head, body) for body in bodies) if is_bytes else len(bodies)
-            shares = self.shares.get(head) or Counter([self.sources[head]])
-            for sentence, share in shares.items():
-                found[sentence] += cost * share / shares.total()
+            for body in bodies:
+                cost = self.sentence_size(head, body) if is_bytes else 1
+                own = scaled(self.origins[head][body], cost) if head in self.origins else scaled(self.of_part(head, asked_by, known), cost)
+                for sentence, share in own.items():
+                    found[sentence] += share
         return found
+
+    def asked_by(self):
+        """The bodies that ask for each part, with their heads."""
+        found = defaultdict(list)
+        for head, bodies in self.bodies.items():
+            for body in bodies:
+                for part in self.atoms_in(body):
+                    if part in self.bodies and part not in self.origins:
+                        found[part].append((head, body))
+        return found
+
+    def of_part(self, part, asked_by, known):
+        """The bytes of a part by the sentences of who asks for it."""
+        if part not in known:
+            known[part] = Counter()
+            for head, body in asked_by[part]:
+                known[part].update(self.origins[head][body] if head in self.origins else self.of_part(head, asked_by, known))
+        return known[part]
+
+    def take_origins(self, head, body, new, by):
+        """Notes whose a body is with formulas in the place of heads: what it has grown by comes from the rules of these."""
+        own = self.origins[head][new]
+        own.update(scaled(self.origins[head][body], self.sentence_size(head, body)))
+        grown = self.sentence_size(head, new) - self.sentence_size(head, body)
+        placed = [one for one in self.atoms_in(body) if one in by] if grown > 0 else []
+        sizes = sum(self.formulas.sizes[by[one]] for one in placed)
+        for one in placed if sizes else ():
+            whose = sum(self.origins[one].values(), Counter())
+            own.update(scaled(whose, grown * self.formulas.sizes[by[one]] / sizes))
+
+    def rewrite(self, head, bodies):
+        """Puts bodies in the place of those of a head, one for each, which say the same."""
+        if head in self.origins:
+            origins = self.origins.pop(head)
+            for old, new in zip(self.bodies[head], bodies):
+                self.origins[head][new].update(origins[old])
+        self.bodies[head] = bodies
 
     # ---- Sentences of one head -------------------------------------------------------------------
 
@@ -105,7 +136,6 @@ class Folded:
         for head in by:
             del self.bodies[head]
             self.own.discard(head)
-            self.origins.pop(head, None)
         known = {}
         for head, bodies in self.bodies.items():
             found = {}
@@ -115,8 +145,10 @@ class Folded:
                 if new is not None:
                     found[new] = None
                     if new != body:
-                        self.origins[head][new] += self.origins[head][body]
+                        self.take_origins(head, body, new, by)
             self.bodies[head] = [frozenset()] if frozenset() in found else list(found)
+        for head in by:
+            self.origins.pop(head, None)
 
     def factored(self, bodies, depth=0):
         """One formula that is true where all of some body is: what most bodies share stands once."""
@@ -148,7 +180,10 @@ class Folded:
             if grown > 0 and count <= most:
                 break
             count -= len(self.bodies[head]) - 1
-            self.bodies[head] = [self.formulas.body([formula])]
+            joined, origins = self.formulas.body([formula]), self.origins.pop(head)
+            for body in self.bodies[head]:
+                self.origins[head][joined].update(scaled(origins[body], self.sentence_size(head, body)))
+            self.bodies[head] = [joined]
 
     # ---- What is asked for -----------------------------------------------------------------------
 
@@ -168,7 +203,11 @@ class Folded:
 
     def below(self, head):
         """The heads that a head's sentences ask for."""
-        found, seen, open_ones = set(), set(), [formula for body in self.bodies[head] for formula in body]
+        return self.atoms_in(formula for body in self.bodies[head] for formula in body)
+
+    def atoms_in(self, formulas):
+        """The atomic sentences that stand in formulas."""
+        found, seen, open_ones = set(), set(), list(formulas)
         while open_ones:
             it = open_ones.pop()
             if it in seen:
@@ -229,7 +268,7 @@ class Folded:
         """Puts each formula into its shortest form."""
         known = {}
         for head, bodies in self.bodies.items():
-            self.bodies[head] = [self.shortest_body(body, known) for body in bodies]
+            self.rewrite(head, [self.shortest_body(body, known) for body in bodies])
 
     def shortest_body(self, body, known):
         for formula in body:
@@ -256,7 +295,7 @@ class Folded:
         best = sorted((gain for gain in gains if gain[0] > 0), key=lambda it: it[:2], reverse=True)[: max(most - self.sentences(), 0)]
         names = {body: self.new_part() for _, _, body in best}
         for head, bodies in self.bodies.items():
-            self.bodies[head] = [frozenset([names[body]]) if body in names else body for body in bodies]
+            self.rewrite(head, [frozenset([names[body]]) if body in names else body for body in bodies])
             for body in bodies:
                 if body in names:
                     self.sources.setdefault(names[body], self.sources[head])
@@ -298,10 +337,11 @@ class Folded:
                 by[head] = self.new_part()
         known = dict(by)
         for head, bodies in list(self.bodies.items()):
-            bodies = [frozenset(self.formulas.renamed(formula, known) for formula in body) for body in bodies]
-            del self.bodies[head]
+            self.rewrite(head, [frozenset(self.formulas.renamed(formula, known) for formula in body) for body in bodies])
+            bodies = self.bodies.pop(head)
+            if head in by and head in self.origins:
+                self.origins[by[head]] = self.origins.pop(head)
             self.sources[by.get(head, head)] = self.sources[head]
-            self.shares[by.get(head, head)] = self.shares.get(head)
             self.bodies[by.get(head, head)] = bodies
 
     def name_parts(self, chosen):
@@ -313,7 +353,7 @@ class Folded:
             known[number] = name
         for head, bodies in self.bodies.items():
             source = self.sources[head]
-            self.bodies[head] = [frozenset(self.formulas.renamed(formula, known) for formula in body) for body in bodies]
+            self.rewrite(head, [frozenset(self.formulas.renamed(formula, known) for formula in body) for body in bodies])
             for body in self.bodies[head]:
                 for formula in body:
                     if formula in made:
@@ -332,6 +372,12 @@ class Folded:
                 ordered = sorted(body)
                 sentence = ("<=", atom, *map(self.formulas.expression, ordered)) if body else atom
                 yield self.sources[head], sentence
+
+
+def scaled(shares, size):
+    """The same shares, so many bytes in all."""
+    total = sum(shares.values())
+    return {sentence: share * size / total for sentence, share in shares.items()} if total else {}
 
 
 def merged(bodies, formulas, origins):
@@ -367,7 +413,6 @@ def folded(rules, most_sentences, most_bytes, refuses=False):
     if refuses:
         game.must_have_room(most_sentences, most_bytes)
     game.place_in(len(rules))
-    game.share_costs()
     if game.sentences() > most_sentences:
         game.join(most_sentences)
         game.place_in(most_sentences)

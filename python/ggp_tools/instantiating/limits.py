@@ -28,16 +28,16 @@ def is_high(atom):
     return relation(atom) == ("goal", 2) and isinstance(atom[2], str) and bool(PAST_GOAL.fullmatch(atom[2])) and not GOAL.fullmatch(atom[2])
 
 
-def refuse_faults(rules, sentences):
+def refuse_faults(rules, sentences, lines):
     """Refuses what the program refuses: goals that are none, a role that depends on its own denial, no role."""
     for rule in rules:
         for atom in (rule.head, *(literal.atom for literal in rule.body)):
             if relation(atom)[0] == "goal" and not (isinstance(atom[2], str) and GOAL.fullmatch(atom[2])):
-                raise Refused(f"{spelled(atom)} can be derived, and its goal is no number from 0 to 100: {cited(rule.sentence, sentences)}")
+                raise Refused(f"{spelled(atom)} can be derived, and its goal is no number from 0 to 100: {cited(rule.sentence, sentences, lines)}")
         if rule.head == ("role", "random"):
-            raise Refused(f"{cited(rule.sentence, sentences)}: the role `random` {SECRET}")
+            raise Refused(f"{cited(rule.sentence, sentences, lines)}: the role `random` {SECRET}")
         if relation(rule.head)[0] == "role" and rule.body:
-            raise Refused(f"{spelled(rule.head)} is not settled before the game: {cited(rule.sentence, sentences)}")
+            raise Refused(f"{spelled(rule.head)} is not settled before the game: {cited(rule.sentence, sentences, lines)}")
     if not any(relation(rule.head)[0] == "role" for rule in rules):
         raise Refused("there is no role")
 
@@ -73,7 +73,7 @@ def costs_of(written, is_bytes):
     return costs
 
 
-def dearest(costs, sentences, is_bytes):
+def dearest(costs, sentences, lines, is_bytes):
     """The three sentences of the description that cost the most, with what each costs."""
     unit = "bytes" if is_bytes else "ground sentences"
-    return [f"{cited(number, sentences)}: {count:,.0f} {unit}" for number, count in costs.most_common(3)]
+    return [f"{cited(number, sentences, lines)}: {count:,.0f} {unit}" for number, count in costs.most_common(3)]

@@ -11,7 +11,7 @@ from .endless import endless
 from ggp_tools.kif import Refused, expressions, relation, spelled
 from .forms import forms
 from .relations import Relations
-from .sentences import all_rules, as_read, cited
+from .sentences import all_rules, as_read, cited, lines_of
 
 # How a game is written: folded where it is past a limit otherwise, always, or never.
 WHERE_NEEDED, ALWAYS, NEVER = "where needed", "always", "never"
@@ -54,7 +54,7 @@ class Making:
 
     def __init__(self, text, seconds, folding_wanted, is_split=False):
         self.text, self.seconds, self.wanted, self.is_split = text, seconds, folding_wanted, is_split
-        self.sentences, self.rules, self.grounder, self.work = [], [], None, "reading it"
+        self.sentences, self.lines, self.rules, self.grounder, self.work = [], [], [], None, "reading it"
         self.notes, self.best, self.hopeless, self.known, self.count = [], None, None, [], 0
 
     def run(self):
@@ -75,7 +75,8 @@ class Making:
 
     def made(self):
         self.sentences = [as_read(expression) for expression in expressions(self.text)]
-        self.rules = all_rules(self.sentences)
+        self.lines = lines_of(self.text)
+        self.rules = all_rules(self.sentences, self.lines)
         relations = Relations(self.rules)
         relations.refuse_dependence()
         bearing = relations.bearing()
@@ -119,7 +120,7 @@ class Making:
             found = grounding.in_order(grounding.needed(found))
             self.note_circles([circle for circle in circles if circle[1] > 1])
             self.know(f"{len(found):,} ground sentences, since {self.notes[-1] if self.notes else 'cycles are unrolled'}")
-        limits.refuse_faults(found, self.sentences)
+        limits.refuse_faults(found, self.sentences, self.lines)
         self.ground_rules = found
         return found
 
@@ -159,10 +160,13 @@ class Making:
         rule = endless(self.rules)
         # What it makes has to be seen to grow: a sentence without instances makes nothing.
         if rule and self.grounder and self.grounder.lists_in(rule) > spelled(self.sentences[rule.sentence]).count("("):
-            why = f"the instances do not end: {why}; {cited(rule.sentence, self.sentences)}, puts what it makes into itself"
+            why = f"the instances do not end: {why}; {self.cited(rule.sentence)}, puts what it makes into itself"
         if self.grounder and (largest := self.grounder.largest()):
-            why += f"; the most instances, {largest[1]:,}, are those of {cited(largest[0], self.sentences)}"
+            why += f"; the most instances, {largest[1]:,}, are those of {self.cited(largest[0])}"
         return why
+
+    def cited(self, number):
+        return cited(number, self.sentences, self.lines)
 
     # ---- What is written, and said ---------------------------------------------------------------
 
@@ -196,7 +200,7 @@ class Making:
         if past := written.past():
             is_bytes = past[0][0] == "bytes"
             costs = written.game.costs(is_bytes) if written.game else limits.costs_of(written.sentences, is_bytes)
-            for line in limits.dearest(costs, self.sentences, is_bytes):
+            for line in limits.dearest(costs, self.sentences, self.lines, is_bytes):
                 say(f"  dear: {line}")
             listed = ", ".join(f"{name} ({count:,} of {most:,})" for name, count, most in past)
             raise Refused(f"nothing is written, since this is past the limit: {listed}")

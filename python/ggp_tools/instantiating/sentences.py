@@ -4,7 +4,7 @@ import itertools
 import math
 from typing import NamedTuple
 
-from ggp_tools.kif import Refused, atoms, fresh_before_digits, relation, spelled, variables
+from ggp_tools.kif import Refused, atoms, fresh_before_digits, relation, spelled, starts, variables
 
 # So many rules may come of the `or`s of one sentence. Past the first number each `or` that can be is a relation of its own.
 FEW_WAYS, MOST_WAYS = 100, 10000
@@ -141,18 +141,29 @@ def rules_of(number, sentence, names):
     return found
 
 
-def cited(number, sentences):
-    """A sentence as it is cited where something is wrong with it."""
-    text = spelled(sentences[number])
-    return f"sentence {number}, {text[:100]}" + (".." if len(text) > 100 else "")
+def lines_of(text):
+    """The line in which each sentence of a text begins, counted from 1."""
+    found, line, last = [], 1, 0
+    for index in starts(text):
+        line += text.count("\n", last, index)
+        last = index
+        found.append(line)
+    return found
 
 
-def all_rules(sentences):
+def cited(number, sentences, lines=()):
+    """A sentence as it is cited where something is wrong with it, with its line where the lines are known."""
+    text, where = spelled(sentences[number]), f", line {lines[number]}: " if lines else ", "
+    return f"sentence {number}{where}{text[:100]}" + (".." if len(text) > 100 else "")
+
+
+def all_rules(sentences, lines=()):
+    """The rules of all sentences. Where one is refused it is cited."""
     word = fresh_before_digits("either", set(atoms(tuple(sentences))))
     found, names = [], (f"{word}{count}" for count in itertools.count(1))
     for number, sentence in enumerate(sentences):
         try:
             found += rules_of(number, as_read(sentence), names)
         except Refused as why:
-            raise Refused(f"{cited(number, sentences)}: {why}") from None
+            raise Refused(f"{cited(number, sentences, lines)}: {why}") from None
     return found
