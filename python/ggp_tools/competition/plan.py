@@ -105,7 +105,7 @@ def loaded_games(folder: Folder, competition: Competition, referee: Referee) -> 
     found, mistakes = {}, []
     for game in competition.games:
         path = folder.given(game)
-        if inside := [it for it in (path, folder.description(game)) if is_in_rules(folder, it)]:
+        if inside := [file for file in (path, folder.description(game)) if is_in_rules(folder, file)]:
             mistakes.append(Mistake(game.line, "games.file", f"{inside[0]}: a description can't stand in {folder.rules}, where `plan` writes the rules"))
             continue
         try:

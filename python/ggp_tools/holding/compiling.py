@@ -87,7 +87,7 @@ class Program:
         return self.made[key]
 
     def position(self, state, pairs):
-        return positions.Position(state, pairs, [{} if it is None else it for it in self.fixed])
+        return positions.Position(state, pairs, [{} if table is None else table for table in self.fixed])
 
 
 class Lines:
@@ -146,7 +146,7 @@ class Lines:
         if isinstance(condition, Either):
             return "(" + " or ".join("(" + (" and ".join(self.test(one, bound) for one in way) or "True") + ")" for way in condition.ways) + ")"
         if isinstance(condition, Same):
-            one, other = (term_text(it, bound) for it in condition.arguments)
+            one, other = (term_text(argument, bound) for argument in condition.arguments)
             return f"{one} {'==' if condition.positive else '!='} {other}"
         found = self.asked(condition.relation, condition.arguments, bound)
         return found if condition.positive else f"not {found}"
@@ -266,7 +266,7 @@ class Lines:
 
     def apart(self, place, left, bound, finish, is_done):
         """Meets the other conditions in a function of its own: whether they can be met, where that is all that is left to know."""
-        name, needed = self.program.fresh("h"), {one for it in left for one in variables_of(it)} | set(finish.names)
+        name, needed = self.program.fresh("h"), {variable for condition in left for variable in variables_of(condition)} | set(finish.names)
         live = {one: text for one, text in bound.items() if one in needed}
         inner, test = Lines(self.program, self.extra), is_done or finish.is_test
         names = {one: self.program.fresh("v") for one in live}

@@ -85,7 +85,7 @@ def walk(first, graph, seen, leave):
     stack = [(first, iter(graph.get(first, ())))]
     while stack:
         one, others = stack[-1]
-        other = next((it for it in others if it not in seen), None)
+        other = next((node for node in others if node not in seen), None)
         if other is None:
             stack.pop()
             leave(one)
