@@ -66,6 +66,41 @@ class Lines(InRoom):
         path.unlink()
         self.assertEqual((tail.has_changed(), tail.lines()), (False, ([], False)))
 
+    def test_a_file_that_was_cut_and_has_grown_past_where_it_was_read(self):
+        path = self.plan.folder.path / "log"
+        tail = Tail(str(path))
+        path.write_text("2026-01-02T03:04:05.000Z one\n")
+        self.assertEqual(tail.lines(), (["2026-01-02T03:04:05.000Z one"], False))
+        # The same file, as where the match begins again: longer than before once it is looked at.
+        texts = ["2026-01-02T03:04:06.000Z two", "2026-01-02T03:04:07.000Z three"]
+        path.write_text("".join(f"{text}\n" for text in texts))
+        self.assertEqual(tail.lines(), (texts, True))
+
+    def test_what_is_no_file_holds_up_nothing(self):
+        pipe, long, other = self.plan.matches[1:4]
+        log, reader = begin(self.plan, self.match), Reader(self.plan)
+        log.unlink()
+        os.mkfifo(log)
+        os.mkfifo(self.plan.folder.record(pipe.id))
+        with open(self.plan.folder.record(long.id), "wb") as file:
+            file.truncate(1 << 40)
+        end(self.plan, other, record_of(other, [["(take 1)", "noop"]], [["", ""]], [0, 100]))
+        reader.look()
+        self.assertEqual((list(reader.open), list(reader.results)), ([self.match.id], [other.id]))
+        self.assertEqual(reader.faults, {pipe.id: "it can't be read: it is no file", long.id: "it is longer than 16 MiB"})
+
+    def test_a_silent_player_that_is_retired_is_not_awaited(self):
+        plan = plan_in(self.plan.folder.path, ["ann", "bob"], head="strikes = 2\n")
+        log, reader = begin(plan, self.match, started(self.match)), Reader(plan)
+        self.say(log, self.play(2, "NIL", ["TO", "noop"]) + self.play(3, "((take 1) noop)", ["CE", "(take 1)"]))
+        reader.look()
+        seen = reader.open[self.match.id]
+        self.assertEqual((seen.turn(), seen.awaited()), (3, [1]))
+        # Its turn is one behind that of the other player, and it is not asked all the same.
+        self.say(log, self.play(4, "(noop (take 1))", ["", "noop"], [1]))
+        reader.look()
+        self.assertEqual((seen.turn(), seen.awaited()), (4, [1]))
+
     def test_whom_a_match_waits_for(self):
         log, reader = begin(self.plan, self.match), Reader(self.plan)
         reader.look()

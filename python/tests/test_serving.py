@@ -144,6 +144,20 @@ class Pages(Served):
         self.assertTrue(self.next_event(events)["reload"])
         self.assertTrue(self.next_event(self.events(self.page("/").replace("?after=", "?after=old")))["reload"])
 
+    def test_a_plan_that_changes_while_it_is_read(self):
+        read = []
+
+        def read_plan():
+            read.append(self.plan)
+            self.plan.folder.schedule.write_text("a round more" * len(read))
+            return self.plan
+
+        self.site.read_plan = read_plan
+        self.plan.folder.schedule.write_text("another")
+        self.site.look()
+        self.site.look()
+        self.assertEqual(len(read), 2)
+
 
 class Refused(Served):
     def test_other_paths(self):
@@ -169,6 +183,11 @@ class Refused(Served):
         self.assertEqual(self.ask("/", Host="evil.example")[0], 403)
         for host in ("localhost:80", "127.0.0.1", "[::1]:80"):
             self.assertEqual(self.ask("/", Host=host)[0], 200, host)
+
+    def test_a_loopback_address_in_whatever_form(self):
+        for address, is_open in (("127.0.0.1", False), ("::1", False), ("::ffff:127.0.0.1", False), ("192.0.2.1", True)):
+            self.server.server_name = address
+            self.assertEqual(self.server.is_open_to("evil.example"), is_open, address)
 
     def test_nothing_is_written(self):
         match = self.plan.matches[0]

@@ -1,9 +1,12 @@
 """The files of a competition's folder: where each stands, and how each is written whole."""
 
 import contextlib
+import errno
 import fcntl
 import os
 import pathlib
+import stat
+from typing import BinaryIO
 
 UNFINISHED = ".unfinished-"
 
@@ -90,6 +93,15 @@ def drop_unfinished(folder):
             file.unlink(missing_ok=True)
 
 
+def opened_file(path: str | pathlib.Path) -> BinaryIO:
+    """Opens a file to be read, and nothing else: a pipe would hold up the reader until somebody writes into it."""
+    found = os.open(path, os.O_RDONLY | os.O_NONBLOCK | os.O_CLOEXEC)
+    if not stat.S_ISREG(os.fstat(found).st_mode):
+        os.close(found)
+        raise OSError(errno.EINVAL, "it is no file", str(path))
+    return open(found, "rb")
+
+
 class Folder:
     """The folder of a competition."""
 
@@ -133,6 +145,11 @@ class Folder:
 
     def record(self, match):
         return self.records / f"{match}.json"
+
+    def read_record(self, match: str, most: int) -> bytes:
+        """Returns at most so many bytes of a match's record."""
+        with opened_file(self.record(match)) as file:
+            return file.read(most)
 
     def account(self, match):
         return self.accounts / f"{match}.txt"

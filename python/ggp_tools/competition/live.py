@@ -9,11 +9,13 @@ from collections import deque
 from dataclasses import dataclass, field
 from typing import BinaryIO
 
+from ggp_tools.competition.files import opened_file
 from ggp_tools.competition.log_lines import LogLine, log_line
 from ggp_tools.competition.plan import Plan
 from ggp_tools.competition.results import Result, fault_of_record, result_of
 from ggp_tools.competition.schedule import Match
-from ggp_tools.records.show import NoRecord, read_record
+from ggp_tools.competition.timed_lines import MOST_OF_LINE, TIMED
+from ggp_tools.records.show import LONGEST_RECORD, NoRecord, read_record
 
 # At a time so much of a log is read, so that one of many matches holds up no other.
 MOST_READ = 1 << 20
@@ -27,12 +29,12 @@ class Tail:
     """A file that grows. It is read on from where it was; where it was replaced or cut, from its beginning."""
 
     def __init__(self, path: str) -> None:
-        self.path, self.place, self.rest, self.number, self.changed = path, 0, b"", None, 0.0
+        self.path, self.place, self.rest, self.number, self.changed, self.began = path, 0, b"", None, 0.0, b""
 
     def lines(self) -> tuple[list[str], bool]:
         """Returns the lines that were added, and whether they are those of another file than before. A file that can't be read has none."""
         try:
-            with open(self.path, "rb") as file:
+            with opened_file(self.path) as file:
                 return self.lines_of(file)
         except OSError:
             return [], False
@@ -48,10 +50,14 @@ class Tail:
 
     def lines_of(self, file: BinaryIO) -> tuple[list[str], bool]:
         found = os.fstat(file.fileno())
-        is_other = self.number is not None and (found.st_ino != self.number or found.st_size < self.place)
+        # By the time of its first line a file is known that was cut, and has grown past where it was read.
+        timed = TIMED.match(file.readline(MOST_OF_LINE))
+        began = timed[0] if timed else b""
+        is_same = found.st_ino == self.number and found.st_size >= self.place and began.startswith(self.began)
+        is_other = self.number is not None and not is_same
         if is_other:
             self.place, self.rest = 0, b""
-        self.number, self.changed = found.st_ino, found.st_mtime
+        self.number, self.changed, self.began = found.st_ino, found.st_mtime, began
         file.seek(self.place)
         data = file.read(MOST_READ)
         self.place += len(data)
@@ -78,10 +84,12 @@ class Seen:
     missed: dict[int, int] = field(default_factory=dict)
     since: float = 0.0
     is_ending: bool = False
+    strikes: int = 0
+    silent: dict[int, int] = field(default_factory=dict)
 
     def forget(self) -> None:
         """Begins again: the match does, on another host."""
-        self.turns, self.last, self.missed, self.is_ending = {}, {}, {}, False
+        self.turns, self.last, self.missed, self.silent, self.is_ending = {}, {}, {}, {}, False
 
     def turn(self) -> int:
         """Returns the turn that is asked for: 0 is START."""
@@ -93,12 +101,16 @@ class Seen:
     def missing(self) -> list[int]:
         """Returns the roles that have yet to answer in the turn of the last answer. A role further behind is retired, and is not asked."""
         latest = self.answered_turn()
-        return [role for role in range(self.roles) if self.turns.get(role, -1) == latest - 1]
+        return [role for role in range(self.roles) if self.turns.get(role, -1) == latest - 1 and not self.is_retired(role)]
+
+    def is_retired(self, role: int) -> bool:
+        """Returns whether a role was silent for so many turns that it is asked no more. For other faults the rules are needed."""
+        return 0 < self.strikes <= self.silent.get(role, 0)
 
     def awaited(self) -> list[int]:
         """Returns the roles whose answers are waited for."""
         latest = self.answered_turn()
-        return self.missing() or [role for role in range(self.roles) if self.turns.get(role, -1) == latest]
+        return self.missing() or [role for role in range(self.roles) if self.turns.get(role, -1) == latest and not self.is_retired(role)]
 
     def take(self, line: LogLine, moment: float) -> None:
         """Takes a line that came at this time."""
@@ -114,6 +126,8 @@ class Seen:
         self.turns[line.role] = line.turn()
         if line.is_no_answer():
             self.missed[line.role] = self.missed.get(line.role, 0) + 1
+        if line.kind == "PLAY":
+            self.silent[line.role] = self.silent.get(line.role, 0) + 1 if line.is_no_answer() else 0
         # Where others have yet to answer they were asked when this one was; else all are asked now.
         if not self.missing():
             self.since = moment
@@ -196,7 +210,7 @@ class Reader:
 
     def look_at_rooms(self) -> list[str]:
         """Reads the rooms of the open matches. Returns the matches that are open no more."""
-        folder = self.plan.folder.open
+        folder, strikes = self.plan.folder.open, self.plan.competition.strikes
         try:
             names = {entry.name for entry in os.scandir(folder) if entry.name in self.known}
         except OSError:
@@ -207,7 +221,7 @@ class Reader:
         for name in sorted(names - self.open.keys() - self.results.keys(), key=self.place.__getitem__):
             match = self.known[name]
             self.faults.pop(name, None)
-            self.open[name] = Seen(match, f"{folder}/{name}", Tail(f"{folder}/{name}/played.said"), len(match.players))
+            self.open[name] = Seen(match, f"{folder}/{name}", Tail(f"{folder}/{name}/played.said"), len(match.players), strikes=strikes)
         changed = len(gone)
         for name, seen in self.open.items():
             before = seen.version
@@ -247,13 +261,15 @@ class Reader:
 
     def look_at_record(self, name: str) -> None:
         """Reads the record of a match, if it is there."""
-        match, path = self.known[name], self.plan.folder.record(name)
+        match = self.known[name]
         try:
-            record = read_record(path.read_bytes())
+            # Of a longer file so much is enough to refuse it.
+            record = read_record(self.plan.folder.read_record(name, LONGEST_RECORD + 2))
         except FileNotFoundError:
             return
         except (OSError, NoRecord) as why:
-            self.faults[name] = str(why)
+            # The path of the folder is nothing for visitors.
+            self.faults[name] = f"it can't be read: {why.strerror}" if isinstance(why, OSError) else str(why)
             return
         if fault := fault_of_record(record, match, self.plan.competition.strikes):
             self.faults[name] = fault

@@ -8,7 +8,7 @@ from collections.abc import Callable
 from dataclasses import dataclass, field
 
 from ggp_tools.competition import live_pages
-from ggp_tools.competition.files import Refused
+from ggp_tools.competition.files import Folder, Refused
 from ggp_tools.competition.live import Reader, Seen, Tail
 from ggp_tools.competition.live_board import LiveBoard, Turn
 from ggp_tools.competition.page_changes import changes, event_text
@@ -29,6 +29,18 @@ SHARE, FOLLOW = 10, 0.25
 IDLE, MOST_PAGES, MOST_EVENTS = 30.0, 200, 60
 NAME = "[A-Za-z0-9_.-]+"
 PATH = re.compile(rf"/(?:(index|matches)|(matches|games)/({NAME})|players/player-({NAME}))\.html")
+
+
+def plan_stamp(folder: Folder) -> tuple:
+    """Returns what tells whether the plan was written anew."""
+    found = []
+    for file in (folder.competition, folder.schedule, folder.rule_sums()):
+        try:
+            it = file.stat()
+            found.append((it.st_ino, it.st_mtime_ns, it.st_size))
+        except OSError:
+            found.append(None)
+    return tuple(found)
 
 
 @dataclass(frozen=True)
@@ -64,17 +76,17 @@ class OpenPage:
 class LiveSite:
     """The pages, and the matches behind them. One thread looks at the folder; others ask for pages, one at a time."""
 
-    def __init__(self, plan: Plan, read_plan: Callable[[], Plan]) -> None:
+    def __init__(self, plan: Plan, read_plan: Callable[[], Plan], stamp: tuple | None = None) -> None:
         self.read_plan, self.changed = read_plan, threading.Condition()
         # Versions of pages of another run, or of another plan, are none of this one's.
         self.token = f"{time.time_ns():x}"
         self.pages: OrderedDict[str, OpenPage] = OrderedDict()
-        self.begin(plan)
+        self.begin(plan, plan_stamp(plan.folder) if stamp is None else stamp)
 
-    def begin(self, plan: Plan) -> None:
-        """Begins with a plan."""
+    def begin(self, plan: Plan, stamp: tuple) -> None:
+        """Begins with a plan, and with the stamp that its files had before they were read: what was written since then is read again."""
         self.plan, self.reader, self.site, self.trouble = plan, Reader(plan), Site(plan), ""
-        self.plan_stamp = self.stamp_of_plan()
+        self.plan_stamp = stamp
         self.names = {player.name for player in plan.competition.players}
         self.games: dict[str, Game] = {}
         self.boards: dict[str, LiveBoard] = {}
@@ -86,18 +98,6 @@ class LiveSite:
         self.standing: dict[str, str] = {}
         self.own: dict[str, list[Result]] = {}
         self.tables_version, self.next_tables = -1, 0.0
-
-    def stamp_of_plan(self) -> tuple:
-        """Returns what tells whether the plan was written anew."""
-        folder = self.plan.folder
-        found = []
-        for file in (folder.competition, folder.schedule, folder.rule_sums()):
-            try:
-                it = file.stat()
-                found.append((it.st_ino, it.st_mtime_ns, it.st_size))
-            except OSError:
-                found.append(None)
-        return tuple(found)
 
     # ---- looking at the folder
 
@@ -117,7 +117,7 @@ class LiveSite:
 
     def look_at_plan(self) -> None:
         """Begins anew where the competition was planned anew."""
-        stamp = self.stamp_of_plan()
+        stamp = plan_stamp(self.plan.folder)
         if stamp == self.plan_stamp:
             return
         try:
@@ -130,7 +130,7 @@ class LiveSite:
         for found in self.pages.values():
             found.is_final = True
         self.pages = OrderedDict()
-        self.begin(plan)
+        self.begin(plan, stamp)
 
     def count_results(self) -> None:
         """Computes the tables where results have come, if that was not done just before."""

@@ -13,15 +13,15 @@ from collections import OrderedDict
 from http import HTTPStatus
 from http.server import BaseHTTPRequestHandler, ThreadingHTTPServer
 
-from ggp_tools.competition.files import Refused
+from ggp_tools.competition.files import Folder, Refused
 from ggp_tools.competition.live_pages import LIVE_STYLE
-from ggp_tools.competition.live_site import PATH, LiveSite, OpenPage
+from ggp_tools.competition.live_site import PATH, LiveSite, OpenPage, plan_stamp
 from ggp_tools.competition.page_parts import page
 from ggp_tools.competition.plan import read_plan
 from ggp_tools.competition.results import Result
 from ggp_tools.ground_games import MOST_CALLS
 from ggp_tools.human.server import is_own_name
-from ggp_tools.records.show import BOARD_STYLE, NoRecord
+from ggp_tools.records.show import BOARD_STYLE, LONGEST_RECORD, NoRecord
 from ggp_tools.referee import Referee
 from ggp_tools.reporting import say
 
@@ -237,7 +237,10 @@ class Server(ThreadingHTTPServer):
 
     def is_open_to(self, host: str) -> bool:
         """Returns whether a browser may ask under this name: at a loopback address no other site may give it a name of its own."""
-        return not host or not ipaddress.ip_address(self.server_name).is_loopback or is_own_name(host, "localhost")
+        found = ipaddress.ip_address(self.server_name)
+        # An IPv4 address may be written as one of IPv6.
+        is_loopback = (getattr(found, "ipv4_mapped", None) or found).is_loopback
+        return not host or not is_loopback or is_own_name(host, "localhost")
 
     # ---- pages
 
@@ -259,7 +262,7 @@ class Server(ThreadingHTTPServer):
     def keep(self, path: str, result: Result) -> bytes | None:
         """Returns the page of a match that is over, and keeps it for a while; none where its record is there no more."""
         try:
-            record = self.site.plan.folder.record(result.match.id).read_bytes()
+            record = self.site.plan.folder.read_record(result.match.id, LONGEST_RECORD + 2)
             data = self.site.site.match_page(result, record)
         except (OSError, NoRecord):
             return None
@@ -344,7 +347,8 @@ def add_serve(command: argparse.ArgumentParser) -> None:
 
 
 def run_serve(asked: argparse.Namespace, referee: Referee) -> int:
-    site = LiveSite(read_plan(asked.folder, referee), lambda: read_plan(asked.folder, referee))
+    stamp = plan_stamp(Folder(asked.folder))
+    site = LiveSite(read_plan(asked.folder, referee), lambda: read_plan(asked.folder, referee), stamp)
     site.look()
     try:
         server = Server((asked.bind, asked.port), site, asked.connections)
