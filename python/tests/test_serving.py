@@ -307,14 +307,21 @@ class Hostile(Served):
 class Command(InFolder):
     def test_it_is_served_until_it_is_interrupted(self):
         self.plan([("ann", "127.0.0.1:9"), ("bob", "127.0.0.1:10")], [("tictactoe", GAMES / "tictactoe.kif")])
-        with start(self.folder, "serve", "--port", "0") as serving_it:
+        for number in (signal.SIGINT, signal.SIGTERM):
+            with self.subTest(number):
+                self.look_at_a_server_until(number)
+
+    def look_at_a_server_until(self, number: int) -> None:
+        """Starts a server as a shell does in the background, where interrupts are ignored, and ends it by this signal."""
+        ignoring = {"preexec_fn": lambda: signal.signal(signal.SIGINT, signal.SIG_IGN)}
+        with start(self.folder, "serve", "--port", "0", **ignoring) as serving_it:
             address = serving_it.stdout.readline().strip()
             self.assertRegex(address, r"http://127\.0\.0\.1:[0-9]+/")
             port = address.rpartition(":")[2].strip("/")
             self.assertIn("can't be served: Address already in use", run(self.folder, "serve", "--port", port)[2])
             with urllib.request.urlopen(address, timeout=60) as answer:
                 self.assertIn(b"0 of 2 matches are over.", answer.read())
-            serving_it.send_signal(signal.SIGINT)
+            serving_it.send_signal(number)
             self.assertEqual((serving_it.communicate(timeout=60), serving_it.returncode), (("", ""), 0))
 
     def test_what_is_asked_wrong(self):

@@ -5,6 +5,7 @@ import base64
 import contextlib
 import hashlib
 import ipaddress
+import signal
 import socket
 import sys
 import threading
@@ -355,9 +356,16 @@ def run_serve(asked: argparse.Namespace, referee: Referee) -> int:
     except OSError as why:
         raise Refused(f"{asked.bind} port {asked.port} can't be served: {why.strerror}") from None
     host = f"[{server.server_name}]" if ":" in server.server_name else server.server_name
+    for number in (signal.SIGINT, signal.SIGTERM):
+        # A shell that runs this in the background has the first one ignored.
+        signal.signal(number, interrupt)
     say(f"http://{host}:{server.server_port}/")
     serve(server)
     return 0
+
+
+def interrupt(_number: int, _frame: object) -> None:
+    raise KeyboardInterrupt
 
 
 def serve(server: Server) -> None:
