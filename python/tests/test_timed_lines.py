@@ -8,7 +8,8 @@ import time
 import unittest
 
 from ggp_tools.competition.timed_lines import LineReader, untimed
-from ggp_tools.reporting import MOMENT, Journal
+from ggp_tools.moments import MOMENT
+from ggp_tools.reporting import Journal
 
 
 class Lines(unittest.TestCase):
