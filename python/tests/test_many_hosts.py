@@ -16,7 +16,7 @@ import unittest.mock
 from ggp_tools.competition import hosts
 from ggp_tools.competition.competition_file import Host
 from ggp_tools.competition.hosts import Hosts, destination, remote_words
-from ggp_tools.reporting import MOMENT
+from ggp_tools.moments import MOMENT
 from tests.fake_ssh import calls, lose, write_ssh
 from tests.players import TestPlayer
 from tests.support import GAMES, TOP, InFolder, program, program_but, run, start
