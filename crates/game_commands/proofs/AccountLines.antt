@@ -1,169 +1,320 @@
--- The lines of an account, whose records are removed byte by byte.
-use Rattle.std.proofs.Common.{◌≡◌, ◌≢◌, ◌<◌, ◌+◌, ◌-◌, ◌==◌, ℕ, suc, Bool, true, false, not, cond, if◌then◌else◌, List, [], ◌∷◌, ◌++◌, length, take, drop, drop-cons, add-one, get_or, refl, sym, ap, subst, ◌∙◌, arith, append-nil}
-use Rattle.std.specs.Prelude.{filter}
+-- The lines of accounts, each up to a line that begins as a record does.
+use Rattle.std.proofs.Common.{rules, ◌≡◌, ◌≢◌, ◌<◌, ◌≤◌, ◌+◌, ◌-◌, ◌==◌, ◌&&◌, ℕ, zero, suc, Bool, true, false, List, [], ◌∷◌, ◌++◌, length, take, if◌then◌else◌, refl, sym, ap, subst, inl, inr, ◌∙◌, append-nil, append_assoc, arith}
+use Rattle.std.specs.Prelude.{slice_index, not}
+use Rattle.std.specs.List.{AllByRecursion}
 use Rattle.std.proofs.lemmas.Bool.Decides.{nat_tests}
-use Rattle.std.proofs.lemmas.List.{take_more}
-use Rattle.std.proofs.lemmas.List.Elements.{All-nil, All-push, filter-append}
+use Rattle.std.proofs.lemmas.List.{get_or-append-add, length-append, take-append-le, take_all, length_push}
+use Rattle.std.proofs.lemmas.List.Elements.{All-push, All-take, filter-append}
+use Rattle.std.proofs.lemmas.List.Sums.{sum_by_push, sum_by-cons}
+use Rattle.std.proofs.KnownBytes.{Appends-trans}
 use Rattle.std.specs.Str.Lines.{lines, strip_carriage_return}
-use Rattle.whole_streams.specs.Lines.{HasNoLineFeed}
-use Rattle.whole_streams.specs.Laws.{FirstLineIsTaken, LastLineIsWhole}
-use Rattle.game_commands.specs.Checks.{BeginsWithLines}
-use Rattle.game_commands.specs.Replays.{begins_as_record, account_lines}
-use Rattle.game_commands.proofs.CheckedLines.{begins_more, begins_line}
+use Rattle.std.specs.Prelude.{Option}
+use Rattle.std.specs.Io.KnownBytes.{Appends}
+use Rattle.game_core.specs.Play.{Rules}
+use Rattle.game_core.specs.Counting.{Counting, CallsMade}
+use Rattle.whole_streams.specs.Streams.{InputFails}
+use Rattle.whole_streams.specs.declared.whole.InputFault.{InputFault}
+use Rattle.whole_streams.specs.declared.whole.InputFault.TheVariants.{ReadFault as InputReadFault, TooLong, Memory as InputMemory}
+use Rattle.whole_streams.specs.Lines.{HasNoLineFeed, BeginsWithLine}
+use Rattle.whole_streams.specs.Laws.{FirstLineIsTaken}
+use Rattle.game_commands.specs.Checks.{BeginsWithLines, max_line}
+use Rattle.game_commands.specs.declared.fault.Fault.{Fault}
+use Rattle.game_commands.specs.declared.replaying.OpenAccount.{OpenAccount}
+use Rattle.game_commands.specs.Faults.{input_fault}
+use Rattle.game_commands.specs.Replays.{accounts, begins_as_record, groups, line_text, is_none, is_skipped, with_lines, at_least_one, account_size, line_count, max_account, AreReplayed, IsEnded, IsReplayed, StopsInput, StopsLongAccount}
+use Rattle.game_commands.proofs.CheckedLines.{begins_more, begins_line, stops_reading}
 
--- the lines that are kept
-abbrev pub kept_lines : List (List ℕ) → List (List ℕ)
-kept_lines first = filter (λ line. not (begins_as_record line)) first
+-- ---- groups of lines
 
--- what is kept of a line that is begun
-abbrev pub kept_part : Bool → List ℕ → List ℕ
-kept_part is_record line = if is_record then [] else line
+abbrev pub HasNoRecord : List (List ℕ) → Type 0
+HasNoRecord account = AllByRecursion (λ line. begins_as_record line ≡ false) account
 
--- what is known of a line that is begun: whether it is one of a record, unless it has no bytes yet
-abbrev pub IsBegun : List ℕ → Bool → Bool → Type 0
-IsBegun [] is_record line_begins = line_begins ≡ true
-IsBegun (byte ∷ line) is_record line_begins = (line_begins ≡ false) × (is_record ≡ (byte == 123))
+-- lines without a record are one group
+pub groups_of : (account : List (List ℕ)) → HasNoRecord account → groups account ≡ account ∷ []
+groups_of [] none = refl
+groups_of (line ∷ more) none = rw (none.0, groups_of more none.1)
 
--- these bytes of the input are whole lines and a line that is begun, and of each that is no record's these bytes are kept
-pub record IsKept (text kept : List ℕ) (is_record line_begins : Bool) : Type 0 where
-  pub first : List (List ℕ)
-  pub line : List ℕ
-  pub given : BeginsWithLines text first line
-  pub kept_given : BeginsWithLines kept (kept_lines first) (kept_part is_record line)
-  pub feedless : HasNoLineFeed line
-  pub begun : IsBegun line is_record line_begins
+-- a record ends a group
+pub groups_cut : (account : List (List ℕ)) (line : List ℕ) (more : List (List ℕ)) → HasNoRecord account → begins_as_record line ≡ true → groups (account ++ line ∷ more) ≡ account ∷ groups more
+groups_cut [] line more none is = rw is
+groups_cut (first ∷ rest) line more none is = rw (none.0, groups_cut rest line more none.1 is)
 
-pub kept_nothing : (is_record : Bool) → IsKept [] [] is_record true
-kept_nothing true = record { first = []; line = []; given = λ more. refl; kept_given = λ more. refl; feedless = All-nil _; begun = refl }
-kept_nothing false = record { first = []; line = []; given = λ more. refl; kept_given = λ more. refl; feedless = All-nil _; begun = refl }
+pub with_lines_push : (done : List (List (List ℕ))) (line : List ℕ) (rest : List (List ℕ)) → with_lines (done ++ (line ∷ rest) ∷ []) ≡ with_lines done ++ (line ∷ rest) ∷ []
+with_lines_push done line rest = filter-append (λ group. not (is_none group)) done ((line ∷ rest) ∷ [])
 
--- ---- one byte more of a line
+pub with_lines_none : (done : List (List (List ℕ))) → with_lines (done ++ [] ∷ []) ≡ with_lines done
+with_lines_none done = filter-append (λ group. not (is_none group)) done ([] ∷ []) ∙ append-nil (with_lines done)
 
--- whether a line is a record's is told by its first byte
-begins_with : (line : List ℕ) (byte : ℕ) (r b r' : Bool) → IsBegun line r b → r' ≡ (if b then byte == 123 else r) → r' ≡ begins_as_record (line ++ byte ∷ [])
-begins_with [] byte r b r' begun is = rw begun at is
-begins_with (x ∷ xs) byte r b r' begun is = (rw begun.0 at is) ∙ begun.1
+-- ---- the text of an account
 
-part_stays : (line : List ℕ) (byte : ℕ) (r b r' : Bool) → IsBegun line r b → r' ≡ (if b then byte == 123 else r) → kept_part r' line ≡ kept_part r line
-part_stays [] byte true b true begun is = refl
-part_stays [] byte true b false begun is = refl
-part_stays [] byte false b true begun is = refl
-part_stays [] byte false b false begun is = refl
-part_stays (x ∷ xs) byte r b r' begun is = ap (λ k. kept_part k (x ∷ xs)) (rw begun.0 at is)
+-- the line's text is read as the line
+pub text_push : FirstLineIsTaken → (text : List ℕ) (account : List (List ℕ)) (line : List ℕ) → HasNoLineFeed line → BeginsWithLines text account [] → BeginsWithLines (text ++ (line ++ 13 ∷ 10 ∷ [])) (account ++ line ∷ []) []
+text_push first_line text account line feedless begins =
+    let whole = line ++ 13 ∷ [] in
+    let long : length whole ≡ length line + 1 = length_push line 13 in
+    let last : slice_index whole (length whole - 1) ≡ 13 = ap (λ n. slice_index whole n) (omega (arith, long)) ∙ get_or-append-add line (13 ∷ []) 0 0 in
+    let stripped : line ≡ strip_carriage_return whole = sym (rw last (ap (λ n. take n whole) (omega (arith, long)) ∙ take-append-le (length line) line (13 ∷ []) (omega arith) ∙ take_all (length line) line (omega arith))) in
+    begins_line first_line (text ++ (line ++ 13 ∷ 10 ∷ [])) account (line ++ 13 ∷ 10 ∷ []) line [] (begins_more text account [] (line ++ 13 ∷ 10 ∷ []) begins)
+    (whole, sym (append_assoc line (13 ∷ []) (10 ∷ [])), All-push (λ b. b ≢ 10) line 13 feedless (λ same. absurd (omega (arith, same))), stripped)
 
-begun_more : (line : List ℕ) (byte : ℕ) (r' : Bool) → r' ≡ begins_as_record (line ++ byte ∷ []) → IsBegun (line ++ byte ∷ []) r' false
-begun_more [] byte r' is = (refl, is)
-begun_more (x ∷ xs) byte r' is = (refl, is)
-
-part_of_nothing : (r : Bool) → kept_part r [] ≡ []
-part_of_nothing true = refl
-part_of_nothing false = refl
-
--- the bytes that are kept with this byte
-abbrev pub kept_more : Bool → List ℕ → ℕ → List ℕ
-kept_more is_record kept byte = if is_record then kept else kept ++ byte ∷ []
-
-kept_begins : (kept : List ℕ) (first : List (List ℕ)) (line : List ℕ) (byte : ℕ) (r' : Bool) → BeginsWithLines kept (kept_lines first) (kept_part r' line)
-    → BeginsWithLines (kept_more r' kept byte) (kept_lines first) (kept_part r' (line ++ byte ∷ []))
-kept_begins kept first line byte true begins = begins
-kept_begins kept first line byte false begins = begins_more kept (kept_lines first) line (byte ∷ []) begins
-
--- ---- the end of a line
-
--- a carriage return at the end of a line is no brace at its beginning
-stripped : (line : List ℕ) → begins_as_record (strip_carriage_return line) ≡ begins_as_record line
-stripped [] = refl
-stripped (x ∷ []) = one (x == 13) refl
+-- a line has no line feed
+pub line_is_feedless : (bytes line left : List ℕ) → BeginsWithLine bytes line left → HasNoLineFeed line
+line_is_feedless bytes line left begins = rw begins.3 (strips begins.0 begins.2)
   where
-    one : (c : Bool) → c ≡ (x == 13) → begins_as_record (if c then [] else x ∷ []) ≡ (x == 123)
-    one true is = let return : x ≡ 13 = grind (arith, nat_tests) in rw return
-    one false is = refl
-stripped (x ∷ y ∷ ys) = two (get_or (x ∷ y ∷ ys) (length (x ∷ y ∷ ys) - 1) 0 == 13) (length (x ∷ y ∷ ys) - 1) (omega arith)
-  where
-    two : (c : Bool) (n : ℕ) → n ≡ suc (length ys) → begins_as_record (if c then take n (x ∷ y ∷ ys) else x ∷ y ∷ ys) ≡ (x == 123)
-    two true n is = rw is
-    two false n is = refl
+    strips : (whole : List ℕ) → HasNoLineFeed whole → HasNoLineFeed (strip_carriage_return whole)
+    strips whole feedless = either (slice_index whole (length whole - 1) == 13)
+      where
+        either : (c : Bool) → HasNoLineFeed (if c then take (length whole - 1) whole else whole)
+        either true = All-take (λ b. b ≢ 10) (length whole - 1) whole feedless
+        either false = feedless
 
--- a line feed ends a line
-feed_begins : (line : List ℕ) → begins_as_record (line ++ 10 ∷ []) ≡ begins_as_record line
-feed_begins [] = refl
-feed_begins (x ∷ xs) = refl
+-- ---- what was replayed
 
-kept_ends : FirstLineIsTaken → (kept : List ℕ) (first : List (List ℕ)) (line : List ℕ) (r' : Bool) → HasNoLineFeed line → r' ≡ begins_as_record line → BeginsWithLines kept (kept_lines first) (kept_part r' line)
-    → BeginsWithLines (kept_more r' kept 10) (kept_lines (first ++ strip_carriage_return line ∷ [])) []
-kept_ends first_line kept first line true feedless is begins =
-    let same : kept_lines (first ++ strip_carriage_return line ∷ []) ≡ kept_lines first =
-    filter-append (λ l. not (begins_as_record l)) first (strip_carriage_return line ∷ []) ∙ ap (λ b. kept_lines first ++ cond (not b) (strip_carriage_return line ∷ []) []) (stripped line ∙ sym is) ∙ append-nil (kept_lines first) in
-    subst (λ ls. BeginsWithLines kept ls []) (sym same) begins
-kept_ends first_line kept first line false feedless is begins =
-    let same : kept_lines (first ++ strip_carriage_return line ∷ []) ≡ kept_lines first ++ strip_carriage_return line ∷ [] =
-    filter-append (λ l. not (begins_as_record l)) first (strip_carriage_return line ∷ []) ∙ ap (λ b. kept_lines first ++ cond (not b) (strip_carriage_return line ∷ []) []) (stripped line ∙ sym is) in
-    let whole = begins_line first_line (kept ++ 10 ∷ []) (kept_lines first) (line ++ 10 ∷ []) (strip_carriage_return line) [] (begins_more kept (kept_lines first) line (10 ∷ []) begins) (line, refl, feedless, refl) in
-    subst (λ ls. BeginsWithLines (kept ++ 10 ∷ []) ls []) (sym same) whole
+pub replayed_push : {G S M : Type 0} (rules : G → Rules S M) (games : List G) (all : List (List (List ℕ))) (account : List (List ℕ)) (output text : List ℕ)
+    → AreReplayed rules games all output → IsReplayed rules games account text → AreReplayed rules games (all ++ account ∷ []) (output ++ text)
+replayed_push rules games [] account output text before here = (text, [], rw before (sym (append-nil text)), here, refl)
+replayed_push rules games (first ∷ more) account output text before here =
+    (before.0, before.1 ++ text, ap (λ l. l ++ text) before.2 ∙ append_assoc before.0 before.1 text, before.3, replayed_push rules games more account before.1 text before.4 here)
 
--- one byte more
-pub kept_next : FirstLineIsTaken → (text kept : List ℕ) (r b : Bool) (byte : ℕ) (r' b' : Bool) → IsKept text kept r b → r' ≡ (if b then byte == 123 else r) → b' ≡ (byte == 10)
-    → IsKept (text ++ byte ∷ []) (kept_more r' kept byte) r' b'
-kept_next first_line text kept r b byte r' true was is ends =
-    let feed : byte ≡ 10 = grind (arith, nat_tests) in
-    let ended = begins_with was.line byte r b r' was.begun is ∙ ap (λ n. begins_as_record (was.line ++ n ∷ [])) feed ∙ feed_begins was.line in
-    let begun = subst (λ part. BeginsWithLines kept (kept_lines was.first) part) (sym (part_stays was.line byte r b r' was.begun is)) was.kept_given in
-    let line = strip_carriage_return was.line in
-    rw feed (record {
-      first = was.first ++ line ∷ [];
-      line = [];
-      given = begins_line first_line (text ++ 10 ∷ []) was.first (was.line ++ 10 ∷ []) line [] (begins_more text was.first was.line (10 ∷ []) was.given) (was.line, refl, was.feedless, refl);
-      kept_given = subst (BeginsWithLines (kept_more r' kept 10) (kept_lines (was.first ++ line ∷ []))) (sym (part_of_nothing r')) (kept_ends first_line kept was.first was.line r' was.feedless ended begun);
-      feedless = All-nil _;
-      begun = refl;
-    })
-kept_next first_line text kept r b byte r' false was is goes =
-    let begins = begins_with was.line byte r b r' was.begun is in
-    let begun = subst (λ part. BeginsWithLines kept (kept_lines was.first) part) (sym (part_stays was.line byte r b r' was.begun is)) was.kept_given in
-    record {
-      first = was.first;
-      line = was.line ++ byte ∷ [];
-      given = begins_more text was.first was.line (byte ∷ []) was.given;
-      kept_given = kept_begins kept was.first was.line byte r' begun;
-      feedless = All-push (λ b. b ≢ 10) was.line byte was.feedless (λ same. let clash : false ≡ true = goes ∙ ap (λ n. n == 10) same in absurd cc);
-      begun = begun_more was.line byte r' begins;
-    }
+some_text : (byte : ℕ) (text : List ℕ) (is_last : Bool) (before : ℕ) → is_skipped (byte ∷ text) is_last before ≡ false
+some_text byte text is_last before =
+    let some : (length (byte ∷ text) == 0) ≡ false = grind (arith, nat_tests) in
+    ap (λ b. b && not (is_last && before == 0)) some
 
--- ---- the end of the input
+no_more : (before : ℕ) → is_skipped [] true (suc before) ≡ true
+no_more before =
+    let some : (suc before == 0) ≡ false = grind (arith, nat_tests) in
+    ap (λ b. not b) some
 
-last_part : LastLineIsWhole → (line : List ℕ) (r b : Bool) → HasNoLineFeed line → IsBegun line r b → lines (kept_part r line) ≡ kept_lines (lines line)
-last_part last_line [] true b feedless begun = refl
-last_part last_line [] false b feedless begun = refl
-last_part last_line (x ∷ xs) true b feedless begun =
-    let whole = last_line (x ∷ xs) (omega arith) feedless in
-    sym (ap kept_lines whole ∙ ap (λ c. cond (not c) ((x ∷ xs) ∷ []) []) (sym begun.1))
-last_part last_line (x ∷ xs) false b feedless begun =
-    let whole = last_line (x ∷ xs) (omega arith) feedless in
-    whole ∙ sym (ap kept_lines whole ∙ ap (λ c. cond (not c) ((x ∷ xs) ∷ []) []) (sym begun.1))
+-- an account that ends is replayed, unless it has no lines
+pub replayed_more : {G S M : Type 0} (rules : G → Rules S M) (games : List G) (done : List (List (List ℕ))) (text : List ℕ) (account : List (List ℕ)) (before : ℕ) (output end : List ℕ)
+    → length text ≡ account_size account → AreReplayed rules games (with_lines done) output → IsEnded rules games (is_skipped text false before) account end
+    → AreReplayed rules games (with_lines (done ++ account ∷ [])) (output ++ end)
+replayed_more rules games done [] [] before output end size replayed ended =
+    subst (λ all. AreReplayed rules games all (output ++ end)) (sym (with_lines_none done)) (rw (ended, append-nil output) replayed)
+replayed_more rules games done (byte ∷ text) [] before output end size replayed ended = absurd (omega (arith, size))
+replayed_more rules games done [] (line ∷ rest) before output end size replayed ended = absurd (omega (arith, size, sum_by-cons (λ l. length l + 2) line rest))
+replayed_more rules games done (byte ∷ text) (line ∷ rest) before output end size replayed ended =
+    subst (λ all. AreReplayed rules games all (output ++ end)) (sym (with_lines_push done line rest)) (replayed_push rules games (with_lines done) (line ∷ rest) output end replayed (subst (λ b. IsEnded rules games b (line ∷ rest) end) (some_text byte text false before) ended))
 
--- what is kept of the whole input is the account
-pub kept_all : LastLineIsWhole → (text kept : List ℕ) (r b : Bool) → IsKept text kept r b → lines kept ≡ account_lines text
-kept_all last_line text kept r b was =
-    let all : lines text ≡ was.first ++ lines was.line = ap lines (sym (append-nil text)) ∙ was.given [] ∙ ap (λ l. was.first ++ lines l) (append-nil was.line) in
-    let of_kept : lines kept ≡ kept_lines was.first ++ lines (kept_part r was.line) =
-    ap lines (sym (append-nil kept)) ∙ was.kept_given [] ∙ ap (λ l. kept_lines was.first ++ lines l) (append-nil (kept_part r was.line)) in
-    of_kept ∙ ap (λ ls. kept_lines was.first ++ ls) (last_part last_line was.line r b was.feedless was.begun)
-    ∙ sym (ap kept_lines all ∙ filter-append (λ l. not (begins_as_record l)) was.first (lines was.line))
+none_counted : (done : List (List (List ℕ))) → line_count done ≡ 0 → with_lines done ≡ []
+none_counted [] none = refl
+none_counted ([] ∷ more) none = none_counted more (omega (arith, none, sum_by-cons length [] more))
+none_counted ((line ∷ rest) ∷ more) none = absurd (omega (arith, none, sum_by-cons length (line ∷ rest) more))
 
--- ---- bytes that are moved to the front
+some_counted : (done : List (List (List ℕ))) → 0 < line_count done → at_least_one (with_lines done) ≡ with_lines done
+some_counted [] some = absurd (omega (arith, some))
+some_counted ([] ∷ more) some = some_counted more (omega (arith, some, sum_by-cons length [] more))
+some_counted ((line ∷ rest) ∷ more) some = refl
 
--- lists that are the same from a place on
-pub same_rest : (xs ys : List ℕ) (i d : ℕ) → i < length xs → i < length ys → drop i xs ≡ drop i ys → (get_or xs i d ≡ get_or ys i d) × (drop (i + 1) xs ≡ drop (i + 1) ys)
-same_rest xs ys i d in_x in_y same =
-    let of_xs : drop i xs ≡ get_or xs i d ∷ drop (i + 1) xs = rw (add-one, drop-cons xs i d) in
-    let of_ys : drop i ys ≡ get_or ys i d ∷ drop (i + 1) ys = rw (add-one, drop-cons ys i d) in
-    let both : get_or xs i d ∷ drop (i + 1) xs ≡ get_or ys i d ∷ drop (i + 1) ys = sym of_xs ∙ same ∙ of_ys in
-    (cc, cc)
+one_more_is_some : (all : List (List (List ℕ))) (account : List (List ℕ)) → at_least_one (all ++ account ∷ []) ≡ all ++ account ∷ []
+one_more_is_some [] account = refl
+one_more_is_some (first ∷ rest) account = refl
 
--- the byte at a place is looked at
-pub kept_after : FirstLineIsTaken → (text now : List ℕ) (kept place byte : ℕ) (r b r' : Bool) → place < length now → place < length text → drop place now ≡ drop place text → byte ≡ get_or now place byte
-    → IsKept (take place text) (take kept now) r b → r' ≡ (if b then byte == 123 else r) → IsKept (take (place + 1) text) (kept_more r' (take kept now) byte) r' (byte == 10)
-kept_after first_line text now kept place byte r b r' in_now in_text rest is was tells =
-    let same = same_rest now text place byte in_now in_text rest in
-    let more : take (place + 1) text ≡ take place text ++ byte ∷ [] = take_more text place byte in_text ∙ ap (λ x. take place text ++ x ∷ []) (sym same.0 ∙ sym is) in
-    subst (λ t. IsKept t (kept_more r' (take kept now) byte) r' (byte == 10)) (sym more) (kept_next first_line (take place text) (take kept now) r b byte r' (byte == 10) was tells refl)
+-- the same at the end of the input, where an account is needed if there was none
+pub replayed_last : {G S M : Type 0} (rules : G → Rules S M) (games : List G) (done : List (List (List ℕ))) (text : List ℕ) (account : List (List ℕ)) (before : ℕ) (output end : List ℕ)
+    → length text ≡ account_size account → before ≡ line_count done → AreReplayed rules games (with_lines done) output → IsEnded rules games (is_skipped text true before) account end
+    → AreReplayed rules games (at_least_one (with_lines (done ++ account ∷ []))) (output ++ end)
+replayed_last rules games done [] [] zero output end size count replayed ended =
+    let none = none_counted done (sym count) in
+    rw (with_lines_none done, none) (replayed_push rules games [] [] output end (rw none at replayed) ended)
+replayed_last rules games done [] [] (suc before) output end size count replayed ended =
+    let none : end ≡ [] = subst (λ b. IsEnded rules games b [] end) (no_more before) ended in
+    let same : output ≡ output ++ end = sym (ap (λ l. output ++ l) none ∙ append-nil output) in
+    rw (with_lines_none done, some_counted done (omega (arith, count))) (subst (AreReplayed rules games (with_lines done)) same replayed)
+replayed_last rules games done (byte ∷ text) [] before output end size count replayed ended = absurd (omega (arith, size))
+replayed_last rules games done [] (line ∷ rest) before output end size count replayed ended = absurd (omega (arith, size, sum_by-cons (λ l. length l + 2) line rest))
+replayed_last rules games done (byte ∷ text) (line ∷ rest) before output end size count replayed ended =
+    rw (with_lines_push done line rest, one_more_is_some (with_lines done) (line ∷ rest)) (replayed_push rules games (with_lines done) (line ∷ rest) output end replayed (subst (λ b. IsEnded rules games b (line ∷ rest) end) (some_text byte text true before) ended))
+
+-- ---- between two lines
+
+-- What is known then: the lines so far, the accounts that were replayed with the output for them, and the lines of the open account.
+pub record Reads {G S M W : Type 0} (contents : W → Option (List ℕ)) (rules : G → Rules S M) (games : List G) (given buffer : List ℕ) (part : OpenAccount) (place : ℕ) (writer writer' : Counting W) : Type 0 where
+  pub seen : List (List ℕ)
+  pub done : List (List (List ℕ))
+  pub account : List (List ℕ)
+  pub output : List ℕ
+  pub begins : BeginsWithLines given seen buffer
+  pub text : BeginsWithLines part.text.items account []
+  pub no_record : HasNoRecord account
+  pub grouped : (more : List (List ℕ)) → groups (seen ++ more) ≡ done ++ groups (account ++ more)
+  pub replayed : AreReplayed rules games (with_lines done) output
+  pub wrote : Appends (contents writer.stream) (contents writer'.stream) output
+  pub no_fault : writer'.faults ≡ writer.faults
+  pub size : length part.text.items ≡ account_size account
+  pub within : length part.text.items ≤ max_account
+  pub before : part.before ≡ line_count done
+  pub counted : length seen ≡ place
+  pub few : line_count done + length account ≤ place
+
+-- the lines of an account's text
+pub lines_of : (text : List ℕ) (account : List (List ℕ)) → BeginsWithLines text account [] → lines text ≡ account
+lines_of text account begins = ap lines (sym (append-nil text)) ∙ begins [] ∙ append-nil account
+
+-- the text of a record is not kept
+pub text_of_record : (text text' line : List ℕ) → text' ≡ text ++ line_text line → begins_as_record line ≡ true → text' ≡ text
+text_of_record text text' line is begins = is ∙ ap (λ (b : Bool). text ++ (if b then [] else line ++ 13 ∷ 10 ∷ [])) begins ∙ append-nil text
+
+pub text_of_line : (text text' line : List ℕ) → text' ≡ text ++ line_text line → begins_as_record line ≡ false → text' ≡ text ++ (line ++ 13 ∷ 10 ∷ [])
+text_of_line text text' line is begins = is ∙ ap (λ (b : Bool). text ++ (if b then [] else line ++ 13 ∷ 10 ∷ [])) begins
+
+text_size : (text text' line : List ℕ) → text' ≡ text ++ (line ++ 13 ∷ 10 ∷ []) → length text' ≡ length text + (length line + 2)
+text_size text text' line is = ap length is ∙ length-append text (line ++ 13 ∷ 10 ∷ []) ∙ ap (λ n. length text + n) (length-append line (13 ∷ 10 ∷ []))
+
+-- what is known of the open account at the end of the input
+pub record LastAccount (seen : List (List ℕ)) (done : List (List (List ℕ))) (text : List ℕ) (most : ℕ) : Type 0 where
+  pub account : List (List ℕ)
+  pub rest : List (List (List ℕ))
+  pub lines : lines text ≡ account
+  pub size : length text ≡ account_size account
+  pub grouped : groups seen ≡ done ++ account ∷ rest
+  pub none : with_lines rest ≡ []
+  pub few : length account ≤ most
+
+-- the accounts of an input are those before, and the last one
+pub accounts_are : (input : List ℕ) (seen : List (List ℕ)) (done : List (List (List ℕ))) (account : List (List ℕ)) (rest : List (List (List ℕ)))
+    → lines input ≡ seen → groups seen ≡ done ++ account ∷ rest → with_lines rest ≡ [] → accounts input ≡ at_least_one (with_lines (done ++ account ∷ []))
+accounts_are input seen done account rest are grouped none =
+    let kept = λ (group : List (List ℕ)). not (is_none group) in
+    let cut : with_lines (done ++ account ∷ rest) ≡ with_lines (done ++ account ∷ []) =
+    ap with_lines (sym (append_assoc done (account ∷ []) rest)) ∙ filter-append kept (done ++ account ∷ []) rest ∙ ap (λ l. with_lines (done ++ account ∷ []) ++ l) none ∙ append-nil (with_lines (done ++ account ∷ [])) in
+    ap (λ ls. at_least_one (with_lines (groups ls))) are ∙ ap (λ gs. at_least_one (with_lines gs)) grouped ∙ ap at_least_one cut
+
+push_none : (account : List (List ℕ)) (line : List ℕ) → HasNoRecord account → begins_as_record line ≡ false → HasNoRecord (account ++ line ∷ [])
+push_none [] line none is = (is, tt)
+push_none (first ∷ rest) line none is = (none.0, push_none rest line none.1 is)
+
+module _ {G S M W : Type 0} (contents : W → Option (List ℕ)) (rules : G → Rules S M) (games : List G) (given buffer : List ℕ) (part : OpenAccount) (place : ℕ) (writer writer' : Counting W)
+    (was : Reads contents rules games given buffer part place writer writer') where
+  more_groups : (line : List ℕ) (more : List (List ℕ)) → groups ((was.seen ++ line ∷ []) ++ more) ≡ was.done ++ groups (was.account ++ line ∷ more)
+  more_groups line more = ap groups (append_assoc was.seen (line ∷ []) more) ∙ was.grouped (line ∷ more)
+
+  -- a line that is no record's belongs to the open account
+  pub grouped_line : (line : List ℕ) → begins_as_record line ≡ false → groups (was.seen ++ line ∷ []) ≡ was.done ++ (was.account ++ line ∷ []) ∷ []
+  grouped_line line is = was.grouped (line ∷ []) ∙ ap (λ l. was.done ++ l) (groups_of (was.account ++ line ∷ []) (push_none was.account line was.no_record is))
+
+  -- a record ends it
+  pub grouped_record : (line : List ℕ) → begins_as_record line ≡ true → groups (was.seen ++ line ∷ []) ≡ was.done ++ was.account ∷ [] ∷ []
+  grouped_record line is = was.grouped (line ∷ []) ∙ ap (λ l. was.done ++ l) (groups_cut was.account line [] was.no_record is)
+
+  -- so does the end of the input
+  pub grouped_all : groups was.seen ≡ was.done ++ was.account ∷ []
+  grouped_all = ap groups (sym (append-nil was.seen)) ∙ was.grouped [] ∙ ap (λ l. was.done ++ groups l) (append-nil was.account) ∙ ap (λ l. was.done ++ l) (groups_of was.account was.no_record)
+
+  pub size_push : (line : List ℕ) → length part.text.items + (length line + 2) ≡ account_size (was.account ++ line ∷ [])
+  size_push line = ap (λ n. n + (length line + 2)) was.size ∙ sym (sum_by_push (λ l. length l + 2) was.account line)
+
+  pub reads_line : FirstLineIsTaken → (more line left : List ℕ) (part' : OpenAccount) → BeginsWithLine (buffer ++ more) line left → begins_as_record line ≡ false
+      → part'.text.items ≡ part.text.items ++ (line ++ 13 ∷ 10 ∷ []) → part'.before ≡ part.before → length part'.text.items ≤ max_account
+      → Reads contents rules games (given ++ more) left part' (place + 1) writer writer'
+  reads_line first_line more line left part' next is text before within =
+      let long : length part'.text.items ≡ length part.text.items + (length line + 2) = text_size part.text.items part'.text.items line text in
+      let counted : length (was.account ++ line ∷ []) ≡ length was.account + 1 = length_push was.account line in
+      record {
+        seen = was.seen ++ line ∷ [];
+        done = was.done;
+        account = was.account ++ line ∷ [];
+        output = was.output;
+        begins = begins_line first_line (given ++ more) was.seen (buffer ++ more) line left (begins_more given was.seen buffer more was.begins) next;
+        text = subst (λ t. BeginsWithLines t (was.account ++ line ∷ []) []) (sym text) (text_push first_line part.text.items was.account line (line_is_feedless (buffer ++ more) line left next) was.text);
+        no_record = push_none was.account line was.no_record is;
+        grouped = λ after. more_groups line after ∙ ap (λ l. was.done ++ groups l) (sym (append_assoc was.account (line ∷ []) after));
+        replayed = was.replayed;
+        wrote = was.wrote;
+        no_fault = was.no_fault;
+        size = long ∙ size_push line;
+        within = within;
+        before = before ∙ was.before;
+        counted = length_push was.seen line ∙ ap (λ n. n + 1) was.counted;
+        few = omega (arith, was.few, counted);
+      }
+
+  pub reads_record : FirstLineIsTaken → (more line left : List ℕ) (whole part' : OpenAccount) (mid : Counting W) (text : List ℕ) → BeginsWithLine (buffer ++ more) line left → begins_as_record line ≡ true
+      → whole.text.items ≡ part.text.items → whole.before ≡ part.before → part'.text.items ≡ [] → part'.before ≡ whole.before + length (lines whole.text.items)
+      → IsEnded rules games (is_skipped whole.text.items false whole.before) (lines whole.text.items) text
+      → Appends (contents writer'.stream) (contents mid.stream) text → mid.faults ≡ writer'.faults
+      → Reads contents rules games (given ++ more) left part' (place + 1) writer mid
+  reads_record first_line more line left whole part' mid text next is same_text same_before empty counts ends wrote kept =
+      let are = lines_of part.text.items was.account was.text in
+      let before = rw (same_text, same_before) at counts in
+      let ended = rw same_text at ends in
+      let count : line_count (was.done ++ was.account ∷ []) ≡ line_count was.done + length was.account = sum_by_push length was.done was.account in
+      record {
+        seen = was.seen ++ line ∷ [];
+        done = was.done ++ was.account ∷ [];
+        account = [];
+        output = was.output ++ text;
+        begins = begins_line first_line (given ++ more) was.seen (buffer ++ more) line left (begins_more given was.seen buffer more was.begins) next;
+        text = rw empty (λ after. refl);
+        no_record = tt;
+        grouped = λ after. more_groups line after ∙ ap (λ l. was.done ++ l) (groups_cut was.account line after was.no_record is) ∙ sym (append_assoc was.done (was.account ∷ []) (groups after));
+        replayed = replayed_more rules games was.done part.text.items was.account part.before was.output text was.size was.replayed (subst (λ a. IsEnded rules games (is_skipped part.text.items false part.before) a text) are ended);
+        wrote = Appends-trans _ _ _ _ _ was.wrote wrote;
+        no_fault = kept ∙ was.no_fault;
+        size = ap length empty;
+        within = rw empty (omega arith);
+        before = before ∙ ap (λ n. part.before + n) (ap length are) ∙ ap (λ n. n + length was.account) was.before ∙ sym count;
+        counted = length_push was.seen line ∙ ap (λ n. n + 1) was.counted;
+        few = omega (arith, was.few, count);
+      }
+
+  -- what is known of the open account once the last line of the input was taken
+  pub last_line : FirstLineIsTaken → (line : List ℕ) (part' : OpenAccount) → HasNoLineFeed line → part'.text.items ≡ part.text.items ++ line_text line
+      → LastAccount (was.seen ++ line ∷ []) was.done part'.text.items (length was.account + 1)
+  last_line first_line line part' feedless text = go (begins_as_record line) refl
+    where
+      go : (b : Bool) → begins_as_record line ≡ b → LastAccount (was.seen ++ line ∷ []) was.done part'.text.items (length was.account + 1)
+      go true is =
+          let same = text_of_record part.text.items part'.text.items line text is in
+          record {
+            account = was.account;
+            rest = [] ∷ [];
+            lines = ap lines same ∙ lines_of part.text.items was.account was.text;
+            size = ap length same ∙ was.size;
+            grouped = grouped_record line is;
+            none = refl;
+            few = omega arith;
+          }
+      go false is =
+          let added = text_of_line part.text.items part'.text.items line text is in
+          let long : length part'.text.items ≡ length part.text.items + (length line + 2) = text_size part.text.items part'.text.items line added in
+          let begins = subst (λ t. BeginsWithLines t (was.account ++ line ∷ []) []) (sym added) (text_push first_line part.text.items was.account line feedless was.text) in
+          record {
+            account = was.account ++ line ∷ [];
+            rest = [];
+            lines = lines_of part'.text.items (was.account ++ line ∷ []) begins;
+            size = long ∙ size_push line;
+            grouped = grouped_line line is;
+            none = refl;
+            few = omega (arith, length_push was.account line);
+          }
+
+  -- the same where the input has no such line
+  pub no_line : LastAccount was.seen was.done part.text.items (length was.account + 1)
+  no_line = record {
+    account = was.account;
+    rest = [];
+    lines = lines_of part.text.items was.account was.text;
+    size = was.size;
+    grouped = grouped_all;
+    none = refl;
+    few = omega arith;
+  }
+
+-- ---- what stops
+
+-- the open account does not grow by a line
+pub stops_push : {R : Type 0} (fault : Fault) (seen account : List (List ℕ)) (left : List ℕ) (size : ℕ) (reader reader' : Counting R) → StopsLongAccount fault size → size ≡ account_size account → reader'.faults ≡ reader.faults
+    → StopsInput fault seen account left reader reader'
+stops_push fault seen account left size reader reader' (inl is) same kept = rw is kept
+stops_push fault seen account left size reader reader' (inr (is, long)) same kept = rw is (inr (inl (rw same at long)), kept)
+
+-- the next line is not read
+pub stops_line : {R : Type 0} (fault : InputFault) (seen account : List (List ℕ)) (bytes lost left : List ℕ) (reader mid reader' : Counting R)
+    → mid.faults ≡ reader.faults → CallsMade 0 reader.calls mid.calls → bytes ≡ lost ++ left → HasNoLineFeed lost → InputFails max_line fault lost mid reader'
+    → StopsInput (input_fault fault) seen account bytes reader reader'
+stops_line InputReadFault seen account bytes lost left reader mid reader' same calls cut feedless fails =
+    (lost, left, cut, feedless, (fails.0, stops_reading (length lost) reader mid reader' same calls fails.1))
+stops_line TooLong seen account bytes lost left reader mid reader' same calls cut feedless fails = (inl (lost, left, cut, feedless, fails.0), fails.1 ∙ same)
+stops_line InputMemory seen account bytes lost left reader mid reader' same calls cut feedless fails = fails.1 ∙ same

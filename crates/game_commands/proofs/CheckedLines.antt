@@ -54,7 +54,7 @@ count_push counts verdicts verdict = sum_by_push (λ v. cond (counts v) 1 0) ver
 pub calls_on : (a b c : ℕ) → CallsMade 0 a b → CallsMade 0 b c → CallsMade 0 a c
 calls_on a b c before now below = omega (arith, now below, before)
 
-stops_reading : {R : Type 0} (given : ℕ) (reader mid reader' : Counting R) → mid.faults ≡ reader.faults → CallsMade 0 reader.calls mid.calls → StopsReading given mid reader' → StopsReading given reader reader'
+pub stops_reading : {R : Type 0} (given : ℕ) (reader mid reader' : Counting R) → mid.faults ≡ reader.faults → CallsMade 0 reader.calls mid.calls → StopsReading given mid reader' → StopsReading given reader reader'
 stops_reading given reader mid reader' same calls (inl failed) = inl (failed ∙ ap one_more same)
 stops_reading given reader mid reader' same calls (inr ended) =
     let made : CallsMade max_stream_calls reader.calls reader'.calls = λ below. omega (arith, ended.0 below, calls) in

@@ -27,7 +27,7 @@ use Rattle.game_commands.specs.declared.verdicts.Verdict.{Verdict}
 use Rattle.game_commands.specs.Faults.{IsFileFault, script_fault}
 use Rattle.game_commands.specs.ScriptFaults.{ScriptFails}
 use Rattle.game_commands.specs.Verdicts.{AreVerdicts, verdict_lines, count_unlawful}
-use Rattle.game_commands.specs.Replays.{account_lines, IsReplayed, ReplayFails}
+use Rattle.game_commands.specs.Replays.{accounts, AreReplayed, ReplayFails}
 use Rattle.game_commands.specs.Whole.{ReadsAndWrites}
 use Rattle.game_commands.specs.Checks.{lawful_line, CheckFails, BeginsWithLines, CheckStops}
 
@@ -40,7 +40,7 @@ IsOutput rules game Desk input output wrong = (output ≡ script_output rules (g
 IsOutput rules game Verify input output wrong = IsLawfulRecord (rules game) input × (output ≡ lawful_line) × (wrong ≡ 0)
 IsOutput rules game VerifyLines input output wrong =
     (verdicts : List Verdict) × AreVerdicts (rules game) (lines input) verdicts × (output ≡ verdict_lines verdicts) × (wrong ≡ count_unlawful verdicts)
-IsOutput rules game Replay input output wrong = (wrong ≡ 0) × IsReplayed rules (game ∷ []) (account_lines input) output
+IsOutput rules game Replay input output wrong = (wrong ≡ 0) × AreReplayed rules (game ∷ []) (accounts input) output
 
 -- all of an input was read, and the command's output for it was written; this many things are wrong in the input
 abbrev pub Answers : {G S M R W : Type 0} → (R → Option (List ℕ)) → (W → Option (List ℕ)) → (G → Rules S M) → G → GameCommand → ℕ → Counting R → Counting R → Counting W → Counting W → Type 0
@@ -63,7 +63,7 @@ Stops remaining contents rules game Verify given fault reader reader' writer wri
 Stops remaining contents rules game VerifyLines given fault reader reader' writer writer' =
     (first : List (List ℕ)) × (left : List ℕ) × (verdicts : List Verdict) × BeginsWithLines given first left × AreVerdicts (rules game) first verdicts
     × CheckStops remaining contents (rules game) fault verdicts left reader reader' writer writer'
-Stops remaining contents rules game Replay given fault reader reader' writer writer' = ReplayFails remaining contents rules (game ∷ []) given fault reader reader' writer writer'
+Stops remaining contents rules game Replay given fault reader reader' writer writer' = ReplayFails contents rules (game ∷ []) given fault reader reader' writer writer'
 
 -- A fault either tells how much is wrong in the input, after the whole output, or it stopped the command.
 abbrev pub Fails : {G S M R W : Type 0} → (R → Option (List ℕ)) → (W → Option (List ℕ)) → (G → Rules S M) → G → GameCommand → Fault → Counting R → Counting R → Counting W → Counting W → Type 0

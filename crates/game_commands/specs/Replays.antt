@@ -1,10 +1,10 @@
--- The output for an account whose calls were made again, and why one is refused.
-use Rattle.std.specs.Prelude.{◌≡◌, ◌≢◌, ◌==◌, ◌⊎◌, ◌≤◌, ℕ, zero, suc, Bool, true, false, not, List, [], ◌∷◌, ◌++◌, codes, count_by, filter, length, take, Option, option_map, unwrap_or}
+-- The output for accounts whose calls were made again, and why one is refused.
+use Rattle.std.specs.Prelude.{◌≡◌, ◌≢◌, ◌==◌, ◌⊎◌, ◌≤◌, ◌<◌, ◌+◌, ℕ, zero, suc, Bool, true, false, not, ◌&&◌, if◌then◌else◌, List, [], ◌∷◌, ◌++◌, codes, count_by, filter, length, sum_by, take, Option, option_map, unwrap_or}
 use Rattle.std.specs.Fmt.{decimal}
-use Rattle.std.specs.Io.KnownBytes.{Appends, IsAtEnd}
+use Rattle.std.specs.Io.KnownBytes.{Appends}
 use Rattle.std.specs.Str.Lines.{lines}
 use Rattle.game_core.specs.Bytes.{line_feed}
-use Rattle.game_core.specs.Counting.{Counting, one_more}
+use Rattle.game_core.specs.Counting.{Counting, last_count, one_more}
 use Rattle.game_core.specs.Play.{Rules}
 use Rattle.desk_calls.specs.Phases.{is_last}
 use Rattle.match_book.specs.Phase.{status}
@@ -15,12 +15,10 @@ use Rattle.desk_text.specs.Replaying.{IsFirstFault}
 use Rattle.desk_text.specs.declared.replaying.ReplayFault.{ReplayFault}
 use Rattle.desk_text.specs.declared.replaying.ReplayFault.TheVariants.{Memory as ReplayMemory, NoEntry as ReplayNoEntry, Differs as ReplayDiffers}
 use Rattle.desk_scripts.specs.Script.{records}
-use Rattle.whole_streams.specs.Streams.{InputFails}
-use Rattle.whole_streams.specs.declared.whole.InputFault.{InputFault}
+use Rattle.whole_streams.specs.Streams.{StopsReading}
 use Rattle.game_commands.specs.declared.fault.Fault.{Fault}
-use Rattle.game_commands.specs.declared.fault.Fault.TheVariants.{Memory, NoEntry, Differs, WriteFault}
-use Rattle.game_commands.specs.Faults.{input_fault}
-use Rattle.game_commands.specs.Whole.{ReadsAndWrites}
+use Rattle.game_commands.specs.declared.fault.Fault.TheVariants.{Memory, NoEntry, Differs, ReadFault, InputTooLong, WriteFault}
+use Rattle.game_commands.specs.Checks.{BeginsWithLines, HasOpenLine, max_line}
 
 -- whether a match of a desk has finished or was aborted
 abbrev pub is_over : {G S M : Type 0} → (G → Rules S M) → ManagerValue G M → DeskMatch M → Bool
@@ -46,7 +44,7 @@ replayed_text rules desk calls = replayed_line calls (open_matches rules desk) +
 
 -- ---- what is read
 
--- the limit of the bytes of an account and the records between its lines
+-- the limit of an account's bytes
 abbrev pub max_account : ℕ
 max_account = 268435456
 
@@ -55,42 +53,125 @@ abbrev pub begins_as_record : List ℕ → Bool
 begins_as_record [] = false
 begins_as_record (byte ∷ line) = byte == 123
 
--- the lines of an account: those of the input that do not begin as records do
-abbrev pub account_lines : List ℕ → List (List ℕ)
-account_lines input = filter (λ line. not (begins_as_record line)) (lines input)
+-- the text that is kept of a line: none of a record's
+abbrev pub line_text : List ℕ → List ℕ
+line_text line = if begins_as_record line then [] else line ++ 13 ∷ 10 ∷ []
+
+-- the line before the others of the first group
+abbrev pub into_first : List ℕ → List (List (List ℕ)) → List (List (List ℕ))
+into_first line [] = (line ∷ []) ∷ []
+into_first line (group ∷ more) = (line ∷ group) ∷ more
+
+-- the groups of lines between those that begin as records do
+abbrev pub groups : List (List ℕ) → List (List (List ℕ))
+groups [] = [] ∷ []
+groups (line ∷ more) = if begins_as_record line then [] ∷ groups more else into_first line (groups more)
+
+abbrev pub is_none : {X : Type 0} → List X → Bool
+is_none [] = true
+is_none (x ∷ more) = false
+
+-- the groups that have lines
+abbrev pub with_lines : List (List (List ℕ)) → List (List (List ℕ))
+with_lines all = filter (λ group. not (is_none group)) all
+
+-- these accounts, or one without lines where there are none
+abbrev pub at_least_one : List (List (List ℕ)) → List (List (List ℕ))
+at_least_one [] = [] ∷ []
+at_least_one (account ∷ more) = account ∷ more
+
+-- the accounts of an input: the groups of its lines. An input without any is an account without lines.
+abbrev pub accounts : List ℕ → List (List (List ℕ))
+accounts input = at_least_one (with_lines (groups (lines input)))
 
 -- the lines are an account on a desk of these games, and this is the output for it
 abbrev pub IsReplayed : {G S M : Type 0} → (G → Rules S M) → List G → List (List ℕ) → List ℕ → Type 0
-IsReplayed {G} {S} {M} rules games lines output =
-    (desk : ManagerValue G M) × (calls : ℕ) × IsAccount (reply rules) (after rules) (no_matches games) lines desk calls × (output ≡ replayed_text rules desk calls)
+IsReplayed {G} {S} {M} rules games account output =
+    (desk : ManagerValue G M) × (calls : ℕ) × IsAccount (reply rules) (after rules) (no_matches games) account desk calls × (output ≡ replayed_text rules desk calls)
+
+-- each of these is an account on a desk of its own, and this is the output for all
+abbrev pub AreReplayed : {G S M : Type 0} → (G → Rules S M) → List G → List (List (List ℕ)) → List ℕ → Type 0
+AreReplayed rules games [] output = output ≡ []
+AreReplayed rules games (account ∷ more) output = (first rest : List ℕ) × (output ≡ first ++ rest) × IsReplayed rules games account first × AreReplayed rules games more rest
+
+-- a text without lines is no account, unless an input that had none ends there
+abbrev pub is_skipped : List ℕ → Bool → ℕ → Bool
+is_skipped text is_last before = length text == 0 && not (is_last && before == 0)
+
+-- the output for lines up to a record, or up to the end
+abbrev pub IsEnded : {G S M : Type 0} → (G → Rules S M) → List G → Bool → List (List ℕ) → List ℕ → Type 0
+IsEnded rules games true account output = output ≡ []
+IsEnded rules games false account output = IsReplayed rules games account output
 
 -- ---- what is refused
 
--- the fault for lines that are refused
-abbrev pub replay_fault : ReplayFault → Fault
-replay_fault ReplayMemory = Memory
-replay_fault (ReplayNoEntry number) = NoEntry number
-replay_fault (ReplayDiffers number right) = Differs number
+-- the number of lines of these accounts
+abbrev pub line_count : List (List (List ℕ)) → ℕ
+line_count all = sum_by length all
+
+-- the bytes of an account, with two for the end of each line
+abbrev pub account_size : List (List ℕ) → ℕ
+account_size account = sum_by (λ line. length line + 2) account
+
+-- the fault for lines that are refused, behind so many lines of other accounts
+abbrev pub replay_fault : ℕ → ReplayFault → Fault
+replay_fault before ReplayMemory = Memory
+replay_fault before (ReplayNoEntry place) = NoEntry (before + place)
+replay_fault before (ReplayDiffers place right) = Differs (before + place)
+
+-- the number of the fault's line has 64 bits
+abbrev pub IsNumbered : ℕ → ReplayFault → Type 0
+IsNumbered before ReplayMemory = Unit {0}
+IsNumbered before (ReplayNoEntry place) = before + place ≤ last_count
+IsNumbered before (ReplayDiffers place right) = before + place ≤ last_count
 
 -- the output for lines that are refused: the right line in place of the first wrong one, if that holds a call
 abbrev pub refused_output : ReplayFault → List ℕ
-refused_output (ReplayDiffers number right) = right.items ++ line_feed ∷ []
+refused_output (ReplayDiffers place right) = right.items ++ line_feed ∷ []
 refused_output _ = []
 
 -- the lines are refused for the first wrong one, if there is memory, and this is the output for them
-abbrev pub IsRefusedAccount : {G S M : Type 0} → (G → Rules S M) → List G → List (List ℕ) → Fault → List ℕ → Type 0
-IsRefusedAccount rules games lines fault output =
-    (why : ReplayFault) × (fault ≡ replay_fault why) × (output ≡ refused_output why) × (why ≢ ReplayMemory → IsFirstFault (reply rules) (after rules) (no_matches games) lines why)
+abbrev pub IsRefusedAccount : {G S M : Type 0} → (G → Rules S M) → List G → ℕ → List (List ℕ) → Fault → List ℕ → Type 0
+IsRefusedAccount rules games before account fault output =
+    (why : ReplayFault) × (fault ≡ replay_fault before why) × (output ≡ refused_output why) × (why ≢ ReplayMemory → IsFirstFault (reply rules) (after rules) (no_matches games) account why)
 
 -- the output for these lines, whether they are an account or are refused
-abbrev pub IsReplayOutput : {G S M : Type 0} → (G → Rules S M) → List G → List (List ℕ) → List ℕ → Type 0
-IsReplayOutput rules games lines output = IsReplayed rules games lines output ⊎ ((fault : Fault) × IsRefusedAccount rules games lines fault output)
+abbrev pub IsReplayOutput : {G S M : Type 0} → (G → Rules S M) → List G → ℕ → List (List ℕ) → List ℕ → Type 0
+IsReplayOutput rules games before account output = IsReplayed rules games account output ⊎ ((fault : Fault) × IsRefusedAccount rules games before account fault output)
 
--- Why an account was not made again, by the bytes that were given and the streams before and after: the input failed; or the lines
--- were refused, and the output for that was written; or a write failed, and a part of the output was written.
-abbrev pub ReplayFails : {G S M R W : Type 0} → (R → Option (List ℕ)) → (W → Option (List ℕ)) → (G → Rules S M) → List G → List ℕ → Fault → Counting R → Counting R → Counting W → Counting W → Type 0
-ReplayFails remaining contents rules games given fault reader reader' writer writer' =
-    ((why : InputFault) × (fault ≡ input_fault why) × InputFails max_account why given reader reader' × (writer' ≡ writer))
-    ⊎ ((output : List ℕ) × ReadsAndWrites remaining contents given output reader reader' writer writer' × IsRefusedAccount rules games (account_lines given) fault output)
-    ⊎ ((fault ≡ WriteFault) × (reader'.faults ≡ reader.faults) × IsAtEnd (remaining reader'.stream) × (writer'.faults ≡ one_more writer.faults)
-    × ((output : List ℕ) × (taken : ℕ) × IsReplayOutput rules games (account_lines given) output × (taken ≤ length output) × Appends (contents writer.stream) (contents writer'.stream) (take taken output)))
+-- Why these lines give no account, by the writer before and after: they are refused, and the output for that was written; or a write
+-- failed, and a part of the output was written.
+abbrev pub AccountFails : {G S M W : Type 0} → (W → Option (List ℕ)) → (G → Rules S M) → List G → ℕ → List (List ℕ) → Counting W → Counting W → Fault → Type 0
+AccountFails contents rules games before account writer writer' fault =
+    ((output : List ℕ) × IsRefusedAccount rules games before account fault output × Appends (contents writer.stream) (contents writer'.stream) output × (writer'.faults ≡ writer.faults))
+    ⊎ ((fault ≡ WriteFault) × (writer'.faults ≡ one_more writer.faults)
+    × ((output : List ℕ) × (taken : ℕ) × IsReplayOutput rules games before account output × (taken ≤ length output) × Appends (contents writer.stream) (contents writer'.stream) (take taken output)))
+
+-- why an account does not grow to so many bytes
+abbrev pub StopsLongAccount : Fault → ℕ → Type 0
+StopsLongAccount fault size = (fault ≡ Memory) ⊎ ((fault ≡ InputTooLong) × (max_account < size))
+
+-- Why the input is read no further, by its lines so far, those of the open account, and the bytes that are left.
+abbrev pub StopsInput : {R : Type 0} → Fault → List (List ℕ) → List (List ℕ) → List ℕ → Counting R → Counting R → Type 0
+StopsInput ReadFault seen account left reader reader' = HasOpenLine left (λ count. (count ≤ max_line) × StopsReading count reader reader')
+StopsInput InputTooLong seen account left reader reader' =
+    (HasOpenLine left (λ count. max_line < count) ⊎ (max_account < account_size account) ⊎ (last_count ≤ length seen)) × (reader'.faults ≡ reader.faults)
+StopsInput Memory seen account left reader reader' = reader'.faults ≡ reader.faults
+StopsInput fault seen account left reader reader' = ⊥
+
+-- these are lines of the text, and these bytes are left; or they are all its lines
+abbrev pub HasLines : List ℕ → List (List ℕ) → List ℕ → Type 0
+HasLines text seen left = BeginsWithLines text seen left ⊎ ((lines text ≡ seen) × (left ≡ []))
+
+-- Why the accounts of an input were not all replayed, by the bytes that were given and the streams before and after. The output for the
+-- accounts before one was written. Then the input was read no further, or this account failed.
+abbrev pub ReplayFails : {G S M R W : Type 0} → (W → Option (List ℕ)) → (G → Rules S M) → List G → List ℕ → Fault → Counting R → Counting R → Counting W → Counting W → Type 0
+ReplayFails {W = W} contents rules games given fault reader reader' writer writer' =
+    (seen : List (List ℕ)) × (left : List ℕ) × (done : List (List (List ℕ))) × (account : List (List ℕ)) × (rest : List (List (List ℕ))) × (output : List ℕ) × (mid : Counting W)
+    × HasLines given seen left
+    × (groups seen ≡ done ++ account ∷ rest)
+    × AreReplayed rules games (with_lines done) output
+    × Appends (contents writer.stream) (contents mid.stream) output
+    × (mid.faults ≡ writer.faults)
+    × ((StopsInput fault seen account left reader reader' × (writer' ≡ mid))
+    ⊎ ((reader'.faults ≡ reader.faults) × AccountFails contents rules games (line_count done) account mid writer' fault))

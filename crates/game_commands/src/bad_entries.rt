@@ -57,16 +57,17 @@ fn next_line(text: &[u8]) -> (&[u8], &[u8]) {
     }
 }
 
-/// Appends to `out` what is wrong with the line of this number of an account, as a line of standard error. Lines are numbered from 1.
-/// `right` is the right line, if the line holds a call.
+/// Appends to `out` what is wrong with the line at this place of an account, as a line of standard error. Lines are numbered from 1, those
+/// of the accounts `before` too. `right` is the right line, if the line holds a call.
 pub fn push_bad_entry(
     account: &[u8],
-    number: u64,
+    place: u64,
+    before: u64,
     right: Option<&[u8]>,
     out: &mut String,
 ) -> Result<(), AllocError> {
     let mut rest = account;
-    for _ in 1..number {
+    for _ in 1..place {
         rest = next_line(rest).1;
     }
     let entry = next_line(rest).0;
@@ -74,5 +75,5 @@ pub fn push_bad_entry(
         Some(right) => difference(entry, right),
         None => fault_of(entry),
     };
-    push_bad_line(out, number, entry, fault)
+    push_bad_line(out, before.saturating_add(place), entry, fault)
 }

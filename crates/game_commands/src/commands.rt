@@ -6,7 +6,7 @@ ghost use Rattle.game_commands.specs.declared.fault.Fault.TheVariants.{Memory};
 use crate::checking::{check_record, check_records};
 use crate::fault::Fault;
 use crate::remarks::Remarks;
-use crate::replaying::replay_account;
+use crate::replaying::replay_accounts;
 use crate::rules::{game_of, rules_text};
 use crate::script::run_script_with_remarks;
 use game_core::{Countdown, Counted, Game};
@@ -67,9 +67,7 @@ fn perform<G: Game + Drop, R: Read, W: Write>(
             }
             Err(fault) => Err(fault),
         },
-        GameCommand::Replay => {
-            replay_account(alloc, reader, writer, alone(alloc, game)?, remarks)
-        }
+        GameCommand::Replay => replay_accounts(alloc, reader, writer, &game, remarks),
     }
 }
 

@@ -83,8 +83,10 @@ impl Remarks {
     }
 
     /// Explains the line of this number of an account. Lines are numbered from 1. `right` is the right line, if the line holds a call.
-    pub fn bad_entry(&mut self, account: &[u8], number: u64, right: Option<&[u8]>) {
-        if self.is_wanted && push_bad_entry(account, number, right, &mut self.lines).is_err() {
+    pub fn bad_entry(&mut self, account: &[u8], place: u64, before: u64, right: Option<&[u8]>) {
+        if self.is_wanted
+            && push_bad_entry(account, place, before, right, &mut self.lines).is_err()
+        {
             self.lines.clear();
         }
     }

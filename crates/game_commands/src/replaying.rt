@@ -1,45 +1,25 @@
-//! Reading an account, and making its calls again.
-ghost use Rattle.std.specs.Prelude.{◌≡◌, ◌≢◌, [], ℕ, List, IfOk, IfErr, IsErr, OnOk, string_bytes};
-ghost use Rattle.std.specs.Io.KnownBytes.{Consumes};
+//! Reading accounts, and making their calls again.
+ghost use Rattle.std.specs.Prelude.{◌≡◌, ◌≢◌, ◌≤◌, ◌+◌, ◌++◌, ◌∷◌, [], ℕ, false, List, length, IfOk, IfErr, IsErr, OnOk, string_bytes};
+ghost use Rattle.std.specs.Io.KnownBytes.{Consumes, Appends};
 ghost use Rattle.std.specs.Str.Lines.{lines};
-ghost use Rattle.game_commands.specs.Replays.{account_lines, open_matches, refused_output, replay_fault, replayed_line, replayed_text, IsRefusedAccount, IsReplayed, ReplayFails};
+ghost use Rattle.game_core.specs.Counting.{last_count};
+ghost use Rattle.game_commands.specs.Replays.{accounts, begins_as_record, is_skipped, line_text, max_account, open_matches, refused_output, replay_fault, replayed_line, replayed_text, AccountFails, AreReplayed, IsEnded, IsNumbered, IsRefusedAccount, IsReplayed, ReplayFails, StopsLongAccount};
 ghost use Rattle.game_commands.specs.Whole.{ReadsAndWrites};
 
+use crate::checking::MAX_LINE;
 use crate::fault::Fault;
 use crate::remarks::Remarks;
 use desk_scripts::push_records;
 use desk_text::{ReplayFault, Replayed, replay};
-use game_core::{Counted, Game};
+use game_core::{Counted, Game, Lent};
 use match_desk::Manager;
 use std::alloc::{AllocError, Global};
 use std::io::{Read, Write};
 use whole_streams::laws::lines_are_taken;
-use whole_streams::{read_to_end, write_all};
+use whole_streams::{LineBuffer, NextLine, write_all};
 
-/// The limit of an account's bytes: 256 MiB.
+/// The limit of an account's bytes: 256 MiB, with two for the end of each line.
 const MAX_ACCOUNT: usize = 268_435_456;
-
-/// Removes the records between the lines of an account. A record begins with a brace, and no line of an account does.
-fn remove_records(account: &mut Vec<u8>)
-    ensures { lines account.new.items ≡ account_lines account.old.items }
-{
-    lines_are_taken();
-    let mut kept = 0;
-    let mut is_record = false;
-    let mut line_begins = true;
-    for place in 0..account.len() {
-        let byte = account[place];
-        if line_begins {
-            is_record = byte == b'{';
-        }
-        line_begins = byte == b'\n';
-        if !is_record {
-            account[kept] = byte;
-            kept += 1;
-        }
-    }
-    account.truncate(kept);
-}
 
 /// The number of matches that are not over: in an account whose last calls are missing, at least one.
 fn open_matches<G: Game>(manager: &Manager<G>) -> usize
@@ -80,74 +60,159 @@ fn replayed_text<G: Game + Drop>(
 }
 
 /// Explains the first wrong line of an account in the remarks, and returns the fault. The right line is the output, if there is one.
+/// `before` lines were read before the account.
 fn refuse(
     account: &[u8],
+    before: u64,
     fault: ReplayFault,
     output: &mut Vec<u8>,
     remarks: &mut Remarks,
-) -> Result<(), Fault>
+) -> Result<u64, Fault>
+    requires { IsNumbered before fault }
     ensures refused { IsErr result }
-    ensures fault { IfErr result (λ given. (why : ReplayFault) × (given ≡ replay_fault why) × (output.old.items ≡ [] → output.new.items ≡ refused_output why)
+    ensures fault { IfErr result (λ given. (why : ReplayFault) × (given ≡ replay_fault before why) × (output.old.items ≡ [] → output.new.items ≡ refused_output why)
         × (why ≢ ReplayFault.Memory → why ≡ fault)) }
 {
     match fault {
         ReplayFault::Memory => Err(Fault::Memory),
-        ReplayFault::NoEntry(number) => {
-            remarks.bad_entry(account, number, None);
-            Err(Fault::NoEntry(number))
+        ReplayFault::NoEntry(place) => {
+            remarks.bad_entry(account, place, before, None);
+            Err(Fault::NoEntry(before + place))
         }
-        ReplayFault::Differs(number, mut right) => {
-            remarks.bad_entry(account, number, Some(&right));
+        ReplayFault::Differs(place, mut right) => {
+            remarks.bad_entry(account, place, before, Some(&right));
             right.push(b'\n')?;
             *output = right;
-            Err(Fault::Differs(number))
+            Err(Fault::Differs(before + place))
         }
     }
 }
 
-/// Makes the calls of an account again on a manager of these games. The output is their number and the records of the matches, or the
-/// right line in place of the first wrong one. There is none if it is out of memory.
+/// Makes the calls of an account again on a manager of these games, and returns their number. The output is that number and the records of
+/// the matches, or the right line in place of the first wrong one. There is none if it is out of memory.
 fn answer<G: Game + Drop>(
     alloc: Global,
     games: Vec<G>,
     account: &[u8],
+    before: u64,
     output: &mut Vec<u8>,
     remarks: &mut Remarks,
-) -> Result<(), Fault>
+) -> Result<u64, Fault>
+    requires { before + length (lines account.now) ≤ last_count }
     ensures replayed { OnOk result (IsReplayed G.rules games.items (lines account.now) output.new.items) }
-    ensures refused { IfErr result (λ fault. output.old.items ≡ [] → IsRefusedAccount G.rules games.items (lines account.now) fault output.new.items) }
+    ensures counted { IfOk result (λ calls. calls ≡ length (lines account.now)) }
+    ensures refused { IfErr result (λ fault. output.old.items ≡ [] → IsRefusedAccount G.rules games.items before (lines account.now) fault output.new.items) }
 {
     match replay(alloc, games, account) {
         Ok(replayed) => match replayed_text(alloc, &replayed) {
             Ok(text) => {
                 *output = text;
-                Ok(())
+                Ok(replayed.calls)
             }
             Err(fault) => Err(Fault::from(fault)),
         },
-        Err(fault) => refuse(account, fault, output, remarks),
+        Err(fault) => refuse(account, before, fault, output, remarks),
     }
 }
 
-/// Reads an account, makes its calls again on a manager of these games, and writes the result. Lines that begin as records do are
-/// skipped, and are not counted.
-pub fn replay_account<R: Read, W: Write, G: Game + Drop>(
+/// An account that is read line by line, up to the next record.
+#[derive(Drop)]
+struct OpenAccount {
+    /// Its lines so far, each with a carriage return and a line feed.
+    text: Vec<u8>,
+    /// The number of lines of the accounts before it.
+    before: u64,
+}
+
+impl OpenAccount {
+    /// Adds a line, if the account then has at most 256 MiB, unless it begins as a record does, with a brace. No line of an account does.
+    /// Returns whether it begins so.
+    fn push(&mut self, line: &[u8]) -> Result<bool, Fault>
+        requires { length self.old.text.items ≤ max_account }
+        ensures told { IfOk result (λ is_record. is_record ≡ begins_as_record line.now) }
+        ensures pushed { OnOk result (self.new.text.items ≡ self.old.text.items ++ line_text line.now) }
+        ensures within { OnOk result (length self.new.text.items ≤ max_account) }
+        ensures same { self.new.before ≡ self.old.before }
+        ensures fails { IfErr result (λ fault. (begins_as_record line.now ≡ false) × StopsLongAccount fault (length self.old.text.items + (length line.now + 2))) }
+    {
+        if line.first() == Some(&b'{') {
+            return Ok(true);
+        }
+        let room = MAX_ACCOUNT - self.text.len();
+        if room < 2 || room - 2 < line.len() {
+            return Err(Fault::InputTooLong);
+        }
+        self.text.extend_from_slice(line)?;
+        self.text.extend_from_slice(b"\r\n")?;
+        Ok(false)
+    }
+
+    /// Makes the calls of the account again, writes what they give, and goes on to the next account. Without lines it is none, unless it is
+    /// the only one of the input.
+    fn end<G: Game, W: Write>(
+        &mut self,
+        alloc: Global,
+        game: &G,
+        is_last: bool,
+        writer: &mut Counted<W>,
+        remarks: &mut Remarks,
+    ) -> Result<(), Fault>
+        requires { self.old.before + length (lines self.old.text.items) ≤ last_count }
+        ensures ended { OnOk result ((self.new.text.items ≡ []) × (self.new.before ≡ self.old.before + length (lines self.old.text.items))) }
+        ensures replayed { OnOk result ((output : List ℕ) × IsEnded G.rules (game.now ∷ []) (is_skipped self.old.text.items is_last self.old.before) (lines self.old.text.items) output
+            × Appends (W.contents writer.old.stream) (W.contents writer.new.stream) output) }
+        ensures no_fault { OnOk result (writer.new.faults ≡ writer.old.faults) }
+        ensures fails { IfErr result (AccountFails W.contents G.rules (game.now ∷ []) self.old.before (lines self.old.text.items) writer.old writer.new) }
+    {
+        if self.text.is_empty() && !(is_last && self.before == 0) {
+            return Ok(());
+        }
+        let mut games = Vec::new(alloc);
+        games.push(Lent::new(game))?;
+        let mut output = Vec::new(alloc);
+        let answered = answer(alloc, games, &self.text, self.before, &mut output, remarks);
+        write_all(writer, &output)?;
+        self.before += answered?;
+        self.text.clear();
+        Ok(())
+    }
+}
+
+/// Reads the accounts of an input, each up to the next line that begins as a record does, makes their calls again, each on a manager of its
+/// own, and writes what they give before more is read.
+pub fn replay_accounts<R: Read, W: Write, G: Game>(
     alloc: Global,
     reader: &mut Counted<R>,
     writer: &mut Counted<W>,
-    games: Vec<G>,
+    game: &G,
     remarks: &mut Remarks,
 ) -> Result<(), Fault>
     ensures replayed { OnOk result ((input output : List ℕ) × ReadsAndWrites R.remaining W.contents input output reader.old reader.new writer.old writer.new
-        × IsReplayed G.rules games.items (account_lines input) output) }
+        × AreReplayed G.rules (game.now ∷ []) (accounts input) output) }
     ensures fails { IfErr result (λ fault. (given : List ℕ)
         × Consumes (R.remaining reader.old.stream) (R.remaining reader.new.stream) given
-        × ReplayFails R.remaining W.contents G.rules games.items given fault reader.old reader.new writer.old writer.new) }
+        × ReplayFails W.contents G.rules (game.now ∷ []) given fault reader.old reader.new writer.old writer.new) }
 {
-    let mut account = read_to_end(alloc, reader, MAX_ACCOUNT)?;
-    remove_records(&mut account);
-    let mut output = Vec::new(alloc);
-    let answered = answer(alloc, games, &account, &mut output, remarks);
-    write_all(writer, &output)?;
-    answered
+    lines_are_taken();
+    let mut buffer = LineBuffer::new();
+    let mut account = OpenAccount {
+        text: Vec::new(alloc),
+        before: 0,
+    };
+    for place in 0..u64::MAX {
+        match buffer.next_line(alloc, reader, MAX_LINE) {
+            Ok(NextLine::Ended(line)) => {
+                if account.push(&line)? {
+                    account.end(alloc, game, false, writer, remarks)?;
+                }
+            }
+            Ok(NextLine::Last(line)) => {
+                account.push(&line)?;
+                return account.end(alloc, game, true, writer, remarks);
+            }
+            Ok(NextLine::Nothing) => return account.end(alloc, game, true, writer, remarks),
+            Err(fault) => return Err(Fault::from(fault)),
+        }
+    }
+    Err(Fault::InputTooLong)
 }

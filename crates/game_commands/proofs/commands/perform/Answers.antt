@@ -5,8 +5,7 @@ use Rattle.game_commands.proofs.commands.perform.Goals as goal
 
 pub returns-clause-fails : goal.returns-clause-fails
 returns-clause-fails g c =
-    let fails = rw c.in_ok-alone-in-Replay.ensures.list at c.replay_account.ensures.fails in
-    rw c.in-Replay.is (IfErr-weaker c.replay_account.result _ _ (λ fault stops. inr stops) fails)
+    rw c.in-Replay.is (IfErr-weaker c.replay_accounts.result _ _ (λ fault stops. inr stops) c.replay_accounts.ensures.fails)
 
 pub returns-in-Ok-clause-fails : goal.returns-in-Ok-clause-fails
 returns-in-Ok-clause-fails g c =
