@@ -13,8 +13,6 @@ import tempfile
 PROGRAM = "ggp_manager"
 # A desk opens a match only with a player for each role, so one of this many tries tells the number of roles.
 MOST_ROLES = 16
-# Accounts that are replayed in one run: their bytes, and a desk's matches.
-MOST_BYTES, MOST_MATCHES = 200_000_000, 1_000
 # The last line on standard error where status 1 is a verdict, and no fault of the program's own.
 NOT_LAWFUL = "ggp_manager: records not lawful {}"
 NOT_LAWFUL_ITSELF = re.compile(r"ggp_manager: not lawful: .*")
@@ -75,6 +73,12 @@ def is_not_lawful(status, line):
 def is_not_replayed(status, line):
     """Returns whether `replay` ended since an account is wrong, by its status and the last line that it said."""
     return status == 1 and bool(NOT_REPLAYED.fullmatch(line))
+
+
+def records_replayed(output):
+    """Returns the records of each account that `replay` has made again. Behind them may stand the right line in place of a wrong one."""
+    parts = re.split(rb"^replayed .*\n", output, flags=re.MULTILINE)[1:]
+    return [b"".join(line for line in part.splitlines(True) if line.startswith(b"{")) for part in parts]
 
 
 def unchecked(said, name):
@@ -171,29 +175,16 @@ class Referee:
         return found
 
     def replays(self, rules_path, accounts, records):
-        """Returns for each account whether its calls give its record again. As long as all do, one run looks at many."""
-        found, at = [], 0
-        while at < len(accounts):
-            end, size = at, 0
-            while end < len(accounts) and end - at < MOST_MATCHES and (end == at or size + len(accounts[end]) <= MOST_BYTES):
-                size += len(accounts[end])
-                end += 1
-            if end - at > 1 and self.replay_gives_all(rules_path, accounts[at:end], records[at:end]):
-                found += [True] * (end - at)
-            else:
-                found += [self.replay_gives(rules_path, [one], [other]) for one, other in zip(accounts[at:end], records[at:end])]
-            at = end
+        """Returns for each account whether its calls give its record again. One run looks at all, up to one that is not replayed: a brace
+        before each account ends the one before it."""
+        found = []
+        while len(found) < len(accounts):
+            at = len(found)
+            said = self.call("replay", f"--rules-file={rules_path}", data=b"".join(b"{\n" + account for account in accounts[at:]))
+            replayed = records_replayed(said.stdout)
+            is_refused = is_not_replayed(said.returncode, last_line(said))
+            if not is_refused and (said.returncode != 0 or len(replayed) != len(accounts) - at):
+                raise unchecked(said, rules_path)
+            found += [given == record for given, record in zip(replayed, records[at:])]
+            found += [False] if is_refused else []
         return found
-
-    def replay_gives(self, rules_path, accounts, records):
-        said = self.call("replay", f"--rules-file={rules_path}", data=b"".join(accounts))
-        if said.returncode != 0 and not is_not_replayed(said.returncode, last_line(said)):
-            raise unchecked(said, rules_path)
-        return said.returncode == 0 and said.stdout.partition(b"\n")[2] == b"".join(records)
-
-    def replay_gives_all(self, rules_path, accounts, records):
-        """Returns whether one run replays all of these. Where it is short of something for all of them, each may still go by itself."""
-        try:
-            return self.replay_gives(rules_path, accounts, records)
-        except Unchecked:
-            return False

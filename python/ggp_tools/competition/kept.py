@@ -52,8 +52,8 @@ def batches(folder, matches):
 
 
 def is_of_one_match(account):
-    """Returns whether each line of an account is a call on the match of its first line. Many accounts are replayed as one, where it makes no
-    difference in which of them a call stands."""
+    """Returns whether each line of an account is a call on the match of its first line. A call on another one would leave no trace in the
+    record."""
     called = CALL.findall(account)
     return len(called) == account.count(b"\n") > 0 and len(set(called)) == 1
 
