@@ -13,9 +13,13 @@ OTHERS = re.compile(r"[^A-Za-z0-9._-]")
 LONGEST_ID = 64
 
 
+def file_name(number: int, match_id: str, ending: str) -> str:
+    """Returns the name of a match's file, which no other match of the collection has."""
+    return f"{number:06}-{OTHERS.sub('_', match_id)[:LONGEST_ID] or 'match'}.{ending}"
+
+
 def page_name(number: int, match_id: str) -> str:
-    """Returns the name of a match's page, which no other match of the collection has."""
-    return f"{number:06}-{OTHERS.sub('_', match_id)[:LONGEST_ID] or 'match'}.html"
+    return file_name(number, match_id, "html")
 
 
 def ended(record: dict) -> str:
