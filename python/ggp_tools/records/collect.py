@@ -24,7 +24,7 @@ import sys
 from collections.abc import Iterable, Iterator
 
 from ggp_tools.records.collection import Judged, Pile, judged_lines, known_games
-from ggp_tools.records.explain import explanation
+from ggp_tools.records.explain import explanation, json_lines
 from ggp_tools.records.ggp_base import times_of_logs, write_matches
 from ggp_tools.records.index import write_pages
 from ggp_tools.records.tables import write_csv, write_sqlite
@@ -64,15 +64,21 @@ def row_of(judged: Judged) -> str:
     return "\t".join([visible(line.file), str(line.number), visible(line.match_id) or "-", game, visible(judged.verdict)])
 
 
+def explained(judged: Judged) -> list[str]:
+    """Returns why a line is no lawful record, as far as that is known."""
+    if judged.game and judged.verdict.startswith(NOT_LAWFUL):
+        return explanation(judged.verdict.removeprefix(NOT_LAWFUL), judged.game.rules, judged.line.data)
+    return json_lines(judged.line.data) if judged.line.record is None and judged.line.data else []
+
+
 def print_check(lines: Iterable[Judged], explains: bool) -> None:
     """Writes a line for each record, and below one that is not lawful why, if that is wanted."""
     if sys.stdout is None:
         raise OSError("standard output is closed")
     for judged in lines:
         print(row_of(judged))
-        if explains and judged.game and judged.verdict.startswith(NOT_LAWFUL):
-            for said in explanation(judged.verdict.removeprefix(NOT_LAWFUL), judged.game.sentences, judged.line.data):
-                print(f"\t{said}")
+        for said in explained(judged) if explains else ():
+            print(f"\t{said}")
     sys.stdout.flush()
 
 
