@@ -84,6 +84,20 @@ class Examples(unittest.TestCase):
         status, page, said = run(SHOW_RECORD, RECORD)
         self.assertEqual((status, said, page.startswith("<!DOCTYPE html>"), page.endswith("</html>\n")), (0, "", True, True))
 
+    def test_a_record_with_its_account(self):
+        record, page = RECORD.read_bytes(), run(SHOW_RECORD, RECORD)[1]
+        account = b"0\topen m1 0 1 1 ann bob\topened\r\n1\tnext m1 0\tover\n"
+        each = "A page is of one record: `ggp-records pages` makes a page of each"
+        with tempfile.TemporaryDirectory() as room:
+            file = pathlib.Path(room) / "played"
+            pretty = json.dumps(json.loads(record), indent=1).encode()
+            for text in (record + account, record + account.rstrip(b"\n"), record, record.rstrip(b"\n"), pretty):
+                file.write_bytes(text)
+                self.assertEqual(run(SHOW_RECORD, file), (0, page, ""), text)
+            for text, line in ((record + account + record + account, "4 is no line of its account"), (record + record, "2 has another one")):
+                file.write_bytes(text)
+                self.assertEqual(run(SHOW_RECORD, file), (1, "", f"ggp-show-record: no record: line {line}. {each}\n"))
+
     def test_the_longest_record(self):
         record, most = RECORD.read_bytes().rstrip(b"\n"), 16 << 20
         with tempfile.TemporaryDirectory() as room:

@@ -14,6 +14,7 @@ from typing import BinaryIO
 
 from ggp_tools.ground_games import Game, text_of, texts_of
 from ggp_tools.kif import Refused, expressions, variables
+from ggp_tools.records.shapes import ACCOUNT_LINE
 from ggp_tools.records.show import LONGEST_RECORD
 from ggp_tools.referee import BadRules, Referee
 
@@ -21,8 +22,6 @@ from ggp_tools.referee import BadRules, Referee
 BATCH = 4 << 20
 # This many batches may wait beside those that are being checked.
 WAITING = 2
-# A record may have been joined to a line that was cut: then it is no line of an account.
-ACCOUNT_LINE = re.compile(rb"[0-9]+\t(?:open|strict|next|submit|miss|query|abort) [^\t]*\t(?![^\t]*\{\x22cause\x22:)[^\t]*")
 SURROGATE = re.compile("[\ud800-\udfff]")
 LAWFUL, NO_GAME, NO_RECORD = "lawful", "no game has its roles", "no record: "
 

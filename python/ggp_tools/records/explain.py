@@ -13,7 +13,7 @@ from dataclasses import dataclass
 from ggp_tools.ground_games import MOST_CALLS, Game, Match, text_of, texts_of
 from ggp_tools.kif import Expression, Refused, expressions
 from ggp_tools.records import shapes
-from ggp_tools.records.collection import ACCOUNT_LINE, BATCH, numbered_lines
+from ggp_tools.records.collection import BATCH, numbered_lines
 from ggp_tools.records.countdown import countdown
 from ggp_tools.referee import rules_file
 
@@ -365,7 +365,7 @@ class Lines:
         """Gives the lines with their numbers, some megabytes at a time. The first batch may be empty: then faults of the words are told."""
         held, size = [], 0
         for number, data in self.numbered():
-            if ACCOUNT_LINE.fullmatch(data):
+            if shapes.ACCOUNT_LINE.fullmatch(data):
                 self.skipped += 1
                 continue
             held.append((number, data))

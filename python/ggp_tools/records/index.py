@@ -48,9 +48,9 @@ def index_page(rows: list[str], title: str) -> bytes:
         f'<meta http-equiv="Content-Security-Policy" content="{policy}">',
         f"<title>{html.escape(title)}</title><style>{STYLE}</style></head><body>",
         f"<h1>{html.escape(title)}</h1>",
-        f"<table><tr>{heads}</tr>",
+        f'<div class="wide"><table><tr>{heads}</tr>',
         *rows,
-        "</table></body></html>",
+        "</table></div></body></html>",
     ]
     return "\n".join(lines).encode("ascii", "xmlcharrefreplace")
 
