@@ -140,17 +140,18 @@ class Examples(unittest.TestCase):
         done = subprocess.run([PLAY_A_MATCH, "none"], stdin=subprocess.DEVNULL, capture_output=True, text=True, timeout=600)
         self.assertEqual((done.returncode, done.stdout, done.stderr), (2, "", "usage: play-a-match PROGRAM RULES-FILE [OPTION ..]\n"))
 
-    def test_players_that_are_not_there_are_named_at_the_end(self):
+    def test_players_that_were_not_there_are_named_at_the_end(self):
         with tempfile.TemporaryDirectory() as room:
             referee = pathlib.Path(room, "referee")
-            for absent, named in (("x", ""), ("bob", "bob"), ("???", "ann bob")):
-                referee.write_text(f'#!/bin/sh\ncase "$1 $2" in "info "{absent}@*) exit 1 ;; "run "*) echo record ;; esac\n')
+            for marks, named in (('"",""', ""), ('"","CE"', "bob"), ('"TO",null', "ann bob")):
+                record = f'{{"startClock":10,"startMarks":[{marks}],"states":[["x"]]}}'
+                referee.write_text(f"#!/bin/sh\ncase $1 in info) exit 1 ;; run) echo '{record}'; exit 3 ;; esac\n")
                 referee.chmod(0o755)
                 environment = {**os.environ, "PATIENCE": "0"}
                 done = subprocess.run([PLAY_A_MATCH, referee, GROUND], stdin=subprocess.DEVNULL, capture_output=True, text=True, timeout=600, env=environment)
                 said = [line for line in done.stderr.splitlines() if line.startswith("play-a-match: ")]
-                wanted = [f"play-a-match: not there when the match began: {named}; for who does not answer the first legal moves are played"] if named else []
-                self.assertEqual((done.returncode, done.stdout, said), (0, "record\n", wanted), absent)
+                wanted = [f"play-a-match: no answer to START from {named}: for who does not answer the first legal moves are played"] if named else []
+                self.assertEqual((done.returncode, done.stdout, said), (3, f"{record}\n", wanted), marks)
 
     def test_words_of_players(self):
         for player in PLAYERS:
