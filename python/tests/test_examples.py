@@ -345,6 +345,15 @@ class Explained(unittest.TestCase):
             found, out, told = self.explained(b"", *words)
             self.assertEqual((found, out, told.partition(" [")[0]), (2, [], "usage: ggp-explain-record"), words)
 
+    def test_rules_that_are_no_description(self):
+        with tempfile.TemporaryDirectory() as room:
+            rules = pathlib.Path(room) / "rules"
+            for text in ("()", "(((", "", "(role a) (<= (legal a ?x) (true ?x))"):
+                rules.write_text(text)
+                for words in ((), ("--lines",)):
+                    found, out, told = self.explained(RECORD.read_bytes(), *words, "--rules-file", rules)
+                    self.assertEqual((found, out, told.splitlines()[-1]), (3, [], "ggp_manager: bad description"), text)
+
     def test_outputs_that_are_full_or_closed(self):
         with open("/dev/full", "w") as full:
             self.assertEqual(run(EXPLAIN, program(), "--countdown=3", RECORD, stdout=full), (3, None, f"ggp-explain-record: {FULL}\n"))

@@ -2,16 +2,17 @@
 
 import argparse
 import contextlib
+import functools
 import itertools
 import json
 import re
 import subprocess
 import sys
-from collections.abc import Iterable, Iterator
+from collections.abc import Callable, Iterable, Iterator
 from dataclasses import dataclass
 
 from ggp_tools.ground_games import MOST_CALLS, Game, Match, text_of, texts_of
-from ggp_tools.kif import Expression, Refused, expressions
+from ggp_tools.kif import expressions
 from ggp_tools.records import shapes
 from ggp_tools.records.collection import BATCH, numbered_lines
 from ggp_tools.records.countdown import countdown
@@ -325,31 +326,22 @@ def read(file, most):
 
 
 @contextlib.contextmanager
-def rules_of(asked_for: argparse.Namespace) -> Iterator[tuple[list[str], list[Expression]]]:
-    """Gives the option that names the game to the program, and its sentences. Countdown's are empty where N is no number: the program says so."""
+def rules_of(asked_for: argparse.Namespace) -> Iterator[tuple[list[str], Callable[[], Game]]]:
+    """Gives the option that names the game to the program, and what makes the game once the program has taken it."""
     if asked_for.countdown is not None:
-        heap = asked_for.countdown
-        yield [f"--countdown={heap}"], countdown(int(heap)) if re.fullmatch("[0-9]{1,3}", heap) else []
+        yield [f"--countdown={asked_for.countdown}"], functools.cache(lambda: Game(countdown(int(asked_for.countdown))))
         return
     rules = read(asked_for.rules_file, LONGEST_RULES)
     with rules_file(rules) as path:
-        yield [f"--rules-file={path}"], readable(rules)
-
-
-def readable(rules: bytes) -> list[Expression]:
-    """Returns the sentences of a text, none where it is no KIF: then the program refuses it."""
-    try:
-        return expressions(rules.decode("latin-1"))
-    except (Refused, RecursionError):
-        return []
+        yield [f"--rules-file={path}"], functools.cache(lambda: Game(expressions(rules.decode("latin-1"))))
 
 
 def explain_one(asked_for: argparse.Namespace) -> tuple[list[str], int]:
     """Returns the lines for a record, and the status."""
     data = read(asked_for.record, LONGEST_RECORD)
-    with rules_of(asked_for) as (words, sentences):
+    with rules_of(asked_for) as (words, game):
         word = judged(asked_for.program, words, data)
-    return ([f"not lawful: {word}", *explanation(word, Game(sentences), data)], 1) if word else (["lawful"], 0)
+    return ([f"not lawful: {word}", *explanation(word, game(), data)], 1) if word else (["lawful"], 0)
 
 
 @dataclass
@@ -398,8 +390,7 @@ def named_line(number: int, data: bytes) -> str:
 
 def explain_lines(asked_for: argparse.Namespace, lines: Lines) -> Iterator[str]:
     """Gives the lines for a file of records: the game is read once."""
-    with rules_of(asked_for) as (words, sentences):
-        game = Game(sentences)
+    with rules_of(asked_for) as (words, game):
         for batch in lines.batches():
             fitting = [(number, data) for number, data in batch if len(data) <= LONGEST_RECORD]
             found = dict(zip((number for number, _ in fitting), judged_lines(asked_for.program, words, [data for _, data in fitting])))
@@ -409,7 +400,7 @@ def explain_lines(asked_for: argparse.Namespace, lines: Lines) -> Iterator[str]:
                     lines.lawful += 1
                     continue
                 lines.unlawful += 1
-                said = [] if word == TOO_LONG else explanation(word, game, data)
+                said = [] if word == TOO_LONG else explanation(word, game(), data)
                 yield f"{named_line(number, data)}: {'no record: ' if word == TOO_LONG else 'not lawful: '}{word}"
                 yield from (f"\t{line}" for line in said)
 
