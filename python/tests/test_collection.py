@@ -12,7 +12,8 @@ import tempfile
 import unittest
 
 from ggp_tools.kif import Refused
-from ggp_tools.records.collection import ACCOUNT_LINE, candidates, game_of
+from ggp_tools.records.collection import candidates, game_of
+from ggp_tools.records.shapes import ACCOUNT_LINE
 from tests.support import GAMES, TOP, program
 
 RECORDS = TOP / "examples/records"
@@ -112,6 +113,14 @@ class Commands(unittest.TestCase):
             page = (self.folder / "pages" / name).read_text(encoding="ascii")
             self.assertNotIn("<script>x", page)
             self.assertNotIn("<b>:", page)
+
+    def test_what_is_wide_scrolls_by_itself_and_not_the_page(self):
+        self.run_records("pages", str(self.folder / "pages"), str(self.pile))
+        for path in (self.folder / "pages").iterdir():
+            page = path.read_text(encoding="ascii")
+            inside = page.count('<div class="wide"><table') + page.count('<div class="turns"><table')
+            self.assertEqual((page.count("<table"), page.count('class="board"')), (inside, page.count('<div class="wide"><div class="board"')))
+            self.assertIn("h1, p, li { overflow-wrap: anywhere; }", page)
 
     def test_a_pile_that_is_not_there_is_no_verdict(self):
         said = self.run_records("check", str(self.folder / "none"))

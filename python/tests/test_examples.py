@@ -10,6 +10,7 @@ import sys
 import tempfile
 import unittest
 
+from ggp_tools.ground_games import Game
 from ggp_tools.records import countdown, explain
 from tests.support import TOP, outside, program
 
@@ -83,6 +84,20 @@ class Examples(unittest.TestCase):
         status, page, said = run(SHOW_RECORD, RECORD)
         self.assertEqual((status, said, page.startswith("<!DOCTYPE html>"), page.endswith("</html>\n")), (0, "", True, True))
 
+    def test_a_record_with_its_account(self):
+        record, page = RECORD.read_bytes(), run(SHOW_RECORD, RECORD)[1]
+        account = b"0\topen m1 0 1 1 ann bob\topened\r\n1\tnext m1 0\tover\n"
+        each = "A page is of one record: `ggp-records pages` makes a page of each"
+        with tempfile.TemporaryDirectory() as room:
+            file = pathlib.Path(room) / "played"
+            pretty = json.dumps(json.loads(record), indent=1).encode()
+            for text in (record + account, record + account.rstrip(b"\n"), record, record.rstrip(b"\n"), pretty):
+                file.write_bytes(text)
+                self.assertEqual(run(SHOW_RECORD, file), (0, page, ""), text)
+            for text, line in ((record + account + record + account, "4 is no line of its account"), (record + record, "2 has another one")):
+                file.write_bytes(text)
+                self.assertEqual(run(SHOW_RECORD, file), (1, "", f"ggp-show-record: no record: line {line}. {each}\n"))
+
     def test_the_longest_record(self):
         record, most = RECORD.read_bytes().rstrip(b"\n"), 16 << 20
         with tempfile.TemporaryDirectory() as room:
@@ -124,6 +139,19 @@ class Examples(unittest.TestCase):
                 self.assertEqual((done.returncode, done.stdout, done.stderr), (1, "", f"play-a-match: {file} {words}\n"))
         done = subprocess.run([PLAY_A_MATCH, "none"], stdin=subprocess.DEVNULL, capture_output=True, text=True, timeout=600)
         self.assertEqual((done.returncode, done.stdout, done.stderr), (2, "", "usage: play-a-match PROGRAM RULES-FILE [OPTION ..]\n"))
+
+    def test_players_that_were_not_there_are_named_at_the_end(self):
+        with tempfile.TemporaryDirectory() as room:
+            referee = pathlib.Path(room, "referee")
+            for marks, named in (('"",""', ""), ('"","CE"', "bob"), ('"TO",null', "ann bob")):
+                record = f'{{"startClock":10,"startMarks":[{marks}],"states":[["x"]]}}'
+                referee.write_text(f"#!/bin/sh\ncase $1 in info) exit 1 ;; run) echo '{record}'; exit 3 ;; esac\n")
+                referee.chmod(0o755)
+                environment = {**os.environ, "PATIENCE": "0"}
+                done = subprocess.run([PLAY_A_MATCH, referee, GROUND], stdin=subprocess.DEVNULL, capture_output=True, text=True, timeout=600, env=environment)
+                said = [line for line in done.stderr.splitlines() if line.startswith("play-a-match: ")]
+                wanted = [f"play-a-match: no answer to START from {named}: for who does not answer the first legal moves are played"] if named else []
+                self.assertEqual((done.returncode, done.stdout, said), (3, f"{record}\n", wanted), marks)
 
     def test_words_of_players(self):
         for player in PLAYERS:
@@ -222,7 +250,7 @@ class Explained(unittest.TestCase):
 
     def test_texts_that_are_no_json(self):
         none = "Python finds no place. A value is nested more than 127 deep, a number is none or past the range of binary64, or a surrogate pair is not whole."
-        more = "More follows the first record: give one record at a time, without its account. `verify --lines` checks one a line."
+        more = "More follows the first record: give one record at a time, without its account. With --lines each line is one."
         texts = [(b"", "line 1, column 1: Expecting value."), (b'{"a":\n x}', "line 2, column 2: Expecting value."), (b'{\n"\xff"', "line 2, byte 2 of it: no UTF-8."), (b"{} x", "line 1, column 4: Extra data.")]
         for text, said in texts:
             self.assertEqual(self.explained(text), (1, ["not lawful: json", f"The text is no JSON: {said}"], ""), text)
@@ -256,7 +284,46 @@ class Explained(unittest.TestCase):
         for heap, text in outside("records").random_records(3, 8, 7):
             word = explain.judged(program(), [f"--countdown={heap}"], text.encode())
             if word:
-                self.assertNotIn("One of the two is wrong", explain.explanation(word, countdown.countdown(heap), text.encode())[-1], text)
+                self.assertNotIn("One of the two is wrong", explain.explanation(word, Game(countdown.countdown(heap)), text.encode())[-1], text)
+
+    def test_a_record_that_was_cut(self):
+        whole = RECORD.read_text().strip()
+        end, begin = "The text ends within the record: its end was cut off.", "The text begins within a record: its beginning was cut off."
+        for length in range(1, len(whole)):
+            with self.subTest(length):
+                self.assertEqual(explain.json_lines(whole[:length].encode())[1:], [end])
+        for at in range(1, len(whole) - 1):
+            said = explain.json_lines(whole[at:].encode())
+            with self.subTest(at):
+                self.assertTrue(said[1:] == [begin] or whole[at:].startswith("[") or '"' not in whole[at:] or "Extra data" in said[0], said)
+        again = explain.json_lines(f"{whole[:50]}{whole}".encode())
+        self.assertIn("Another record begins at byte 51: what stands before it was cut off", again[1])
+        for text in (b'{"a":\n x}', b"", b"no record", b'{"a" 1, "b": {'):
+            self.assertEqual(explain.json_lines(text)[1:], [], text)
+
+    def test_records_one_a_line_by_one_run_of_the_program(self):
+        record = json.loads(RECORD.read_text())
+        faulty = [(json.dumps(changed(record, places)), word, lines) for places, word, *lines in FAULTS]
+        whole = json.dumps(record)
+        text = "\n".join([*(line for line, _, _ in faulty), whole, "0\tnext m1 0\tover", f"7\t{whole}", "", whole[:40], "12"])
+        with tempfile.TemporaryDirectory() as room:
+            counting = pathlib.Path(room, "counting")
+            counting.write_text(f'#!/bin/sh\necho >> {room}/runs\nexec {program()} "$@"\n')
+            counting.chmod(0o755)
+            status, out, said = self.explained(text.encode(), "--lines", "--countdown=3", referee=counting)
+            self.assertEqual(pathlib.Path(room, "runs").read_text(), "\n")
+        wanted = []
+        for number, (line, word, lines) in enumerate(faulty, 1):
+            wanted += [f"line {number}, match m1: not lawful: {word}", *(f"\t{one}" for one in lines)]
+        self.assertEqual((status, out[: len(wanted)]), (1, wanted))
+        rest = [one for one in out[len(wanted) :] if not one.startswith("\t")]
+        at = len(faulty) + 3
+        self.assertEqual(rest, [f"line {at}: not lawful: json", f"line {at + 1}: not lawful: json", f"line {at + 2}: not lawful: json", f"line {at + 3}: not lawful: shape cause"])
+        self.assertEqual(said, f"ggp-explain-record: 1 lawful, {len(faulty) + 4} not lawful, 1 line of accounts skipped\n")
+
+    def test_lines_that_are_all_lawful_or_none(self):
+        self.assertEqual(self.explained(RECORD.read_bytes(), "--lines", "--countdown=3"), (0, [], "ggp-explain-record: 1 lawful, 0 not lawful\n"))
+        self.assertEqual(self.explained(b"", "--lines", "--countdown=3"), (0, [], "ggp-explain-record: 0 lawful, 0 not lawful\n"))
 
     def test_without_a_verdict(self):
         with tempfile.TemporaryDirectory() as room:
@@ -267,6 +334,9 @@ class Explained(unittest.TestCase):
             (("--rules-file", "none"), 3, "ggp-explain-record: none can't be read: No such file or directory"),
             (("--rules-file", str(RECORD)), 3, "ggp_manager: bad description"),
             (("--countdown", "3", "none"), 3, "ggp-explain-record: none can't be read: No such file or directory"),
+            (("--lines", "--countdown", "3", "none"), 3, "ggp-explain-record: none can't be read: No such file or directory"),
+            (("--lines", "--countdown", "x"), 2, "ggp_manager: wrong use"),
+            (("--lines", "--rules-file", str(RECORD)), 3, "ggp_manager: bad description"),
         ):
             found, out, told = self.explained(b"", *words)
             self.assertEqual((found, out, told.splitlines()[-1]), (status, [], said), words)
@@ -274,6 +344,15 @@ class Explained(unittest.TestCase):
         for words in (("--countdown",), ("--cont", "3"), ("a", "b", "--countdown", "3"), ("--countdown", "3", "--rules-file", "x"), ("a",)):
             found, out, told = self.explained(b"", *words)
             self.assertEqual((found, out, told.partition(" [")[0]), (2, [], "usage: ggp-explain-record"), words)
+
+    def test_rules_that_are_no_description(self):
+        with tempfile.TemporaryDirectory() as room:
+            rules = pathlib.Path(room) / "rules"
+            for text in ("()", "(((", "", "(role a) (<= (legal a ?x) (true ?x))"):
+                rules.write_text(text)
+                for words in ((), ("--lines",)):
+                    found, out, told = self.explained(RECORD.read_bytes(), *words, "--rules-file", rules)
+                    self.assertEqual((found, out, told.splitlines()[-1]), (3, [], "ggp_manager: bad description"), text)
 
     def test_outputs_that_are_full_or_closed(self):
         with open("/dev/full", "w") as full:

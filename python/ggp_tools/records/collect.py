@@ -1,14 +1,17 @@
-"""Sorts a mixed pile of records by game, has the program check each, and makes tables or pages of them.
+"""Sorts a mixed pile of records by game, has the program check each, and makes tables, pages or matches of ggp-base of them.
 
     ggp-records --rules FOLDER check PILE ..
     ggp-records --rules FOLDER sqlite FILE PILE ..
     ggp-records --rules FOLDER csv DIR PILE ..
     ggp-records --rules FOLDER pages DIR PILE ..
+    ggp-records --rules FOLDER ggp-base [--log LOG ..] [--games URL] DIR PILE ..
 
 A PILE is a file with a record on each line, as `season` and `run` write them; lines of accounts are skipped. FOLDER has the ground rules of
 the games, a file NAME.kif each: a record is of the game with its roles and its first state. `check` writes a line for each record: the
 file, the line's number, the match, the game and the verdict, with a tab between each two. With --explain lines below one that is not lawful say what
-was expected and what was found. FILE and DIR must not be there. docs/PROFILE.md has the verdicts, in section 9.
+was expected and what was found. `ggp-base` writes a file for each record that is lawful, as ggp-base has a match, and names the others.
+LOG, a file or a folder of files, has the times of messages, as the folder `logs` of a competition. URL/NAME/ is then the address of the game
+NAME. FILE and DIR must not be there. docs/PROFILE.md has the verdicts in section 9, and the keys for ggp-base in section 8.
 
 The status is 0 if all records are lawful, 1 if not, 2 for wrong use, 3 if the program came to no verdict."""
 
@@ -21,7 +24,8 @@ import sys
 from collections.abc import Iterable, Iterator
 
 from ggp_tools.records.collection import Judged, Pile, judged_lines, known_games
-from ggp_tools.records.explain import explanation
+from ggp_tools.records.explain import explanation, json_lines
+from ggp_tools.records.ggp_base import times_of_logs, write_matches
 from ggp_tools.records.index import write_pages
 from ggp_tools.records.tables import write_csv, write_sqlite
 from ggp_tools.referee import NoReferee, Referee, Unchecked, find_program
@@ -60,15 +64,21 @@ def row_of(judged: Judged) -> str:
     return "\t".join([visible(line.file), str(line.number), visible(line.match_id) or "-", game, visible(judged.verdict)])
 
 
+def explained(judged: Judged) -> list[str]:
+    """Returns why a line is no lawful record, as far as that is known."""
+    if judged.game and judged.verdict.startswith(NOT_LAWFUL):
+        return explanation(judged.verdict.removeprefix(NOT_LAWFUL), judged.game.rules, judged.line.data)
+    return json_lines(judged.line.data) if judged.line.record is None and judged.line.data else []
+
+
 def print_check(lines: Iterable[Judged], explains: bool) -> None:
     """Writes a line for each record, and below one that is not lawful why, if that is wanted."""
     if sys.stdout is None:
         raise OSError("standard output is closed")
     for judged in lines:
         print(row_of(judged))
-        if explains and judged.game and judged.verdict.startswith(NOT_LAWFUL):
-            for said in explanation(judged.verdict.removeprefix(NOT_LAWFUL), judged.game.sentences, judged.line.data):
-                print(f"\t{said}")
+        for said in explained(judged) if explains else ():
+            print(f"\t{said}")
     sys.stdout.flush()
 
 
@@ -79,8 +89,11 @@ def arguments(words: list[str]) -> argparse.Namespace:
     reader.add_argument("--jobs", type=int, default=len(os.sched_getaffinity(0)), metavar="N", help="at most N processes at a time")
     reader.add_argument("--explain", action="store_true", help="`check`: say why a record is not lawful")
     actions = reader.add_subparsers(dest="action", required=True)
-    for action, output in (("check", None), ("sqlite", "FILE"), ("csv", "DIR"), ("pages", "DIR")):
+    for action, output in (("check", None), ("sqlite", "FILE"), ("csv", "DIR"), ("pages", "DIR"), ("ggp-base", "DIR")):
         one = actions.add_parser(action)
+        if action == "ggp-base":
+            one.add_argument("--log", action="append", default=[], metavar="LOG", help="a log with times, or a folder of them; may be given again")
+            one.add_argument("--games", metavar="URL", help="where the games are published: the game NAME at URL/NAME/")
         if output:
             one.add_argument("output", metavar=output, type=pathlib.Path)
         one.add_argument("piles", metavar="PILE", nargs="+")
@@ -95,6 +108,7 @@ def arguments(words: list[str]) -> argparse.Namespace:
 def perform(given: argparse.Namespace) -> int:
     """Does what the words ask for. Returns the status."""
     referee, pile, count = Referee(find_program(given.program)), Pile(given.piles), Count()
+    times = times_of_logs(given.log) if given.action == "ggp-base" else {}
     games, refused = known_games(given.rules, referee)
     for said in refused:
         print(f"ggp-records: skipped: {visible(said)}", file=sys.stderr)
@@ -111,6 +125,9 @@ def perform(given: argparse.Namespace) -> int:
             write_csv(given.output, lines)
         case "pages":
             write_pages(given.output, lines)
+        case "ggp-base":
+            for judged in write_matches(given.output, lines, times, given.games):
+                print(f"ggp-records: not written: {visible(judged.line.file)}, line {judged.line.number}: {visible(judged.verdict)}", file=sys.stderr)
     print(f"ggp-records: {count.words(pile.skipped)}", file=sys.stderr)
     return 0 if count.are_all_lawful() else 1
 

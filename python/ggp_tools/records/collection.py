@@ -13,7 +13,8 @@ from dataclasses import dataclass
 from typing import BinaryIO
 
 from ggp_tools.ground_games import Game, text_of, texts_of
-from ggp_tools.kif import Expression, Refused, expressions, variables
+from ggp_tools.kif import Refused, expressions, variables
+from ggp_tools.records.shapes import ACCOUNT_LINE
 from ggp_tools.records.show import LONGEST_RECORD
 from ggp_tools.referee import BadRules, Referee
 
@@ -21,20 +22,18 @@ from ggp_tools.referee import BadRules, Referee
 BATCH = 4 << 20
 # This many batches may wait beside those that are being checked.
 WAITING = 2
-# A record may have been joined to a line that was cut: then it is no line of an account.
-ACCOUNT_LINE = re.compile(rb"[0-9]+\t(?:open|strict|next|submit|miss|query|abort) [^\t]*\t(?![^\t]*\{\x22cause\x22:)[^\t]*")
 SURROGATE = re.compile("[\ud800-\udfff]")
 LAWFUL, NO_GAME, NO_RECORD = "lawful", "no game has its roles", "no record: "
 
 
 @dataclass(frozen=True, eq=False)
 class KnownGame:
-    """A game of the folder of rules. `name` is its file's, `first` the texts of its first state."""
+    """A game of the folder of rules. `name` is its file's, `rules` are for the interpreter, `first` the texts of its first state."""
 
     name: str
     path: str
     rules_sum: str
-    sentences: list[Expression]
+    rules: Game
     roles: tuple[str, ...]
     first: tuple[str, ...]
 
@@ -80,7 +79,7 @@ def game_of(path: pathlib.Path) -> KnownGame:
     roles = tuple(map(text_of, game.roles))
     if not roles:
         raise Refused("it has no role")
-    return KnownGame(path.stem, str(path), hashlib.sha256(data).hexdigest(), sentences, roles, tuple(texts_of(game.initial())))
+    return KnownGame(path.stem, str(path), hashlib.sha256(data).hexdigest(), game, roles, tuple(texts_of(game.initial())))
 
 
 def known_games(folder: str, referee: Referee) -> tuple[list[KnownGame], list[str]]:

@@ -1,30 +1,41 @@
 """Explains why a record is not lawful: what was expected, and what was found."""
 
 import argparse
+import contextlib
+import functools
 import itertools
 import json
 import re
 import subprocess
 import sys
+from collections.abc import Callable, Iterable, Iterator
+from dataclasses import dataclass
 
 from ggp_tools.ground_games import MOST_CALLS, Game, Match, text_of, texts_of
 from ggp_tools.kif import expressions
 from ggp_tools.records import shapes
+from ggp_tools.records.collection import BATCH, numbered_lines
 from ggp_tools.records.countdown import countdown
 from ggp_tools.referee import rules_file
 
 ABOUT = (
     "Explains why a record is not lawful: what was expected, and what was found. If it is lawful, `lawful` is printed. Otherwise the fault "
     "is printed as the program names it, and below it what that means: here turns are counted from 1, and roles have their names. What was "
-    "expected comes from an interpreter that shares nothing with the program. If it finds another fault first, that is said."
+    "expected comes from an interpreter that shares nothing with the program. If it finds another fault first, that is said. With --lines "
+    "each line is a record: only those that are not lawful are named, each with the number of its line and its explanation. Lines of accounts are skipped."
 )
-STATUS = "status 0: the record is lawful. 1: it is not. 2: wrong use. 3: there is no verdict."
+STATUS = "status 0: the record is lawful, or all are. 1: it is not, or one is not. 2: wrong use. 3: there is no verdict."
 LONGEST_RECORD, LONGEST_RULES = 16 << 20, 1 << 20
 MOST_LISTED, MOST_OF_VALUE, MOST_OF_TEXT = 20, 80, 400
+TOO_LONG = "it is longer than 16 MiB"
 # A fault is a tuple: how the program names it, and the lines that explain it.
 NOT_LAWFUL = re.compile(r"ggp_manager: not lawful: (.+)")
+LINE_VERDICT = re.compile(r"lawful|not lawful: (.+)")
 # What may follow a record: another one, or a line of its account.
 FOLLOWS = re.compile(r"\{|[0-9]+\t[^\t\n]+\t")
+# How each record begins, and what may stand at the end of one that was cut within a word or a number.
+BEGIN = '{"cause":'
+CUT_WORD = re.compile(r"-|t(ru?)?|f(a(ls?)?)?|n(ul?)?")
 
 
 class NoVerdict(Exception):
@@ -58,14 +69,28 @@ def end_words(phase, cause, names):
 # ---- JSON and shapes
 
 
-def json_lines(data):
+def cut_lines(doc: str, why: json.JSONDecodeError) -> list[str]:
+    """Returns what is said of a record that is there in part. A text that ends within a record begins as one does."""
+    text, again = doc.rstrip(), doc.find(BEGIN, 1)
+    if doc.startswith("{") and again > 0:
+        return [f"Another record begins at byte {again + 1}: what stands before it was cut off, as where a file was written to the end of a half line."]
+    is_cut = why.pos >= len(text) or why.msg.startswith("Unterminated string") or CUT_WORD.fullmatch(text, why.pos)
+    if text.startswith("{") and is_cut:
+        return ["The text ends within the record: its end was cut off."]
+    if text.endswith("}") and not text.startswith(("{", "[")) and '"' in text:
+        return ["The text begins within a record: its beginning was cut off."]
+    return []
+
+
+def json_lines(data: bytes) -> list[str]:
     """Returns where Python's JSON finds the fault."""
     try:
         json.loads(data.decode("utf-8"), parse_int=float)
     except json.JSONDecodeError as why:
         lines = [f"The text is no JSON: line {why.lineno}, column {why.colno}: {why.msg}."]
-        more = why.msg == "Extra data" and FOLLOWS.match(why.doc, why.pos)
-        return lines + ["More follows the first record: give one record at a time, without its account. `verify --lines` checks one a line."] * bool(more)
+        if why.msg == "Extra data" and FOLLOWS.match(why.doc, why.pos):
+            return [*lines, "More follows the first record: give one record at a time, without its account. With --lines each line is one."]
+        return lines + cut_lines(why.doc, why)
     except UnicodeDecodeError as why:
         line, column = data.count(b"\n", 0, why.start) + 1, why.start - data.rfind(b"\n", 0, why.start)
         return [f"The text is no JSON: line {line}, byte {column} of it: no UTF-8."]
@@ -231,13 +256,12 @@ class Replay(Match):
 # ---- the program
 
 
-def explanation(word, sentences, data):
+def explanation(word: str, game: Game, data: bytes) -> list[str]:
     """Returns the lines below the program's fault."""
     if word == "json":
         return json_lines(data)
     try:
         record = json.loads(data, parse_int=lambda it: -0.0 if it == "-0" else int(it))
-        game = Game(sentences)
         names = list(map(text_of, game.roles))
         if word.startswith("shape "):
             return shape_lines(word.split()[1], record, names)
@@ -252,20 +276,44 @@ def explanation(word, sentences, data):
     return [f"The interpreter finds {': '.join(found[:2]) if found else 'no fault'}", "One of the two is wrong: please report this, with the record and the rules."]
 
 
-def judged(program, words, data):
-    """Returns the fault that the program names, or None if the record is lawful."""
+def asked(program: str, words: list[str], data: bytes) -> subprocess.CompletedProcess:
+    """Returns what `verify` of the program says of records."""
     try:
-        said = subprocess.run([program, "verify", *words], input=data, capture_output=True)
+        return subprocess.run([program, "verify", *words], input=data, capture_output=True)
     except (OSError, ValueError) as why:
         raise NoVerdict(f"ggp-explain-record: {program} can't be run: {getattr(why, 'strerror', None) or why}", 3) from None
+
+
+def no_verdict(program: str, said: subprocess.CompletedProcess) -> NoVerdict:
+    lines = said.stderr.decode("ascii", "replace").splitlines()
+    text = "\n".join(lines) or f"ggp-explain-record: {program} gives no verdict, and its status is {said.returncode}"
+    return NoVerdict(text, 2 if lines and lines[-1] == "ggp_manager: wrong use" else 3)
+
+
+def judged(program: str, words: list[str], data: bytes) -> str | None:
+    """Returns the fault that the program names, or None if the record is lawful."""
+    said = asked(program, words, data)
     if (said.returncode, said.stdout) == (0, b"lawful\n"):
         return None
     lines = said.stderr.decode("ascii", "replace").splitlines()
     named = NOT_LAWFUL.fullmatch(lines[-1]) if lines and said.returncode == 1 else None
-    if named:
-        return named[1]
-    text = "\n".join(lines) or f"ggp-explain-record: {program} gives no verdict, and its status is {said.returncode}"
-    raise NoVerdict(text, 2 if lines and lines[-1] == "ggp_manager: wrong use" else 3)
+    if not named:
+        raise no_verdict(program, said)
+    return named[1]
+
+
+def judged_lines(program: str, words: list[str], lines: list[bytes]) -> list[str | None]:
+    """Returns the same for each of some lines. A space before a digit changes no verdict, and the program skips no such line."""
+    said = asked(program, ["--lines", *words], b"".join(b" " * line[:1].isdigit() + line + b"\n" for line in lines))
+    found = [LINE_VERDICT.fullmatch(line) for line in said.stdout.decode("ascii", "replace").splitlines()]
+    wrong = sum(bool(verdict and verdict[1]) for verdict in found)
+    if len(found) != len(lines) or not all(found) or said.returncode != bool(wrong):
+        raise no_verdict(program, said)
+    return [verdict[1] for verdict in found]
+
+
+def unreadable(file: str | int, why: Exception) -> NoVerdict:
+    return NoVerdict(f"ggp-explain-record: {file or 'standard input'} can't be read: {getattr(why, 'strerror', None) or why}", 3)
 
 
 def read(file, most):
@@ -274,52 +322,132 @@ def read(file, most):
         with open(file, "rb", closefd=file != 0) as it:
             return it.read(most + 1)
     except (OSError, ValueError) as why:
-        raise NoVerdict(f"ggp-explain-record: {file or 'standard input'} can't be read: {getattr(why, 'strerror', None) or why}", 3) from None
+        raise unreadable(file, why) from None
 
 
-def page_of(program: str, option: str, value: str, record: str | int) -> tuple[list[str], int]:
+@contextlib.contextmanager
+def rules_of(asked_for: argparse.Namespace) -> Iterator[tuple[list[str], Callable[[], Game]]]:
+    """Gives the option that names the game to the program, and what makes the game once the program has taken it."""
+    if asked_for.countdown is not None:
+        yield [f"--countdown={asked_for.countdown}"], functools.cache(lambda: Game(countdown(int(asked_for.countdown))))
+        return
+    rules = read(asked_for.rules_file, LONGEST_RULES)
+    with rules_file(rules) as path:
+        yield [f"--rules-file={path}"], functools.cache(lambda: Game(expressions(rules.decode("latin-1"))))
+
+
+def explain_one(asked_for: argparse.Namespace) -> tuple[list[str], int]:
     """Returns the lines for a record, and the status."""
-    data = read(record, LONGEST_RECORD)
-    if option == "--countdown":
-        word = judged(program, [f"--countdown={value}"], data)
-        sentences = word and countdown(int(value))
-    else:
-        rules = read(value, LONGEST_RULES)
-        with rules_file(rules) as path:
-            word = judged(program, [f"--rules-file={path}"], data)
-        sentences = word and expressions(rules.decode("latin-1"))
-    return ([f"not lawful: {word}", *explanation(word, sentences, data)], 1) if word else (["lawful"], 0)
+    data = read(asked_for.record, LONGEST_RECORD)
+    with rules_of(asked_for) as (words, game):
+        word = judged(asked_for.program, words, data)
+    return ([f"not lawful: {word}", *explanation(word, game(), data)], 1) if word else (["lawful"], 0)
+
+
+@dataclass
+class Lines:
+    """The lines of a file, each of which is a record, and how many there are of each kind."""
+
+    file: str | int
+    lawful: int = 0
+    unlawful: int = 0
+    skipped: int = 0
+
+    def batches(self) -> Iterator[list[tuple[int, bytes]]]:
+        """Gives the lines with their numbers, some megabytes at a time. The first batch may be empty: then faults of the words are told."""
+        held, size = [], 0
+        for number, data in self.numbered():
+            if shapes.ACCOUNT_LINE.fullmatch(data):
+                self.skipped += 1
+                continue
+            held.append((number, data))
+            size += len(data)
+            if size >= BATCH:
+                yield held
+                held, size = [], 0
+        yield held
+
+    def numbered(self) -> Iterator[tuple[int, bytes]]:
+        try:
+            with open(self.file, "rb", closefd=self.file != 0) as file:
+                yield from numbered_lines(file)
+        except (OSError, ValueError) as why:
+            raise unreadable(self.file, why) from None
+
+    def words(self) -> str:
+        skipped = f", {counted(self.skipped, 'line')} of accounts skipped" if self.skipped else ""
+        return f"{self.lawful:,} lawful, {self.unlawful:,} not lawful{skipped}"
+
+
+def named_line(number: int, data: bytes) -> str:
+    """Returns a line's number, and the match of its record where it is one."""
+    try:
+        match_id = json.loads(data)["matchId"]
+    except (KeyError, RecursionError, TypeError, ValueError):
+        return f"line {number}"
+    return f"line {number}, match {shown(match_id, MOST_OF_VALUE)}" if isinstance(match_id, str) else f"line {number}"
+
+
+def explain_lines(asked_for: argparse.Namespace, lines: Lines) -> Iterator[str]:
+    """Gives the lines for a file of records: the game is read once."""
+    with rules_of(asked_for) as (words, game):
+        for batch in lines.batches():
+            fitting = [(number, data) for number, data in batch if len(data) <= LONGEST_RECORD]
+            found = dict(zip((number for number, _ in fitting), judged_lines(asked_for.program, words, [data for _, data in fitting])))
+            for number, data in batch:
+                word = found.get(number, TOO_LONG)
+                if not word:
+                    lines.lawful += 1
+                    continue
+                lines.unlawful += 1
+                said = [] if word == TOO_LONG else explanation(word, game(), data)
+                yield f"{named_line(number, data)}: {'no record: ' if word == TOO_LONG else 'not lawful: '}{word}"
+                yield from (f"\t{line}" for line in said)
 
 
 def parser() -> argparse.ArgumentParser:
     reader = argparse.ArgumentParser("ggp-explain-record", description=ABOUT, epilog=STATUS)
     reader.add_argument("program", metavar="PROGRAM", help="the referee, ggp_manager, whose `verify` judges the record")
-    reader.add_argument("record", metavar="RECORD", nargs="?", default=0, help="a file with one record (standard input)")
+    reader.add_argument("record", metavar="RECORD", nargs="?", default=0, help="a file with one record, or with --lines with one a line (standard input)")
+    reader.add_argument("--lines", action="store_true", help="each line is a record")
     game = reader.add_mutually_exclusive_group(required=True)
     game.add_argument("--rules-file", metavar="FILE", help="the ground description of the game")
     game.add_argument("--countdown", metavar="N", help="the game is Countdown, from a heap of N")
     return reader
 
 
-def explain(asked: argparse.Namespace) -> int:
-    """Explains the record that is asked for, and returns the status."""
-    option, value = ("--countdown", asked.countdown) if asked.countdown is not None else ("--rules-file", asked.rules_file)
-    lines, status = page_of(asked.program, option, value, asked.record)
+def put(lines: Iterable[str]) -> None:
     with open(1, "wb", closefd=False) as output:
-        output.write("".join(f"{line}\n" for line in lines).encode("ascii", "replace"))
-    return status
+        for line in lines:
+            output.write(f"{line}\n".encode("ascii", "replace"))
+
+
+def explain(asked_for: argparse.Namespace) -> int:
+    """Explains the record that is asked for, or each one, and returns the status."""
+    if not asked_for.lines:
+        lines, status = explain_one(asked_for)
+        put(lines)
+        return status
+    count = Lines(asked_for.record)
+    put(explain_lines(asked_for, count))
+    say(f"ggp-explain-record: {count.words()}")
+    return 1 if count.unlawful else 0
+
+
+def say(words: str) -> None:
+    if sys.stderr:
+        print(words.encode("ascii", "backslashreplace").decode(), file=sys.stderr)
 
 
 def main() -> int:
-    asked = parser().parse_intermixed_args()
+    asked_for = parser().parse_intermixed_args()
     try:
-        return explain(asked)
+        return explain(asked_for)
     except NoVerdict as why:
         said, status = why.args
     except MemoryError:
         said, status = "ggp-explain-record: out of memory", 3
     except OSError as why:
         said, status = f"ggp-explain-record: {why.filename or 'standard output'} can't be written: {why.strerror}", 3
-    if sys.stderr:
-        print(said.encode("ascii", "backslashreplace").decode(), file=sys.stderr)
+    say(said)
     return status

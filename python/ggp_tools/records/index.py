@@ -13,9 +13,13 @@ OTHERS = re.compile(r"[^A-Za-z0-9._-]")
 LONGEST_ID = 64
 
 
+def file_name(number: int, match_id: str, ending: str) -> str:
+    """Returns the name of a match's file, which no other match of the collection has."""
+    return f"{number:06}-{OTHERS.sub('_', match_id)[:LONGEST_ID] or 'match'}.{ending}"
+
+
 def page_name(number: int, match_id: str) -> str:
-    """Returns the name of a match's page, which no other match of the collection has."""
-    return f"{number:06}-{OTHERS.sub('_', match_id)[:LONGEST_ID] or 'match'}.html"
+    return file_name(number, match_id, "html")
 
 
 def ended(record: dict) -> str:
@@ -44,9 +48,9 @@ def index_page(rows: list[str], title: str) -> bytes:
         f'<meta http-equiv="Content-Security-Policy" content="{policy}">',
         f"<title>{html.escape(title)}</title><style>{STYLE}</style></head><body>",
         f"<h1>{html.escape(title)}</h1>",
-        f"<table><tr>{heads}</tr>",
+        f'<div class="wide"><table><tr>{heads}</tr>',
         *rows,
-        "</table></body></html>",
+        "</table></div></body></html>",
     ]
     return "\n".join(lines).encode("ascii", "xmlcharrefreplace")
 

@@ -1,10 +1,12 @@
-"""The shapes of what a record says, after section 9 of docs/PROFILE.md."""
+"""The shapes of what a record says, after section 9 of docs/PROFILE.md, and of the lines of its account."""
 
 import re
 from collections.abc import Callable
 
 PHASES = ("starting", "playing", "stopping", "finished", "aborting", "aborted")
 ERRORS = ("", "TO", "CE", "RT", "IL ?")
+# A record may have been joined to a line that was cut: then it is no line of an account.
+ACCOUNT_LINE = re.compile(rb"[0-9]+\t(?:open|strict|next|submit|miss|query|abort) [^\t]*\t(?![^\t]*\{\x22cause\x22:)[^\t]*")
 MOST_LISTS, LONGEST_EXPRESSION = 64, 8_192
 TOKEN = re.compile(r"[()]|[^() ]+|.")
 # Printable ASCII without capitals and `;`, with one space between members and none beside a parenthesis inside of it.

@@ -8,9 +8,12 @@ import html
 import json
 import re
 import sys
+from collections.abc import Iterator
 from dataclasses import dataclass
+from typing import BinaryIO
 
 from ggp_tools.records.marks import PIECES, Mark, marks_of
+from ggp_tools.records.shapes import ACCOUNT_LINE
 
 ABOUT = (
     "Makes a page of a match's record, to be looked at in a browser. The page says who played and how it ended, has a table of the turns "
@@ -20,6 +23,8 @@ ABOUT = (
 )
 STATUS = "status 0: the page is written. 1: there is no record, or it can't be read, or the page can't be written. 2: wrong use."
 LONGEST_RECORD = 16 << 20
+RECORD_BEGINS = b'{"cause":'
+ONE_RECORD = "A page is of one record: `ggp-records pages` makes a page of each"
 VERSIONS = (1, 2)
 LONGEST_AXIS = 32
 # A page that would draw more boards, in all states together, lists their terms instead: a board is some hundred times as long as its terms.
@@ -81,7 +86,7 @@ STYLE = """
 @media (prefers-color-scheme: dark) { :root { --ink: #e5e7eb; --dim: #9ca3af; --paper: #14171d; --band: #1f242d; --line: #39404c;
   --new: #1f4a2a; --odd: #55301a; --odd-ink: #fdba74; --here: #1e3a63; } }
 body { font: 15px/1.45 system-ui, sans-serif; color: var(--ink); background: var(--paper); margin: 1.2rem 1.6rem; }
-h1 { font-size: 1.35rem; margin: 0 0 .3rem; } h2 { font-size: 1.05rem; margin: 0 0 .5rem; }
+h1, p, li { overflow-wrap: anywhere; } h1 { font-size: 1.35rem; margin: 0 0 .3rem; } h2 { font-size: 1.05rem; margin: 0 0 .5rem; }
 p { margin: .2rem 0 .8rem; } .dim, th { color: var(--dim); font-weight: normal; }
 code, td, li, .board { font-family: ui-monospace, "DejaVu Sans Mono", monospace; font-size: .87rem; }
 table { border-collapse: collapse; } th, td { text-align: left; padding: .2rem .7rem; border-bottom: 1px solid var(--line); vertical-align: top; }
@@ -250,6 +255,24 @@ def read_record(data: bytes) -> dict:
     if len(data) - data.endswith(b"\n") > LONGEST_RECORD:
         raise NoRecord("it is longer than 16 MiB")
     return checked_record(parsed(data))
+
+
+def lines_of(file: BinaryIO) -> Iterator[bytes]:
+    """Gives the lines of a file. What of a line is more than a record has stands in the next one."""
+    return iter(lambda: file.readline(LONGEST_RECORD + 2), b"")
+
+
+def record_of(file: BinaryIO) -> bytes:
+    """Returns the bytes of a file that has one record. The account that `run --history` writes behind it is read over."""
+    first, second = file.readline(LONGEST_RECORD + 2), file.readline(LONGEST_RECORD + 2)
+    if ACCOUNT_LINE.fullmatch(second.rstrip(b"\r\n")):
+        for number, line in enumerate(lines_of(file), 3):
+            if not ACCOUNT_LINE.fullmatch(line.rstrip(b"\r\n")):
+                raise NoRecord(f"line {number} is no line of its account. {ONE_RECORD}")
+        return first
+    if first.startswith(RECORD_BEGINS) and second.startswith(RECORD_BEGINS):
+        raise NoRecord(f"line 2 has another one. {ONE_RECORD}")
+    return (first + second + file.read(LONGEST_RECORD + 2))[: LONGEST_RECORD + 2]
 
 
 # ---- boards
@@ -518,7 +541,7 @@ def say(words):
 
 def parser() -> argparse.ArgumentParser:
     reader = argparse.ArgumentParser("ggp-show-record", usage="ggp-show-record [RECORD] > page.html", description=ABOUT, epilog=STATUS)
-    reader.add_argument("record", metavar="RECORD", nargs="?", default=0, help="a file with one record, as `run` and `desk` print it (standard input)")
+    reader.add_argument("record", metavar="RECORD", nargs="?", default=0, help="a file with one record, as `run` and `desk` print it, also with its account (standard input)")
     return reader
 
 
@@ -526,8 +549,7 @@ def main() -> int:
     asked = parser().parse_args()
     try:
         with open(asked.record, "rb") as file:
-            data = file.read(LONGEST_RECORD + 2)
-        page = page_of(read_record(data))
+            page = page_of(read_record(record_of(file)))
     except OSError as why:
         say(f"ggp-show-record: the record can't be read: {why}")
         return 1
