@@ -48,7 +48,7 @@ pub each_and : (P Q R : Key → Type 0) → ((key : Key) → P key → Q key →
 each_and P Q R both [] held also = tt
 each_and P Q R both (key ∷ more) held also = (both key held.0 also.0, each_and P Q R both more held.1 also.1)
 
-each_more : (P : Key → Type 0) (ks : List Key) (key : Key) → HoldsForEach P ks → P key → HoldsForEach P (ks ++ key ∷ [])
+pub each_more : (P : Key → Type 0) (ks : List Key) (key : Key) → HoldsForEach P ks → P key → HoldsForEach P (ks ++ key ∷ [])
 each_more P [] key held last = (last, tt)
 each_more P (k ∷ ks) key held last = (held.0, each_more P ks key held.1 last)
 

@@ -1,5 +1,9 @@
 mod ErrorWords
 mod JsonData
+mod JsonTurns
+mod KeptMembers
+mod KeptReading
+mod KeptTrees
 mod KeyTable
 mod TakenKeys
 pub mod LawfulParts

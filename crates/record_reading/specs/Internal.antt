@@ -1,3 +1,4 @@
 pub mod JsonValues
+pub mod KeptTree
 pub mod KeyReading
 pub mod Shown

@@ -8,7 +8,9 @@
 #![tactic(auto)]
 
 mod error_texts;
+mod json_numbers;
 mod json_values;
+mod kept_tree;
 pub mod laws;
 mod reading;
 mod record_parts;

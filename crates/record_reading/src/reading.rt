@@ -12,10 +12,11 @@ ghost use Rattle.record_reading.specs.RecordParts.{AreErrors, AreGoals, AreMoves
 ghost use Rattle.record_reading.specs.RecordTree.{HasShape, Holds, IsShapedAt, goal_values_tree, keys, marks_tree, since_second, text_lists_tree, texts_tree, unless_there, version_said, version_tree, whole_tree};
 ghost use Rattle.record_reading.specs.declared.record_parts.Key.{Key};
 ghost use Rattle.record_reading.specs.declared.record_parts.Version.TheVariants.{First};
-ghost use Rattle.record_reading.specs.declared.verify_fault.VerifyFault.TheVariants.{BadShape, Memory, NotJson};
+ghost use Rattle.record_reading.specs.declared.verify_fault.VerifyFault.TheVariants.{BadShape, Memory};
 
 use crate::error_texts::are_errors;
 use crate::json_values::{FromJson, bytes_in, into_object, members_in, whole_in};
+use crate::kept_tree::tree_of;
 use crate::laws::{holds_one_parts_at_most, lawful_parts_have_shape, refused_is_unlawful};
 use crate::record_parts::{Goals, Key, Marks, RecordParts, TextLists, Version};
 use crate::record_words::{cause_in, mark_in, phase_in};
@@ -318,18 +319,6 @@ fn parts_in<G: Game>(alloc: Global, game: &G, tree: Value) -> Result<RecordParts
         }
     }
     Ok(parts)
-}
-
-/// The tree of a JSON text.
-fn tree_of(alloc: Global, text: &[u8]) -> Result<Value, VerifyFault>
-    ensures ok { IfOk result (λ v. IsJson text.now (view v)) }
-    ensures err { IfErr result (λ fault. (fault ≡ Memory) ⊎ ((fault ≡ NotJson) × ((tree : Data) → ¬ IsJson text.now tree))) }
-{
-    match Value::from_slice(alloc, text) {
-        Ok(tree) => Ok(tree),
-        Err(fault) if fault.is_memory() => Err(VerifyFault::Memory),
-        Err(_) => Err(VerifyFault::NotJson),
-    }
 }
 
 /// What a text says, if it has the shape of a record of the game. The text is a lawful record exactly if the record of some lawful

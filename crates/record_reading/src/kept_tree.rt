@@ -1,0 +1,232 @@
+//! The tree of a record's text, without the values that no key of a record can hold.
+//!
+//! A list or an object takes many times the memory of its text, so such a value is read to its end and not kept.
+ghost use Rattle.std.specs.Prelude.{◌≡◌, ◌<◌, ◌≤◌, ◌∷◌, ◌⊎◌, IfErr, IfOk, List, OnOk, None, Some, [], if◌then◌else◌, length, map, option_map};
+ghost use Rattle.json.specs.Json.{items, members, read_key, value};
+ghost use Rattle.json.specs.Reads.{token_of};
+ghost use Rattle.serde_json.specs.Data.{Data, Members, no_members};
+ghost use Rattle.serde_json.specs.Read.{converted, of_items, of_json, of_members};
+ghost use Rattle.serde_json.specs.View.{items_of, members_view, view};
+ghost use Rattle.record_reading.specs.Internal.KeptTree.{AreKeptMembers, IsKeptTree, IsRefused, kept_list, kept_of, member_kept, with_one};
+ghost use Rattle.record_reading.specs.LawfulRecord.{IsJson};
+ghost use Rattle.record_reading.specs.RecordTree.{key_text};
+ghost use Rattle.record_reading.specs.declared.record_parts.Key.{Key as AnyKey};
+ghost use Rattle.record_reading.specs.declared.verify_fault.VerifyFault.TheVariants.{Memory, NotJson};
+
+use crate::json_numbers::number_in;
+use crate::record_parts::Key;
+use crate::verify_fault::VerifyFault;
+use json::{Reader, Scratch, Token};
+use serde_json::{Map, Value};
+use std::alloc::{AllocError, Global};
+
+/// How deep lists and objects may nest.
+const MAX_DEPTH: usize = 127;
+
+/// How deep the lists of a record nest in the value at a key.
+const MAX_LISTS: usize = 2;
+
+/// A key, or none at the end of an object.
+fn next_key<'a>(reader: &mut Reader<'a>) -> Result<Option<&'a str>, VerifyFault>
+    ensures ok { IfOk result (λ k. read_key reader.old ≡ Some (option_map (λ s. s.now) k, reader.new)) }
+    ensures err { IfErr result (λ fault. (fault ≡ NotJson) × (read_key reader.old ≡ None)) }
+{
+    match reader.next_key() {
+        Ok(key) => Ok(key),
+        Err(_) => Err(VerifyFault::NotJson),
+    }
+}
+
+/// The value, where one is kept.
+fn kept_if(is_kept: bool, value: Value) -> Option<Value>
+    ensures { result ≡ (if is_kept then Some value else None) }
+{
+    if is_kept { Some(value) } else { None }
+}
+
+/// The items of a list that has none yet, where they are kept.
+fn no_items(alloc: Global, are_kept: bool) -> Option<Vec<Value>>
+    ensures { option_map (λ v. map view v.items) result ≡ (if are_kept then Some [] else None) }
+{
+    if are_kept {
+        Some(Vec::new(alloc))
+    } else {
+        None
+    }
+}
+
+/// The items and one more, if all are kept.
+fn with_item(
+    items: Option<Vec<Value>>,
+    item: Option<Value>,
+) -> Result<Option<Vec<Value>>, AllocError>
+    ensures { IfOk result (λ o. option_map (λ v. map view v.items) o ≡ with_one (option_map (λ v. map view v.items) items) (option_map view item)) }
+{
+    match (items, item) {
+        (Some(mut items), Some(item)) => {
+            items.push(item)?;
+            Ok(Some(items))
+        }
+        _ => Ok(None),
+    }
+}
+
+/// Reads the value that begins with the token. It is kept if lists nest in it no deeper than `lists`, and hold only
+/// texts where they nest so deep, and it has no object and no truth value.
+#[cycle(kept)]
+fn value_of(
+    alloc: Global,
+    token: Token<'_>,
+    reader: &mut Reader<'_>,
+    lists: usize,
+    depth: usize,
+) -> Result<Option<Value>, VerifyFault>
+    ensures ok { IfOk result (λ o. (d : Data) × (converted of_json (value depth (token_of token.entry ∷ reader.old)) ≡ Some (d, reader.new)) × (option_map view o ≡ kept_of lists d)) }
+    ensures no_longer { OnOk result (length reader.new ≤ length reader.old) }
+    ensures err { IfErr result (IsRefused (converted of_json (value depth (token_of token.entry ∷ reader.old)))) }
+{
+    match token {
+        Token::String(text) => Ok(Some(Value::String(String::from_str(alloc, text)?))),
+        Token::Number(text) => match number_in(text) {
+            Some(number) => Ok(kept_if(lists > 0, Value::Number(number))),
+            None => Err(VerifyFault::NotJson),
+        },
+        Token::Null => Ok(kept_if(lists > 0, Value::Null)),
+        Token::Bool(_) => Ok(None),
+        Token::EndObject | Token::EndArray | Token::Key(_) | Token::Bad => Err(
+            VerifyFault::NotJson,
+        ),
+        Token::BeginArray => {
+            if depth == 0 {
+                return Err(VerifyFault::NotJson);
+            }
+            match items_of(alloc, reader, lists, depth - 1)? {
+                Some(mut items) => {
+                    items.shrink_to_fit();
+                    Ok(Some(Value::Array(items)))
+                }
+                None => Ok(None),
+            }
+        }
+        Token::BeginObject => {
+            if depth == 0 {
+                return Err(VerifyFault::NotJson);
+            }
+            pass_members(alloc, reader, depth - 1)?;
+            Ok(None)
+        }
+    }
+}
+
+/// The items of a list, if each is kept.
+#[cycle(kept)]
+fn items_of(
+    alloc: Global,
+    reader: &mut Reader<'_>,
+    lists: usize,
+    depth: usize,
+) -> Result<Option<Vec<Value>>, VerifyFault>
+    ensures ok { IfOk result (λ o. (ds : List Data) × (converted of_items (items (value depth) (length reader.old) reader.old) ≡ Some (items_of ds, reader.new)) × (option_map (λ v. map view v.items) o ≡ kept_list lists ds)) }
+    ensures shorter { OnOk result (length reader.new < length reader.old) }
+    ensures err { IfErr result (IsRefused (converted of_items (items (value depth) (length reader.old) reader.old))) }
+{
+    let below = lists.saturating_sub(1);
+    let mut kept = no_items(alloc, lists > 0);
+    'items: while !reader.take_end_array() {
+        let token = reader.next().ok_or(VerifyFault::NotJson)?;
+        let item = value_of(alloc, token, reader, below, depth)?;
+        kept = with_item(kept, item)?;
+    }
+    Ok(kept)
+}
+
+/// Reads the members of an object, of which none is kept.
+#[cycle(kept)]
+fn pass_members(alloc: Global, reader: &mut Reader<'_>, depth: usize) -> Result<(), VerifyFault>
+    ensures ok { OnOk result ((ms : Members) × (converted (λ js. of_members js no_members) (members (value depth) (length reader.old) reader.old) ≡ Some (ms, reader.new))) }
+    ensures shorter { OnOk result (length reader.new < length reader.old) }
+    ensures err { IfErr result (IsRefused (converted (λ js. of_members js no_members) (members (value depth) (length reader.old) reader.old))) }
+{
+    'members: while let Some(_) = next_key(reader)? {
+        let token = reader.next().ok_or(VerifyFault::NotJson)?;
+        drop(value_of(alloc, token, reader, 0, depth)?);
+    }
+    Ok(())
+}
+
+/// How deep lists may nest in the value at a key, if a record has it. At other keys nothing is kept.
+fn lists_at(text: &str) -> usize
+    ensures known { (key : AnyKey) → key_text key ≡ text.now → result ≡ 2 }
+    ensures few { (result ≡ 2) ⊎ (result ≡ 0) }
+{
+    for key in Key::ALL {
+        if key.text() == text {
+            return MAX_LISTS;
+        }
+    }
+    0
+}
+
+/// Keeps a member at a key of a record, or a truth value in its place.
+fn keep_member(
+    alloc: Global,
+    name: &str,
+    lists: usize,
+    member: Option<Value>,
+    found: &mut Map<String, Value>,
+) -> Result<(), AllocError>
+    ensures { OnOk result (members_view found.new.entries ≡ member_kept name.now lists (option_map view member) (members_view found.old.entries)) }
+{
+    if lists > 0 {
+        let key = String::from_str(alloc, name)?;
+        drop(found.insert(key, member.unwrap_or(Value::Bool(false)))?);
+    }
+    Ok(())
+}
+
+/// The members at the keys of a record.
+fn record_members(alloc: Global, reader: &mut Reader<'_>) -> Result<Map<String, Value>, VerifyFault>
+    ensures ok { IfOk result (λ m. (ms : Members) × (converted (λ js. of_members js no_members) (members (value 126) (length reader.old) reader.old) ≡ Some (ms, reader.new)) × AreKeptMembers ms (members_view m.entries)) }
+    ensures err { IfErr result (IsRefused (converted (λ js. of_members js no_members) (members (value 126) (length reader.old) reader.old))) }
+{
+    let mut found = Map::new(alloc);
+    'members: while let Some(name) = next_key(reader)? {
+        let lists = lists_at(name);
+        let token = reader.next().ok_or(VerifyFault::NotJson)?;
+        let member = value_of(alloc, token, reader, lists, MAX_DEPTH - 1)?;
+        keep_member(alloc, name, lists, member, &mut found)?;
+    }
+    Ok(found)
+}
+
+/// The value that is read, as far as a record needs it.
+fn record_value(alloc: Global, reader: &mut Reader<'_>) -> Result<Value, VerifyFault>
+    ensures ok { IfOk result (λ v. (d : Data) × (converted of_json (value 127 reader.old) ≡ Some (d, reader.new)) × IsKeptTree d (view v)) }
+    ensures err { IfErr result (IsRefused (converted of_json (value 127 reader.old))) }
+{
+    let token = reader.next().ok_or(VerifyFault::NotJson)?;
+    match token {
+        Token::BeginObject => Ok(Value::Object(record_members(alloc, reader)?)),
+        other => {
+            drop(value_of(alloc, other, reader, 0, MAX_DEPTH)?);
+            Ok(Value::Null)
+        }
+    }
+}
+
+/// The tree of a JSON text, as far as a record needs it.
+pub fn tree_of(alloc: Global, text: &[u8]) -> Result<Value, VerifyFault>
+    ensures ok { IfOk result (λ v. (tree : Data) × IsJson text.now tree × IsKeptTree tree (view v)) }
+    ensures err { IfErr result (λ fault. (fault ≡ Memory) ⊎ ((fault ≡ NotJson) × ((tree : Data) → ¬ IsJson text.now tree))) }
+{
+    let Ok(text) = std::str::from_utf8(text) else {
+        return Err(VerifyFault::NotJson);
+    };
+    let mut scratch = Scratch::new(alloc);
+    let mut reader = Reader::new(text, &mut scratch)?;
+    let tree = record_value(alloc, &mut reader)?;
+    if reader.next().is_some() {
+        return Err(VerifyFault::NotJson);
+    }
+    Ok(tree)
+}
