@@ -17,7 +17,7 @@ from ggp_tools.competition import serving
 from ggp_tools.competition.live_site import LiveSite
 from ggp_tools.competition.page_changes import changes
 from ggp_tools.competition.page_parts import Items, Part
-from tests.live_support import begin, end, line, plan_in, record_of, started
+from tests.live_support import SILENT, begin, end, line, plan_in, record_of, started
 from tests.support import GAMES, InFolder, run, start
 from tests.test_pages import Links
 
@@ -99,17 +99,17 @@ class Pages(Served):
         self.assertRegex(first, f'<tr id="open-{match.id}">.*turn 2<td>.*</tr>')
         self.assertIn("State 1, after turn 1", own)
         self.assertIn("<code>(take 2)</code>", own)
-        self.say(log, self.play(match, 3, "((take 2) noop)", ["TO"]))
+        self.say(log, self.play(match, 3, "((take 2) noop)", [SILENT]))
         self.assertIn("no answer came in time", self.page("/"))
         self.assertIn("player-bob.html\">bob</a>: turn 2 (", self.page(f"/matches/{match.id}.html"))
         moves, errors = [["(take 2)", "noop"], ["noop", "(take 1)"]], [["", ""], ["TO", ""]]
-        text = started(match) + self.play(match, 2, "NIL", ["(take 2)", "noop"]) + self.play(match, 3, "((take 2) noop)", ["TO", "(take 1)"])
+        text = started(match) + self.play(match, 2, "NIL", ["(take 2)", "noop"]) + self.play(match, 3, "((take 2) noop)", [SILENT, "(take 1)"])
         end(self.plan, match, record_of(match, moves, errors, [0, 100]), text)
         self.site.look()
         self.assertIn("1 of 6 matches are over.", self.page("/"))
         self.assertIn('id="state-2"', self.page(f"/matches/{match.id}.html"))
         player = self.page("/players/player-ann.html")
-        for text in ("no answer came in time", f"(PLAY {match.id} ((take 2) noop))", "<code>TO</code>", "5 ms", "<svg"):
+        for text in ("no answer came in time", f"(PLAY {match.id} ((take 2) noop))", "<code>TO</code>", f"<code>{SILENT}</code>", "5 ms", "<svg"):
             self.assertIn(text, player)
         self.assertIn(f"matches/{match.id}.html", self.page("/games/heap.html"))
         self.assertIn(f"matches/{match.id}.html", self.page("/matches.html"))

@@ -182,7 +182,7 @@ class LiveSite:
         if not game:
             text = self.plan.rules[seen.match.game].text.decode("latin-1")
             game = self.games[seen.match.game] = Game(expressions(text))
-        board = self.boards[seen.match.id] = LiveBoard(game, Tail(seen.tail.path), self.plan.competition.strikes)
+        board = self.boards[seen.match.id] = LiveBoard(game, seen.match, Tail(seen.tail.path), self.plan.competition.strikes)
         return board
 
     # ---- pages
