@@ -8,6 +8,7 @@ import subprocess
 import tempfile
 import time
 import unittest
+from dataclasses import replace
 
 from ggp_tools.competition.competition_file import read_competition
 from ggp_tools.descriptions.loading import Rules
@@ -104,6 +105,31 @@ class PagesOfMany(unittest.TestCase):
             self.assertIn(word, text)
         self.assertIn("It has played no match.", (pages.folder / "players/player-p24.html").read_text())
         self.assertIn("No move of it was replaced.", (pages.folder / f"players/player-{match.players[0]}.html").read_text())
+
+    def test_a_match_that_was_ordered_again_counts_nowhere(self):
+        old, new = self.plan.matches[0], self.plan.matches[48]
+        self.assertEqual(old.players, new.players)
+        old = self.plan.matches[0] = replace(old, again=new.id, reason="the network was down")
+        new = self.plan.matches[48] = replace(new, instead_of=old.id)
+        player = old.players[1]
+        for match in (old, new):
+            line = f"{match.id} role 1 {player} message 2 (PLAY {match.id} NIL): <script>, {9_000 if match is old else 1_500} ms\n"
+            self.plan.folder.log(match.id).write_bytes(LOG + line.encode())
+        results = [result_of(record_of(match, number), match) for number, match in enumerate((old, new))]
+        pages = Pages(self.plan)
+        pages.write(results)
+        text = (pages.folder / f"players/player-{player}.html").read_text()
+        self.assertIn('<td class="left">b<td>1<td>50.00<td>1 of 1<td><td>1,500 ms', text)
+        self.assertEqual((text.count("<code>&lt;script&gt;</code>"), text.count(f"{old.id} does not count: {new.id} was ordered in its place")), (1, 2))
+        self.assertNotIn("9,000", text)
+        self.assertIn("1 of 299 matches are over.", (pages.folder / "index.html").read_text())
+        # As long as the new one is not played there is nothing that counts.
+        pages = Pages(self.plan)
+        pages.write(results[:1])
+        text = (pages.folder / f"players/player-{player}.html").read_text()
+        self.assertIn("It has played no match that counts.", text)
+        self.assertNotIn("Goals by game and seat", text)
+        self.assertIn("0 of 299 matches are over.", (pages.folder / "index.html").read_text())
 
     def test_a_page_is_made_again_only_where_something_has_changed(self):
         pages = Pages(self.plan)

@@ -15,7 +15,7 @@ from ggp_tools.competition.page_changes import changes, event_text
 from ggp_tools.competition.page_parts import PageParts
 from ggp_tools.competition.pages import Site, by_game, by_player, titled
 from ggp_tools.competition.plan import Plan
-from ggp_tools.competition.player_pages import page_name, standing_texts
+from ggp_tools.competition.player_pages import page_name, standing_of, standing_texts
 from ggp_tools.competition.results import Result
 from ggp_tools.competition.table import Table, tables_of
 from ggp_tools.competition.table_text import in_order
@@ -220,8 +220,8 @@ class LiveSite:
         if found[1]:
             return titled(self.plan, "all matches"), self.site.all_matches(self.results)
         if found[4]:
-            standing = self.standing.get(found[4], "It has played no match.")
-            return titled(self.plan, found[4]), self.site.player_parts(found[4], standing, self.own.get(path, []))
+            own = self.own.get(path, [])
+            return titled(self.plan, found[4]), self.site.player_parts(found[4], standing_of(self.standing, found[4], bool(own)), own)
         if found[2] == "games":
             table = next(table for table in self.tables[1:] if table.game == found[3])
             return titled(self.plan, found[3]), self.site.game_parts(table, self.own.get(path, []))

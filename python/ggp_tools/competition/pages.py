@@ -12,12 +12,12 @@ from dataclasses import dataclass
 from ggp_tools.competition.files import UNFINISHED, drop_unfinished, write_whole
 from ggp_tools.competition.page_parts import Items, PageParts, Part, link, page, row, rows_part, table
 from ggp_tools.competition.plan import Plan
-from ggp_tools.competition.player_pages import page_name, player_link, player_parts, standing_texts
+from ggp_tools.competition.player_pages import page_name, player_link, player_parts, standing_of, standing_texts
 from ggp_tools.competition.plots import rating_plot
 from ggp_tools.competition.results import Result, remarks, times_of
 from ggp_tools.competition.sittings import Sitting, sittings_of
 from ggp_tools.competition.table import Table, tables_of
-from ggp_tools.competition.table_text import FORFEIT, METHOD, crosstable_rows, notes, standings_rows, without_record
+from ggp_tools.competition.table_text import FORFEIT, METHOD, count_of_planned, crosstable_rows, notes, standings_rows, without_record
 from ggp_tools.descriptions.loading import Rules, sum_of
 from ggp_tools.records.show import page_of, read_record
 
@@ -161,10 +161,12 @@ class Site:
     def head(self, results: list[Result]) -> Part:
         plan = self.plan
         games = ", ".join(link(f"games/{game.name}.html", game.name) for game in plan.competition.games)
+        # A match in whose place another one was ordered is none of these, as in the table.
+        count = sum(not result.match.again for result in results)
         forfeit = f" {FORFEIT}" if plan.competition.forfeit else ""
         lines = [
             f"<h1>{html.escape(plan.competition.name)}</h1>",
-            f"<p>{len(results)} of {len(plan.matches)} matches are over.{self.span(results)}{forfeit}</p>",
+            f"<p>{count} of {count_of_planned(plan)} matches are over.{self.span(results)}{forfeit}</p>",
             f"<p>Games: {games}. In each the standings of that game, and its rules. {link('matches.html', 'All matches')} that are over.</p>",
         ]
         return Part("head", "".join(lines))
@@ -254,7 +256,8 @@ class Pages:
     def write_players(self, found: Table, results: dict[str, list[Result]]) -> None:
         texts = standing_texts(found)
         for player in self.plan.competition.players:
-            own, standing = results.get(player.name, []), texts.get(player.name, "It has played no match.")
+            own = results.get(player.name, [])
+            standing = standing_of(texts, player.name, bool(own))
             if self.has_changed(page_name(player.name), own, standing):
                 self.put_parts(page_name(player.name), player.name, self.site.player_parts(player.name, standing, own))
                 self.was_made(page_name(player.name), own, standing)
