@@ -9,7 +9,9 @@ import tempfile
 import time
 import unittest
 from dataclasses import replace
+from unittest.mock import patch
 
+from ggp_tools.competition import pages as pages_module
 from ggp_tools.competition.competition_file import read_competition
 from ggp_tools.descriptions.loading import Rules
 from ggp_tools.competition.files import Folder
@@ -19,7 +21,8 @@ from ggp_tools.competition.results import result_of
 from ggp_tools.competition.schedule import planned
 from tests.support import toml
 
-LOG = b"began 2026-01-02T03:04:05.000Z\nm role 0 ann message 1 (START m a (..: ready, 7 ms\nended 2026-01-02T03:04:07.500Z\n"
+BEGAN, ENDED = "began 2026-01-02T03:04:05.000Z\n", "ended 2026-01-02T03:04:07.500Z\n"
+LOG = f"{BEGAN}m role 0 ann message 1 (START m a (..: ready, 7 ms\n{ENDED}".encode()
 
 
 class Links(html.parser.HTMLParser):
@@ -105,6 +108,22 @@ class PagesOfMany(unittest.TestCase):
             self.assertIn(word, text)
         self.assertIn("It has played no match.", (pages.folder / "players/player-p24.html").read_text())
         self.assertIn("No move of it was replaced.", (pages.folder / f"players/player-{match.players[0]}.html").read_text())
+
+    def test_of_a_log_that_is_too_long_the_first_lines_are_read(self):
+        match = self.plan.matches[0]
+        line = f"{match.id} role 1 {match.players[1]} message {{}} (PLAY {match.id} NIL): <script>, {{}} ms\n"
+        log = BEGAN + "".join(line.format(number, 10 * number) for number in range(2, 300)) + line.format(300, 77_777) + ENDED
+        self.plan.folder.log(match.id).write_text(log)
+        name = f"players/player-{match.players[1]}.html"
+        for most, longest, is_cut in ((len(log), "77,777 ms", False), (len(log) - len(ENDED) - 1, "2,990 ms", True), (log.index("message 5"), "40 ms", True)):
+            pages = Pages(self.plan)
+            with patch.object(pages_module, "MOST_OF_LOG", most):
+                pages.write(self.results[:1])
+            text = (pages.folder / name).read_text()
+            self.assertIn(f"<td>{longest}", text)
+            self.assertEqual(f"Of the logs of {match.id} the first 16 MiB are read" in text, is_cut)
+            # When it began and ended is known all the same.
+            self.assertIn("2026-01-02 03:04:05<td>2.5", text)
 
     def test_a_match_that_was_ordered_again_counts_nowhere(self):
         old, new = self.plan.matches[0], self.plan.matches[48]

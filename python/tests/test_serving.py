@@ -137,6 +137,18 @@ class Pages(Served):
         self.page("/")
         self.assertIs(self.site.pages["/index.html"].parts, made)
 
+    def test_a_record_that_has_become_too_long(self):
+        long, other = self.plan.matches[:2]
+        for match in (long, other):
+            end(self.plan, match, record_of(match, [], [], [50, 50]))
+        self.site.reader.look()
+        with open(self.plan.folder.record(long.id), "r+b") as file:
+            file.truncate(1 << 40)
+        self.site.look()
+        first = self.page("/")
+        self.assertIn("1 of 6 matches are over.", first)
+        self.assertIn(f"{long.id} does not count: it is longer than 16 MiB", first)
+
     def test_a_plan_that_changes(self):
         events = self.events(self.page("/"))
         self.plan.folder.schedule.write_text("another")

@@ -301,8 +301,7 @@ class Reader:
         except FileNotFoundError:
             return
         except (OSError, NoRecord) as why:
-            # The path of the folder is nothing for visitors.
-            self.faults[name] = f"it can't be read: {why.strerror}" if isinstance(why, OSError) else str(why)
+            self.refuse(name, why)
             return
         if fault := fault_of_record(record, match, self.plan.competition.strikes):
             self.faults[name] = fault
@@ -310,6 +309,12 @@ class Reader:
         self.results[name] = result_of(record, match, self.plan.competition.forfeit)
         self.results_version += 1
         self.note_replaced(match, record)
+
+    def refuse(self, name: str, why: OSError | NoRecord) -> None:
+        """Has a record not count, since it can't be read."""
+        # The path of the folder is nothing for visitors.
+        self.faults[name] = f"it can't be read: {why.strerror}" if isinstance(why, OSError) else str(why)
+        self.results.pop(name, None)
 
     def note_replaced(self, match: Match, record: dict) -> None:
         """Keeps the last replaced moves of a match that is over."""

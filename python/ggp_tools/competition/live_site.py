@@ -21,6 +21,7 @@ from ggp_tools.competition.table import Table, tables_of
 from ggp_tools.competition.table_text import in_order
 from ggp_tools.ground_games import Game
 from ggp_tools.kif import expressions
+from ggp_tools.records.show import NoRecord
 from ggp_tools.referee import NoReferee, Unchecked
 
 # The tables are computed anew for at most so small a part of the time, and boards are followed for at most so many seconds in a look.
@@ -137,12 +138,11 @@ class LiveSite:
         began = time.monotonic()
         if self.tables_version == self.reader.results_version or began < self.next_tables:
             return
-        self.results = in_order(self.plan, self.reader.results)
-        for result in self.results:
+        for result in list(self.reader.results.values()):
             # A match that was played again has another result.
             if self.counted.get(result.match.id) is not result:
-                self.site.add(result)
-                self.counted[result.match.id] = result
+                self.add(result)
+        self.results = in_order(self.plan, self.reader.results)
         self.tables = tables_of(self.plan.competition, self.results, self.plan.rounds)
         self.standing = standing_texts(self.tables[0])
         self.own = {f"/games/{name}.html": found for name, found in by_game(self.results).items()}
@@ -150,6 +150,14 @@ class LiveSite:
         self.tables_version = self.reader.results_version
         ended = time.monotonic()
         self.next_tables = ended + SHARE * (ended - began)
+
+    def add(self, result: Result) -> None:
+        """Has the pages tell of a match. Its record may be another one by now, or be gone."""
+        try:
+            self.site.add(result)
+            self.counted[result.match.id] = result
+        except (OSError, NoRecord) as why:
+            self.reader.refuse(result.match.id, why)
 
     def wanted_boards(self) -> list[Seen]:
         """Returns the open matches whose boards somebody looks at; the others are followed no more."""

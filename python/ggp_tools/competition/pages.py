@@ -19,12 +19,14 @@ from ggp_tools.competition.sittings import Sitting, sittings_of
 from ggp_tools.competition.table import Table, tables_of
 from ggp_tools.competition.table_text import FORFEIT, METHOD, count_of_planned, crosstable_rows, notes, standings_rows, without_record
 from ggp_tools.descriptions.loading import Rules, sum_of
-from ggp_tools.records.show import page_of, read_record
+from ggp_tools.records.show import LONGEST_RECORD, page_of, read_record
 
 # While matches are played, the pages are written again after SECONDS seconds at the earliest, and for at most a tenth of the time.
 SECONDS, SHARE = 2, 10
 # The first page has so many matches, the last ones; and a crosstable of so many players at most is drawn.
 LAST, MOST_CROSSED = 20, 100
+# Of a match's log so many bytes are read, and so many are said in words.
+MOST_OF_LOG, LOG_WORDS = 16 << 20, "16 MiB"
 
 MATCH_HEADS = ["match", "game", "players and goals", "turns", "replaced moves", "begin (UTC)", "seconds"]
 LEFT = {0, 1, 2, 4, 5}
@@ -100,13 +102,15 @@ def rules_text(text: bytes) -> str:
 
 @dataclass(frozen=True)
 class Told:
-    """What is told of a match that is over: when it began and ended, and its row, on the first page and on a page below it."""
+    """What is told of a match that is over: when it began and ended, its row, on the first page and on a page below it, and what its
+    players did, unless its log is too long, by the first lines of that alone."""
 
     begin: str | None
     end: str | None
     above: tuple[str, str]
     below: tuple[str, str]
     sittings: list[Sitting]
+    is_cut: bool
 
 
 class Site:
@@ -118,12 +122,13 @@ class Site:
         self.told: dict[str, Told] = {}
 
     def add(self, result: Result) -> bytes:
-        """Reads what is to be told of a match that is over, and returns its record."""
+        """Reads what is to be told of a match that is over, and returns its record. Refuses one that is longer than a record may be."""
         match, folder = result.match, self.plan.folder
-        data, log = folder.record(match.id).read_bytes(), folder.read_log(match.id)
+        data = folder.read_record(match.id, LONGEST_RECORD + 2)
+        record, (log, is_cut) = read_record(data), folder.read_lines_of_log(match.id, MOST_OF_LOG)
         times = times_of(log, len(match.players))
         rows = match_row(result, times, ""), match_row(result, times, "../")
-        self.told[match.id] = Told(times["begin"], times["end"], *rows, sittings_of(result, read_record(data), log, times["end"]))
+        self.told[match.id] = Told(times["begin"], times["end"], *rows, sittings_of(result, record, log, times["end"]), is_cut)
         return data
 
     def match_page(self, result: Result, data: bytes) -> bytes:
@@ -193,7 +198,10 @@ class Site:
     def player_parts(self, player: str, standing: str, results: list[Result]) -> PageParts:
         """Returns the page of a player, from its own results."""
         own = [sitting for result in results for sitting in self.told[result.match.id].sittings if result.match.players[sitting.role] == player]
-        return [*player_parts(self.plan.competition.name, player, standing, own), matches_part(self.below(results))]
+        cut = [result.match.id for result in results if self.told[result.match.id].is_cut]
+        said = f"Of the logs of {', '.join(cut)} the first {LOG_WORDS} are read: later times, messages and answers are not shown."
+        note = Part("cut", f'<p class="odd">{html.escape(said)}</p>' if cut else "")
+        return [*player_parts(self.plan.competition.name, player, standing, own), note, matches_part(self.below(results))]
 
 
 def by_game(results: list[Result]) -> dict[str, list[Result]]:
