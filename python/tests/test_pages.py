@@ -84,6 +84,26 @@ class PagesOfMany(unittest.TestCase):
             self.assertIn(text, (pages.folder / "games/one.html").read_text())
         self.assertNotIn("<script", first + (pages.folder / "games/one.html").read_text())
 
+    def test_lists_of_many_matches_come_in_parts(self):
+        with patch.object(pages_module, "MOST_LISTED", 120):
+            pages = Pages(self.plan)
+            pages.write(self.results)
+            files = {file.name for file in pages.folder.iterdir() if file.is_file()}
+            self.assertEqual(files, {"index.html", "matches.html", "matches-2.html", "matches-3.html"})
+            texts = [(pages.folder / name).read_text() for name in ("matches.html", "matches-2.html", "matches-3.html")]
+            self.assertEqual([text.count('<tr id="match-') for text in texts], [120, 120, 60])
+            self.assertIn('cup-001 to cup-120, <a href="matches-2.html">cup-121 to cup-240</a>', texts[0])
+            game, player = ((pages.folder / name).read_text() for name in ("games/one.html", "players/player-p0.html"))
+            for text in (game, player):
+                self.assertEqual((text.count('<tr id="match-'), text.count('id="match-cup-300"')), (120, 1))
+                self.assertIn('These are 120 of 300; the others are among <a href="../matches.html">all matches</a>.', text)
+            # With fewer matches there are fewer pages.
+            pages.write(self.results[:120])
+            self.assertEqual({file.name for file in pages.folder.iterdir() if file.is_file()}, {"index.html", "matches.html"})
+            gaps = Pages(self.plan, shows_gaps=True)
+            gaps.write(self.results[:10])
+            self.assertIn("And 170 more, which GAPS.tsv names.", (gaps.folder / "index.html").read_text())
+
     def test_what_a_log_says_is_text(self):
         for match, log in zip(self.plan.matches, (b"began <plaintext>\n" + LOG, LOG + b"began <plaintext>\nended <plaintext>\n")):
             self.plan.folder.log(match.id).write_bytes(log)

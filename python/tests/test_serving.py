@@ -12,8 +12,9 @@ import threading
 import time
 import unittest
 import urllib.request
+from unittest.mock import patch
 
-from ggp_tools.competition import serving
+from ggp_tools.competition import pages, serving
 from ggp_tools.competition.live_site import LiveSite
 from ggp_tools.competition.page_changes import changes
 from ggp_tools.competition.page_parts import Items, Part
@@ -125,6 +126,14 @@ class Pages(Served):
             found = [os.path.normpath(os.path.join(os.path.dirname(path), link.partition("#")[0])) for link in Links(self.page(path)).links if link[0] != "#"]
             todo += [one for one in dict.fromkeys(found) if one not in known and one not in todo]
         self.assertEqual(len(known), len({"index", "all matches", "game"}) + 3 + 2)
+
+    def test_a_list_of_many_matches_comes_in_pages(self):
+        with patch.object(pages, "MOST_LISTED", 2):
+            for match in self.plan.matches[:3]:
+                end(self.plan, match, record_of(match, [], [], [50, 50]))
+            self.site.look()
+            self.assertEqual([self.page(f"/matches{more}.html").count('<tr id="match-') for more in ("", "-2")], [2, 1])
+            self.assertEqual([self.ask(f"/matches-{more}.html")[0] for more in ("3", "0", "1", "x")], [404] * 4)
 
     def test_a_record_is_read_once_and_a_page_made_once(self):
         match = self.plan.matches[0]

@@ -13,7 +13,7 @@ from ggp_tools.competition.live import Reader, Seen, Tail
 from ggp_tools.competition.live_board import LiveBoard, Turn
 from ggp_tools.competition.page_changes import changes, event_text
 from ggp_tools.competition.page_parts import PageParts
-from ggp_tools.competition.pages import Site, by_game, by_player, titled
+from ggp_tools.competition.pages import Site, by_game, by_player, pages_of_all, titled
 from ggp_tools.competition.plan import Plan
 from ggp_tools.competition.player_pages import page_name, standing_of, standing_texts
 from ggp_tools.competition.results import Result
@@ -29,7 +29,7 @@ SHARE, FOLLOW = 10, 0.25
 # A page that nobody looks at any more is kept for a while, and of all pages so many at most; of a page so many changes.
 IDLE, MOST_PAGES, MOST_EVENTS = 30.0, 200, 60
 NAME = "[A-Za-z0-9_.-]+"
-PATH = re.compile(rf"/(?:(index|matches)|(matches|games)/({NAME})|players/player-({NAME}))\.html")
+PATH = re.compile(rf"/(?:(index|matches(?:-[1-9][0-9]{{0,5}})?)|(matches|games)/({NAME})|players/player-({NAME}))\.html")
 
 
 def plan_stamp(folder: Folder) -> tuple:
@@ -203,7 +203,7 @@ class LiveSite:
         if found[1] == "index":
             return self.reader.version, self.tables_version, tuple(followed.version for followed in self.followed.values())
         if found[1]:
-            return (self.tables_version,)
+            return (self.tables_version,) if found[1] in pages_of_all(self.results) else None
         own = tuple(result.match.id for result in self.own.get(path, []))
         if found[4]:
             return (own, self.standing.get(found[4])) if found[4] in self.names else None
@@ -226,7 +226,7 @@ class LiveSite:
             live = live_pages.live_parts(self.reader, self.board_items(), self.open_rows(), self.trouble)
             return titled(self.plan, ""), [first, *live[:3], *rest, *live[3:]]
         if found[1]:
-            return titled(self.plan, "all matches"), self.site.all_matches(self.results)
+            return titled(self.plan, "all matches"), self.site.all_matches(self.results, found[1])
         if found[4]:
             own = self.own.get(path, [])
             return titled(self.plan, found[4]), self.site.player_parts(found[4], standing_of(self.standing, found[4], bool(own)), own)

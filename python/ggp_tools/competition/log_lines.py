@@ -8,6 +8,7 @@ from dataclasses import dataclass
 from ggp_tools.competition.schedule import Match
 
 LINE = re.compile(r"(?:(\d{4}-\d\d-\d\dT\d\d:\d\d:\d\d\.\d{3}Z) )?(\S+) role (\d{1,9}) (\S+) message (\d{1,9}) (\((\w+) .*), (\d{1,18}) ms")
+PARENTHESIS = re.compile(r"[()]")
 SHOWN = 200
 MORE = ".."
 # What stands in the place of an answer that did not come: it has its reason with it. The word alone is what a player has answered.
@@ -51,10 +52,10 @@ class LogLine:
 def message_end(text: str) -> int:
     """Returns where the message ends that a text begins with: at its last parenthesis, or where the referee cut it."""
     level = 0
-    for at, letter in enumerate(text[:SHOWN]):
-        level += (letter == "(") - (letter == ")")
+    for found in PARENTHESIS.finditer(text, 0, SHOWN):
+        level += 1 if found[0] == "(" else -1
         if not level:
-            return at + 1
+            return found.end()
     return SHOWN + len(MORE)
 
 
