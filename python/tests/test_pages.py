@@ -15,10 +15,11 @@ from ggp_tools.competition import pages as pages_module
 from ggp_tools.competition.competition_file import read_competition
 from ggp_tools.descriptions.loading import Rules
 from ggp_tools.competition.files import Folder
-from ggp_tools.competition.pages import Pages, spelt
+from ggp_tools.competition.pages import Pages, made_side_by_side, spelt
 from ggp_tools.competition.plan import Plan
 from ggp_tools.competition.results import result_of
 from ggp_tools.competition.schedule import planned
+from ggp_tools.referee import Unchecked
 from tests.support import toml
 
 BEGAN, ENDED = "began 2026-01-02T03:04:05.000Z\n", "ended 2026-01-02T03:04:07.500Z\n"
@@ -43,6 +44,28 @@ def record_of(match, number):
         "moves": [["<b>", "noop"]], "phase": "finished", "playClock": 10, "players": list(match.players), "roles": ["<i>", "b"],
         "startClock": 10, "startMarks": ["", ""], "states": [["(a 1)"], ["(a 2)"]], "strikes": 0, "version": 2,
     }
+
+
+def number_text(number):
+    return b"%d" % number
+
+
+def killed(_):
+    os._exit(1)
+
+
+class SideBySide(unittest.TestCase):
+    def setUp(self):
+        for name, value in (("MANY", 2), ("PROCESSORS", 2), ("CHUNK", 1)):
+            self.enterContext(patch.object(pages_module, name, value))
+
+    def test_what_is_made_comes_in_order(self):
+        self.assertEqual(list(made_side_by_side(number_text, [(number,) for number in range(40)])), [b"%d" % number for number in range(40)])
+        self.assertEqual(list(made_side_by_side(number_text, [])), [])
+
+    def test_a_process_that_is_killed_is_a_shortage(self):
+        with self.assertRaisesRegex(Unchecked, "a process was ended"):
+            list(made_side_by_side(killed, [(1,), (2,)]))
 
 
 class PagesOfMany(unittest.TestCase):
