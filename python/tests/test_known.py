@@ -90,6 +90,13 @@ class Values(InCache):
         one.write()
         self.assertIsNone(Known(self.folder).get("lines", "a"))
 
+    def test_more_than_so_many_bytes_are_not_kept(self):
+        one = Known(self.folder)
+        one.put("lines", "a", "x" * 100)
+        with mock.patch.object(known, "MOST_BYTES", 100):
+            one.write()
+        self.assertIsNone(Known(self.folder).get("lines", "a"))
+
     def test_a_result_as_values(self):
         match = plan_in(str(self.folder), ["ann", "bob"]).matches[0]
         record = record_of(match, [["noop", "noop"]] * 2, [["TO", ""], ["IL x", ""]], [0, 100]) | {"strikes": 2}

@@ -7,6 +7,7 @@ import hashlib
 import json
 import os
 import pathlib
+import sys
 
 from ggp_tools.competition.files import write_whole
 from ggp_tools.descriptions.kept import cache
@@ -14,6 +15,8 @@ from ggp_tools.descriptions.kept import cache
 PACKAGE = pathlib.Path(__file__).resolve().parents[1]
 # What is known of competitions that were not looked at lately goes first, once there are more than this.
 MOST_KEPT = 20
+# Of a competition no more than this is kept: some 30,000 matches have as much.
+MOST_BYTES = 64 << 20
 
 
 def sum_of_parts(*parts: bytes) -> str:
@@ -43,7 +46,7 @@ class Known:
     def __init__(self, folder: pathlib.Path) -> None:
         self.name = sum_of_parts(os.fsencode(folder.absolute()))
         # Whoever makes a value another way makes another one.
-        self.code = sum_of_parts(*(file.read_bytes() for file in sorted(PACKAGE.rglob("*.py")))).encode()
+        self.code = sum_of_parts(sys.version.encode(), *(file.read_bytes() for file in sorted(PACKAGE.rglob("*.py")))).encode()
         self.before, self.asked = self.read(), {}
 
     def read(self) -> dict[str, dict[str, object]]:
@@ -71,6 +74,8 @@ class Known:
         """Keeps what is known, of each kind that was asked for no more than that. Where it can't be written it is found again the next
         time."""
         text = json.dumps({**self.before, **self.asked}, separators=(",", ":")).encode("ascii")
+        if len(text) > MOST_BYTES:
+            return
         with contextlib.suppress(OSError, RuntimeError):
             folder = cache() / "known"
             folder.mkdir(parents=True, exist_ok=True)
