@@ -1,5 +1,6 @@
 """One archive of a competition, from which anyone can check it: what is in it, how it is written, and how it is checked."""
 
+import concurrent.futures
 import errno
 import gzip
 import hashlib
@@ -15,7 +16,7 @@ import zlib
 from ggp_tools.competition.described import DIFFERS, IS_SAME, held_records
 from ggp_tools.competition.files import UNFINISHED, Refused, written_whole
 from ggp_tools.competition.history import history_files
-from ggp_tools.competition.kept import look_at_records, strangers
+from ggp_tools.competition.kept import PROCESSORS, look_at_records, strangers
 from ggp_tools.competition.known import sum_of_file, sum_or_none
 from ggp_tools.competition.pages import made_anew
 from ggp_tools.competition.plan import faults_of_descriptions, read_plan, read_sums, rounds_left, sums_text
@@ -297,6 +298,14 @@ def check_archive(path, referee):
     return list(map(plain, faults)), said
 
 
+def held_side_by_side(file, records):
+    """Returns for each record what there is to say of it: several processes hold a part of them each against the description."""
+    size = -(-len(records) // PROCESSORS)
+    parts = [records[at : at + size] for at in range(0, len(records), size)]
+    with concurrent.futures.ThreadPoolExecutor(PROCESSORS) as at_once:
+        return [words for found in at_once.map(lambda part: held_records(file, part), parts) for words in found]
+
+
 def held_matches(plan, results, folder):
     """Holds the matches of each game with variables against its description. Returns what is said of that, and the differences."""
     count, late, faults = 0, [], []
@@ -304,7 +313,7 @@ def held_matches(plan, results, folder):
         file, matches = folder / f"games/{game.name}.kif", [result.match for result in results if result.match.game == game.name]
         if not matches or not has_variables(file.read_bytes()):
             continue
-        for match, words in zip(matches, held_records(file, [plan.folder.record(match.id).read_bytes() for match in matches])):
+        for match, words in zip(matches, held_side_by_side(file, [plan.folder.record(match.id).read_bytes() for match in matches])):
             count += words.startswith(IS_SAME)
             if words.startswith(DIFFERS):
                 faults.append(f"{match.id}: by games/{game.name}.kif it {words}")
