@@ -15,6 +15,7 @@ import tempfile
 import unittest
 from unittest import mock
 
+from ggp_tools.competition import archive as archive_module
 from ggp_tools.competition.archive import Spoilt, unpacked
 from ggp_tools.competition.command import main
 from ggp_tools.competition.files import held, written_whole
@@ -186,6 +187,17 @@ SPOILINGS = {
     "a folder is another one": (beside("out", b"", tarfile.DIRTYPE), "'out' is not below cup"),
     "there are folders alone": (lambda _: packed({"cup": b""}, {"cup": tarfile.DIRTYPE}), "SHA256SUMS is missing"),
 }
+
+
+def list_of_words(_, records):
+    return [f"the same: {one}" for one in records]
+
+
+class SideBySide(unittest.TestCase):
+    def test_what_is_said_of_records_comes_in_their_order(self):
+        with mock.patch.object(archive_module, "PROCESSORS", 3), mock.patch.object(archive_module, "held_records", list_of_words):
+            for count in range(1, 12):
+                self.assertEqual(archive_module.held_side_by_side("file", list(range(count))), [f"the same: {one}" for one in range(count)])
 
 
 class Archive(unittest.TestCase):

@@ -66,6 +66,7 @@ class Kept(unittest.TestCase):
         self.assertEqual((results, set(faults.values()), len(faults), misfits), ({}, {"not lawful: goals"}, len(self.plan.matches), {}))
         return referee.counts
 
+    @mock.patch("ggp_tools.competition.kept.PROCESSORS", 1)
     def test_so_many_and_so_many_bytes_are_checked_together(self):
         self.matches(*[20] * 600)
         self.assertEqual(self.counts(), [250, 250, 100])
@@ -80,7 +81,7 @@ class Kept(unittest.TestCase):
             file.truncate(1 << 36)
         referee = Counting()
         self.assertEqual(look_at_records(self.plan, referee)[1], {"cup-0": "its record has more than 16,777,216 bytes"})
-        self.assertEqual(referee.counts, [0])
+        self.assertEqual(referee.counts, [])
 
     def test_an_account_is_of_one_match_alone(self):
         right, record = b"0\tstrict cup-1 g 1 1 1 a b\topened\n1\tnext cup-1 0\towe 0 start\n1\tquery cup-1\tstatus\n", b"{}\n"

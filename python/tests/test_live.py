@@ -8,13 +8,14 @@ import time
 import unittest
 
 from ggp_tools.competition.live import Reader, Tail
-from ggp_tools.competition.live_board import LiveBoard
-from ggp_tools.competition.live_pages import board_html
+from ggp_tools.competition.live_board import NO_LINE, LiveBoard
+from ggp_tools.competition.live_pages import awaited_text, board_html, replaced_part
 from ggp_tools.competition.log_lines import log_line
+from ggp_tools.competition.player_pages import reason_of
 from ggp_tools.ground_games import Game
 from ggp_tools.kif import expressions
 from tests.support import GAMES
-from tests.live_support import RULES, begin, end, line, plan_in, record_of, started
+from tests.live_support import RULES, SILENT, begin, end, line, plan_in, record_of, started
 
 NEVER = float("inf")
 
@@ -92,39 +93,123 @@ class Lines(InRoom):
     def test_a_silent_player_that_is_retired_is_not_awaited(self):
         plan = plan_in(self.plan.folder.path, ["ann", "bob"], head="strikes = 2\n")
         log, reader = begin(plan, self.match, started(self.match)), Reader(plan)
-        self.say(log, self.play(2, "NIL", ["TO", "noop"]) + self.play(3, "((take 1) noop)", ["CE", "(take 1)"]))
+        self.say(log, self.play(2, "NIL", [SILENT, "noop"]) + self.play(3, "((take 1) noop)", ["CE (no connection)", "(take 1)"]))
         reader.look()
         seen = reader.open[self.match.id]
-        self.assertEqual((seen.turn(), seen.awaited()), (3, [1]))
+        self.assertEqual((seen.turn(), seen.awaited()), (3, ([1], set())))
         # Its turn is one behind that of the other player, and it is not asked all the same.
         self.say(log, self.play(4, "(noop (take 1))", ["", "noop"], [1]))
         reader.look()
-        self.assertEqual((seen.turn(), seen.awaited()), (4, [1]))
+        self.assertEqual((seen.turn(), seen.awaited()), (4, ([1], set())))
+        self.assertIn("turn 4", awaited_text(seen, ""))
 
     def test_whom_a_match_waits_for(self):
         log, reader = begin(self.plan, self.match), Reader(self.plan)
         reader.look()
         seen = reader.open[self.match.id]
-        self.assertEqual((seen.stage, seen.turn(), seen.awaited()), ("playing", 0, [0, 1]))
+        self.assertEqual((seen.stage, seen.turn(), seen.awaited()), ("playing", 0, ([0, 1], set())))
         self.say(log, started(self.match))
         reader.look()
-        self.assertEqual((seen.turn(), seen.awaited()), (1, [0, 1]))
+        self.assertEqual((seen.turn(), seen.awaited()), (1, ([0, 1], set())))
         self.say(log, self.play(2, "NIL", ["(take 1)"], [0]))
         os.utime(log, (1_000.0, 1_000.0))
         reader.look()
-        self.assertEqual((seen.turn(), seen.awaited(), seen.since), (1, [1], 999.995))
+        self.assertEqual((seen.turn(), seen.awaited(), seen.since), (1, ([1], set()), 999.995))
         version = reader.version
         reader.look()
         self.assertEqual(reader.version, version)
-        self.say(log, "1970-01-01T00:20:00.000Z " + line(self.match, 1, 2, f"(PLAY {self.match.id} NIL)", "TO", 5_000))
+        self.say(log, "1970-01-01T00:20:00.000Z " + line(self.match, 1, 2, f"(PLAY {self.match.id} NIL)", SILENT, 5_000))
         reader.look()
         self.assertEqual(seen.since, 1_200.0)
-        self.assertEqual((seen.turn(), seen.awaited(), seen.missed), (2, [0, 1], {1: 1}))
-        self.assertEqual([(its.player, its.turn, its.error) for its in reader.replaced], [(self.match.players[1], 1, "TO")])
-        # A role that is not asked any more is retired.
+        self.assertEqual((seen.turn(), seen.awaited(), seen.missed), (2, ([0, 1], set()), {1: 1}))
+        self.assertEqual([(its.player, its.turn, its.error) for its, _ in reader.last_replaced()], [(self.match.players[1], 1, SILENT)])
+        # Without strikes nobody is retired: the log lacks a line.
         self.say(log, self.play(3, "((take 1) noop)", ["noop"], [0]) + self.play(4, "(noop (take 1))", ["noop"], [0]))
         reader.look()
-        self.assertEqual((seen.turn(), seen.awaited()), (4, [0]))
+        self.assertEqual((seen.turn(), seen.awaited()), (3, ([1], set())))
+
+    def seen_after(self, *texts, strikes=0, start=None):
+        """Returns what is seen of the first match after these lines."""
+        plan = plan_in(self.plan.folder.path, ["ann", "bob"], head=f"strikes = {strikes}\n" if strikes else "")
+        begin(plan, self.match, (started(self.match) if start is None else start) + "".join(texts))
+        reader = Reader(plan)
+        reader.look()
+        return reader.open[self.match.id]
+
+    def test_a_player_that_is_retired_for_illegal_moves_is_not_awaited(self):
+        one, two = self.play(2, "NIL", ["(bad)", "noop"]), self.play(3, "((take 1) noop)", ["(bad)", "(take 1)"])
+        self.assertEqual(self.seen_after(one, two).awaited(), ([0, 1], set()))
+        # What was played in turn 2 is not known yet. Then it is, and red's answers were none of these moves.
+        seen = self.seen_after(one, two, strikes=2)
+        self.assertEqual((seen.turn(), seen.awaited()), (3, ([0, 1], {0})))
+        self.assertIn("ann</a> (if it is not retired), <a", awaited_text(seen, ""))
+        three = self.play(4, "(noop (take 1))", ["", "noop"], [1])
+        seen = self.seen_after(one, two, three, strikes=2)
+        self.assertEqual((seen.turn(), seen.awaited()), (4, ([1], set())))
+        # A move of its own ends the row, and one that is no expression is replaced for sure.
+        own = self.play(3, "((take 1) noop)", ["noop", "(take 1)"]) + self.play(4, "(noop (take 1))", ["a b", "noop"])
+        seen = self.seen_after(one, own, strikes=2)
+        self.assertEqual((seen.turn(), seen.awaited()), (4, ([0, 1], set())))
+        self.assertEqual(self.seen_after(one, self.play(3, "((take 1) noop)", ["a b", "(take 1)"]), strikes=2).awaited(), ([1], set()))
+        self.assertEqual(self.seen_after(self.play(2, "NIL", ["a b", "noop"]), strikes=1).awaited(), ([1], {1}))
+
+    def test_a_turn_that_is_not_over_retires_nobody(self):
+        log = self.play(2, "NIL", [SILENT, "noop"]) + self.play(3, "((take 1) noop)", [SILENT], [0])
+        seen = self.seen_after(log, strikes=2)
+        self.assertEqual((seen.turn(), seen.awaited(), seen.is_ending()), (2, ([1], set()), False))
+
+    def test_a_match_whose_players_are_all_retired(self):
+        seen = self.seen_after(self.play(2, "NIL", [SILENT, "a b"]), strikes=1)
+        self.assertEqual((seen.awaited(), seen.is_ending()), (([0, 1], set()), True))
+        seen = self.seen_after(self.play(2, "NIL", [SILENT, "a b"]), line(self.match, 1, 3, f"(ABORT {self.match.id})", "ready"), strikes=1)
+        self.assertEqual((seen.awaited(), seen.is_ending()), (([0], set()), True))
+
+    def test_answers_that_end_with_a_line(self):
+        # The log shows the end of a line as `?`.
+        log = self.play(2, "NIL", ["(TAKE 1)?", "noop"]) + self.play(3, "((take 1) noop)", ["noop??", "(take 1)"], [1])
+        self.assertEqual(self.seen_after(log, strikes=1).awaited(), ([0], set()))
+
+    def test_players_that_begin_again_in_another_order(self):
+        first, second = started(self.match).splitlines(keepends=True)
+        self.assertEqual(self.seen_after(start=first).awaited(), ([1], set()))
+        # The second player may have answered before the match began again, or since then.
+        seen = self.seen_after(start=first + second + first)
+        self.assertEqual((seen.turn(), seen.awaited()), (0, ([1], {1})))
+        self.assertIn("bob</a> (if it has not answered): START", awaited_text(seen, ""))
+        self.assertEqual(self.seen_after(start=first + second + first + second).turn(), 1)
+        self.assertEqual(self.seen_after(self.play(2, "NIL", ["noop"], [0]), start=first + second + first).awaited(), ([1], set()))
+        # After a turn it is clear that it has begun again.
+        self.assertEqual(self.seen_after(self.play(2, "NIL", ["noop", "noop"]), second).awaited(), ([0], set()))
+
+    def test_lines_of_other_matches_and_players(self):
+        other = self.plan.matches[1]
+        log = line(other, 0, 2, f"(PLAY {other.id} NIL)", "noop") + f"{self.match.id} role 0 bob message 2 (PLAY {self.match.id} NIL): noop, 5 ms\n"
+        seen = self.seen_after(log)
+        self.assertEqual((seen.turn(), seen.awaited(), seen.last[0].kind), (1, ([0, 1], set()), "START"))
+
+    def test_words_of_errors_that_are_moves(self):
+        words = ("TO", "to", "CE", "lost", "LOST", "(lost 1)")
+        lines = [log_line(f"m role 0 a message 2 (PLAY m NIL): {word}, 4 ms") for word in words]
+        self.assertEqual([found.is_no_answer() for found in lines], [False] * len(words))
+        seen = self.seen_after(self.play(2, "NIL", ["TO", "lost"]), self.play(3, "(to lost)", ["CE", "noop"]), strikes=1)
+        self.assertEqual((seen.missed, list(seen.replaced), seen.awaited()[0]), ({}, [], [0, 1]))
+        self.assertIn("the referee was short", reason_of("lost (out of ports)"))
+        self.assertEqual(reason_of("IL lost"), "the answer was no legal move")
+
+    def test_how_many_moves_were_replaced_is_said(self):
+        log = "".join(self.play(number, "NIL", [SILENT, "noop"]) for number in range(2, 9))
+        begin(self.plan, self.match, started(self.match) + log)
+        over = self.plan.matches[1]
+        moves = [["(take 1)", "noop"]] * 5
+        end(self.plan, over, record_of(over, moves, [["IL x", ""]] * 5, [0, 100]))
+        reader = Reader(self.plan)
+        reader.look()
+        found = [(its.match.id, its.turn, before) for its, before in reader.last_replaced()]
+        wanted = [(over.id, 5, 0), (over.id, 4, 0), (over.id, 3, 2), (self.match.id, 7, 0), (self.match.id, 6, 0), (self.match.id, 5, 4)]
+        self.assertEqual(found, wanted)
+        text = replaced_part(reader.last_replaced()).text
+        self.assertIn('<td>5<br><span class="dim">4 more before</span>', text)
+        self.assertEqual(text.count("more before"), 2)
 
     def test_stages_and_the_end(self):
         room, reader = self.plan.folder.open / self.match.id, Reader(self.plan)
@@ -139,7 +224,7 @@ class Lines(InRoom):
         end(self.plan, self.match, record_of(self.match, moves, errors, [0, 100]))
         reader.look()
         self.assertEqual((reader.open, list(reader.results)), ({}, [self.match.id]))
-        self.assertEqual([(its.turn, its.error, its.move) for its in reader.replaced], [(2, "IL x", "noop")])
+        self.assertEqual([(its.turn, its.error, its.move) for its, _ in reader.last_replaced()], [(2, "IL x", "noop")])
         self.assertEqual(len(reader.waiting()), 5)
         self.plan.folder.record(self.match.id).unlink()
         reader.next = 0.0
@@ -160,7 +245,7 @@ class Lines(InRoom):
 class States(InRoom):
     def board(self, log, strikes=0):
         path = begin(self.plan, self.match, started(self.match) + log)
-        board = LiveBoard(Game(expressions(RULES.decode())), Tail(str(path)), strikes)
+        board = LiveBoard(Game(expressions(RULES.decode())), self.match, Tail(str(path)), strikes)
         self.assertTrue(board.follow(NEVER))
         return board
 
@@ -176,8 +261,8 @@ class States(InRoom):
 
     def test_what_is_replaced(self):
         # An answer that is no legal move, in whatever letters, and one that did not come.
-        board = self.board(self.play(2, "NIL", ["(TAKE  2)", "<script>"]) + self.play(3, "((take 2) noop)", ["TO", "(take 2)"]))
-        self.assertEqual([turn.errors for turn in board.turns], [("", "IL <script>"), ("TO", "IL (take 2)")])
+        board = self.board(self.play(2, "NIL", ["(TAKE  2)", "<script>"]) + self.play(3, "((take 2) noop)", [SILENT, "(take 2)"]))
+        self.assertEqual([turn.errors for turn in board.turns], [("", "IL <script>"), (SILENT, "IL (take 2)")])
         self.assertEqual((board.turns[-1].moves, self.heap(board), board.trouble), (("noop", "(take 1)"), "(heap 0)", ""))
 
     def test_the_moves_of_a_message_count(self):
@@ -192,8 +277,40 @@ class States(InRoom):
 
     def test_strikes(self):
         # Blue is retired after turn 1, so turn 2 ends with red's answer alone.
-        board = self.board(self.play(2, "NIL", ["(take 1)", "TO"]) + self.play(3, "((take 1) noop)", ["noop"], [0]), strikes=1)
+        board = self.board(self.play(2, "NIL", ["(take 1)", SILENT]) + self.play(3, "((take 1) noop)", ["noop"], [0]), strikes=1)
         self.assertEqual((board.turn, board.turns[-1].errors, self.heap(board)), (2, ("", "RT"), "(heap 1)"))
+
+    def test_a_line_that_is_missing_is_no_strike(self):
+        # Nobody knows what red answered in turns 1 and 2: what was played is its first legal move, and then another one.
+        log = self.play(2, "NIL", ["", "noop"], [1]) + self.play(3, "((take 1) noop)", ["", "(take 1)"], [1]) + self.play(4, "(noop (take 1))", ["", "noop"], [1])
+        board = self.board(log, strikes=1)
+        self.assertEqual([turn.errors for turn in board.turns], [(NO_LINE, ""), (NO_LINE, "")])
+        self.assertEqual((board.turn, board.retired, board.trouble), (2, set(), ""))
+        board = self.board(self.play(2, "NIL", ["", "noop"], [1]) + self.play(3, "((take 2) noop)", ["noop", "(take 1)"]), strikes=1)
+        self.assertEqual([turn.errors for turn in board.turns], [("", ""), ("", "")])
+
+    def test_answers_that_end_with_a_line(self):
+        board = self.board(self.play(2, "NIL", ["(take 2)?", "noop??"]) + self.play(3, "((take 2) noop)", ["noop?", "(take 1)? "]))
+        self.assertEqual([turn.errors for turn in board.turns], [("", ""), ("", "")])
+        self.assertEqual((self.heap(board), board.trouble), ("(heap 0)", ""))
+        # It was another byte: the moves of the next message, of a STOP too, tell.
+        for kind in ("PLAY", "STOP"):
+            log = self.play(2, "NIL", ["(take 2)?", "noop"]) + line(self.match, 1, 3, f"({kind} {self.match.id} ((take 1) noop))", "noop")
+            board = self.board(log)
+            self.assertEqual(([turn.errors for turn in board.turns], board.trouble), ([("IL (take 2)?", "")], ""))
+            self.assertEqual((board.turn, self.heap(board), len(board.states)), (1, "(heap 2)", 2))
+
+    def test_words_of_errors_that_are_moves(self):
+        rules = "(role a) (init s) (legal a noop) (legal a to) (legal a ce) (legal a lost) (next s) (goal a 0)"
+        plays = [("NIL", "TO"), ("(to)", "CE"), ("(ce)", "lost"), ("(lost)", SILENT)]
+        log = "".join(line(self.match, 0, number, f"(PLAY {self.match.id} {moves})", answer) for number, (moves, answer) in enumerate(plays, 2))
+        board = LiveBoard(Game(expressions(rules)), self.match, Tail(str(begin(self.plan, self.match, log))), 1)
+        board.follow(NEVER)
+        self.assertEqual([(turn.moves, turn.errors) for turn in board.turns], [*((((word,), ("",))) for word in ("to", "ce", "lost")), (("noop",), (SILENT,))])
+
+    def test_a_move_that_is_not_legal_is_not_followed(self):
+        board = self.board(self.play(2, "NIL", ["(take 1)", "noop"], [0]) + self.play(3, "((take 1) (take 1))", ["noop"], [0]))
+        self.assertEqual((board.turn, "is not legal" in board.trouble), (0, True))
 
     def test_a_match_that_begins_again(self):
         board = self.board(self.play(2, "NIL", ["(take 1)", "noop"]))
@@ -205,7 +322,7 @@ class States(InRoom):
         move = f"(say {'x' * 300})"
         rules = f"(role a) (init s) (legal a {move}) (legal a (say y)) (<= (next (did ?)) (true s)) (next s) (goal a 0)".replace("?", "1")
         path = begin(self.plan, self.match, line(self.match, 0, 2, "(PLAY m NIL)", f"{move[:200].upper()}.."))
-        board = LiveBoard(Game(expressions(rules)), Tail(str(path)), 0)
+        board = LiveBoard(Game(expressions(rules)), self.match, Tail(str(path)), 0)
         board.follow(NEVER)
         self.assertEqual((board.turns[-1].moves, board.turns[-1].errors), ((move,), ("",)))
 
@@ -213,7 +330,7 @@ class States(InRoom):
         chain = "".join(f"(<= a{number} a{number + 1})" for number in range(2_000))
         for rules in (f"(role a) {chain} (a2000) (<= (init s) a0)", f"(role a) (init s) {chain} (a2000) (<= (legal a x) a0) (next s)"):
             path = begin(self.plan, self.match, line(self.match, 0, 2, "(PLAY m NIL)", "x"))
-            board = LiveBoard(Game(expressions(rules)), Tail(str(path)), 0)
+            board = LiveBoard(Game(expressions(rules)), self.match, Tail(str(path)), 0)
             board.follow(NEVER)
             self.assertIn("too deep", board.trouble)
 
@@ -228,7 +345,7 @@ class States(InRoom):
     def test_a_label_looks_the_same_in_each_state(self):
         # At first there is one kind of label, which alone might mean anything.
         rules = (GAMES / "tictactoe.kif").read_text()
-        board = LiveBoard(Game(expressions(rules)), Tail("/nowhere"), 0)
+        board = LiveBoard(Game(expressions(rules)), self.match, Tail("/nowhere"), 0)
         self.assertEqual(re.findall("<i class=\"ground\"[^>]*>(.*?)</i>", board_html(board)), ["\u00b7"] * 9)
 
     def test_the_board(self):

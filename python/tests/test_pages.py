@@ -8,17 +8,22 @@ import subprocess
 import tempfile
 import time
 import unittest
+from dataclasses import replace
+from unittest.mock import patch
 
+from ggp_tools.competition import pages as pages_module
 from ggp_tools.competition.competition_file import read_competition
 from ggp_tools.descriptions.loading import Rules
 from ggp_tools.competition.files import Folder
-from ggp_tools.competition.pages import Pages, spelt
+from ggp_tools.competition.pages import Pages, made_side_by_side, spelt
 from ggp_tools.competition.plan import Plan
 from ggp_tools.competition.results import result_of
 from ggp_tools.competition.schedule import planned
+from ggp_tools.referee import Unchecked
 from tests.support import toml
 
-LOG = b"began 2026-01-02T03:04:05.000Z\nm role 0 ann message 1 (START m a (..: ready, 7 ms\nended 2026-01-02T03:04:07.500Z\n"
+BEGAN, ENDED = "began 2026-01-02T03:04:05.000Z\n", "ended 2026-01-02T03:04:07.500Z\n"
+LOG = f"{BEGAN}m role 0 ann message 1 (START m a (..: ready, 7 ms\n{ENDED}".encode()
 
 
 class Links(html.parser.HTMLParser):
@@ -39,6 +44,28 @@ def record_of(match, number):
         "moves": [["<b>", "noop"]], "phase": "finished", "playClock": 10, "players": list(match.players), "roles": ["<i>", "b"],
         "startClock": 10, "startMarks": ["", ""], "states": [["(a 1)"], ["(a 2)"]], "strikes": 0, "version": 2,
     }
+
+
+def number_text(number):
+    return b"%d" % number
+
+
+def killed(_):
+    os._exit(1)
+
+
+class SideBySide(unittest.TestCase):
+    def setUp(self):
+        for name, value in (("MANY", 2), ("PROCESSORS", 2), ("CHUNK", 1)):
+            self.enterContext(patch.object(pages_module, name, value))
+
+    def test_what_is_made_comes_in_order(self):
+        self.assertEqual(list(made_side_by_side(number_text, [(number,) for number in range(40)])), [b"%d" % number for number in range(40)])
+        self.assertEqual(list(made_side_by_side(number_text, [])), [])
+
+    def test_a_process_that_is_killed_is_a_shortage(self):
+        with self.assertRaisesRegex(Unchecked, "a process was ended"):
+            list(made_side_by_side(killed, [(1,), (2,)]))
 
 
 class PagesOfMany(unittest.TestCase):
@@ -80,6 +107,26 @@ class PagesOfMany(unittest.TestCase):
             self.assertIn(text, (pages.folder / "games/one.html").read_text())
         self.assertNotIn("<script", first + (pages.folder / "games/one.html").read_text())
 
+    def test_lists_of_many_matches_come_in_parts(self):
+        with patch.object(pages_module, "MOST_LISTED", 120):
+            pages = Pages(self.plan)
+            pages.write(self.results)
+            files = {file.name for file in pages.folder.iterdir() if file.is_file()}
+            self.assertEqual(files, {"index.html", "matches.html", "matches-2.html", "matches-3.html"})
+            texts = [(pages.folder / name).read_text() for name in ("matches.html", "matches-2.html", "matches-3.html")]
+            self.assertEqual([text.count('<tr id="match-') for text in texts], [120, 120, 60])
+            self.assertIn('cup-001 to cup-120, <a href="matches-2.html">cup-121 to cup-240</a>', texts[0])
+            game, player = ((pages.folder / name).read_text() for name in ("games/one.html", "players/player-p0.html"))
+            for text in (game, player):
+                self.assertEqual((text.count('<tr id="match-'), text.count('id="match-cup-300"')), (120, 1))
+                self.assertIn('These are 120 of 300; the others are among <a href="../matches.html">all matches</a>.', text)
+            # With fewer matches there are fewer pages.
+            pages.write(self.results[:120])
+            self.assertEqual({file.name for file in pages.folder.iterdir() if file.is_file()}, {"index.html", "matches.html"})
+            gaps = Pages(self.plan, shows_gaps=True)
+            gaps.write(self.results[:10])
+            self.assertIn("And 170 more, which GAPS.tsv names.", (gaps.folder / "index.html").read_text())
+
     def test_what_a_log_says_is_text(self):
         for match, log in zip(self.plan.matches, (b"began <plaintext>\n" + LOG, LOG + b"began <plaintext>\nended <plaintext>\n")):
             self.plan.folder.log(match.id).write_bytes(log)
@@ -104,6 +151,47 @@ class PagesOfMany(unittest.TestCase):
             self.assertIn(word, text)
         self.assertIn("It has played no match.", (pages.folder / "players/player-p24.html").read_text())
         self.assertIn("No move of it was replaced.", (pages.folder / f"players/player-{match.players[0]}.html").read_text())
+
+    def test_of_a_log_that_is_too_long_the_first_lines_are_read(self):
+        match = self.plan.matches[0]
+        line = f"{match.id} role 1 {match.players[1]} message {{}} (PLAY {match.id} NIL): <script>, {{}} ms\n"
+        log = BEGAN + "".join(line.format(number, 10 * number) for number in range(2, 300)) + line.format(300, 77_777) + ENDED
+        self.plan.folder.log(match.id).write_text(log)
+        name = f"players/player-{match.players[1]}.html"
+        for most, longest, is_cut in ((len(log), "77,777 ms", False), (len(log) - len(ENDED) - 1, "2,990 ms", True), (log.index("message 5"), "40 ms", True)):
+            pages = Pages(self.plan)
+            with patch.object(pages_module, "MOST_OF_LOG", most):
+                pages.write(self.results[:1])
+            text = (pages.folder / name).read_text()
+            self.assertIn(f"<td>{longest}", text)
+            self.assertEqual(f"Of the logs of {match.id} the first 16 MiB are read" in text, is_cut)
+            # When it began and ended is known all the same.
+            self.assertIn("2026-01-02 03:04:05<td>2.5", text)
+
+    def test_a_match_that_was_ordered_again_counts_nowhere(self):
+        old, new = self.plan.matches[0], self.plan.matches[48]
+        self.assertEqual(old.players, new.players)
+        old = self.plan.matches[0] = replace(old, again=new.id, reason="the network was down")
+        new = self.plan.matches[48] = replace(new, instead_of=old.id)
+        player = old.players[1]
+        for match in (old, new):
+            line = f"{match.id} role 1 {player} message 2 (PLAY {match.id} NIL): <script>, {9_000 if match is old else 1_500} ms\n"
+            self.plan.folder.log(match.id).write_bytes(LOG + line.encode())
+        results = [result_of(record_of(match, number), match) for number, match in enumerate((old, new))]
+        pages = Pages(self.plan)
+        pages.write(results)
+        text = (pages.folder / f"players/player-{player}.html").read_text()
+        self.assertIn('<td class="left">b<td>1<td>50.00<td>1 of 1<td><td>1,500 ms', text)
+        self.assertEqual((text.count("<code>&lt;script&gt;</code>"), text.count(f"{old.id} does not count: {new.id} was ordered in its place")), (1, 2))
+        self.assertNotIn("9,000", text)
+        self.assertIn("1 of 299 matches are over.", (pages.folder / "index.html").read_text())
+        # As long as the new one is not played there is nothing that counts.
+        pages = Pages(self.plan)
+        pages.write(results[:1])
+        text = (pages.folder / f"players/player-{player}.html").read_text()
+        self.assertIn("It has played no match that counts.", text)
+        self.assertNotIn("Goals by game and seat", text)
+        self.assertIn("0 of 299 matches are over.", (pages.folder / "index.html").read_text())
 
     def test_a_page_is_made_again_only_where_something_has_changed(self):
         pages = Pages(self.plan)

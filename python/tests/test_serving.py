@@ -12,12 +12,13 @@ import threading
 import time
 import unittest
 import urllib.request
+from unittest.mock import patch
 
-from ggp_tools.competition import serving
+from ggp_tools.competition import pages, serving
 from ggp_tools.competition.live_site import LiveSite
 from ggp_tools.competition.page_changes import changes
 from ggp_tools.competition.page_parts import Items, Part
-from tests.live_support import begin, end, line, plan_in, record_of, started
+from tests.live_support import SILENT, begin, end, line, plan_in, record_of, started
 from tests.support import GAMES, InFolder, run, start
 from tests.test_pages import Links
 
@@ -99,17 +100,17 @@ class Pages(Served):
         self.assertRegex(first, f'<tr id="open-{match.id}">.*turn 2<td>.*</tr>')
         self.assertIn("State 1, after turn 1", own)
         self.assertIn("<code>(take 2)</code>", own)
-        self.say(log, self.play(match, 3, "((take 2) noop)", ["TO"]))
+        self.say(log, self.play(match, 3, "((take 2) noop)", [SILENT]))
         self.assertIn("no answer came in time", self.page("/"))
         self.assertIn("player-bob.html\">bob</a>: turn 2 (", self.page(f"/matches/{match.id}.html"))
         moves, errors = [["(take 2)", "noop"], ["noop", "(take 1)"]], [["", ""], ["TO", ""]]
-        text = started(match) + self.play(match, 2, "NIL", ["(take 2)", "noop"]) + self.play(match, 3, "((take 2) noop)", ["TO", "(take 1)"])
+        text = started(match) + self.play(match, 2, "NIL", ["(take 2)", "noop"]) + self.play(match, 3, "((take 2) noop)", [SILENT, "(take 1)"])
         end(self.plan, match, record_of(match, moves, errors, [0, 100]), text)
         self.site.look()
         self.assertIn("1 of 6 matches are over.", self.page("/"))
         self.assertIn('id="state-2"', self.page(f"/matches/{match.id}.html"))
         player = self.page("/players/player-ann.html")
-        for text in ("no answer came in time", f"(PLAY {match.id} ((take 2) noop))", "<code>TO</code>", "5 ms", "<svg"):
+        for text in ("no answer came in time", f"(PLAY {match.id} ((take 2) noop))", "<code>TO</code>", f"<code>{SILENT}</code>", "5 ms", "<svg"):
             self.assertIn(text, player)
         self.assertIn(f"matches/{match.id}.html", self.page("/games/heap.html"))
         self.assertIn(f"matches/{match.id}.html", self.page("/matches.html"))
@@ -126,6 +127,14 @@ class Pages(Served):
             todo += [one for one in dict.fromkeys(found) if one not in known and one not in todo]
         self.assertEqual(len(known), len({"index", "all matches", "game"}) + 3 + 2)
 
+    def test_a_list_of_many_matches_comes_in_pages(self):
+        with patch.object(pages, "MOST_LISTED", 2):
+            for match in self.plan.matches[:3]:
+                end(self.plan, match, record_of(match, [], [], [50, 50]))
+            self.site.look()
+            self.assertEqual([self.page(f"/matches{more}.html").count('<tr id="match-') for more in ("", "-2")], [2, 1])
+            self.assertEqual([self.ask(f"/matches-{more}.html")[0] for more in ("3", "0", "1", "x")], [404] * 4)
+
     def test_a_record_is_read_once_and_a_page_made_once(self):
         match = self.plan.matches[0]
         end(self.plan, match, record_of(match, [], [], [50, 50]))
@@ -136,6 +145,18 @@ class Pages(Served):
         self.site.look()
         self.page("/")
         self.assertIs(self.site.pages["/index.html"].parts, made)
+
+    def test_a_record_that_has_become_too_long(self):
+        long, other = self.plan.matches[:2]
+        for match in (long, other):
+            end(self.plan, match, record_of(match, [], [], [50, 50]))
+        self.site.reader.look()
+        with open(self.plan.folder.record(long.id), "r+b") as file:
+            file.truncate(1 << 40)
+        self.site.look()
+        first = self.page("/")
+        self.assertIn("1 of 6 matches are over.", first)
+        self.assertIn(f"{long.id} does not count: it is longer than 16 MiB", first)
 
     def test_a_plan_that_changes(self):
         events = self.events(self.page("/"))

@@ -6,8 +6,9 @@ import shutil
 import time
 
 from ggp_tools.competition.results import times_of
-from ggp_tools.competition.why import parts_of
+from ggp_tools.competition.why import Told, parts_of
 from ggp_tools.moments import MOMENT
+from tests.live_support import SILENT, end, line, plan_in, record_of
 from tests.players import TestPlayer
 from tests.support import GAMES, InFolder, run
 
@@ -112,6 +113,21 @@ class Why(InFolder):
             ("(PLAY m NIL): ", ("(PLAY m NIL)", "")),
         ):
             self.assertEqual(parts_of(said), parts)
+
+    def test_moves_with_the_names_of_errors(self):
+        plan = plan_in(str(self.folder), ["ann", "bob"])
+        match = plan.matches[0]
+        answers = [("TO", "noop"), ("lost", "CE"), (SILENT, "CE (no connection)"), ("IL", SILENT)]
+        log = "".join(line(match, role, number, f"(PLAY {match.id} NIL)", answer) for number, pair in enumerate(answers, 2) for role, answer in enumerate(pair))
+        errors = [["", ""], ["", ""], ["TO", "CE"], ["", "IL ?"]]
+        end(plan, match, record_of(match, [["to", "noop"], ["lost", "ce"], ["noop", "noop"], ["il", "noop"]], errors, [0, 100]), log)
+        said = "\n".join(Told(plan, match).lines(["ann", "bob"]))
+        for words in ("turn 1: PLAY was answered `TO` after", "turn 2: PLAY was answered `lost` after", "turn 2: PLAY was answered `CE` after"):
+            self.assertIn(words, said)
+        for words in (f"turn 3: PLAY brought {SILENT} after 5 ms; TO: no whole answer within", "turn 3: PLAY brought CE (no connection) after"):
+            self.assertIn(words, said)
+        # Who answers with these very words has answered.
+        self.assertIn(f"turn 4: PLAY was answered `{SILENT}` after 5 ms; IL ?: the answer is not one expression", said)
 
     def test_a_match_begun_again_has_the_times_of_its_last_beginning(self):
         message = "m role 0 a message {} (START m a (x)): ready, {} ms\n"

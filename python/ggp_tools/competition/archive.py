@@ -1,5 +1,6 @@
 """One archive of a competition, from which anyone can check it: what is in it, how it is written, and how it is checked."""
 
+import concurrent.futures
 import errno
 import gzip
 import hashlib
@@ -15,7 +16,8 @@ import zlib
 from ggp_tools.competition.described import DIFFERS, IS_SAME, held_records
 from ggp_tools.competition.files import UNFINISHED, Refused, written_whole
 from ggp_tools.competition.history import history_files
-from ggp_tools.competition.kept import look_at_records, strangers
+from ggp_tools.competition.kept import PROCESSORS, look_at_records, strangers
+from ggp_tools.competition.known import sum_of_file, sum_or_none
 from ggp_tools.competition.pages import made_anew
 from ggp_tools.competition.plan import faults_of_descriptions, read_plan, read_sums, rounds_left, sums_text
 from ggp_tools.descriptions.loading import has_variables
@@ -30,6 +32,8 @@ NAME = re.compile(r"[A-Za-z0-9_.-]+(/[A-Za-z0-9_.-]+){1,3}")
 FOLDER_NAME = re.compile(r"[A-Za-z0-9_.-]+(/[A-Za-z0-9_.-]+){0,2}")
 NOT_PLAIN = re.compile(r"[^\x20-\x7e]")
 MOST_BYTES = 8 << 30
+# How hard an archive is packed: a harder one takes much longer, and makes it little smaller.
+LEVEL = 6
 # These are faults of this computer, and tell nothing of an archive.
 SHORTAGES = errno.ENOSPC, errno.EDQUOT, errno.EIO, errno.EMFILE, errno.ENFILE, errno.ENOMEM
 HOW_TO = """How to check this competition.
@@ -61,14 +65,6 @@ class TooLarge(Exception):
     """What there is to publish is more than `check` would take."""
 
 
-def sum_of_file(path):
-    found = hashlib.sha256()
-    with open(path, "rb") as file:
-        while data := file.read(1 << 20):
-            found.update(data)
-    return found.hexdigest()
-
-
 def files_below(folder):
     """Returns the files below a folder, by their names from there, in order."""
     return {str(file.relative_to(folder)): file for file in sorted(folder.rglob("*")) if file.is_file()}
@@ -79,9 +75,19 @@ def how_to(plan):
     return HOW_TO.format(name=plan.competition.name).encode("ascii")
 
 
-def matches_text(plan, results):
-    """Returns matches.jsonl."""
-    return b"".join(match_line(result, plan.rules[result.match.game].sum, plan.folder.read_log(result.match.id)) for result in results)
+def matches_text(plan, results, known=None):
+    """Returns matches.jsonl. A line that is known, of the same result and log, is not made again."""
+    lines = []
+    for result in results:
+        rules_sum, log = plan.rules[result.match.game].sum, plan.folder.read_log(result.match.id)
+        key = known.key(repr(result).encode(), rules_sum.encode(), log) if known else ""
+        line = known.get("lines", key) if known else None
+        if line is None:
+            line = match_line(result, rules_sum, log).decode("ascii")
+            if known:
+                known.put("lines", key, line)
+        lines.append(line)
+    return "".join(lines).encode("ascii")
 
 
 def gaps_files(plan, results):
@@ -91,7 +97,7 @@ def gaps_files(plan, results):
     return {GAPS: schedule_text(missing)} if missing or rounds_left(plan) else {}
 
 
-def contents(plan, referee, results):
+def contents(plan, referee, results, known):
     """Gives what is published: names, and bytes or the file that has them."""
     folder = plan.folder
     yield "competition.toml", plan.text
@@ -108,7 +114,7 @@ def contents(plan, referee, results):
         for file in (folder.record(result.match.id), folder.account(result.match.id)):
             yield str(file.relative_to(folder.path)), file
         yield str(folder.log(result.match.id).relative_to(folder.path)), folder.read_log(result.match.id)
-    yield "matches.jsonl", matches_text(plan, results)
+    yield "matches.jsonl", matches_text(plan, results, known)
     if folder.journal.is_file():
         yield folder.journal.name, folder.journal
     yield from gaps_files(plan, results).items()
@@ -131,23 +137,36 @@ def own_files(plan):
     return [folder.competition, folder.schedule, folder.planned, folder.again, folder.matches, folder.journal, *others, *descriptions]
 
 
-def publish(plan, referee, results, path):
-    """Writes the archive, the same for the same files, and returns its sum."""
-    made_anew(plan, results)
+def publish(plan, referee, results, path, known):
+    """Writes the archive, the same for the same files, and returns its sum. What is known to be right is not made again: pages of matches,
+    and an archive of the same files."""
+    made_anew(plan, results, known)
+    sums = dict(sums_of_contents(contents(plan, referee, results, known)))
+    found = known.get("archives", known.key(sums_text(sums)))
+    if found and found == sum_or_none(path):
+        return found
+    sums = {}
     with written_whole(path) as file:
-        with gzip.GzipFile(filename="", mode="wb", fileobj=file, mtime=0) as packed, tarfile.open(fileobj=packed, mode="w|") as archive:
+        with gzip.GzipFile(filename="", mode="wb", fileobj=file, mtime=0, compresslevel=LEVEL) as packed, tarfile.open(fileobj=packed, mode="w|") as archive:
             size = 0
-            for name, data in with_sums(contents(plan, referee, results)):
+            for name, data in with_sums(contents(plan, referee, results, known), sums):
                 size += len(data)
                 if size > MOST_BYTES:
                     raise TooLarge(f"it has more than {MOST_BYTES:,} bytes, which are the most of an archive")
                 add(archive, f"{plan.competition.name}/{name}", data)
-    return sum_of_file(path)
+    found = sum_of_file(path)
+    known.put("archives", known.key(sums_text(sums)), found)
+    return found
 
 
-def with_sums(contents):
+def sums_of_contents(contents):
+    """Gives the names and sums of what is to be published."""
+    for name, data in contents:
+        yield name, hashlib.sha256(data).hexdigest() if isinstance(data, bytes) else sum_of_file(data)
+
+
+def with_sums(contents, sums):
     """Gives the names and bytes of what is published, and the sums last."""
-    sums = {}
     for name, data in contents:
         data = data if isinstance(data, bytes) else data.read_bytes()
         sums[name] = hashlib.sha256(data).hexdigest()
@@ -279,6 +298,14 @@ def check_archive(path, referee):
     return list(map(plain, faults)), said
 
 
+def held_side_by_side(file, records):
+    """Returns for each record what there is to say of it: several processes hold a part of them each against the description."""
+    size = -(-len(records) // PROCESSORS)
+    parts = [records[at : at + size] for at in range(0, len(records), size)]
+    with concurrent.futures.ThreadPoolExecutor(PROCESSORS) as at_once:
+        return [words for found in at_once.map(lambda part: held_records(file, part), parts) for words in found]
+
+
 def held_matches(plan, results, folder):
     """Holds the matches of each game with variables against its description. Returns what is said of that, and the differences."""
     count, late, faults = 0, [], []
@@ -286,7 +313,7 @@ def held_matches(plan, results, folder):
         file, matches = folder / f"games/{game.name}.kif", [result.match for result in results if result.match.game == game.name]
         if not matches or not has_variables(file.read_bytes()):
             continue
-        for match, words in zip(matches, held_records(file, [plan.folder.record(match.id).read_bytes() for match in matches])):
+        for match, words in zip(matches, held_side_by_side(file, [plan.folder.record(match.id).read_bytes() for match in matches])):
             count += words.startswith(IS_SAME)
             if words.startswith(DIFFERS):
                 faults.append(f"{match.id}: by games/{game.name}.kif it {words}")

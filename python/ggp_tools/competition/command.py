@@ -13,6 +13,7 @@ from ggp_tools.competition.archive import TooLarge, check_archive, matches_text,
 from ggp_tools.competition.files import Refused, held, write_whole
 from ggp_tools.competition.game import add_game, run_game
 from ggp_tools.competition.kept import look_at_records
+from ggp_tools.competition.known import Known
 from ggp_tools.competition.pages import Pages
 from ggp_tools.competition.plan import WRITES, Plan, faults_of_descriptions, make_plan, read_plan, round_words, rounds_left
 from ggp_tools.competition.playing import Playing, play, said_of_missing
@@ -87,17 +88,17 @@ def arguments(words: list[str]) -> argparse.Namespace:
     return parser.parse_args(words)
 
 
-def write_matches(plan, results):
+def write_matches(plan, results, known=None):
     """Writes matches.jsonl. Says which matches have no log, and so no times."""
     for result in results:
         if not plan.folder.has_log(result.match.id):
             print(f"ggp_competition: {result.match.id} counts without its times: its log is missing", file=sys.stderr)
-    write_whole(plan.folder.matches, matches_text(plan, results))
+    write_whole(plan.folder.matches, matches_text(plan, results, known))
 
 
-def known_results(plan, referee):
+def known_results(plan, referee, known):
     """Returns the results that count, in the schedule's order; says of each record that does not."""
-    results, faults, misfits = look_at_records(plan, referee)
+    results, faults, misfits = look_at_records(plan, referee, known)
     for match, why in {**faults, **misfits}.items():
         print(f"ggp_competition: {match} does not count: {why}", file=sys.stderr)
     return in_order(plan, results), bool(faults or misfits)
@@ -189,21 +190,25 @@ def run_held_play(asked: argparse.Namespace, referee: Referee) -> int:
 
 def run_table(asked: argparse.Namespace, referee: Referee) -> int:
     plan = read_plan(asked.folder, referee)
-    results, is_faulty = known_results(plan, referee)
+    known = Known(plan.folder.path)
+    results, is_faulty = known_results(plan, referee, known)
     tables = tables_of(plan.competition, results, plan.rounds)
     # It is there to be read also where it can't be written.
     say(table_text(plan, tables), end="")
-    write_matches(plan, results)
+    write_matches(plan, results, known)
     for name, data in table_files(plan, tables).items():
         write_whole(plan.folder.path / name, data)
+    known.write()
     return is_faulty
 
 
 def run_pages(asked: argparse.Namespace, referee: Referee) -> int:
     plan = read_plan(asked.folder, referee)
-    results, is_faulty = known_results(plan, referee)
-    pages = Pages(plan)
+    known = Known(plan.folder.path)
+    results, is_faulty = known_results(plan, referee, known)
+    pages = Pages(plan, known=known)
     pages.write(results)
+    known.write()
     say(pages.folder / "index.html")
     return is_faulty
 
@@ -236,7 +241,8 @@ def run_held_publish(asked: argparse.Namespace, referee: Referee) -> int:
     path, pages = archive_path(plan, asked.to), plan.folder.pages
     if pages.is_symlink():
         raise Refused(f"{pages} is a link, and `publish` makes that folder anew", "take the link away, and publish again")
-    results, is_faulty = known_results(plan, referee)
+    known = Known(plan.folder.path)
+    results, is_faulty = known_results(plan, referee, known)
     missing, left = len(plan.matches) - len(results), rounds_left(plan)
     faults = []
     if missing and (is_faulty or not asked.gaps):
@@ -246,9 +252,10 @@ def run_held_publish(asked: argparse.Namespace, referee: Referee) -> int:
         faults = [f"{left} of {left + len(plan.rounds)} rounds are not planned yet; with `--gaps` the others are"]
     faults = faults or list(faults_of_descriptions(plan, plan.folder.description, f", and {WRITES}"))
     if not faults:
-        write_matches(plan, results)
+        write_matches(plan, results, known)
         try:
-            say(f"{publish(plan, referee, results, path)}  {path}")
+            say(f"{publish(plan, referee, results, path, known)}  {path}")
+            known.write()
         except TooLarge as why:
             faults = [str(why)]
     for fault in faults:

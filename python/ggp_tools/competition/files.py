@@ -9,6 +9,8 @@ import stat
 from typing import BinaryIO
 
 UNFINISHED = ".unfinished-"
+# In so many bytes at its end a log has when its match ended.
+END_OF_LOG = 4_096
 
 
 class Refused(Exception):
@@ -163,6 +165,19 @@ class Folder:
     def read_log(self, match):
         """Returns the log of a match. Where it is missing it is empty: the match counts all the same, and its times are unknown."""
         return self.log(match).read_bytes() if self.has_log(match) else b""
+
+    def read_lines_of_log(self, match: str, most: int) -> tuple[bytes, bool]:
+        """Returns so many bytes of a match's log at most, as whole lines, and whether there is more. When it ended is told all the same:
+        that stands at the end."""
+        if not self.has_log(match):
+            return b"", False
+        with opened_file(self.log(match)) as file:
+            data = file.read(most + 1)
+            if len(data) <= most:
+                return data, False
+            file.seek(-min(most, END_OF_LOG), os.SEEK_END)
+            last = [line for line in file.read(END_OF_LOG).splitlines(keepends=True)[1:] if line.startswith(b"ended ")]
+        return data[: data.rfind(b"\n", 0, most) + 1] + b"".join(last), True
 
     def must_be_text(self):
         """Refuses a folder whose path the referee would not take as a word."""

@@ -1,19 +1,25 @@
 """The matches of a competition that count: those with a lawful record and an account that gives it again."""
 
+import concurrent.futures
 import contextlib
 import itertools
 import json
 import os
+import pathlib
 import re
+from collections.abc import Iterator, Sequence
 
 from ggp_tools.competition.competition_file import Competition
 from ggp_tools.competition.files import Folder, write_whole
-from ggp_tools.competition.results import Result, fault_of_record, read_record, result_of
+from ggp_tools.competition.known import Known, sum_or_none
+from ggp_tools.competition.results import Result, fault_of_record, read_record, result_of, result_of_values, values_of
 from ggp_tools.competition.schedule import Match
-from ggp_tools.referee import Unchecked, is_text_list
+from ggp_tools.referee import Referee, Unchecked, is_text_list
 
 # So many matches are checked together, and so many bytes of their files unless one match has more, since all of these are in memory.
-TOGETHER, BYTES_TOGETHER = 250, 1 << 27
+TOGETHER, BYTES_TOGETHER = 250, 1 << 25
+# So many batches are checked side by side: all of these are in memory.
+PROCESSORS = min(8, len(os.sched_getaffinity(0)))
 # What the referee reads of a record, before its line's end, and of an account.
 MOST_OF_RECORD, MOST_OF_ACCOUNT = 16_777_216, 268_435_456
 # A line of an account: its line of the desk, the word of its call, and the match.
@@ -100,46 +106,81 @@ def result_in_file(folder: Folder, competition: Competition, match: Match) -> Re
     return result_of({"cause": None, **record}, match, competition.forfeit)
 
 
-def looked_at(plan, referee, game, matches):
-    """Gives for each of these matches of a game, which have records, its result, or why it does not count: because its files are wrong,
-    or though they are right, since they are of another match. Where the referee can't tell, this ends with `Unchecked`."""
+def judge_of(plan, referee: Referee, game: str) -> list[bytes] | None:
+    """Returns what says whether a record is right beside it and its account: the sums of the program and of the rules, and the strikes.
+    None where a sum is not known."""
+    sums = sum_or_none(referee.path), sum_or_none(plan.folder.rules_of(game))
+    return None if None in sums else [*(found.encode() for found in sums), b"%d" % plan.competition.strikes]
+
+
+def match_bytes(match: Match) -> bytes:
+    return repr(match).encode()
+
+
+def judged(plan, referee: Referee, game: str, records: Sequence[bytes], accounts: Sequence[bytes]) -> list[str | None]:
+    """Returns for each record and its account why they are wrong, none where they are right."""
     rules = plan.folder.rules_of(game)
+    verdicts = referee.verdicts(rules, records)
+    lawful = [at for at, verdict in enumerate(verdicts) if verdict == "lawful"]
+    replays = dict(zip(lawful, referee.replays(rules, [accounts[at] for at in lawful], [records[at] for at in lawful])))
+    wrong = "its account does not give its record again"
+    return [None if replays.get(at) else wrong if at in replays else verdict for at, verdict in enumerate(verdicts)]
+
+
+def found_of(plan, match: Match, data: bytes, fault: str | None) -> tuple:
+    """Returns of a match why its record is wrong, why it is that of another match, or its result."""
+    if fault:
+        return match, fault, None, None
+    record = read_record(data)
+    misfit = fault_of_record(record, match, plan.competition.strikes)
+    return match, None, misfit, None if misfit else result_of(record, match, plan.competition.forfeit)
+
+
+def looked_at(plan, referee: Referee, game: str, matches: list[Match], known: Known | None = None) -> Iterator[tuple]:
+    """Gives for each of these matches of a game, which have records, its result, or why it does not count: because its files are wrong,
+    or though they are right, since they are of another match. Where the referee can't tell, this ends with `Unchecked`. A result that is
+    known, of the same files by the same rules and program, is not looked for again."""
     records = [read_at_most(plan.folder.record(match.id), MOST_OF_RECORD + 1) for match in matches]
     accounts = [read_or_none(plan.folder.account(match.id), MOST_OF_ACCOUNT) for match in matches]
+    judge = judge_of(plan, referee, game) if known else None
+    keys = [known.key(*judge, match_bytes(match), record, account or b"") for match, record, account in zip(matches, records, accounts)] if judge else []
+    values = [known.get("results", key) for key in keys] or [None] * len(matches)
     faults = list(map(fault_of_files, records, accounts))
-    whole = [at for at, fault in enumerate(faults) if not fault]
-    verdicts = dict(zip(whole, referee.verdicts(rules, [records[at] for at in whole])))
-    lawful = [at for at in whole if verdicts[at] == "lawful"]
-    replays = dict(zip(lawful, referee.replays(rules, [accounts[at] for at in lawful], [records[at] for at in lawful])))
+    whole = [at for at, fault in enumerate(faults) if not fault and values[at] is None]
+    if whole:
+        for at, fault in zip(whole, judged(plan, referee, game, [records[at] for at in whole], [accounts[at] for at in whole])):
+            faults[at] = fault
+    # Where the rules or the program are others by now, nobody knows by which it was judged.
+    is_same = bool(judge) and judge == judge_of(plan, referee, game)
     for at, match in enumerate(matches):
-        fault = faults[at] or (None if at in replays else verdicts[at])
-        if not fault and not replays[at]:
-            fault = "its account does not give its record again"
-        if fault:
-            yield match, fault, None, None
+        if values[at] is not None and not faults[at]:
+            yield match, None, None, result_of_values(values[at], match, plan.competition.forfeit)
             continue
-        record = read_record(records[at])
-        misfit = fault_of_record(record, match, plan.competition.strikes)
-        yield match, None, misfit, None if misfit else result_of(record, match, plan.competition.forfeit)
+        found = found_of(plan, match, records[at], faults[at])
+        if is_same and found[3]:
+            known.put("results", keys[at], values_of(found[3]))
+        yield found
 
 
-def look_at_records(plan, referee):
+def look_at_records(plan, referee: Referee, known: Known | None = None) -> tuple[dict, dict, dict]:
     """Returns the results of the matches that count, by their ids; of the others that have records why their files are wrong; and of
     those whose files are right in what they are not those of the match."""
     try:
-        return all_looked_at(plan, referee)
+        return all_looked_at(plan, referee, known)
     except MemoryError:
         raise Unchecked("records and accounts can't be checked: want of memory") from None
 
 
-def all_looked_at(plan, referee):
+def all_looked_at(plan, referee: Referee, known: Known | None) -> tuple[dict, dict, dict]:
     results, faults, misfits, by_game = {}, {}, {}, {}
     for match in plan.matches:
         if plan.folder.record(match.id).exists():
             by_game.setdefault(match.game, []).append(match)
-    for game, matches in by_game.items():
-        for batch in batches(plan.folder, matches):
-            for match, fault, misfit, result in looked_at(plan, referee, game, batch):
+    parts = [(game, batch) for game, matches in by_game.items() for batch in batches(plan.folder, matches)]
+    # The referee takes most of the time, in a process for each.
+    with concurrent.futures.ThreadPoolExecutor(PROCESSORS) as at_once:
+        for found in at_once.map(lambda part: list(looked_at(plan, referee, *part, known)), parts):
+            for match, fault, misfit, result in found:
                 if fault:
                     faults[match.id] = fault
                 elif misfit:

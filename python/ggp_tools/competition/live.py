@@ -2,10 +2,13 @@
 writes nothing, and reads each file on from where it was."""
 
 import contextlib
+import itertools
+import math
 import os
 import pathlib
 import time
-from collections import deque
+from collections import Counter, deque
+from collections.abc import Iterator
 from dataclasses import dataclass, field
 from typing import BinaryIO
 
@@ -13,6 +16,7 @@ from ggp_tools.competition.files import opened_file
 from ggp_tools.competition.log_lines import LogLine, log_line
 from ggp_tools.competition.plan import Plan
 from ggp_tools.competition.results import Result, fault_of_record, result_of
+from ggp_tools.competition.retiring import Retiring
 from ggp_tools.competition.schedule import Match
 from ggp_tools.competition.timed_lines import MOST_OF_LINE, TIMED
 from ggp_tools.records.show import LONGEST_RECORD, NoRecord, read_record
@@ -21,7 +25,7 @@ from ggp_tools.records.show import LONGEST_RECORD, NoRecord, read_record
 MOST_READ = 1 << 20
 # All records are looked for at once for at most so small a part of the time; a match that was open is looked for by itself.
 SHARE = 10
-# So many of the last replaced moves are kept, and of one match so many.
+# So many of the last replaced moves are listed, and of one match so many.
 MOST_REPLACED, MOST_OF_MATCH = 20, 3
 
 
@@ -67,72 +71,114 @@ class Tail:
         return [line.decode("ascii", "replace") for line in whole], is_other
 
 
+@dataclass(frozen=True)
+class Replaced:
+    """A move that was replaced, or an answer that did not come: of an open match it is not known yet what was played in its place. The
+    later one has the greater number."""
+
+    match: Match
+    player: str
+    turn: int
+    error: str
+    move: str
+    number: int = 0
+
+
 @dataclass
 class Seen:
-    """A match that is open, as its room and its log show it: by roles the turn of the last answer (0 is START), and since when which
-    roles are waited for. Its version counts what has changed."""
+    """A match that is open, as its room and its log show it: whose answers are awaited, and since when. Its version counts what has
+    changed."""
 
     match: Match
     room: str
     tail: Tail
     roles: int
+    strikes: int = 0
+    # Numbers what is replaced, over all matches.
+    numbers: Iterator[int] = field(default_factory=itertools.count)
     stage: str = ""
     room_changed: int = 0
     version: int = 0
-    turns: dict[int, int] = field(default_factory=dict)
-    last: dict[int, LogLine] = field(default_factory=dict)
-    missed: dict[int, int] = field(default_factory=dict)
     since: float = 0.0
-    is_ending: bool = False
-    strikes: int = 0
-    silent: dict[int, int] = field(default_factory=dict)
+
+    def __post_init__(self) -> None:
+        # Who may have answered START either before the match began again or since then.
+        self.unsure: set[int] = set()
+        self.forget()
 
     def forget(self) -> None:
         """Begins again: the match does, on another host."""
-        self.turns, self.last, self.missed, self.silent, self.is_ending = {}, {}, {}, {}, False
+        self.started: set[int] = set()
+        # Who has answered STOP or ABORT.
+        self.ended: set[int] = set()
+        # The greatest number of a message that was answered.
+        self.number = 0.0
+        self.retiring = Retiring(self.roles, self.strikes)
+        self.last: dict[int, LogLine] = {}
+        self.missed: dict[int, int] = {}
+        self.replaced: deque[Replaced] = deque(maxlen=MOST_OF_MATCH)
+        self.replaced_count = 0
 
     def turn(self) -> int:
         """Returns the turn that is asked for: 0 is START."""
-        return self.answered_turn() + (not self.missing())
+        return self.retiring.turn + self.have_all_answered()
 
-    def answered_turn(self) -> int:
-        return max(self.turns.values(), default=0)
+    def awaited(self) -> tuple[list[int], set[int]]:
+        """Returns the roles whose answers are waited for, and those of them of which the log leaves open whether they are. All are where
+        the match is given up, since all are retired."""
+        everyone = list(range(self.roles))
+        if self.ended:
+            return [role for role in everyone if role not in self.ended], set()
+        if not self.retiring.turn and not self.have_all_answered():
+            return [role for role in everyone if role not in self.started], self.unsure - self.started
+        found, unsure = self.retiring.left()
+        return found or everyone, unsure
 
-    def missing(self) -> list[int]:
-        """Returns the roles that have yet to answer in the turn of the last answer. A role further behind is retired, and is not asked."""
-        latest = self.answered_turn()
-        return [role for role in range(self.roles) if self.turns.get(role, -1) == latest - 1 and not self.is_retired(role)]
-
-    def is_retired(self, role: int) -> bool:
-        """Returns whether a role was silent for so many turns that it is asked no more. For other faults the rules are needed."""
-        return 0 < self.strikes <= self.silent.get(role, 0)
-
-    def awaited(self) -> list[int]:
-        """Returns the roles whose answers are waited for."""
-        latest = self.answered_turn()
-        return self.missing() or [role for role in range(self.roles) if self.turns.get(role, -1) == latest and not self.is_retired(role)]
+    def is_ending(self) -> bool:
+        """Returns whether STOP or ABORT are what is answered: to the first of them, or since all roles are retired."""
+        return bool(self.ended) or not self.retiring.left()[0]
 
     def take(self, line: LogLine, moment: float) -> None:
-        """Takes a line that came at this time."""
-        if line.role >= self.roles:
+        """Takes a line that came at this time. One that is of another match, or of another player, says nothing of this one."""
+        if not line.is_of(self.match):
             return
-        if line.kind == "START" and line.role in self.turns:
-            self.forget()
+        if line.kind == "START":
+            self.take_start(line.role)
+        # The last message of a role that is retired has a smaller number than those of others.
+        number = math.inf if line.kind in ("STOP", "ABORT") else line.number
+        is_first, self.number = number > self.number, max(number, self.number)
         self.last[line.role] = line
-        if line.kind in ("STOP", "ABORT"):
-            self.is_ending, self.since = True, moment
-            return
-        is_first = line.turn() > self.answered_turn() or not self.turns
-        self.turns[line.role] = line.turn()
         if line.is_no_answer():
             self.missed[line.role] = self.missed.get(line.role, 0) + 1
         if line.kind == "PLAY":
-            self.silent[line.role] = self.silent.get(line.role, 0) + 1 if line.is_no_answer() else 0
+            self.take_play(line)
+        elif number == math.inf:
+            self.ended.add(line.role)
         # Where others have yet to answer they were asked when this one was; else all are asked now.
-        if not self.missing():
+        if self.have_all_answered():
             self.since = moment
         elif is_first:
             self.since = moment - line.milliseconds / 1_000
+
+    def have_all_answered(self) -> bool:
+        """Returns whether each role that was asked has answered."""
+        if self.ended or not self.retiring.turn:
+            return len(self.ended or self.started) == self.roles
+        return not self.retiring.missing()
+
+    def take_start(self, role: int) -> None:
+        """Takes the answer to a START. Where the match has begun again the players may have answered in another order than before."""
+        if self.retiring.turn or self.ended or role in self.started:
+            self.unsure = set() if self.retiring.turn or self.ended else self.started - {role}
+            self.forget()
+        self.started.add(role)
+
+    def take_play(self, line: LogLine) -> None:
+        self.retiring.take(line)
+        if line.is_no_answer():
+            player = self.match.players[line.role]
+            self.replaced.append(Replaced(self.match, player, line.turn(), line.answer, "", next(self.numbers)))
+            self.replaced_count += 1
 
     def look_at_stage(self) -> None:
         """Looks how far the match is, where files have come into its room."""
@@ -143,19 +189,18 @@ class Seen:
         if stage != self.stage:
             self.stage, self.version, self.since = stage, self.version + 1, changed / 1e9
 
-    def look(self) -> list[LogLine]:
-        """Reads what has come, and returns the new lines of messages."""
+    def look(self) -> None:
+        """Reads what has come."""
         self.look_at_stage()
         texts, is_other = self.tail.lines() if self.tail.has_changed() else ([], False)
         if is_other:
             self.forget()
-        if not self.turns and self.tail.changed and self.stage == "playing":
+        if not self.last and self.tail.changed and self.stage == "playing":
             self.since = self.tail.changed
         found = [line for line in map(log_line, texts) if line]
         for line in found:
             self.take(line, line.moment() or self.tail.changed)
-        self.version += bool(found)
-        return found
+        self.version += bool(found) or is_other
 
 
 def stage_of(room: str) -> str:
@@ -163,17 +208,6 @@ def stage_of(room: str) -> str:
     if os.path.exists(f"{room}/verified"):
         return "checking"
     return "playing" if os.path.exists(f"{room}/played") else "asking"
-
-
-@dataclass(frozen=True)
-class Replaced:
-    """A move that was replaced, or an answer that did not come: of an open match it is not known yet what was played in its place."""
-
-    match: Match
-    player: str
-    turn: int
-    error: str
-    move: str
 
 
 def is_held(folder: pathlib.Path) -> bool:
@@ -194,7 +228,10 @@ class Reader:
         self.open: dict[str, Seen] = {}
         self.results: dict[str, Result] = {}
         self.faults: dict[str, str] = {}
+        # The last replaced moves of matches that are over, and of these matches how many there were.
         self.replaced: deque[Replaced] = deque(maxlen=MOST_REPLACED)
+        self.replaced_counts: dict[str, int] = {}
+        self.numbers = itertools.count()
         self.version, self.results_version, self.is_held = 0, 0, False
         self.next, self.records_time = 0.0, None
 
@@ -221,20 +258,16 @@ class Reader:
         for name in sorted(names - self.open.keys() - self.results.keys(), key=self.place.__getitem__):
             match = self.known[name]
             self.faults.pop(name, None)
-            self.open[name] = Seen(match, f"{folder}/{name}", Tail(f"{folder}/{name}/played.said"), len(match.players), strikes=strikes)
+            tail = Tail(f"{folder}/{name}/played.said")
+            self.open[name] = Seen(match, f"{folder}/{name}", tail, len(match.players), strikes, self.numbers)
         changed = len(gone)
         for name, seen in self.open.items():
             before = seen.version
             with contextlib.suppress(OSError):
-                self.note_missed(seen, seen.look())
+                seen.look()
             changed += seen.version - before
         self.version += changed
         return gone
-
-    def note_missed(self, seen: Seen, lines: list[LogLine]) -> None:
-        """Keeps the last answers that did not come in a match that is open."""
-        for line in [line for line in lines if line.is_no_answer() and line.kind == "PLAY" and line.role < seen.roles][-MOST_OF_MATCH:]:
-            self.replaced.append(Replaced(seen.match, seen.match.players[line.role], line.turn(), line.answer, ""))
 
     def look_at_records(self) -> None:
         """Looks for records of matches that were not seen open, where the folder of the records has changed."""
@@ -268,8 +301,7 @@ class Reader:
         except FileNotFoundError:
             return
         except (OSError, NoRecord) as why:
-            # The path of the folder is nothing for visitors.
-            self.faults[name] = f"it can't be read: {why.strerror}" if isinstance(why, OSError) else str(why)
+            self.refuse(name, why)
             return
         if fault := fault_of_record(record, match, self.plan.competition.strikes):
             self.faults[name] = fault
@@ -278,16 +310,29 @@ class Reader:
         self.results_version += 1
         self.note_replaced(match, record)
 
+    def refuse(self, name: str, why: OSError | NoRecord) -> None:
+        """Has a record not count, since it can't be read."""
+        # The path of the folder is nothing for visitors.
+        self.faults[name] = f"it can't be read: {why.strerror}" if isinstance(why, OSError) else str(why)
+        self.results.pop(name, None)
+
     def note_replaced(self, match: Match, record: dict) -> None:
-        """Keeps the last replaced moves of a match that is over, in the place of what was known of it while it was open."""
-        kept = [its for its in self.replaced if its.match.id != match.id]
-        found = [
-            Replaced(match, match.players[role], turn, error, record["moves"][turn - 1][role])
-            for turn, errors in enumerate(record["errors"], 1)
-            for role, error in enumerate(errors)
-            if error
-        ]
-        self.replaced = deque([*kept, *found[-MOST_OF_MATCH:]], maxlen=MOST_REPLACED)
+        """Keeps the last replaced moves of a match that is over."""
+        self.replaced = deque((one for one in self.replaced if one.match.id != match.id), maxlen=MOST_REPLACED)
+        found = [(turn, role, error) for turn, errors in enumerate(record["errors"], 1) for role, error in enumerate(errors) if error]
+        self.replaced_counts[match.id] = len(found)
+        for turn, role, error in found[-MOST_OF_MATCH:]:
+            move = record["moves"][turn - 1][role]
+            self.replaced.append(Replaced(match, match.players[role], turn, error, move, next(self.numbers)))
+
+    def last_replaced(self) -> list[tuple[Replaced, int]]:
+        """Returns the last replaced moves, the newest first, each with the number of those before it in its match that are not among them."""
+        over = (one for one in self.replaced if one.match.id in self.results)
+        found = [*over, *(one for seen in self.open.values() for one in seen.replaced)]
+        found = sorted(found, key=lambda one: one.number)[-MOST_REPLACED:]
+        counts = self.replaced_counts | {name: seen.replaced_count for name, seen in self.open.items()}
+        left = {name: counts[name] - count for name, count in Counter(one.match.id for one in found).items()}
+        return [(one, left.pop(one.match.id, 0)) for one in found][::-1]
 
     def open_ones(self) -> list[Seen]:
         """Returns the open matches in the schedule's order."""

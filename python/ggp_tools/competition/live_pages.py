@@ -3,7 +3,7 @@
 import datetime
 import html
 
-from ggp_tools.competition.live import Reader, Replaced, Seen
+from ggp_tools.competition.live import MOST_OF_MATCH, MOST_REPLACED, Reader, Replaced, Seen
 from ggp_tools.competition.live_board import LiveBoard, Turn
 from ggp_tools.competition.page_parts import Items, PageParts, Part, link, row, rows_part, table
 from ggp_tools.competition.player_pages import player_link, reason_of
@@ -35,10 +35,12 @@ def awaited_text(seen: Seen, up: str) -> str:
     """Returns whom an open match waits for, and for what."""
     if seen.stage in STAGES:
         return STAGES[seen.stage]
-    players = [player_link(seen.match.players[role], up) for role in range(seen.roles)]
-    if seen.is_ending:
-        return f"{', '.join(players)}: the end"
-    return f"{', '.join(players[role] for role in seen.awaited())}: {f'turn {seen.turn()}' if seen.turn() else 'START'}"
+    found, unsure = seen.awaited()
+    doubt = " (if it is not retired)" if seen.turn() else " (if it has not answered)"
+    players = ", ".join(f"{player_link(seen.match.players[role], up)}{doubt if role in unsure else ''}" for role in found)
+    if seen.is_ending():
+        return f"{players}: the end" if found else "all have answered"
+    return f"{players}: {f'turn {seen.turn()}' if seen.turn() else 'START'}"
 
 
 def missed_text(seen: Seen) -> str:
@@ -93,17 +95,20 @@ def now_part(reader: Reader, waiting: int, trouble: str) -> Part:
     return Part("now", f"<h2>Now</h2>{said}{''.join(lines)}")
 
 
-def replaced_part(replaced: list[Replaced]) -> Part:
-    """Returns the last moves that were replaced, the newest first."""
+def replaced_part(replaced: list[tuple[Replaced, int]]) -> Part:
+    """Returns the last moves that were replaced, the newest first, each with the number of those before it in its match that are not
+    listed."""
     if not replaced:
         return Part("replaced", "<h2>Replaced moves</h2><p>No move was replaced.</p>")
     rows = [["match", "player", "turn", "why", "what came", "played in its place"]]
-    for its in reversed(replaced):
+    for its, before in replaced:
         what = its.error.partition(" ")[2]
         links = link(f"matches/{its.match.id}.html", its.match.id), player_link(its.player, "")
+        turn = f'{its.turn}<br><span class="dim">{before:,} more before</span>' if before else str(its.turn)
         texts = f"<code>{shown(what)}</code>" if what else "", f"<code>{shown(its.move)}</code>" if its.move else ""
-        rows.append([*links, str(its.turn), f'<span class="odd">{html.escape(reason_of(its.error))}</span>', *texts])
-    return Part("replaced", f"<h2>Replaced moves</h2>{table(rows, {0, 1, 3, 4, 5}, {4, 5})}")
+        rows.append([*links, turn, f'<span class="odd">{html.escape(reason_of(its.error))}</span>', *texts])
+    said = f'<p class="dim">The last {MOST_REPLACED}, and of a match the last {MOST_OF_MATCH}.</p>'
+    return Part("replaced", f"<h2>Replaced moves</h2>{said}{table(rows, {0, 1, 3, 4, 5}, {4, 5})}")
 
 
 def queue_part(waiting: list[Match]) -> Part:
@@ -123,7 +128,7 @@ def live_parts(reader: Reader, boards: list[tuple[str, str]], rows: list[tuple[s
         now_part(reader, len(waiting), trouble),
         Items("boards", '<div class="boards" id="boards">', tuple(boards), "</div>"),
         rows_part("open", "<h2>Open matches</h2>", OPEN_HEADS, OPEN_LEFT, rows, "No match is open."),
-        replaced_part(list(reader.replaced)),
+        replaced_part(reader.last_replaced()),
         queue_part(waiting),
     ]
 

@@ -13,14 +13,15 @@ from ggp_tools.competition.live import Reader, Seen, Tail
 from ggp_tools.competition.live_board import LiveBoard, Turn
 from ggp_tools.competition.page_changes import changes, event_text
 from ggp_tools.competition.page_parts import PageParts
-from ggp_tools.competition.pages import Site, by_game, by_player, titled
+from ggp_tools.competition.pages import Site, by_game, by_player, pages_of_all, titled
 from ggp_tools.competition.plan import Plan
-from ggp_tools.competition.player_pages import page_name, standing_texts
+from ggp_tools.competition.player_pages import page_name, standing_of, standing_texts
 from ggp_tools.competition.results import Result
 from ggp_tools.competition.table import Table, tables_of
 from ggp_tools.competition.table_text import in_order
 from ggp_tools.ground_games import Game
 from ggp_tools.kif import expressions
+from ggp_tools.records.show import NoRecord
 from ggp_tools.referee import NoReferee, Unchecked
 
 # The tables are computed anew for at most so small a part of the time, and boards are followed for at most so many seconds in a look.
@@ -28,7 +29,7 @@ SHARE, FOLLOW = 10, 0.25
 # A page that nobody looks at any more is kept for a while, and of all pages so many at most; of a page so many changes.
 IDLE, MOST_PAGES, MOST_EVENTS = 30.0, 200, 60
 NAME = "[A-Za-z0-9_.-]+"
-PATH = re.compile(rf"/(?:(index|matches)|(matches|games)/({NAME})|players/player-({NAME}))\.html")
+PATH = re.compile(rf"/(?:(index|matches(?:-[1-9][0-9]{{0,5}})?)|(matches|games)/({NAME})|players/player-({NAME}))\.html")
 
 
 def plan_stamp(folder: Folder) -> tuple:
@@ -137,12 +138,11 @@ class LiveSite:
         began = time.monotonic()
         if self.tables_version == self.reader.results_version or began < self.next_tables:
             return
-        self.results = in_order(self.plan, self.reader.results)
-        for result in self.results:
+        for result in list(self.reader.results.values()):
             # A match that was played again has another result.
             if self.counted.get(result.match.id) is not result:
-                self.site.add(result)
-                self.counted[result.match.id] = result
+                self.add(result)
+        self.results = in_order(self.plan, self.reader.results)
         self.tables = tables_of(self.plan.competition, self.results, self.plan.rounds)
         self.standing = standing_texts(self.tables[0])
         self.own = {f"/games/{name}.html": found for name, found in by_game(self.results).items()}
@@ -150,6 +150,14 @@ class LiveSite:
         self.tables_version = self.reader.results_version
         ended = time.monotonic()
         self.next_tables = ended + SHARE * (ended - began)
+
+    def add(self, result: Result) -> None:
+        """Has the pages tell of a match. Its record may be another one by now, or be gone."""
+        try:
+            self.site.add(result)
+            self.counted[result.match.id] = result
+        except (OSError, NoRecord) as why:
+            self.reader.refuse(result.match.id, why)
 
     def wanted_boards(self) -> list[Seen]:
         """Returns the open matches whose boards somebody looks at; the others are followed no more."""
@@ -182,7 +190,7 @@ class LiveSite:
         if not game:
             text = self.plan.rules[seen.match.game].text.decode("latin-1")
             game = self.games[seen.match.game] = Game(expressions(text))
-        board = self.boards[seen.match.id] = LiveBoard(game, Tail(seen.tail.path), self.plan.competition.strikes)
+        board = self.boards[seen.match.id] = LiveBoard(game, seen.match, Tail(seen.tail.path), self.plan.competition.strikes)
         return board
 
     # ---- pages
@@ -195,7 +203,7 @@ class LiveSite:
         if found[1] == "index":
             return self.reader.version, self.tables_version, tuple(followed.version for followed in self.followed.values())
         if found[1]:
-            return (self.tables_version,)
+            return (self.tables_version,) if found[1] in pages_of_all(self.results) else None
         own = tuple(result.match.id for result in self.own.get(path, []))
         if found[4]:
             return (own, self.standing.get(found[4])) if found[4] in self.names else None
@@ -218,10 +226,10 @@ class LiveSite:
             live = live_pages.live_parts(self.reader, self.board_items(), self.open_rows(), self.trouble)
             return titled(self.plan, ""), [first, *live[:3], *rest, *live[3:]]
         if found[1]:
-            return titled(self.plan, "all matches"), self.site.all_matches(self.results)
+            return titled(self.plan, "all matches"), self.site.all_matches(self.results, found[1])
         if found[4]:
-            standing = self.standing.get(found[4], "It has played no match.")
-            return titled(self.plan, found[4]), self.site.player_parts(found[4], standing, self.own.get(path, []))
+            own = self.own.get(path, [])
+            return titled(self.plan, found[4]), self.site.player_parts(found[4], standing_of(self.standing, found[4], bool(own)), own)
         if found[2] == "games":
             table = next(table for table in self.tables[1:] if table.game == found[3])
             return titled(self.plan, found[3]), self.site.game_parts(table, self.own.get(path, []))

@@ -5,16 +5,21 @@ import datetime
 import re
 from dataclasses import dataclass
 
-LINE = re.compile(r"(?:(\d{4}-\d\d-\d\dT\d\d:\d\d:\d\d\.\d{3}Z) )?\S+ role (\d{1,9}) (\S+) message (\d{1,9}) (\((\w+) .*), (\d{1,18}) ms")
+from ggp_tools.competition.schedule import Match
+
+LINE = re.compile(r"(?:(\d{4}-\d\d-\d\dT\d\d:\d\d:\d\d\.\d{3}Z) )?(\S+) role (\d{1,9}) (\S+) message (\d{1,9}) (\((\w+) .*), (\d{1,18}) ms")
+PARENTHESIS = re.compile(r"[()]")
 SHOWN = 200
 MORE = ".."
-NO_ANSWER = re.compile(r"(TO|CE|lost)( \(.*\))?")
+# What stands in the place of an answer that did not come: it has its reason with it. The word alone is what a player has answered.
+NO_ANSWER = re.compile(r"(TO|CE|lost) \(.*\)")
 
 
 @dataclass(frozen=True)
 class LogLine:
-    """A message to the player of a role, with its number from 1 on, and what came back after so many milliseconds."""
+    """A message of a match to the player of a role, with its number from 1 on, and what came back after so many milliseconds."""
 
+    match: str
     role: int
     player: str
     number: int
@@ -31,22 +36,26 @@ class LogLine:
         except ValueError:
             return None
 
+    def is_of(self, match: Match) -> bool:
+        """Returns whether the line is one of a match, of the player that sits in its role."""
+        return self.match == match.id and self.role < len(match.players) and self.player == match.players[self.role]
+
     def turn(self) -> int:
         """Returns the turn that a PLAY asks for, from 1 on; START comes before turn 1."""
         return self.number - 1
 
     def is_no_answer(self) -> bool:
-        """Returns whether no answer came. A player that answers with these very words makes no legal move by them either."""
+        """Returns whether no answer came. A player that answers with these very words and a reason makes no legal move by them either."""
         return NO_ANSWER.fullmatch(self.answer) is not None
 
 
 def message_end(text: str) -> int:
     """Returns where the message ends that a text begins with: at its last parenthesis, or where the referee cut it."""
     level = 0
-    for at, letter in enumerate(text[:SHOWN]):
-        level += (letter == "(") - (letter == ")")
+    for found in PARENTHESIS.finditer(text, 0, SHOWN):
+        level += 1 if found[0] == "(" else -1
         if not level:
-            return at + 1
+            return found.end()
     return SHOWN + len(MORE)
 
 
@@ -55,8 +64,8 @@ def log_line(text: str) -> LogLine | None:
     found = LINE.fullmatch(text)
     if not found:
         return None
-    said = found[5]
+    said = found[6]
     end = message_end(said)
     if said[end : end + 2] != ": ":
         return None
-    return LogLine(int(found[2]), found[3], int(found[4]), found[6], said[:end], said[end + 2 :], int(found[7]), found[1])
+    return LogLine(found[2], int(found[3]), found[4], int(found[5]), found[7], said[:end], said[end + 2 :], int(found[8]), found[1])

@@ -1,30 +1,46 @@
 """The pages of a competition: a folder of plain HTML that opens without a server. They follow from the folder's files alone."""
 
+import concurrent.futures.process
 import contextlib
 import datetime
+import hashlib
 import html
+import itertools
+import multiprocessing
 import os
+import pathlib
 import shutil
+import signal
+import threading
 import time
 from collections.abc import Callable, Iterator
 from dataclasses import dataclass
 
 from ggp_tools.competition.files import UNFINISHED, drop_unfinished, write_whole
+from ggp_tools.competition.kept import PROCESSORS
+from ggp_tools.competition.known import Known, sum_or_none
 from ggp_tools.competition.page_parts import Items, PageParts, Part, link, page, row, rows_part, table
 from ggp_tools.competition.plan import Plan
-from ggp_tools.competition.player_pages import page_name, player_link, player_parts, standing_texts
+from ggp_tools.competition.player_pages import page_name, player_link, player_parts, standing_of, standing_texts
 from ggp_tools.competition.plots import rating_plot
 from ggp_tools.competition.results import Result, remarks, times_of
-from ggp_tools.competition.sittings import Sitting, sittings_of
+from ggp_tools.competition.sittings import Sitting, sitting_of_values, sittings_of, values_of
 from ggp_tools.competition.table import Table, tables_of
-from ggp_tools.competition.table_text import FORFEIT, METHOD, crosstable_rows, notes, standings_rows, without_record
+from ggp_tools.competition.table_text import FORFEIT, METHOD, count_of_planned, crosstable_rows, notes, standings_rows, without_record
 from ggp_tools.descriptions.loading import Rules, sum_of
-from ggp_tools.records.show import page_of, read_record
+from ggp_tools.referee import Unchecked
+from ggp_tools.records.show import LONGEST_RECORD, page_of, read_record
 
 # While matches are played, the pages are written again after SECONDS seconds at the earliest, and for at most a tenth of the time.
 SECONDS, SHARE = 2, 10
 # The first page has so many matches, the last ones; and a crosstable of so many players at most is drawn.
 LAST, MOST_CROSSED = 20, 100
+# A page lists so many matches; the list of all comes in as many pages as that takes.
+MOST_LISTED = 500
+# So many pages are made by several processes, each so many at a time, and of so many bytes of records together.
+MANY, CHUNK, TOGETHER = 100, 16, 16 << 20
+# Of a match's log so many bytes are read, and so many are said in words.
+MOST_OF_LOG, LOG_WORDS = 16 << 20, "16 MiB"
 
 MATCH_HEADS = ["match", "game", "players and goals", "turns", "replaced moves", "begin (UTC)", "seconds"]
 LEFT = {0, 1, 2, 4, 5}
@@ -83,6 +99,12 @@ def matches_part(rows: list[tuple[str, str]], title: str = "Matches") -> Items:
     return rows_part("matches", f"<h2>{title}</h2>", MATCH_HEADS, LEFT, rows, "No match is over.")
 
 
+def pages_of_all(results: list[Result]) -> dict[str, list[Result]]:
+    """Returns the pages of the list of all matches by their names, with the matches of each. The first one is there also without any."""
+    starts = range(0, len(results), MOST_LISTED) or [0]
+    return {f"matches{f'-{at}' if at > 1 else ''}": results[start : start + MOST_LISTED] for at, start in enumerate(starts, 1)}
+
+
 def rules_parts(rules: Rules) -> Iterator[str]:
     """Returns the rules of a game, and before them what its players are told in their place, where they are."""
     if rules.told is not None:
@@ -98,15 +120,22 @@ def rules_text(text: bytes) -> str:
     return f'<p class="dim">SHA-256: {sum_of(text)}</p><pre>{html.escape(text.decode("ascii", "backslashreplace"))}</pre>'
 
 
+def match_page(way: bytes, data: bytes) -> bytes:
+    """Returns the page of a match by its record, as `show-record` makes it, with the way back."""
+    return page_of(read_record(data)).replace(b"<body>", b"<body>\n" + way, 1) + b"\n"
+
+
 @dataclass(frozen=True)
 class Told:
-    """What is told of a match that is over: when it began and ended, and its row, on the first page and on a page below it."""
+    """What is told of a match that is over: when it began and ended, its row, on the first page and on a page below it, and what its
+    players did, unless its log is too long, by the first lines of that alone."""
 
     begin: str | None
     end: str | None
     above: tuple[str, str]
     below: tuple[str, str]
     sittings: list[Sitting]
+    is_cut: bool
 
 
 class Site:
@@ -117,25 +146,43 @@ class Site:
         self.plan, self.shows_gaps = plan, shows_gaps
         self.told: dict[str, Told] = {}
 
-    def add(self, result: Result) -> bytes:
-        """Reads what is to be told of a match that is over, and returns its record."""
+    def add(self, result: Result, known: Known | None = None) -> bytes:
+        """Reads what is to be told of a match that is over, and returns its record. Refuses one that is longer than a record may be. What
+        is known to be told of the same files is not looked for again."""
         match, folder = result.match, self.plan.folder
-        data, log = folder.record(match.id).read_bytes(), folder.read_log(match.id)
+        data = folder.read_record(match.id, LONGEST_RECORD + 2)
+        log, is_cut = folder.read_lines_of_log(match.id, MOST_OF_LOG)
+        key = known.key(repr(result).encode(), data, log, b"%d" % is_cut) if known else ""
+        values = known.get("told", key) if known else None
+        if values:
+            *told, sittings = values
+            self.told[match.id] = Told(*told[:2], *map(tuple, told[2:]), [sitting_of_values(one, result) for one in sittings], is_cut)
+            return data
         times = times_of(log, len(match.players))
         rows = match_row(result, times, ""), match_row(result, times, "../")
-        self.told[match.id] = Told(times["begin"], times["end"], *rows, sittings_of(result, read_record(data), log, times["end"]))
+        sittings = sittings_of(result, read_record(data), log, times["end"])
+        self.told[match.id] = Told(times["begin"], times["end"], *rows, sittings, is_cut)
+        if known:
+            known.put("told", key, [times["begin"], times["end"], *rows, list(map(values_of, sittings))])
         return data
 
-    def match_page(self, result: Result, data: bytes) -> bytes:
-        """Returns the page of a match, as `show-record` makes it, with the way back."""
+    def way_of_match(self, result: Result) -> bytes:
+        """Returns what stands at the head of the page of a match: the way back, and what there is to say of it."""
         match = result.match
         players = ", ".join(player_link(player, "../") for player in match.players)
         way = f"<p>{link('../index.html', self.plan.competition.name)} / {link(f'../games/{match.game}.html', match.game)} / {players}</p>"
         way += "".join(f"<p>{html.escape(remark)}</p>" for remark in remarks(result))
-        return page_of(read_record(data)).replace(b"<body>", b"<body>\n" + way.encode("ascii"), 1) + b"\n"
+        return way.encode("ascii")
 
-    def below(self, results: list[Result]) -> list[tuple[str, str]]:
-        return [self.told[result.match.id].below for result in results]
+    def match_page(self, result: Result, data: bytes) -> bytes:
+        return match_page(self.way_of_match(result), data)
+
+    def own_matches(self, results: list[Result]) -> PageParts:
+        """Returns the list of the matches of a player or a game: the last ones in the schedule's order where there are many."""
+        shown = results[-MOST_LISTED:]
+        said = f"These are {len(shown)} of {len(results):,}; the others are among {link('../matches.html', 'all matches')}."
+        note = Part("more", f'<p class="dim">{said}</p>' if len(shown) < len(results) else "")
+        return [matches_part([self.told[result.match.id].below for result in shown]), note]
 
     def last_matches(self, results: list[Result]) -> Items:
         """Returns the matches that ended last, the newest first."""
@@ -146,9 +193,10 @@ class Site:
         """Gives what the first page says of the matches that have no record, where it does."""
         missing = without_record(self.plan, results) if self.shows_gaps else []
         if missing:
-            rows = [["match", "game", "players"], *([match.id, match.game, ", ".join(match.players)] for match in missing)]
+            rows = [["match", "game", "players"], *([match.id, match.game, ", ".join(match.players)] for match in missing[:MOST_LISTED])]
+            more = f"<p>And {len(missing) - MOST_LISTED:,} more, which GAPS.tsv names.</p>" if len(missing) > MOST_LISTED else ""
             said = "<h2>Matches without a record</h2><p>These count for nobody.</p>"
-            yield Part("gaps", said + table(rows, {0, 1, 2}))
+            yield Part("gaps", said + table(rows, {0, 1, 2}) + more)
 
     def span(self, results: list[Result]) -> str:
         """Returns when the first match began and the last one ended, as text."""
@@ -161,10 +209,12 @@ class Site:
     def head(self, results: list[Result]) -> Part:
         plan = self.plan
         games = ", ".join(link(f"games/{game.name}.html", game.name) for game in plan.competition.games)
+        # A match in whose place another one was ordered is none of these, as in the table.
+        count = sum(not result.match.again for result in results)
         forfeit = f" {FORFEIT}" if plan.competition.forfeit else ""
         lines = [
             f"<h1>{html.escape(plan.competition.name)}</h1>",
-            f"<p>{len(results)} of {len(plan.matches)} matches are over.{self.span(results)}{forfeit}</p>",
+            f"<p>{count} of {count_of_planned(plan)} matches are over.{self.span(results)}{forfeit}</p>",
             f"<p>Games: {games}. In each the standings of that game, and its rules. {link('matches.html', 'All matches')} that are over.</p>",
         ]
         return Part("head", "".join(lines))
@@ -176,9 +226,14 @@ class Site:
     def way_back(self, title: str) -> str:
         return f"<p>{link('../index.html', self.plan.competition.name)}</p><h1>{html.escape(title)}</h1>"
 
-    def all_matches(self, results: list[Result]) -> PageParts:
+    def all_matches(self, results: list[Result], name: str) -> PageParts:
+        """Returns a page of the list of all matches, with links to the others."""
+        pages = pages_of_all(results)
         way = f"<p>{link('index.html', self.plan.competition.name)}</p><h1>All matches that are over</h1>"
-        return [Part("head", way), matches_part([self.told[result.match.id].above for result in results])]
+        spans = {page: f"{own[0].match.id} to {own[-1].match.id}" for page, own in pages.items()} if len(pages) > 1 else {}
+        others = ", ".join(span if page == name else link(f"{page}.html", span) for page, span in spans.items())
+        list_of_own = matches_part([self.told[result.match.id].above for result in pages[name]])
+        return [Part("head", way), Part("pages", f"<p>{others}</p>" if others else ""), list_of_own]
 
     def game_parts(self, found: Table, results: list[Result]) -> PageParts:
         """Returns the page of a game, from its table and its own results."""
@@ -186,12 +241,15 @@ class Site:
         rules = self.plan.rules[found.game]
         said = f"<p>Roles: {html.escape(', '.join(rules.roles))}. Clocks: {game.start} s for START, {game.play} s for every other message.</p>"
         head = Part("head", self.way_back(found.game) + said)
-        return [head, *standings(found, "../"), matches_part(self.below(results)), Part("rules", "\n".join(rules_parts(rules)))]
+        return [head, *standings(found, "../"), *self.own_matches(results), Part("rules", "\n".join(rules_parts(rules)))]
 
     def player_parts(self, player: str, standing: str, results: list[Result]) -> PageParts:
         """Returns the page of a player, from its own results."""
         own = [sitting for result in results for sitting in self.told[result.match.id].sittings if result.match.players[sitting.role] == player]
-        return [*player_parts(self.plan.competition.name, player, standing, own), matches_part(self.below(results))]
+        cut = [result.match.id for result in results if self.told[result.match.id].is_cut]
+        said = f"Of the logs of {', '.join(cut)} the first {LOG_WORDS} are read: later times, messages and answers are not shown."
+        note = Part("cut", f'<p class="odd">{html.escape(said)}</p>' if cut else "")
+        return [*player_parts(self.plan.competition.name, player, standing, own), note, *self.own_matches(results)]
 
 
 def by_game(results: list[Result]) -> dict[str, list[Result]]:
@@ -212,8 +270,8 @@ def by_player(results: list[Result]) -> dict[str, list[Result]]:
 class Pages:
     """The pages as files of a folder. A page is made again only where what it tells has changed."""
 
-    def __init__(self, plan: Plan, shows_gaps: bool = False) -> None:
-        self.site, self.plan, self.folder = Site(plan, shows_gaps), plan, plan.folder.pages
+    def __init__(self, plan: Plan, shows_gaps: bool = False, known: Known | None = None) -> None:
+        self.site, self.plan, self.folder, self.known = Site(plan, shows_gaps), plan, plan.folder.pages, known
         self.next, self.stamps = 0.0, {}
 
     def write_now_and_then(self, results: Callable[[], list[Result]]) -> None:
@@ -230,19 +288,43 @@ class Pages:
     def write(self, results: list[Result]) -> None:
         for name in ("matches", "games", "players"):
             (self.folder / name).mkdir(parents=True, exist_ok=True)
-        for result in results:
-            # Another run that knows fewer matches may have taken the page away.
-            if result.match.id not in self.site.told or not (self.folder / f"matches/{result.match.id}.html").exists():
-                self.put(f"matches/{result.match.id}.html", self.site.match_page(result, self.site.add(result)))
+        self.write_matches(results)
         tables = tables_of(self.plan.competition, results, self.plan.rounds)
         self.write_games(tables[1:], by_game(results))
         self.write_players(tables[0], by_player(results))
-        self.put_parts("matches.html", "all matches", self.site.all_matches(results))
+        for name in pages_of_all(results):
+            self.put_parts(f"{name}.html", "all matches", self.site.all_matches(results, name))
         self.put_parts("index.html", "", self.site.first_parts(tables, results))
-        drop_unfinished(self.folder)
+        self.drop_others("", {f"{name}.html" for name in pages_of_all(results)}, "matches-*.html")
         self.drop_others("matches", {f"{result.match.id}.html" for result in results})
         self.drop_others("games", {f"{table.game}.html" for table in tables[1:]})
         self.drop_others("players", {page_name(player.name).partition("/")[2] for player in self.plan.competition.players})
+
+    def write_matches(self, results: list[Result]) -> None:
+        """Writes the pages of matches that are not there. What is there is right where it has the sum that it had when it was made, of
+        the same record."""
+        left, size = [], 0
+        for result in results:
+            name = f"matches/{result.match.id}.html"
+            # Another run that knows fewer matches may have taken the page away.
+            if result.match.id in self.site.told and (self.folder / name).exists():
+                continue
+            data, way = self.site.add(result, self.known), self.site.way_of_match(result)
+            key = self.known.key(way, data) if self.known else ""
+            if not self.known or self.known.get("pages", key) != (sum_or_none(self.folder / name) or ""):
+                left.append((name, key, way, data))
+                size += len(data)
+            if size > TOGETHER:
+                self.make_matches(left)
+                left, size = [], 0
+        self.make_matches(left)
+
+    def make_matches(self, works: list[tuple[str, str, bytes, bytes]]) -> None:
+        """Writes pages of matches: of each there is the name, its key, what stands at its head, and the record."""
+        for (name, key, _, _), data in zip(works, made_side_by_side(match_page, [(way, record) for _, _, way, record in works])):
+            self.put(name, data)
+            if self.known:
+                self.known.put("pages", key, hashlib.sha256(data).hexdigest())
 
     def write_games(self, tables: list[Table], results: dict[str, list[Result]]) -> None:
         for table in tables:
@@ -254,7 +336,8 @@ class Pages:
     def write_players(self, found: Table, results: dict[str, list[Result]]) -> None:
         texts = standing_texts(found)
         for player in self.plan.competition.players:
-            own, standing = results.get(player.name, []), texts.get(player.name, "It has played no match.")
+            own = results.get(player.name, [])
+            standing = standing_of(texts, player.name, bool(own))
             if self.has_changed(page_name(player.name), own, standing):
                 self.put_parts(page_name(player.name), player.name, self.site.player_parts(player.name, standing, own))
                 self.was_made(page_name(player.name), own, standing)
@@ -279,12 +362,31 @@ class Pages:
     def put_parts(self, name: str, title: str, parts: PageParts) -> None:
         self.put(name, page(titled(self.plan, title), parts))
 
-    def drop_others(self, folder: str, names: set[str]) -> None:
+    def drop_others(self, folder: str, names: set[str], form: str = "*.html") -> None:
         """Takes away the pages of what is no longer there, and those that were never finished. All else is left alone."""
-        for file in (self.folder / folder).glob("*.html"):
+        for file in (self.folder / folder).glob(form):
             if file.name not in names and not file.name.startswith(UNFINISHED):
                 file.unlink(missing_ok=True)
         drop_unfinished(self.folder / folder)
+
+
+def ignore_interrupts() -> None:
+    """Has an interrupt be that of the process that waits for this one."""
+    signal.signal(signal.SIGINT, signal.SIG_IGN)
+
+
+def made_side_by_side(function: Callable[..., bytes], works: list[tuple]) -> Iterator[bytes]:
+    """Gives what a function makes of these works, in order: by several processes where it is worth it. A process that runs other threads
+    is not split."""
+    if len(works) < MANY or PROCESSORS == 1 or threading.active_count() > 1:
+        yield from itertools.starmap(function, works)
+        return
+    fork = multiprocessing.get_context("fork")
+    with concurrent.futures.ProcessPoolExecutor(PROCESSORS, fork, ignore_interrupts) as at_once:
+        try:
+            yield from at_once.map(function, *zip(*works), chunksize=CHUNK)
+        except concurrent.futures.process.BrokenProcessPool:
+            raise Unchecked("pages can't be made: a process was ended, as where memory is short") from None
 
 
 def titled(plan: Plan, title: str) -> str:
@@ -292,8 +394,22 @@ def titled(plan: Plan, title: str) -> str:
     return f"{plan.competition.name}: {title}" if title else plan.competition.name
 
 
-def made_anew(plan: Plan, results: list[Result]) -> None:
-    """Writes the pages that are published, into an empty folder."""
-    with contextlib.suppress(FileNotFoundError):
-        shutil.rmtree(plan.folder.pages)
-    Pages(plan, shows_gaps=True).write(results)
+def drop_all_but_matches(folder: pathlib.Path, results: list[Result]) -> None:
+    """Empties the folder of the pages but for the files that may be pages of these matches."""
+    wanted = {f"{result.match.id}.html" for result in results}
+    places = [folder, *([folder / "matches"] if (folder / "matches").is_dir() and not (folder / "matches").is_symlink() else [])]
+    for it in [it for place in places for it in place.iterdir() if it not in places]:
+        if it.is_dir() and not it.is_symlink():
+            shutil.rmtree(it)
+        elif it.parent == folder or it.name not in wanted or not it.is_file() or it.is_symlink():
+            it.unlink()
+
+
+def made_anew(plan: Plan, results: list[Result], known: Known | None = None) -> None:
+    """Writes the pages that are published, into a folder that has nothing else. Those of matches stay where they are known to be right."""
+    if known and plan.folder.pages.is_dir():
+        drop_all_but_matches(plan.folder.pages, results)
+    else:
+        with contextlib.suppress(FileNotFoundError):
+            shutil.rmtree(plan.folder.pages)
+    Pages(plan, True, known).write(results)

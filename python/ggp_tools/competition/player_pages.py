@@ -5,6 +5,7 @@ import itertools
 
 from ggp_tools.competition.page_parts import Part, PageParts, link, table
 from ggp_tools.competition.plots import BARS, goals_plot, times_plot
+from ggp_tools.competition.results import again_words
 from ggp_tools.competition.sittings import Fault, Sitting
 from ggp_tools.competition.table import Table
 from ggp_tools.competition.table_text import rating_text
@@ -40,6 +41,11 @@ def standing_texts(found: Table) -> dict[str, str]:
     return texts
 
 
+def standing_of(texts: dict[str, str], player: str, has_played: bool) -> str:
+    """Returns the sentence of a player, also of one that is in no match that counts."""
+    return texts.get(player) or f"It has played no match{' that counts' if has_played else ''}."
+
+
 def seats_table(sittings: list[Sitting]) -> str:
     """Returns the goals by game and seat."""
     seats: dict[tuple[str, int, str], list[Sitting]] = {}
@@ -62,6 +68,8 @@ def longest_text(times: list[int | None]) -> str:
 
 def reason_of(error: str) -> str:
     """Returns what an error means; that of a log may have a reason of its own behind it."""
+    if error.startswith("lost "):
+        return "the referee was short of something, so the match gets no record"
     return why_of(error if error.startswith("IL ") else error.partition(" ")[0])
 
 
@@ -85,16 +93,19 @@ def errors_part(sittings: list[Sitting]) -> str:
 
 
 def player_parts(competition: str, player: str, standing: str, sittings: list[Sitting]) -> PageParts:
-    """Returns the parts of a player's page before the list of its matches; `standing` is a sentence."""
-    ordered = in_time(sittings)
+    """Returns the parts of a player's page before the list of its matches; `standing` is a sentence. A match in whose place another one
+    was ordered counts in none of them."""
+    ordered = [sitting for sitting in in_time(sittings) if not sitting.result.match.again]
+    left_out = [again_words(sitting.result.match) for sitting in sittings if sitting.result.match.again]
     goals = [goal for sitting in ordered if (goal := sitting.goal()) is not None]
     times = [sum(counts) for counts in zip(*(sitting.times for sitting in ordered))] or [0] * BARS
     way = f"<p>{link('../index.html', competition)}</p><h1>{html.escape(player)}</h1><p>{html.escape(standing)}</p>"
+    way += "".join(f'<p class="odd">{html.escape(words)}</p>' for words in left_out)
     over_time, response = goals_plot(goals), times_plot(times)
     said = '<p class="dim">Each dot is a match, in the order of their ends; the line is the mean until then.</p>'
     return [
         Part("player", way),
-        Part("seats", f"<h2>Goals by game and seat</h2>{seats_table(ordered)}" if sittings else ""),
+        Part("seats", f"<h2>Goals by game and seat</h2>{seats_table(ordered)}" if ordered else ""),
         Part("goals", f"<h2>Goals over time</h2>{said}{over_time}" if over_time else ""),
         Part("times", f"<h2>Response times to PLAY</h2>{response}" if response else ""),
         Part("errors", f"<h2>Errors</h2>{errors_part(ordered)}"),

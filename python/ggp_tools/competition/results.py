@@ -151,6 +151,19 @@ def result_of(record: dict, match: Match, has_forfeits: bool = False) -> Result:
     return Result(match, tuple(record["goalValues"]), len(record["moves"]), errors, retirements, *end, has_forfeits)
 
 
+def values_of(result: Result) -> list:
+    """Returns what a record says of its match, as values of JSON."""
+    retirements = [why and [why.errors, why.turn] for why in result.retirements]
+    return [result.goals, result.turns, result.errors, retirements, result.phase, result.cause]
+
+
+def result_of_values(values: list, match: Match, has_forfeits: bool) -> Result:
+    """Returns the result of a match that these values say."""
+    goals, turns, errors, retirements, *end = values
+    found = tuple(why and Retirement(tuple(why[0]), why[1]) for why in retirements)
+    return Result(match, tuple(goals), turns, tuple(map(Counter, errors)), found, *end, has_forfeits)
+
+
 def read_record(data: bytes) -> dict:
     """Returns the record that the bytes of a file spell, which `verify` has called lawful."""
     return json.loads(data)

@@ -81,3 +81,15 @@ def sittings_of(result: Result, record: dict, log: bytes, ended: str | None) -> 
         Sitting(result, role, record["roles"][role], ended or "", *times_of_role(lines), faults_of_role(record, role, lines))
         for role, lines in enumerate(by_role)
     ]
+
+
+def values_of(sitting: Sitting) -> list:
+    """Returns what a player did in a match, as values of JSON."""
+    faults = [[fault.turn, fault.error, fault.move, fault.message, fault.answer] for fault in sitting.faults]
+    return [sitting.role, sitting.role_name, sitting.ended, sitting.times, sitting.start, sitting.longest, faults]
+
+
+def sitting_of_values(values: list, result: Result) -> Sitting:
+    """Returns what a player did in a match, as these values say."""
+    role, role_name, ended, times, start, longest, faults = values
+    return Sitting(result, role, role_name, ended, tuple(times), start, longest, tuple(Fault(*fault) for fault in faults))

@@ -5,6 +5,7 @@ from collections.abc import Iterator
 from dataclasses import dataclass
 
 from ggp_tools.competition.files import Refused
+from ggp_tools.competition.log_lines import MORE, NO_ANSWER, SHOWN
 from ggp_tools.competition.plan import Plan
 from ggp_tools.competition.results import read_record
 from ggp_tools.competition.schedule import Match
@@ -12,10 +13,6 @@ from ggp_tools.moments import MOMENT
 
 TIMED = re.compile(rf"({MOMENT}) (.*)")
 MESSAGE = re.compile(r"\S+ role (\d{1,9}) \S+ message (\d{1,9}) (.*), (\d{1,18}) ms")
-# So many bytes of a message stand in the log, and two dots if more follow.
-SHOWN, MORE = 200, ".."
-# What stands in place of an answer.
-NO_ANSWER = re.compile(r"TO|(?:CE|lost) \(.*\)")
 MARKS = {
     "TO": "no whole answer within {seconds} s",
     "CE": "no connection, or no whole reply",
@@ -101,13 +98,23 @@ class Told:
         message, answer = parts_of(said)
         kind = message[1:].partition(" ")[0]
         head = f"turn {number - 1}: {kind}" if kind == "PLAY" else kind
-        words = f"{head} brought {answer} after {ms} ms" if NO_ANSWER.fullmatch(answer) else f"{head} was answered `{answer}` after {ms} ms"
+        mark = self.mark_of(role, number - 2, kind)
+        # A player may answer with the words of an error: the record knows, where there is one.
+        is_missed = NO_ANSWER.fullmatch(answer) and mark in (None, "TO", "CE")
+        words = f"{head} brought {answer} after {ms} ms" if is_missed else f"{head} was answered `{answer}` after {ms} ms"
         if self.record and kind == "PLAY":
             words += f"; {self.turn_words(role, number - 2)}"
-        elif self.record:
-            mark = self.record["startMarks" if kind == "START" else "endMarks"][role]
-            words += f"; {self.mark_words(mark, kind)}" if mark else ""
+        elif mark:
+            words += f"; {self.mark_words(mark, kind)}"
         return f"{words}. Message {number} to it: {message}"
+
+    def mark_of(self, role: int, turn: int, kind: str) -> str | None:
+        """Returns the error that the record has of a message, empty where it has none; none where no record tells."""
+        if not self.record or kind == "PLAY" and turn >= len(self.record["errors"]):
+            return None
+        if kind == "PLAY":
+            return self.record["errors"][turn][role]
+        return self.record["startMarks" if kind == "START" else "endMarks"][role]
 
     def mark_words(self, mark: str, kind: str) -> str:
         """Returns what the error of a record means."""

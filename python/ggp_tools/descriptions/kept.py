@@ -12,10 +12,15 @@ HERE = pathlib.Path(__file__).resolve().parent
 MOST_KEPT = 200
 
 
+def cache() -> pathlib.Path:
+    """Returns the cache of whoever runs this."""
+    found = os.environ.get("XDG_CACHE_HOME") or pathlib.Path.home() / ".cache"
+    return pathlib.Path(found) / "ggp_manager"
+
+
 def folder() -> pathlib.Path:
-    """Returns where results are kept: in the cache of whoever runs this."""
-    cache = os.environ.get("XDG_CACHE_HOME") or pathlib.Path.home() / ".cache"
-    return pathlib.Path(cache) / "ggp_manager/instantiated"
+    """Returns where results are kept."""
+    return cache() / "instantiated"
 
 
 def sum_of_work(text: bytes, options: list[str]) -> str:
