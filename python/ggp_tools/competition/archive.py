@@ -15,6 +15,7 @@ from ggp_tools.competition.described import DIFFERS, IS_SAME, held_records
 from ggp_tools.competition.files import UNFINISHED, Refused, written_whole
 from ggp_tools.competition.history import history_files
 from ggp_tools.competition.kept import look_at_records, strangers
+from ggp_tools.competition.log_faults import faults_of_logs
 from ggp_tools.competition.pages import made_anew
 from ggp_tools.competition.plan import faults_of_descriptions, read_plan, read_sums, rounds_left, sums_text
 from ggp_tools.descriptions.loading import has_variables
@@ -261,6 +262,7 @@ def faults_of_matches(plan, referee):
     found += [f"{match.id}: it has no record" for match in wanted if match.id not in results and match.id not in faults]
     found += [f"{match.id}: its log is missing" for match in wanted if not plan.folder.has_log(match.id)]
     found += [f"records/{name}: it is of no match of the schedule" for name in strangers(plan)]
+    found += faults_of_logs(plan, in_order(plan, results))
     return in_order(plan, results), found
 
 
