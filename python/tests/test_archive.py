@@ -193,6 +193,7 @@ SPOILINGS = {
     "its folder has another name": (lambda files: packed({name.replace("cup/", "final/", 1): data for name, data in files.items()}), "its folder is final, and the name of the competition cup"),
     "a folder stands in the place of a file": (beside("cup/again.tsv/more"), "again.tsv/more is nothing of this competition"),
     "a file stands in the place of a folder": (beside("cup/earlier"), "earlier is nothing of this competition"),
+    "there is a folder of the name of a file": (lambda files: packed({"cup/schedule.tsv/": b"", **files}, {"cup/schedule.tsv/": tarfile.DIRTYPE}), "'cup/schedule.tsv' is there twice"),
     "a file is a folder too": (beside("cup/play.log/more"), "'cup/play.log/more' is a file and a folder, or below a file"),
     "there are folders alone": (lambda _: packed({"cup": b""}, {"cup": tarfile.DIRTYPE}), "SHA256SUMS is missing"),
 }

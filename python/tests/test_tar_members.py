@@ -111,7 +111,7 @@ class TarMembers(unittest.TestCase):
 
     def test_one_that_is_cut_off(self):
         whole = block("cup/a", data=b"a" * 700) + END
-        for length in (0, 100, 512, 600, 1100, 1536):
+        for length in (0, 100, 512, 600, 1100, 1536, 2048, 2559):
             with self.subTest(length), self.assertRaises(NoTar):
                 read(whole[:length])
 

@@ -183,9 +183,9 @@ def unpacked(path, room):
                 top = top or parts[0]
                 if parts[0] != top:
                     raise Spoilt(f"{member.name!r} is not below {top}")
+                known.add(member.name)
                 if member.is_folder():
                     continue  # Each folder is made with its first file.
-                known.add(member.name)
                 with new_file(room, member.name) as file:
                     copied(stream, member, file)
     except (NoTar, EOFError, zlib.error, gzip.BadGzipFile) as why:

@@ -98,9 +98,9 @@ def named(stream: BinaryIO, header: Member) -> Member:
 
 
 def refuse_more(stream: BinaryIO) -> None:
-    """Refuses what stands behind the end."""
-    behind = stream.read(MOST_BEHIND + 1)
-    if any(behind) or len(behind) > MOST_BEHIND:
+    """Refuses what stands behind the first block of zeros, of which there are two at least."""
+    behind = read_all(stream, BLOCK) + stream.read(MOST_BEHIND)
+    if any(behind) or len(behind) >= MOST_BEHIND:
         raise NoTar("something stands behind its end")
 
 
