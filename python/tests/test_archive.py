@@ -28,10 +28,10 @@ HEAD = "start = 5\nplay = 5\nstrikes = 1\nforfeit = true\n"
 def packed(files, kinds=None, fits=True, headers=None):
     """Returns an archive of these files, whose sums are made to fit unless they are to stay. By names, some are of other kinds or have
     extended headers."""
-    files = dict(files)
-    lines = sorted((name.partition("/")[2], hashlib.sha256(data).hexdigest()) for name, data in files.items() if name != "cup/SHA256SUMS")
-    if fits and "cup/SHA256SUMS" in files:
-        files["cup/SHA256SUMS"] = "".join(f"{line}  {name}\n" for name, line in lines).encode()
+    files, sums = dict(files), f"{next(iter(files)).partition('/')[0]}/SHA256SUMS"
+    lines = sorted((name.partition("/")[2], hashlib.sha256(data).hexdigest()) for name, data in files.items() if name != sums)
+    if fits and sums in files:
+        files[sums] = "".join(f"{line}  {name}\n" for name, line in lines).encode()
     found = io.BytesIO()
     with tarfile.open(fileobj=found, mode="w:gz") as archive:
         for name, data in files.items():
@@ -144,6 +144,9 @@ SPOILINGS = {
     "an account has a line that replay skips": (changed("cup/accounts/cup-003.txt", lambda it: b'{"goalValues":[100,0]}\n' + it), "cup-003: its account is not of one match alone"),
     "a match is missing": (without("cup/records/cup-003.json", "cup/accounts/cup-003.txt", "cup/logs/cup-003.txt"), "cup-003: it has no record"),
     "an account is missing": (without("cup/accounts/cup-004.txt"), "cup-004: its account is missing"),
+    "a log tells of another answer": (changed("cup/logs/cup-001.txt", lambda it: re.sub(rb"(PLAY [^:]*: )[^,]*,", rb"\1(take 7),", it, count=1)), "of its log is not what its account says"),
+    "a log tells of another player": (changed("cup/logs/cup-001.txt", lambda it: it.replace(b" ann ", b" cid ").replace(b" bob ", b" ann ")), "line 2 of its log is not what its account says"),
+    "two logs are exchanged": (swapped("cup/logs/cup-001.txt", "cup/logs/cup-002.txt"), "cup-002: line 2 of its log is not what its account says"),
     "a log is missing": (without("cup/logs/cup-004.txt"), "cup-004: its log is missing"),
     "the rules are others": (changed("cup/rules/countdown.kif", lambda it: it.replace(b"100", b"90")), "rules/countdown.kif is not what"),
     "a description is another": (changed("cup/games/odd.kif", lambda _: b"(role nonsense)\n"), "games/odd.kif is not the description that the rules of odd were made from"),
@@ -165,6 +168,8 @@ SPOILINGS = {
     "a page is missing": (without("cup/pages/matches/cup-001.html"), "pages/matches/cup-001.html does not follow"),
     "there is a page more": (beside("cup/pages/more.html"), "pages/more.html does not follow"),
     "there is a record more": (beside("cup/records/cup-099.json"), "it is of no match of the schedule"),
+    "there is a file more, of a name that the check itself has used": (beside("cup/pages.said"), "pages.said is nothing of this competition"),
+    "there is a folder of pages more": (beside("cup/pages.said/index.html"), "pages.said/index.html is nothing of this competition"),
     "there is a file more": (beside("cup/more.txt"), "more.txt is nothing of this competition"),
     "the version is none": (changed("cup/VERSION", lambda _: b"\x1b[2J\x1b[31mggp_manager 9\nall is well\n"), "VERSION is not one line `ggp_manager N.N.N`"),
     "the version is missing": (without("cup/VERSION"), "VERSION is missing"),
@@ -185,6 +190,12 @@ SPOILINGS = {
     "a folder leads out of the folder": (beside("cup/..", b"", tarfile.DIRTYPE), "is no plain file below one folder"),
     "a folder is absolute": (beside("/tmp/out", b"", tarfile.DIRTYPE), "is no plain file below one folder"),
     "a folder is another one": (beside("out", b"", tarfile.DIRTYPE), "'out' is not below cup"),
+    "another archive stands behind its end": (lambda files: gzip.compress(gzip.decompress(packed(files)) + gzip.decompress(packed(files))), "can't be unpacked: something stands behind its end"),
+    "its folder has another name": (lambda files: packed({name.replace("cup/", "final/", 1): data for name, data in files.items()}), "its folder is final, and the name of the competition cup"),
+    "a folder stands in the place of a file": (beside("cup/again.tsv/more"), "again.tsv/more is nothing of this competition"),
+    "a file stands in the place of a folder": (beside("cup/earlier"), "earlier is nothing of this competition"),
+    "there is a folder of the name of a file": (lambda files: packed({"cup/schedule.tsv/": b"", **files}, {"cup/schedule.tsv/": tarfile.DIRTYPE}), "'cup/schedule.tsv' is there twice"),
+    "a file is a folder too": (beside("cup/play.log/more"), "'cup/play.log/more' is a file and a folder, or below a file"),
     "there are folders alone": (lambda _: packed({"cup": b""}, {"cup": tarfile.DIRTYPE}), "SHA256SUMS is missing"),
 }
 

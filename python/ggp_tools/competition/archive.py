@@ -8,7 +8,6 @@ import io
 import os
 import pathlib
 import re
-import shutil
 import tarfile
 import tempfile
 import zlib
@@ -18,6 +17,7 @@ from ggp_tools.competition.files import UNFINISHED, Refused, written_whole
 from ggp_tools.competition.history import history_files
 from ggp_tools.competition.kept import PROCESSORS, look_at_records, strangers
 from ggp_tools.competition.known import sum_of_file, sum_or_none
+from ggp_tools.competition.log_faults import faults_of_logs
 from ggp_tools.competition.pages import made_anew
 from ggp_tools.competition.plan import faults_of_descriptions, read_plan, read_sums, rounds_left, sums_text
 from ggp_tools.descriptions.loading import has_variables
@@ -26,10 +26,14 @@ from ggp_tools.competition.results import match_line
 from ggp_tools.competition.schedule import schedule_text
 from ggp_tools.competition.table import tables_of
 from ggp_tools.competition.table_text import TABLE_FILES, in_order, table_files, without_record
+from ggp_tools.competition.tar_members import NoTar, copied, members
 
 SUMS, VERSION, HOW, GAPS = "SHA256SUMS", "VERSION", "CHECK.txt", "GAPS.tsv"
 NAME = re.compile(r"[A-Za-z0-9_.-]+(/[A-Za-z0-9_.-]+){1,3}")
 FOLDER_NAME = re.compile(r"[A-Za-z0-9_.-]+(/[A-Za-z0-9_.-]+){0,2}")
+# Where the files of an archive stand. Elsewhere none is looked for, and a folder in the place of a file could not be read.
+FLAT = "rules|games|records|accounts|logs|earlier"
+PLACE = re.compile(rf"({FLAT})/[^/]+|pages/((matches|games|players)/)?[^/]+|(?!({FLAT}|pages)$)[^/]+")
 NOT_PLAIN = re.compile(r"[^\x20-\x7e]")
 MOST_BYTES = 8 << 30
 # How hard an archive is packed: a harder one takes much longer, and makes it little smaller.
@@ -185,11 +189,11 @@ def unpacked(path, room):
     each once, and entries for their folders, as `tar` writes them."""
     top, size, known = None, 0, set()
     try:
-        with tarfile.open(path, "r:gz") as archive:
-            for member in archive:
+        with gzip.open(path) as stream:
+            for member in members(stream):
                 size += member.size
-                parts, form = member.name.split("/"), FOLDER_NAME if member.isdir() else NAME
-                if not (member.isreg() or member.isdir()) or not form.fullmatch(member.name) or {".", ".."} & set(parts):
+                parts, form = member.name.split("/"), FOLDER_NAME if member.is_folder() else NAME
+                if not member.is_plain() or not form.fullmatch(member.name) or {".", ".."} & set(parts):
                     raise Spoilt(f"{member.name!r} is no plain file below one folder")
                 if member.name in known:
                     raise Spoilt(f"{member.name!r} is there twice")
@@ -198,18 +202,25 @@ def unpacked(path, room):
                 top = top or parts[0]
                 if parts[0] != top:
                     raise Spoilt(f"{member.name!r} is not below {top}")
-                if member.isdir():
-                    continue  # Each folder is made with its first file.
                 known.add(member.name)
-                (room / member.name).parent.mkdir(parents=True, exist_ok=True)
-                with open(room / member.name, "wb") as file:
-                    shutil.copyfileobj(archive.extractfile(member), file)
-    except (tarfile.TarError, EOFError, zlib.error, gzip.BadGzipFile, ValueError, RecursionError) as why:
-        # The last two come of headers with numbers that are none, and of headers for headers.
+                if member.is_folder():
+                    continue  # Each folder is made with its first file.
+                with new_file(room, member.name) as file:
+                    copied(stream, member, file)
+    except (NoTar, EOFError, zlib.error, gzip.BadGzipFile) as why:
         raise Spoilt(f"it can't be unpacked: {why}") from None
     if not top:
         raise Spoilt("it is empty")
     return room / top
+
+
+def new_file(room, name):
+    """Opens a file to be written into a folder, with the folders in between."""
+    try:
+        (room / name).parent.mkdir(parents=True, exist_ok=True)
+        return open(room / name, "wb")
+    except (FileExistsError, NotADirectoryError, IsADirectoryError):
+        raise Spoilt(f"{name!r} is a file and a folder, or below a file") from None
 
 
 def faults_of_sums(folder):
@@ -239,7 +250,8 @@ def faults_of_files(folder, plan, results, wanted):
             yield f"{name} is missing"
         elif file.read_bytes() != data:
             yield f"{name} does not follow from the records"
-    said = folder / "pages.said"
+    # Beside the folder, where no file of the archive stands.
+    said = folder.parent / ".said"
     os.rename(plan.folder.pages, said) if plan.folder.pages.is_dir() else said.mkdir()
     made_anew(plan, results)
     pages, said = files_below(plan.folder.pages), files_below(said)
@@ -255,7 +267,7 @@ def faults_of_files(folder, plan, results, wanted):
     for result in results:
         known |= {f"records/{result.match.id}.json", f"accounts/{result.match.id}.txt", f"logs/{result.match.id}.txt"}
     for name in files_below(folder):
-        if name not in known and not name.startswith(("pages/", "pages.said/")):
+        if name not in known and not name.startswith("pages/"):
             yield f"{name} is nothing of this competition"
 
 
@@ -269,7 +281,15 @@ def faults_of_matches(plan, referee):
     found += [f"{match.id}: it has no record" for match in wanted if match.id not in results and match.id not in faults]
     found += [f"{match.id}: its log is missing" for match in wanted if not plan.folder.has_log(match.id)]
     found += [f"records/{name}: it is of no match of the schedule" for name in strangers(plan)]
+    found += faults_of_logs(plan, in_order(plan, results))
     return in_order(plan, results), found
+
+
+def faults_of_places(folder):
+    """Gives each file that stands where none of an archive does."""
+    for name in files_below(folder):
+        if not PLACE.fullmatch(name):
+            yield f"{name} is nothing of this competition"
 
 
 def plain(words):
@@ -328,11 +348,12 @@ def looked_at(path, referee):
     with tempfile.TemporaryDirectory() as room:
         try:
             folder = unpacked(path, pathlib.Path(room))
-            faults = list(faults_of_sums(folder))
-            faults += faults_of_words(folder)
+            faults = [*faults_of_sums(folder), *faults_of_words(folder), *faults_of_places(folder)]
             if faults:
                 return faults, ""
             plan = read_plan(folder, referee)
+            if folder.name != plan.competition.name:
+                return [f"its folder is {folder.name}, and the name of the competition {plan.competition.name}"], ""
             results, faults = faults_of_matches(plan, referee)
             faults += [fault.replace(f"{folder}/", "") for fault in faults_of_descriptions(plan, lambda it: folder / f"games/{it.name}.kif")]
             if faults:

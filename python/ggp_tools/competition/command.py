@@ -14,6 +14,7 @@ from ggp_tools.competition.files import Refused, held, write_whole
 from ggp_tools.competition.game import add_game, run_game
 from ggp_tools.competition.kept import look_at_records
 from ggp_tools.competition.known import Known
+from ggp_tools.competition.log_faults import faults_of_logs
 from ggp_tools.competition.pages import Pages
 from ggp_tools.competition.plan import WRITES, Plan, faults_of_descriptions, make_plan, read_plan, round_words, rounds_left
 from ggp_tools.competition.playing import Playing, play, said_of_missing
@@ -251,6 +252,7 @@ def run_held_publish(asked: argparse.Namespace, referee: Referee) -> int:
     elif left and not asked.gaps:
         faults = [f"{left} of {left + len(plan.rounds)} rounds are not planned yet; with `--gaps` the others are"]
     faults = faults or list(faults_of_descriptions(plan, plan.folder.description, f", and {WRITES}"))
+    faults = faults or [f"{fault}: without the log the match counts too" for fault in faults_of_logs(plan, results)]
     if not faults:
         write_matches(plan, results, known)
         try:

@@ -1,0 +1,127 @@
+"""The members of a tar file: what `tar` and Python write is read, and all that programs read differently is refused."""
+
+import io
+import pathlib
+import subprocess
+import tarfile
+import tempfile
+import unittest
+
+from ggp_tools.competition.tar_members import NoTar, copied, members
+
+END = bytes(1024)
+LONG = "cup/pages/players/player-" + "x" * 120 + ".html"
+
+
+def block(name, kind=tarfile.REGTYPE, data=b"", change=None):
+    """Returns a header and the bytes behind it; a change is made to the header before it is summed up."""
+    it = tarfile.TarInfo(name)
+    it.type, it.size = kind, len(data)
+    header = bytearray(it.tobuf(tarfile.USTAR_FORMAT))
+    if change:
+        change(header)
+        header[148:156] = b" " * 8
+        header[148:156] = b"%06o\0 " % sum(header)
+    return bytes(header) + data + bytes(-len(data) % 512)
+
+
+def at(place, data):
+    """Returns a change of a header."""
+
+    def change(header):
+        header[place : place + len(data)] = data
+
+    return change
+
+
+def record(key, value):
+    """Returns a record of an extended header."""
+    rest = f" {key}={value}\n".encode()
+    length = next(count for count in range(len(rest), len(rest) + 9) if count == len(rest) + len(str(count)))
+    return str(length).encode() + rest
+
+
+def extended(*records):
+    return block("x", tarfile.XHDTYPE, b"".join(records))
+
+
+def long_name(name):
+    return block("././@LongLink", tarfile.GNUTYPE_LONGNAME, name.encode() + b"\0")
+
+
+def read(data):
+    """Returns what is in a tar file, by names."""
+    found, stream = {}, io.BytesIO(data)
+    for member in members(stream):
+        file = io.BytesIO()
+        copied(stream, member, file)
+        found[member.name] = file.getvalue()
+    return found
+
+
+class TarMembers(unittest.TestCase):
+    def test_what_python_writes(self):
+        for form in (tarfile.USTAR_FORMAT, tarfile.GNU_FORMAT, tarfile.PAX_FORMAT):
+            written = io.BytesIO()
+            files = {"cup/a": b"", "cup/b": b"b" * 512, "cup/c": b"c" * 5000, **({} if form == tarfile.USTAR_FORMAT else {LONG: b"d"})}
+            with tarfile.open(fileobj=written, mode="w", format=form) as archive:
+                for name, data in files.items():
+                    it = tarfile.TarInfo(name)
+                    it.size, it.mtime = len(data), 0.5
+                    archive.addfile(it, io.BytesIO(data))
+            self.assertEqual(read(written.getvalue()), files)
+
+    def test_what_tar_writes(self):
+        with tempfile.TemporaryDirectory() as room:
+            (pathlib.Path(room) / LONG).parent.mkdir(parents=True)
+            (pathlib.Path(room) / LONG).write_bytes(b"x")
+            for form in ("gnu", "posix"):
+                data = subprocess.run(["tar", f"--format={form}", "-c", "cup"], cwd=room, stdout=subprocess.PIPE, check=True).stdout
+                self.assertEqual(read(data), {"cup": b"", "cup/pages": b"", "cup/pages/players": b"", LONG: b"x"})
+
+    def test_what_programs_read_differently(self):
+        plain = block("cup/a", data=b"a")
+        self.assertEqual(read(plain + long_name("cup/b") + block("x", data=b"b") + END), {"cup/a": b"a", "cup/b": b"b"})
+        self.assertEqual(read(extended(record("path", "cup/b"), record("mtime", "1.5")) + block("x", data=b"b") + END), {"cup/b": b"b"})
+        more = block("cup/a", data=b"false")
+        for what, data in (
+            ("a long name and an extended one", long_name("cup/a") + extended(record("path", "cup/b")) + block("x")),
+            ("an extended name and a long one", extended(record("path", "cup/b")) + long_name("cup/a") + block("x")),
+            ("two long names", long_name("cup/a") + long_name("cup/b") + block("x")),
+            ("two extended headers", extended(record("path", "cup/a")) + extended(record("path", "cup/b")) + block("x")),
+            ("a name twice in one header", extended(record("path", "cup/a"), record("path", "cup/b")) + block("x")),
+            ("another size", extended(record("size", "512")) + plain),
+            ("another coding of names", extended(record("hdrcharset", "BINARY")) + plain),
+            ("a file with holes", extended(record("GNU.sparse.name", "cup/b")) + plain),
+            ("a record that is too short", extended(b"5 path=cup/a\n") + plain),
+            ("a record without a number", extended(b"path=cup/a\n") + plain),
+            ("a first part of a name that some do not read", block("a", change=lambda it: (at(257, b"ustar  \0")(it), at(345, b"cup")(it)))),
+            ("an old form", block("cup/a", change=at(257, bytes(8)))),
+            ("a size below nothing", block("cup/a", change=at(124, b"\xff" * 12))),
+            ("a size that is no number", block("cup/a", change=at(124, b"0000000001x\0"))),
+            ("a header that is damaged", plain[:3] + b"x" + plain[4:]),
+            ("a header that is damaged, and more", plain + b"x" * 512 + more),
+            ("another tar file behind the end", plain + END + more),
+            ("something behind the end", plain + END + b"hidden"),
+            ("no end of zeros behind the end", plain + END + bytes(2 << 20)),
+            ("a name that does not end", block("x", tarfile.GNUTYPE_LONGNAME, b"x" * (1 << 17)) + block("x")),
+        ):
+            with self.subTest(what), self.assertRaises(NoTar):
+                read(data + END)
+
+    def test_one_that_is_cut_off(self):
+        whole = block("cup/a", data=b"a" * 700) + END
+        for length in (0, 100, 512, 600, 1100, 1536, 2048, 2559):
+            with self.subTest(length), self.assertRaises(NoTar):
+                read(whole[:length])
+
+    def test_a_folder_and_others(self):
+        kinds = {tarfile.DIRTYPE: True, tarfile.REGTYPE: True, tarfile.AREGTYPE: True}
+        for kind in (*kinds, tarfile.SYMTYPE, tarfile.LNKTYPE, tarfile.CONTTYPE, tarfile.GNUTYPE_SPARSE, tarfile.XGLTYPE, tarfile.FIFOTYPE):
+            member = next(members(io.BytesIO(block("cup/a", kind) + END)))
+            self.assertEqual(member.is_plain(), kinds.get(kind, False), kind)
+        self.assertFalse(next(members(io.BytesIO(block("cup/a", tarfile.DIRTYPE, b"a") + END))).is_plain())
+
+
+if __name__ == "__main__":
+    unittest.main()
