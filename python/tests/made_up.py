@@ -22,9 +22,8 @@ if sys.argv[1] == "verify" and "--lines" in sys.argv:
     print("lawful\\n" * data.count(b"\\n"), end="")
 elif sys.argv[1] == "replay":
     ids = dict.fromkeys(re.findall(rb"(?m)^[0-9]+\\t[a-z]+ ([^ \\t\\n]+)", sys.stdin.buffer.read()))
-    print("replayed", flush=True)
     for match in ids:
-        sys.stdout.buffer.write(pathlib.Path("{folder}/records", match.decode() + ".json").read_bytes())
+        sys.stdout.buffer.write(b"replayed 1 calls\\n" + pathlib.Path("{folder}/records", match.decode() + ".json").read_bytes())
 else:
     sys.exit(subprocess.run(["{program}", *sys.argv[1:]]).returncode)
 """

@@ -6,7 +6,9 @@ import re
 import tempfile
 import time
 import unittest
+from unittest.mock import patch
 
+from ggp_tools.competition import live
 from ggp_tools.competition.live import Reader, Tail
 from ggp_tools.competition.live_board import NO_LINE, LiveBoard
 from ggp_tools.competition.live_pages import awaited_text, board_html, replaced_part
@@ -18,6 +20,11 @@ from tests.support import GAMES
 from tests.live_support import RULES, SILENT, begin, end, line, plan_in, record_of, started
 
 NEVER = float("inf")
+
+
+def setUpModule():
+    """On a busy computer a look at the records may take long. Here none waits for that."""
+    unittest.enterModuleContext(patch.object(live, "SHARE", 0))
 
 
 class InRoom(unittest.TestCase):
@@ -227,7 +234,6 @@ class Lines(InRoom):
         self.assertEqual([(its.turn, its.error, its.move) for its, _ in reader.last_replaced()], [(2, "IL x", "noop")])
         self.assertEqual(len(reader.waiting()), 5)
         self.plan.folder.record(self.match.id).unlink()
-        reader.next = 0.0
         reader.look()
         self.assertEqual(reader.results, {})
 

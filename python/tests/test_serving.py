@@ -14,7 +14,7 @@ import unittest
 import urllib.request
 from unittest.mock import patch
 
-from ggp_tools.competition import pages, serving
+from ggp_tools.competition import live, pages, serving
 from ggp_tools.competition.live_site import LiveSite
 from ggp_tools.competition.page_changes import changes
 from ggp_tools.competition.page_parts import Items, Part
@@ -23,6 +23,11 @@ from tests.support import GAMES, InFolder, run, start
 from tests.test_pages import Links
 
 HOSTILE = ["<script>alert(1)</script>", "\"'><img src=x onerror=alert(1)>", "</tbody></table><b>", "&lt;&#65;", "<!--"]
+
+
+def setUpModule():
+    """On a busy computer a look at the records may take long. Here none waits for that."""
+    unittest.enterModuleContext(patch.object(live, "SHARE", 0))
 
 
 class Served(unittest.TestCase):

@@ -19,6 +19,7 @@ wait = 1
 info = 5
 forfeit = true
 """
+STARVED = "the referee was not running"
 # So many seconds it may take where the processors are free: three times what it takes there, since other work may come in between.
 SECONDS = 300
 
@@ -78,9 +79,13 @@ class Whole(InFolder):
                 self.until(count, playing)
                 playing.send_signal(number)
             out, said = playing.communicate(timeout=SECONDS * self.slowness)
+            status = playing.returncode
+            while number is None and status == 1 and STARVED in out:
+                # On a busy computer the referee may get no processor as an answer's seconds end. The match is played at the next run.
+                status, out, said = run(self.folder, "play", "--at-once", "6")
             self.assertEqual(said, "")
-            clashed += [line for line in out.splitlines() if line.startswith(("no record", "refused"))]
-            self.assertEqual(playing.returncode, {signal.SIGKILL: -9, signal.SIGINT: 1, None: 0}[number], out[-2000:])
+            clashed += [line for line in out.splitlines() if line.startswith(("no record", "refused")) and STARVED not in line]
+            self.assertEqual(status, {signal.SIGKILL: -9, signal.SIGINT: 1, None: 0}[number], out[-2000:])
             if number == signal.SIGINT:
                 self.assertIn("no more matches begin", out)
                 self.assertIn(": it was not begun", out)
