@@ -57,6 +57,13 @@ class Why(InFolder):
         self.assertRegex(log[0], rf"^began {MOMENT}$")
         self.assertTrue(all(log[0].split()[1] <= time <= log[-1].split()[1] for time in times), log)
 
+    def test_nothing_that_a_terminal_obeys_is_printed(self):
+        self.planned("good", "good")
+        self.assertEqual(run(self.folder, "play")[0], 0)
+        for file in (self.folder / "play.log", self.folder / "logs/cup-001.txt"):
+            file.write_bytes(file.read_bytes().replace(b"countdown p0 p1", b"countdown p0 p1\x1b[2J").replace(b"(PLAY cup-001", b"(PLAY\x1b[2J cup-001"))
+        self.assertNotIn("\x1b", self.why("cup-001"))
+
     def test_a_match_that_was_not_played(self):
         self.planned("good", "good", head=HEAD.replace("info = 5", "info = 4"))
         self.players[0].status = "busy"

@@ -9,7 +9,7 @@ from collections.abc import Callable
 
 from ggp_tools import VERSION
 from ggp_tools.competition.again import order_again
-from ggp_tools.competition.archive import TooLarge, check_archive, matches_text, own_files, publish
+from ggp_tools.competition.archive import TooLarge, check_archive, matches_text, own_files, plain, publish
 from ggp_tools.competition.files import Refused, held, write_whole
 from ggp_tools.competition.game import add_game, run_game
 from ggp_tools.competition.kept import look_at_records
@@ -267,7 +267,8 @@ def run_held_publish(asked: argparse.Namespace, referee: Referee) -> int:
 
 def run_why(asked: argparse.Namespace, referee: Referee) -> int:
     for line in said_of_match(read_plan(asked.folder, referee), asked.match, asked.player):
-        say(line)
+        # The folder may come from an archive, whose journal and logs have any bytes.
+        say(plain(line))
     return 0
 
 
