@@ -11,8 +11,8 @@ GENERICS = re.compile(r"<[^<>]*>")
 
 
 def read(file):
-    with open(file, encoding="utf-8") as it:
-        return it.read()
+    with open(file, encoding="utf-8") as stream:
+        return stream.read()
 
 
 def plain(head):

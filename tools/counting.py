@@ -13,9 +13,11 @@ LAST = f"{TOP}/bin/counts.json"
 HEAD = "# How much of each kind the gate does at least. `tools/counts --write` stores what the last gate of this copy has counted.\n"
 COUNTED = re.compile(r"counted (\d+) (\S.*)")
 SKIPPED = re.compile(r"skipped: (\S.*)")
-# What `rt ci` and a tool say in words of their own: the number, or each such line counts for one.
+# What `rt ci` and a tool say in words of their own: a number of all, or each such line counts for one. Some kits say of each edit that it was
+# refused, and some how many were.
 OTHERS = {
     re.compile(r"rt: \w+ (?:proved|is kept: .*)"): "crates proved",
+    re.compile(r"rt: must-fail \S+: refused, as it must be.*"): "wrong edits refused by the prover",
     re.compile(r"rt: ok; .*must-fail edits: (\d+) refused.*"): "wrong edits refused by the prover",
     re.compile(r"(\d+) of \1 edits can be applied"): "wrong edits that can be applied",
 }
@@ -35,6 +37,11 @@ class Tally:
         with self.alone:
             self.counts[kind] += count
 
+    def count_all(self, count: int, kind: str) -> None:
+        """Takes the number of all of a kind, whether or not each was counted before."""
+        with self.alone:
+            self.counts[kind] = max(self.counts[kind], count)
+
     def skip(self, what: str) -> None:
         with self.alone:
             self.skipped.append(what)
@@ -48,7 +55,7 @@ class Tally:
             self.skip(found[1])
         for form, kind in OTHERS.items():
             if found := form.fullmatch(line):
-                self.add(int(found[1]) if form.groups else 1, kind)
+                self.count_all(int(found[1]), kind) if form.groups else self.add(1, kind)
 
 
 def read_figures(file: str = FIGURES) -> dict[str, int]:

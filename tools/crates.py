@@ -21,8 +21,8 @@ def rows(text):
 
 
 def crate_rows():
-    with open(f"{TOP}/crates.txt", encoding="utf-8") as it:
-        return rows(it.read())
+    with open(f"{TOP}/crates.txt", encoding="utf-8") as file:
+        return rows(file.read())
 
 
 def own_deps(found):
@@ -69,8 +69,8 @@ def strays(folder, names, top=TOP):
 
 
 def sum_of(file):
-    with open(file, "rb") as it:
-        return hashlib.sha256(it.read()).hexdigest()
+    with open(file, "rb") as stream:
+        return hashlib.sha256(stream.read()).hexdigest()
 
 
 def text_sum(names, parts=PARTS):
@@ -92,16 +92,16 @@ def said_of(program, made):
 
 def write_beside(program, ending, made):
     """Writes beside a program what it was made from. That comes after the program: what is stopped before leaves none that is current."""
-    with open(f"{program}.{ending}.new", "w", encoding="utf-8") as it:
-        it.write(said_of(program, made))
+    with open(f"{program}.{ending}.new", "w", encoding="utf-8") as file:
+        file.write(said_of(program, made))
     os.replace(f"{program}.{ending}.new", f"{program}.{ending}")
 
 
 def is_current(program, ending, parts=PARTS):
     """Returns whether the program stands there and the file beside it says that it, and no other, was made from the text as it is."""
     try:
-        with open(f"{program}.{ending}", encoding="utf-8") as it:
-            return os.access(program, os.X_OK) and it.read() == said_of(program, made_from(parts))
+        with open(f"{program}.{ending}", encoding="utf-8") as file:
+            return os.access(program, os.X_OK) and file.read() == said_of(program, made_from(parts))
     except OSError:
         return False
 

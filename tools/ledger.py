@@ -1,7 +1,8 @@
 """The ledger of the wrong edits, edits/ledger.txt: what the prover said of each, a line an edit, under a sum of all that this rests on. So
-a run goes on where an earlier one ended, on another day or another machine.
+a run goes on where an earlier one ended, on another day or another machine. Machines may have different kits: each line names the kit
+whose prover it was, and counts while that is one of those with which the gate passes.
 
-The sum of an edit is over the edit, the kit, and
+The sum of an edit is over the edit, the kit's logic, and
 
 - its crate's `src/` (without plain comments), `specs/` and `proofs/`, its row in crates.txt, and HANDLES;
 - of each crate below: its row in crates.txt, `specs/`, and what a crate above sees of `src/`, which is all but the bodies of functions
@@ -21,11 +22,11 @@ from typing import NamedTuple
 from code_words import tokens
 from crates import TOP, crate_rows, crates, texts_of, with_below
 from functions import shown
-from needs import kit_said
+from needs import KITS, kit_said
 from wrong_edits import edits_of
 
 LEDGER = f"{TOP}/edits/ledger.txt"
-HEAD = "# What the prover said of each wrong edit, with a sum of what that rests on. `tools/edits` writes this file.\n"
+HEAD = "# What the prover said of each wrong edit, of which kit it is, and a sum of what that rests on. `tools/edits` writes this file.\n"
 # Words for an edit that the prover refuses on a goal which the edit turns.
 REFUSED = ("false", "goal", "answer")
 # So many digits of a sum are written.
@@ -33,9 +34,10 @@ DIGITS = 16
 
 
 class Entry(NamedTuple):
-    """What an edit came to, and the sum of what that rests on."""
+    """What an edit came to, the kit with which it was tried, and the sum of what that rests on."""
 
     word: str
+    kit: str
     sum: str
 
 
@@ -78,12 +80,18 @@ def sum_of_own(name: str) -> str:
     return sum_of(row_of(name), sum_of_files(name, ("specs", "proofs")), *code)
 
 
+def kit_in_use() -> tuple[str, str]:
+    """Returns the kit's name, and what it says of its logic."""
+    name, _, logic = kit_said().partition(" ")
+    return name, logic
+
+
 def sums_of(names: Iterable[str]) -> dict[str, str]:
     """Returns the sum of each edit of these crates."""
-    known, kit, found = crates(), kit_said(), {}
+    known, (_, logic), found = crates(), kit_in_use(), {}
     for name in names:
         below = [sum_from_above(lower) for lower in with_below(known[name], known)]
-        rests_on = sum_of(kit, read("HANDLES"), sum_of_own(name), *below)
+        rests_on = sum_of(logic, read("HANDLES"), sum_of_own(name), *below)
         found.update({edit: sum_of(rests_on, read(edit))[:DIGITS] for edit in edits_of(name)})
     return found
 
@@ -95,12 +103,12 @@ def read_ledger(file: str = LEDGER) -> dict[str, Entry]:
             rows = [line.split() for line in lines if not line.startswith("#")]
     except FileNotFoundError:
         return {}
-    return {row[0]: Entry(*row[1:]) for row in rows if len(row) == 3}
+    return {row[0]: Entry(*row[1:]) for row in rows if len(row) == 4}
 
 
 def write_ledger(entries: dict[str, Entry], file: str = LEDGER) -> None:
     with open(f"{file}.new", "w", encoding="utf-8") as text:
-        text.writelines([HEAD, *(f"{edit} {entries[edit].word} {entries[edit].sum}\n" for edit in sorted(entries))])
+        text.writelines([HEAD, *(f"{edit} {' '.join(entries[edit])}\n" for edit in sorted(entries))])
     os.replace(f"{file}.new", file)
 
 
@@ -115,7 +123,8 @@ def add_to_ledger(entries: dict[str, Entry], file: str = LEDGER) -> None:
 
 def tried(sums: dict[str, str], entries: dict[str, Entry]) -> dict[str, str]:
     """Returns those of the edits that were tried on the text as it is, with the word that each came to."""
-    return {edit: entries[edit].word for edit, sum in sums.items() if edit in entries and entries[edit].sum == sum}
+    there = {edit: entry.word for edit, entry in entries.items() if entry.kit in KITS and entry.sum == sums.get(edit)}
+    return {edit: there[edit] for edit in sums if edit in there}
 
 
 def count(sums: dict[str, str], words: dict[str, str]) -> Counts:

@@ -15,6 +15,8 @@ Hear = typing.Callable[[str], None]
 
 # The looks that are being taken: each leads a session of its own, so that it can be ended with all that it started.
 TAKEN = set()
+# One look begins at a time, and none while another thread says that no further one may: so all that have begun are known then.
+BEGINS = threading.Lock()
 # A look that is to end has so many seconds to tidy up.
 GRACE = 3
 
@@ -47,15 +49,19 @@ def hear_lines(lines: typing.Iterable[str], hear: Hear) -> threading.Thread:
     return hearing
 
 
-def run(look: list[str], hear: Hear) -> tuple[bool, str]:
-    """Runs a look, and has each line heard that it says. Returns whether all is well, and what it took. A look that can't be begun is not
-    well. What a look has left running is ended with it."""
+def run(look: list[str], hear: Hear, is_ended: typing.Callable[[], bool] = lambda: False) -> tuple[bool, str]:
+    """Runs a look, unless all has ended, and has each line heard that it says. Returns whether all is well, and what it took. A look that
+    can't be begun is not well. What a look has left running is ended with it."""
     began = time.monotonic()
     how = {"stdout": subprocess.PIPE, "stderr": subprocess.STDOUT, "text": True, "errors": "replace", "start_new_session": True}
-    try:
-        begun = subprocess.Popen(look, **how)
-    except OSError as why:
-        return False, f"it can't be run: {why}"
+    with BEGINS:
+        if is_ended():
+            return False, "it is not begun"
+        try:
+            begun = subprocess.Popen(look, **how)
+        except OSError as why:
+            return False, f"it can't be run: {why}"
+        TAKEN.add(begun.pid)
     hearing = hear_lines(begun.stdout, hear)
     try:
         used = ended(begun)
@@ -67,7 +73,6 @@ def run(look: list[str], hear: Hear) -> tuple[bool, str]:
 
 def ended(begun: subprocess.Popen) -> resource.struct_rusage:
     """Waits until a look ends; ends it where this is interrupted. Returns what it used."""
-    TAKEN.add(begun.pid)
     try:
         _, status, used = os.wait4(begun.pid, 0)
     except BaseException:
@@ -132,7 +137,7 @@ class Beside(threading.Thread):
             return False
         self.say(f"gate: {name_of(look)}: begins, beside the proofs\n")
         said: list[str] = []
-        well, took = run(look, said.append)
+        well, took = run(look, said.append, lambda: self.is_ended)
         for line in said:
             self.tally.read(line)
         self.tally.add(1, "looks")
@@ -141,5 +146,6 @@ class Beside(threading.Thread):
 
     def end(self):
         """Ends the look that is being taken. No other is taken then, and the other work is left to whoever calls this."""
-        self.is_ended = True
+        with BEGINS:
+            self.is_ended = True
         end_looks([*TAKEN], lambda: not self.is_alive())

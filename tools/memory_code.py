@@ -354,7 +354,7 @@ class Reader:
 
     def owner_of(self, header):
         """Returns the type that an impl is of: the first word behind `for`, or behind its parameters."""
-        at = next((it for it, node in enumerate(header) if is_word(node, "for")), 0) + 1
+        at = next((place for place, node in enumerate(header) if is_word(node, "for")), 0) + 1
         at = self.end_of_types(header, at) if at < len(header) and is_mark(header[at], "<") else at
         return header[at].text if at < len(header) else None
 

@@ -20,13 +20,13 @@ def kind_of(words, folder, top):
 
 def part_of(process, top):
     """Returns what a process works for, when it began, and the processor seconds that it has taken."""
-    with open(f"/proc/{process}/cmdline", encoding="utf-8", errors="replace") as it:
-        words = it.read().split("\0")
+    with open(f"/proc/{process}/cmdline", encoding="utf-8", errors="replace") as file:
+        words = file.read().split("\0")
     found = kind_of(words, os.readlink(f"/proc/{process}/cwd"), top)
     if not found:
         return None
-    with open(f"/proc/{process}/stat", encoding="utf-8", errors="replace") as it:
-        fields = it.read().rpartition(")")[2].split()
+    with open(f"/proc/{process}/stat", encoding="utf-8", errors="replace") as file:
+        fields = file.read().rpartition(")")[2].split()
     return found, fields[19], (int(fields[11]) + int(fields[12])) / TICKS
 
 
@@ -59,4 +59,4 @@ class Meter(threading.Thread):
         parts = {}
         for part, seconds in self.seen.values():
             parts[part] = parts.get(part, 0) + seconds
-        return sorted(parts.items(), key=lambda it: -it[1])
+        return sorted(parts.items(), key=lambda pair: -pair[1])

@@ -6,7 +6,7 @@ import sys
 
 PYTHON = (3, 11)
 # The kits with which the gate has passed as the text stands.
-KITS = ("rattle-kit-13f",)
+KITS = ("rattle-kit-13b", "rattle-kit-13f")
 PLACE = (
     "it is not released yet, so ask whoever gave you this repository for it, "
     "and put its folder bin into PATH, as in: export PATH=/opt/rattle/bin:$PATH"

@@ -23,8 +23,8 @@ PROGRAM_SHARE = 0.04
 def read_times(kind, file=TIMES):
     """Returns the seconds that each crate took at this kind of work."""
     try:
-        with open(file, encoding="utf-8") as it:
-            return {name: float(seconds) for name, seconds in json.load(it).get(kind, {}).items()}
+        with open(file, encoding="utf-8") as stream:
+            return {name: float(seconds) for name, seconds in json.load(stream).get(kind, {}).items()}
     except (OSError, ValueError, AttributeError, TypeError):
         return {}
 
@@ -32,14 +32,14 @@ def read_times(kind, file=TIMES):
 def write_times(kind, taken, file=TIMES):
     """Keeps the seconds of what was worked on from nothing, beside those of the others."""
     try:
-        with open(file, encoding="utf-8") as it:
-            times = json.load(it)
+        with open(file, encoding="utf-8") as stream:
+            times = json.load(stream)
     except (OSError, ValueError):
         times = {}
     times[kind] = {**times.get(kind, {}), **{name: round(seconds, 1) for name, seconds in taken.items()}}
     os.makedirs(os.path.dirname(file), exist_ok=True)
-    with open(f"{file}.new", "w", encoding="utf-8") as it:
-        json.dump(times, it, indent=1, sort_keys=True)
+    with open(f"{file}.new", "w", encoding="utf-8") as stream:
+        json.dump(times, stream, indent=1, sort_keys=True)
     os.replace(f"{file}.new", file)
 
 
@@ -82,7 +82,7 @@ def time_left(deps, seconds, begun, ended, lanes):
     now, done, chain = 0.0, set(ended), behind(deps, seconds)
     running = [(max(seconds[name] - taken, 1.0), name) for name, taken in begun.items()]
     heapq.heapify(running)
-    waiting = sorted((dep for dep in deps if dep not in done and dep not in begun), key=lambda it: -chain[it])
+    waiting = sorted((dep for dep in deps if dep not in done and dep not in begun), key=lambda dep: -chain[dep])
     while waiting or running:
         ready = [name for name in waiting if all(dep in done for dep in deps[name])]
         for name in ready[: max(lanes - len(running), 0)]:
@@ -108,7 +108,7 @@ class Progress:
         """Returns about how many seconds the rest takes, on a machine as fast as this one has been so far."""
         now, known = time.monotonic(), [*self.taken]
         scale = sum(self.taken[name] for name in known) / max(sum(self.seconds[name] for name in known), 1) if known else 1
-        seconds = {name: scale * it for name, it in self.seconds.items()}
+        seconds = {name: scale * usual for name, usual in self.seconds.items()}
         return time_left(self.deps, seconds, {name: now - at for name, at in self.begun.items()}, self.ended, self.lanes)
 
     def tell(self, name, text):

@@ -8,8 +8,8 @@ GROUP = "/sys/fs/cgroup"
 def numbers_in(file, form=r"(\d+)"):
     """Returns the numbers of a form with which a file begins, none where it is not there or says that there is no limit."""
     try:
-        with open(file, encoding="ascii") as it:
-            found = re.match(form, it.read())
+        with open(file, encoding="ascii") as stream:
+            found = re.match(form, stream.read())
     except OSError:
         return None
     return [int(word) for word in found.groups()] if found else None

@@ -34,8 +34,8 @@ def lay_out(room):
     """Lays copies of the repository's crates out in a folder, and beside them those of trials/, each file of which loses its last ending."""
     os.makedirs(f"{room}/.git")
     shutil.copy(f"{TOP}/HANDLES", room)
-    with open(f"{room}/crates.txt", "w", encoding="utf-8") as it:
-        it.write("\n".join([*lines_of(f"{TOP}/crates.txt"), *lines_of(f"{TRIALS}/trials.txt"), ""]))
+    with open(f"{room}/crates.txt", "w", encoding="utf-8") as stream:
+        stream.write("\n".join([*lines_of(f"{TOP}/crates.txt"), *lines_of(f"{TRIALS}/trials.txt"), ""]))
     for top in (f"{TOP}/crates", TRIALS):
         for name in sorted(os.listdir(top)):
             for file in files_of(f"{top}/{name}"):

@@ -17,8 +17,8 @@ def running_below(folder):
     """Returns the compiled program below the folder, if it runs."""
     for file in glob.glob("/proc/[0-9]*/cmdline"):
         try:
-            with open(file, encoding="utf-8", errors="replace") as it:
-                words = it.read().split("\0")
+            with open(file, encoding="utf-8", errors="replace") as stream:
+                words = stream.read().split("\0")
         except OSError:
             continue
         for word in words:
@@ -46,8 +46,8 @@ def compile_unproved(crate, kept, flags=(), arguments=(), given=b"", top=TOP):
     room_of = os.path.dirname(kept)
     os.makedirs(room_of, exist_ok=True)
     with tempfile.TemporaryDirectory(prefix="unproved-", dir=room_of) as room:
-        with open(f"{room}/given", "wb") as it:
-            it.write(given)
+        with open(f"{room}/given", "wb") as file:
+            file.write(given)
         call = [f"{TOP}/tools/try-alone", "--steps", "1", *flags, "--", *arguments]
         with open(f"{room}/given", "rb") as stdin, open(f"{room}/log", "w+", errors="replace") as log:
             how = {"cwd": f"{top}/crates/{crate}", "env": {**os.environ, "TMPDIR": room}, "stdin": stdin}

@@ -34,12 +34,12 @@ def steps_in(body):
     """Returns how many steps a compiled function has: the leaves of its text, and the names of their parts."""
     count, left = 0, [body]
     while left:
-        it = left.pop()
-        if isinstance(it, dict):
-            count += len(it)
-            left += it.values()
-        elif isinstance(it, list):
-            left += it
+        part = left.pop()
+        if isinstance(part, dict):
+            count += len(part)
+            left += part.values()
+        elif isinstance(part, list):
+            left += part
         else:
             count += 1
     return count
@@ -54,8 +54,8 @@ def megabytes_of(function):
 def volume_of(name, top=TOP):
     """Returns about how many megabytes a check lays out of the crate whose library stands there, none where there is no library."""
     try:
-        with open(f"{top}/crates/{name}/out/rlib/{name}.rlib/toolchain/mir.json", encoding="utf-8") as it:
-            return round(sum(megabytes_of(function) for path, function in json.load(it) if not path.endswith(DECLARED)))
+        with open(f"{top}/crates/{name}/out/rlib/{name}.rlib/toolchain/mir.json", encoding="utf-8") as file:
+            return round(sum(megabytes_of(function) for path, function in json.load(file) if not path.endswith(DECLARED)))
     except (OSError, ValueError, KeyError, TypeError):
         return None
 
@@ -73,8 +73,8 @@ def source_sums(known):
 def kept_volumes(sums, file=MEASURED):
     """Returns the megabytes of each crate that were measured of its text with this sum."""
     try:
-        with open(file, encoding="utf-8") as it:
-            found = json.load(it)
+        with open(file, encoding="utf-8") as stream:
+            found = json.load(stream)
     except (OSError, ValueError):
         return {}
     return {name: found[name]["megabytes"] for name in sums if name in found and found[name]["text"] == sums[name]}
@@ -83,10 +83,10 @@ def kept_volumes(sums, file=MEASURED):
 def keep_volumes(volumes, sums, file=MEASURED):
     """Keeps what was measured, each with the sum of the text that it is of, as it was before the libraries were built."""
     volumes = {**kept_volumes(sums, file), **volumes}
-    found = {name: {"megabytes": it, "text": sums[name]} for name, it in volumes.items() if name in sums}
+    found = {name: {"megabytes": megabytes, "text": sums[name]} for name, megabytes in volumes.items() if name in sums}
     os.makedirs(os.path.dirname(file), exist_ok=True)
-    with open(f"{file}.new", "w", encoding="utf-8") as it:
-        json.dump(found, it, indent=1)
+    with open(f"{file}.new", "w", encoding="utf-8") as stream:
+        json.dump(found, stream, indent=1)
     os.replace(f"{file}.new", file)
 
 
@@ -103,8 +103,8 @@ def read_budget(file: str = BUDGET) -> Budget:
 
 def write_budget(budget: Budget, file: str = BUDGET) -> None:
     totals = (f"{name} {figure} {budget.aims[name]}\n" for name, figure in budget.totals.items())
-    with open(file, "w", encoding="utf-8") as it:
-        it.writelines([HEAD, *(f"{name} {figure}\n" for name, figure in budget.crates.items()), *totals])
+    with open(file, "w", encoding="utf-8") as stream:
+        stream.writelines([HEAD, *(f"{name} {figure}\n" for name, figure in budget.crates.items()), *totals])
 
 
 def totals_of(volumes: dict[str, int], known: dict[str, list[str]]) -> dict[str, int]:

@@ -41,8 +41,8 @@ def program_of(text):
 
 def checks_memory(program):
     """Returns whether a program is one that is not proved, and checks memory as it runs."""
-    with open(program, "rb") as it:
-        return b"AddressSanitizer" in it.read()
+    with open(program, "rb") as file:
+        return b"AddressSanitizer" in file.read()
 
 
 @contextlib.contextmanager

@@ -28,7 +28,7 @@ class Game(interpreter.Game):
 
 def count_text(sentences):
     """Returns how many sentences there are, and how many of them have variables, as text."""
-    return f"rules of {len(sentences):,} sentences, {sum(not interpreter.is_ground(it) for it in sentences):,} with variables"
+    return f"rules of {len(sentences):,} sentences, {sum(not interpreter.is_ground(sentence) for sentence in sentences):,} with variables"
 
 
 def make_game(sentences):

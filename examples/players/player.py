@@ -142,8 +142,8 @@ class Player:
             case ("play", match_id, moves) if match_id == self.match:
                 if moves not in ("nil", ()):
                     self.state = self.game.next(self.state, moves)
-                moves = [show(it) for it in self.game.legal(self.state, self.role)]
-                return self.choose([it for it in moves if len(it) <= MOST_ANSWER] or moves)
+                moves = [show(move) for move in self.game.legal(self.state, self.role)]
+                return self.choose([move for move in moves if len(move) <= MOST_ANSWER] or moves)
             case ("stop", match_id, _) | ("abort", match_id):
                 # It may name a match that this player has not begun.
                 if match_id == self.match:
@@ -163,7 +163,7 @@ def is_waiting(stream):
 def say(text):
     """Prints a line on standard error, at once, since other players may print there. It has visible characters alone, since anybody may send
     a message. That nobody reads it is no reason to stop playing: what finds no room is left out."""
-    seen = "".join(it if " " <= it <= "~" or it == "\n" else "?" for it in text[-MOST_SAID:])
+    seen = "".join(character if " " <= character <= "~" or character == "\n" else "?" for character in text[-MOST_SAID:])
     try:
         if sys.stderr and not is_waiting(sys.stderr):
             print(f"{seen}\n", end="", file=sys.stderr)

@@ -21,9 +21,9 @@ PORTS = range(20000, 32768)
 
 
 def is_free(port):
-    with socket.socket() as it:
+    with socket.socket() as endpoint:
         try:
-            it.bind(("127.0.0.1", port))
+            endpoint.bind(("127.0.0.1", port))
         except OSError:
             return False
     return True
@@ -36,9 +36,9 @@ def free_ports(count):
 
 def closed_port():
     """Returns a socket whose port takes no connection. The port is nobody else's as long as the socket is open."""
-    it = socket.socket()
-    it.bind(("127.0.0.1", 0))
-    return it
+    endpoint = socket.socket()
+    endpoint.bind(("127.0.0.1", 0))
+    return endpoint
 
 
 def roles_of(file: str) -> list:

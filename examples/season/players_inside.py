@@ -61,14 +61,14 @@ class Player:
         self.serving += 1
         try:
             head = await reader.readuntil(b"\r\n\r\n")
-            self.strays += [it for it in [head.partition(b"POST ")[0]] if it]
+            self.strays += [stray for stray in [head.partition(b"POST ")[0]] if stray]
             body = await reader.readexactly(int(re.search(rb"Content-Length: (\d+)", head)[1]))
             self.messages += 1
             answer = self.answer(body.decode()) + self.padding * " "
             await asyncio.sleep(self.think)
             writer.write(f"HTTP/1.0 200 OK\r\nContent-Length: {len(answer)}\r\n\r\n{answer}".encode())
             await writer.drain()
-            self.strays += [it for it in [await reader.read()] if it]
+            self.strays += [stray for stray in [await reader.read()] if stray]
         except (OSError, asyncio.IncompleteReadError):
             pass  # the program has closed the connection, or was killed
         finally:
@@ -84,7 +84,7 @@ class Hall(threading.Thread):
         self.players, self.is_ready = players, threading.Event()
         self.start()
         self.is_ready.wait()
-        if any(it.port is None for it in players):
+        if any(player.port is None for player in players):
             raise RuntimeError("a player can't be served; the thread that serves them says why")
 
     def run(self):
@@ -95,15 +95,15 @@ class Hall(threading.Thread):
 
     async def serve_all(self):
         self.loop = asyncio.get_running_loop()
-        servers = [await asyncio.start_server(it.serve, "127.0.0.1", 0, backlog=4096) for it in self.players]
+        servers = [await asyncio.start_server(player.serve, "127.0.0.1", 0, backlog=4096) for player in self.players]
         for player, server in zip(self.players, servers):
             player.port = server.sockets[0].getsockname()[1]
         self.is_ready.set()
-        await asyncio.gather(*(it.serve_forever() for it in servers))
+        await asyncio.gather(*(server.serve_forever() for server in servers))
 
     def messages(self):
         """Returns how many messages came to the players."""
-        return sum(it.messages for it in self.players)
+        return sum(player.messages for player in self.players)
 
     def settle(self):
         """Returns once the players have read all that a program sent which is no more, and have answered it."""
@@ -113,5 +113,5 @@ class Hall(threading.Thread):
         # A connection that waits is taken in the first of these rests, and served in the next one.
         for _ in range(5):
             await asyncio.sleep(0.005)
-        while any(it.serving for it in self.players):
+        while any(player.serving for player in self.players):
             await asyncio.sleep(0.005)

@@ -22,7 +22,7 @@ PATIENCE = 1800
 def schedule(pairs, clocks="600 600", name="m"):
     """Returns the text of a schedule in which these players sit, red and blue of each match, and the ids of its matches."""
     ids = [f"{name}{number}" for number in range(len(pairs))]
-    return "".join(f"{it} {clocks} {red.address()} {blue.address()}\n" for it, (red, blue) in zip(ids, pairs)), ids
+    return "".join(f"{match} {clocks} {red.address()} {blue.address()}\n" for match, (red, blue) in zip(ids, pairs)), ids
 
 
 def run(program, words, text=""):
@@ -81,13 +81,13 @@ def faults_of_records(program, game, text, ids, players):
     except ValueError as fault:
         yield f"a line is no record: {fault}"
         return
-    found = [it["matchId"] for it in records]
+    found = [record["matchId"] for record in records]
     if sorted(found) != sorted(ids):
-        yield f"{len(ids)} matches: lost {sorted({*ids} - {*found})}, twice {sorted({it for it in found if found.count(it) > 1})}"
+        yield f"{len(ids)} matches: lost {sorted({*ids} - {*found})}, twice {sorted({match for match in found if found.count(match) > 1})}"
     checked = run(program, ["verify", "--lines", *game], text.decode())
     if checked.stdout != "lawful\n" * len(ids):
         yield f"not every record is lawful: {checked.stderr.strip()}"
-    by_name = {it.name: it for it in players}
+    by_name = {player.name: player for player in players}
     for record in records:
         match = record["matchId"]
         if errors := errors_of(record):

@@ -111,10 +111,19 @@ def is_text_list(value):
 
 
 class Referee:
-    """The program at a path. A file stands in one word with its option, since its name may begin with a hyphen."""
+    """The program at a path, by the limits that it has for large games or the usual ones. A file stands in one word with its option, since
+    its name may begin with a hyphen."""
 
-    def __init__(self, path):
-        self.path = path
+    def __init__(self, path, is_large=False):
+        self.path, self.is_large = path, is_large
+
+    def taking(self, is_large):
+        """Returns the program as it takes large games, or those within the usual limits alone."""
+        return self if is_large == self.is_large else Referee(self.path, is_large)
+
+    def rules_words(self, rules_path):
+        """Returns the words that say which rules, and by which limits."""
+        return [f"--rules-file={rules_path}", *(["--large"] if self.is_large else [])]
 
     def call(self, *words, data=b""):
         return subprocess.run([self.path, *map(str, words)], input=data, capture_output=True)
@@ -129,7 +138,7 @@ class Referee:
         """Returns the names of the roles of a ground description; `name` says which one it is. Refuses what is none."""
         tries = "".join(f"open r{count} 0 1 1 {' '.join(f'p{number}' for number in range(count))}\n" for count in range(1, MOST_ROLES + 1))
         with rules_file(rules) as path:
-            said = self.call("desk", f"--rules-file={path}", data=tries.encode())
+            said = self.call("desk", *self.rules_words(path), data=tries.encode())
         if said.returncode == 1 and last_line(said) == BAD_RULES:
             # The line before says where, and what is wrong there.
             raise BadRules(said_lines(said)[-2:][0].removeprefix("ggp_manager: "))
@@ -138,11 +147,11 @@ class Referee:
             raise unchecked(said, name)
         return tuple(records[0]["roles"])
 
-    def run_words(self, rules_path, told_path, match, strikes, places):
+    def run_words(self, rules_path, player_rules_path, match, strikes, places):
         """Returns the command that plays a match; START carries the rules of the second path where there is one."""
-        told = [] if told_path is None else [f"--told={told_path}"]
+        player_rules = [] if player_rules_path is None else [f"--player-rules={player_rules_path}"]
         options = f"--id={match.id}", f"--start={match.start}", f"--play={match.play}", f"--strikes={strikes}", "--history", "--log"
-        return [self.path, "run", f"--rules-file={rules_path}", *told, *options, "--", *places]
+        return [self.path, "run", *self.rules_words(rules_path), *player_rules, *options, "--", *places]
 
     def abort_words(self, match: str, place: str) -> list[str]:
         return [self.path, "abort", "--", match, place]
@@ -150,15 +159,18 @@ class Referee:
     def info_words(self, place):
         return [self.path, "info", "--", place]
 
+    def desk_words(self, rules_path):
+        return [self.path, "desk", *self.rules_words(rules_path)]
+
     def verify_words(self, rules_path):
-        return [self.path, "verify", f"--rules-file={rules_path}"]
+        return [self.path, "verify", *self.rules_words(rules_path)]
 
     def replay_words(self, rules_path):
-        return [self.path, "replay", f"--rules-file={rules_path}"]
+        return [self.path, "replay", *self.rules_words(rules_path)]
 
     def check_rules(self, rules_path):
         """Refuses a file that is no ground description."""
-        said = self.call("verify", "--lines", f"--rules-file={rules_path}")
+        said = self.call("verify", "--lines", *self.rules_words(rules_path))
         if said.returncode == 1 and last_line(said) == BAD_RULES:
             raise BadRules(said_lines(said)[-2:][0].removeprefix("ggp_manager: "))
         if said.returncode:
@@ -166,7 +178,7 @@ class Referee:
 
     def verdicts(self, rules_path, records):
         """Returns for each record what `verify` says of it. Each is one line, and begins with `{`."""
-        said = self.call("verify", "--lines", f"--rules-file={rules_path}", data=b"".join(records))
+        said = self.call("verify", "--lines", *self.rules_words(rules_path), data=b"".join(records))
         found = said.stdout.decode("ascii", "replace").splitlines()
         wrong = len(found) - found.count("lawful")
         is_told = last_line(said) == NOT_LAWFUL.format(wrong) if wrong else True
@@ -180,7 +192,7 @@ class Referee:
         found = []
         while len(found) < len(accounts):
             at = len(found)
-            said = self.call("replay", f"--rules-file={rules_path}", data=b"".join(b"{\n" + account for account in accounts[at:]))
+            said = self.call("replay", *self.rules_words(rules_path), data=b"".join(b"{\n" + account for account in accounts[at:]))
             replayed = records_replayed(said.stdout)
             is_refused = is_not_replayed(said.returncode, last_line(said))
             if not is_refused and (said.returncode != 0 or len(replayed) != len(accounts) - at):

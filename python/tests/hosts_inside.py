@@ -88,7 +88,7 @@ class Machine:
     def runs(self):
         """Returns the ids of the matches that are played there."""
         commands = (command for _, command in self.processes() if command.startswith(os.fsencode(program())))
-        return {it[1].decode() for command in commands if (it := re.search(rb"\0--id=([^\0]+)", command))}
+        return {option[1].decode() for command in commands if (option := re.search(rb"\0--id=([^\0]+)", command))}
 
     def take_away(self):
         system(f"ip link set {self.link} down")
@@ -167,11 +167,11 @@ class Hosts(Machines):
 
     @unittest.skipUnless(shutil.which("gringo"), "gringo is not installed")
     def test_players_are_told_rules_with_variables(self):
-        self.planned(2, ("nim", GAMES / "general/nim.kif", 'told = "variables"'))
+        self.planned(2, ("nim", GAMES / "general/nim.kif", 'player_rules = "variables"'))
         status, out, said = run(self.folder, "play", env=self.environment)
         self.assertEqual((status, said), (0, ""), out)
         self.assert_whole()
-        told = tuple(example.read((self.folder / "rules/nim.told").read_text()))
+        told = tuple(example.read((self.folder / "rules/nim.players").read_text()))
         self.assertEqual([player.told for player in self.players], [dict.fromkeys((planned[0] for planned in self.schedule), told)] * 2)
 
     def test_ended_and_killed_and_gone_on(self):

@@ -8,6 +8,7 @@ import pathlib
 import subprocess
 import sys
 import tempfile
+import types
 import unittest
 
 TOP = pathlib.Path(__file__).resolve().parents[2]
@@ -51,6 +52,13 @@ def program():
 def slowness():
     """Returns by how much longer things take than where the processors are free: others may work on this computer too."""
     return min(5, max(1, round(os.getloadavg()[0] / os.cpu_count())))
+
+
+def stand_in(**answers):
+    """Returns a referee for tests that answers so, of large games and others."""
+    referee = types.SimpleNamespace(is_large=False, **answers)
+    referee.taking = lambda _: referee
+    return referee
 
 
 def toml(players, games, form='kind = "round_robin"', head=""):

@@ -1,7 +1,9 @@
 """ABORT, which the referee's command sends to players of any kind: each answers, or did not."""
 
+import os
 import pathlib
 import socket
+import subprocess
 import tempfile
 import threading
 import time
@@ -66,6 +68,60 @@ class Aborts(unittest.TestCase):
         with tempfile.TemporaryDirectory() as room:
             none = Referee(str(pathlib.Path(room) / "none"))
             self.assertEqual(send_aborts(none, {"cup-001": ["ann@127.0.0.1:9"]}), {"cup-001": ["ann@127.0.0.1:9"]})
+
+
+class Words:
+    """A referee whose command for a place are the words that stand there."""
+
+    def __init__(self):
+        self.begun = []
+
+    def abort_words(self, match, place):
+        self.begun.append((match, place))
+        return ["sh", "-c", place]
+
+
+class Processes(unittest.TestCase):
+    """What becomes of the processes, whatever they do."""
+
+    def test_only_status_0_is_an_answer(self):
+        places = {"a": ["exit 0", "exit 1", "exit 3", "kill -9 $$"], "b": ["exit 0"], "c": ["exit 2"]}
+        self.assertEqual(send_aborts(Words(), places), {"a": ["exit 1", "exit 3", "kill -9 $$"], "c": ["exit 2"]})
+
+    def test_what_can_not_be_begun_is_no_answer_and_the_others_are_sent(self):
+        begun = iter([OSError(11, "none")])
+        plain = subprocess.Popen
+
+        def popen(*words, **more):
+            for fault in begun:
+                raise fault
+            return plain(*words, **more)
+
+        with unittest.mock.patch("ggp_tools.competition.aborts.subprocess.Popen", popen):
+            self.assertEqual(send_aborts(Words(), {"a": ["exit 0", "exit 0;"], "b": ["exit 0"]}), {"a": ["exit 0"]})
+
+    def test_with_no_time_none_has_answered(self):
+        referee = Words()
+        self.assertEqual(send_aborts(referee, {"b": ["y", "x"], "a": ["z"]}, 0), {"b": ["x", "y"], "a": ["z"]})
+        self.assertEqual(referee.begun, [])
+
+    def test_so_many_at_a_time_and_those_that_are_left_at_the_end_are_ended(self):
+        referee, processes, plain = Words(), [], aborts.abort_of
+
+        def begun(*words):
+            processes.append(plain(*words))
+            return processes[-1]
+
+        with unittest.mock.patch.object(aborts, "AT_ONCE", 2), unittest.mock.patch.object(aborts, "abort_of", begun):
+            self.assertEqual(send_aborts(referee, {"a": ["exec sleep 600"], "b": ["exec sleep 600"], "c": ["exit 0"]}, 0.2),
+                             {"a": ["exec sleep 600"], "b": ["exec sleep 600"], "c": ["exit 0"]})
+        self.assertEqual(([match for match, _ in referee.begun], [process.poll() for process in processes]), (["a", "b"], [-9, -9]))
+
+    def test_ctrl_c_at_the_terminal_does_not_reach_them(self):
+        process = aborts.abort_of(Words(), "a", "exec sleep 600")
+        self.addCleanup(process.wait)
+        self.addCleanup(process.kill)
+        self.assertEqual(os.getsid(process.pid), process.pid)
 
 
 if __name__ == "__main__":

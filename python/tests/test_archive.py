@@ -35,11 +35,11 @@ def packed(files, kinds=None, fits=True, headers=None):
     found = io.BytesIO()
     with tarfile.open(fileobj=found, mode="w:gz") as archive:
         for name, data in files.items():
-            it = tarfile.TarInfo(name)
-            it.size = len(data)
-            it.type = (kinds or {}).get(name, tarfile.REGTYPE)
-            it.pax_headers = (headers or {}).get(name, {})
-            archive.addfile(it, io.BytesIO(data))
+            member = tarfile.TarInfo(name)
+            member.size = len(data)
+            member.type = (kinds or {}).get(name, tarfile.REGTYPE)
+            member.pax_headers = (headers or {}).get(name, {})
+            archive.addfile(member, io.BytesIO(data))
     return found.getvalue()
 
 
@@ -82,15 +82,15 @@ def sums_changed(change):
 
 def headers_for_headers(_):
     """Returns an archive of nothing but extended headers, each for the next one."""
-    it = tarfile.TarInfo("x")
-    it.type = tarfile.XHDTYPE
-    return gzip.compress(it.tobuf(tarfile.USTAR_FORMAT) * 3000)
+    header = tarfile.TarInfo("x")
+    header.type = tarfile.XHDTYPE
+    return gzip.compress(header.tobuf(tarfile.USTAR_FORMAT) * 3000)
 
 
 def twice(_):
     """Returns an archive that has a file twice."""
-    it = tarfile.TarInfo("cup/schedule.tsv")
-    return gzip.compress(2 * it.tobuf() + bytes(1024))
+    member = tarfile.TarInfo("cup/schedule.tsv")
+    return gzip.compress(2 * member.tobuf() + bytes(1024))
 
 
 def nonsense(files):
@@ -137,34 +137,34 @@ SPOILINGS = {
     "there are headers for headers alone": (headers_for_headers, "can't be unpacked"),
     "goals are exchanged": (changed("cup/records/cup-002.json", better), "cup-002: not lawful: goals"),
     "a record has another player's name": (changed("cup/records/cup-001.json", renamed), "cup-001: its account does not give its record again"),
-    "a move of the account is another one": (changed("cup/accounts/cup-001.txt", lambda it: it.replace(b"READY", b"BUSY").replace(b"(take 1)", b"(take 2)")), "cup-001: "),
+    "a move of the account is another one": (changed("cup/accounts/cup-001.txt", lambda text: text.replace(b"READY", b"BUSY").replace(b"(take 1)", b"(take 2)")), "cup-001: "),
     "two accounts are exchanged": (swapped("cup/accounts/cup-001.txt", "cup/accounts/cup-002.txt"), "does not give its record again"),
     "two whole matches are exchanged": (None, "cup-001: its matchId is 'cup-002'"),
     "calls of one account stand in another": (moved_calls, "cup-001: its account is not of one match alone"),
-    "an account has a line that replay skips": (changed("cup/accounts/cup-003.txt", lambda it: b'{"goalValues":[100,0]}\n' + it), "cup-003: its account is not of one match alone"),
+    "an account has a line that replay skips": (changed("cup/accounts/cup-003.txt", lambda text: b'{"goalValues":[100,0]}\n' + text), "cup-003: its account is not of one match alone"),
     "a match is missing": (without("cup/records/cup-003.json", "cup/accounts/cup-003.txt", "cup/logs/cup-003.txt"), "cup-003: it has no record"),
     "an account is missing": (without("cup/accounts/cup-004.txt"), "cup-004: its account is missing"),
-    "a log tells of another answer": (changed("cup/logs/cup-001.txt", lambda it: re.sub(rb"(PLAY [^:]*: )[^,]*,", rb"\1(take 7),", it, count=1)), "of its log is not what its account says"),
-    "a log tells of another player": (changed("cup/logs/cup-001.txt", lambda it: it.replace(b" ann ", b" cid ").replace(b" bob ", b" ann ")), "line 2 of its log is not what its account says"),
+    "a log tells of another answer": (changed("cup/logs/cup-001.txt", lambda text: re.sub(rb"(PLAY [^:]*: )[^,]*,", rb"\1(take 7),", text, count=1)), "of its log is not what its account says"),
+    "a log tells of another player": (changed("cup/logs/cup-001.txt", lambda text: text.replace(b" ann ", b" cid ").replace(b" bob ", b" ann ")), "line 2 of its log is not what its account says"),
     "two logs are exchanged": (swapped("cup/logs/cup-001.txt", "cup/logs/cup-002.txt"), "cup-002: line 2 of its log is not what its account says"),
     "a log is missing": (without("cup/logs/cup-004.txt"), "cup-004: its log is missing"),
-    "the rules are others": (changed("cup/rules/countdown.kif", lambda it: it.replace(b"100", b"90")), "rules/countdown.kif is not what"),
+    "the rules are others": (changed("cup/rules/countdown.kif", lambda text: text.replace(b"100", b"90")), "rules/countdown.kif is not what"),
     "a description is another": (changed("cup/games/odd.kif", lambda _: b"(role nonsense)\n"), "games/odd.kif is not the description that the rules of odd were made from"),
     "a description and its sum are others": (nonsense, "games/odd.kif has no variables, and is not the rules of odd"),
     "a description is missing": (without("cup/games/odd.kif"), "games/odd.kif is missing: it is the description of odd"),
     "the sums of the descriptions are missing": (without("cup/rules/DESCRIPTIONS.sha256"), "rules/DESCRIPTIONS.sha256 is missing: it has the sums of the descriptions"),
-    "there is a sum of another description": (changed("cup/rules/DESCRIPTIONS.sha256", lambda it: it + b"0" * 64 + b"  more.kif\n"), "has a sum of more.kif, which is no game"),
-    "the schedule is another": (changed("cup/schedule.tsv", lambda it: it.replace(b"ann bob", b"bob ann", 1)), "schedule.tsv is not what"),
-    "the competition has other strikes": (changed("cup/competition.toml", lambda it: it.replace(b"strikes = 1", b"strikes = 2")), "its strikes is 1"),
-    "the competition counts otherwise": (changed("cup/competition.toml", lambda it: it.replace(b"forfeit = true", b"forfeit = false")), "table.json does not follow"),
-    "the competition has another order": (changed("cup/competition.toml", lambda it: b'order = "points"\n' + it), "table.txt does not follow"),
-    "a forfeit is taken away": (changed("cup/matches.jsonl", lambda it: re.sub(rb'"forfeit":.*?"counted":.*?\],', b"", it, count=1)), "matches.jsonl does not follow"),
-    "a forfeit has another reason": (changed("cup/matches.jsonl", lambda it: it.replace(b'"errors":["IL"]', b'"errors":["TO"]', 1)), "matches.jsonl does not follow"),
-    "a forfeit is taken away from its page": (changed("cup/pages/index.html", lambda it: re.sub(rb"forfeit: cid .*?<", b"<", it, count=1)), "pages/index.html does not follow"),
-    "the table is another": (changed("cup/table.txt", lambda it: it.replace(b"ann", b"eve")), "table.txt does not follow from the records"),
-    "the crosstable is another": (changed("cup/crosstable.csv", lambda it: it + b"x"), "crosstable.csv does not follow"),
-    "times are others": (changed("cup/matches.jsonl", lambda it: it.replace(b'"turns":', b'"turns":1', 1)), "matches.jsonl does not follow"),
-    "a page is another": (changed("cup/pages/index.html", lambda it: it.replace(b"ann", b"eve")), "pages/index.html does not follow"),
+    "there is a sum of another description": (changed("cup/rules/DESCRIPTIONS.sha256", lambda text: text + b"0" * 64 + b"  more.kif\n"), "has a sum of more.kif, which is no game"),
+    "the schedule is another": (changed("cup/schedule.tsv", lambda text: text.replace(b"ann bob", b"bob ann", 1)), "schedule.tsv is not what"),
+    "the competition has other strikes": (changed("cup/competition.toml", lambda text: text.replace(b"strikes = 1", b"strikes = 2")), "its strikes is 1"),
+    "the competition counts otherwise": (changed("cup/competition.toml", lambda text: text.replace(b"forfeit = true", b"forfeit = false")), "table.json does not follow"),
+    "the competition has another order": (changed("cup/competition.toml", lambda text: b'order = "points"\n' + text), "table.txt does not follow"),
+    "a forfeit is taken away": (changed("cup/matches.jsonl", lambda text: re.sub(rb'"forfeit":.*?"counted":.*?\],', b"", text, count=1)), "matches.jsonl does not follow"),
+    "a forfeit has another reason": (changed("cup/matches.jsonl", lambda text: text.replace(b'"errors":["IL"]', b'"errors":["TO"]', 1)), "matches.jsonl does not follow"),
+    "a forfeit is taken away from its page": (changed("cup/pages/index.html", lambda text: re.sub(rb"forfeit: cid .*?<", b"<", text, count=1)), "pages/index.html does not follow"),
+    "the table is another": (changed("cup/table.txt", lambda text: text.replace(b"ann", b"eve")), "table.txt does not follow from the records"),
+    "the crosstable is another": (changed("cup/crosstable.csv", lambda text: text + b"x"), "crosstable.csv does not follow"),
+    "times are others": (changed("cup/matches.jsonl", lambda text: text.replace(b'"turns":', b'"turns":1', 1)), "matches.jsonl does not follow"),
+    "a page is another": (changed("cup/pages/index.html", lambda text: text.replace(b"ann", b"eve")), "pages/index.html does not follow"),
     "a page is missing": (without("cup/pages/matches/cup-001.html"), "pages/matches/cup-001.html does not follow"),
     "there is a page more": (beside("cup/pages/more.html"), "pages/more.html does not follow"),
     "there is a record more": (beside("cup/records/cup-099.json"), "it is of no match of the schedule"),
@@ -175,12 +175,12 @@ SPOILINGS = {
     "the version is missing": (without("cup/VERSION"), "VERSION is missing"),
     "it does not say how to check it": (without("cup/CHECK.txt"), "CHECK.txt is missing"),
     "a name in the sums is no plain text": (None, "records/x?[2J?[31mn? is missing"),
-    "a word of the competition is no plain text": (changed("cup/competition.toml", lambda it: it.replace(b"round_robin", b"\xc3\xa9")), "'?' is none of round_robin"),
-    "it says otherwise how to check it": (changed("cup/CHECK.txt", lambda it: it + b"All of it was checked.\n"), "CHECK.txt is not what `publish` writes"),
-    "the sums have another line": (sums_changed(lambda it: it + b"all is well\n"), "SHA256SUMS has a file twice, or a line that is no sum"),
-    "a file has two sums": (sums_changed(lambda it: b"0" * 64 + it[64 : it.index(b"\n") + 1] + it), "SHA256SUMS has a file twice"),
-    "the sums of the rules have another line": (changed("cup/rules/SHA256SUMS", lambda it: b"all is well\n" + it), "rules/SHA256SUMS is not what `ggp_competition plan` wrote"),
-    "a description has two sums": (changed("cup/rules/DESCRIPTIONS.sha256", lambda it: b"0" * 64 + it[64 : it.index(b"\n") + 1] + it), "rules/DESCRIPTIONS.sha256 is not what"),
+    "a word of the competition is no plain text": (changed("cup/competition.toml", lambda text: text.replace(b"round_robin", b"\xc3\xa9")), "'?' is none of round_robin"),
+    "it says otherwise how to check it": (changed("cup/CHECK.txt", lambda text: text + b"All of it was checked.\n"), "CHECK.txt is not what `publish` writes"),
+    "the sums have another line": (sums_changed(lambda text: text + b"all is well\n"), "SHA256SUMS has a file twice, or a line that is no sum"),
+    "a file has two sums": (sums_changed(lambda text: b"0" * 64 + text[64 : text.index(b"\n") + 1] + text), "SHA256SUMS has a file twice"),
+    "the sums of the rules have another line": (changed("cup/rules/SHA256SUMS", lambda text: b"all is well\n" + text), "rules/SHA256SUMS is not what `ggp_competition plan` wrote"),
+    "a description has two sums": (changed("cup/rules/DESCRIPTIONS.sha256", lambda text: b"0" * 64 + text[64 : text.index(b"\n") + 1] + text), "rules/DESCRIPTIONS.sha256 is not what"),
     "there are gaps where there are none": (beside("cup/GAPS.tsv", b"id\tgame\tstart\tplay\tplayers\n"), "GAPS.tsv is nothing of this competition"),
     "there are no sums": (without("cup/SHA256SUMS"), "SHA256SUMS is missing"),
     "a name leads out of the folder": (beside("cup/../../out.txt"), "is no plain file below one folder"),
@@ -342,7 +342,7 @@ class Archive(unittest.TestCase):
         self.assertIn("11 records and accounts, the table and the pages are right; 1 of 12 matches have no record, GAPS.tsv names them; published", out)
         for change, words in (
             (without("cup/GAPS.tsv"), "cup-003: it has no record"),
-            (changed("cup/GAPS.tsv", lambda it: it.replace(b"cup-003", b"cup-004")), "GAPS.tsv does not follow from the records"),
+            (changed("cup/GAPS.tsv", lambda text: text.replace(b"cup-003", b"cup-004")), "GAPS.tsv does not follow from the records"),
             (without(*(f"cup/{name}" for name in ("records/cup-004.json", "accounts/cup-004.txt", "logs/cup-004.txt"))), "GAPS.tsv does not follow from the records"),
             (without("cup/logs/cup-004.txt"), "cup-004: its log is missing"),
             (changed("cup/records/cup-002.json", better), "cup-002: not lawful: goals"),
@@ -447,8 +447,8 @@ class Archive(unittest.TestCase):
         file = self.other / "file"
         file.write_bytes(b"before")
         for fault, path in ((OSError(errno.ENOSPC, "full"), str(file)), (OSError(errno.EIO, "bad", "other"), "other"), (KeyboardInterrupt(), None)):
-            with self.assertRaises(type(fault)) as raised, written_whole(file) as it:
-                it.write(b"after")
+            with self.assertRaises(type(fault)) as raised, written_whole(file) as stream:
+                stream.write(b"after")
                 raise fault
             self.assertEqual(getattr(raised.exception, "filename", None), path)
             self.assertEqual(([left.name for left in self.other.iterdir()], file.read_bytes()), (["file"], b"before"))

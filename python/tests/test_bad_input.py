@@ -5,7 +5,6 @@ import os
 import shutil
 import subprocess
 import sys
-import types
 import unittest
 from unittest import mock
 
@@ -16,7 +15,7 @@ from ggp_tools.descriptions.random_matches import TimeIsOver
 from ggp_tools.competition.files import Refused, write_whole
 from ggp_tools.competition.plan import faults_of_descriptions, make_plan, read_plan
 from ggp_tools.referee import NoReferee, find_program
-from tests.support import COMMAND, GAMES, TOP, InFolder, call, program, program_but, run, run_into_full, toml
+from tests.support import COMMAND, GAMES, TOP, InFolder, call, program, program_but, run, run_into_full, stand_in, toml
 
 PLAYERS = [("ann", "127.0.0.1:9147"), ("bob", "127.0.0.1:9148")]
 FACTS = "(role a)\n(role b)\n"
@@ -75,7 +74,7 @@ class BadInput(InFolder):
 
     def test_a_plan_that_is_broken_off_is_none(self):
         game, written = self.folder / "game.kif", []
-        referee = types.SimpleNamespace(roles=lambda *_: ("a", "b"))
+        referee = stand_in(roles=lambda *_: ("a", "b"))
         self.write(PLAYERS, [("game", "game.kif", "aborts = true")])
         for stop in range(5):
             game.write_text(FACTS)
@@ -101,7 +100,7 @@ class BadInput(InFolder):
             self.assertEqual((plan.rules["game"].text == game.read_bytes(), bool(wrong)), (stop > 0, stop == 0), written)
 
     def test_a_game_that_can_not_be_played_is_planned_only_if_that_is_said(self):
-        game, referee = self.folder / "game.kif", types.SimpleNamespace(roles=lambda *_: ("robot",))
+        game, referee = self.folder / "game.kif", stand_in(roles=lambda *_: ("robot",))
         buttons = (GAMES / "buttons.kif").read_text()
         for text, words in (
             ("(role robot)", "no match of it can begin: at the start it is aborted with `nolegal robot`"),
@@ -240,12 +239,12 @@ class BadInput(InFolder):
 
     def test_rules_with_variables_of_a_game_that_has_none(self):
         (self.folder / "one.kif").write_text("(role ?a")
-        games = [("one", "one.kif", 'told = "variables"'), ("two", "two.kif"), ("three", GAMES / "countdown.kif", "", 'told = "variables"')]
+        games = [("one", "one.kif", 'player_rules = "variables"'), ("two", "two.kif"), ("three", GAMES / "countdown.kif", "", 'player_rules = "variables"')]
         self.write(PLAYERS, games)
         self.assert_refused([
             "competition.toml:4: games.file: one.kif: line 1, column 1: a list",
             "competition.toml:8: games.file: two.kif: it can't be read",
-            f'competition.toml:15: games.told: {GAMES}/countdown.kif has no variables: "ground" is wanted',
+            f'competition.toml:15: games.player_rules: {GAMES}/countdown.kif has no variables: "ground" is wanted',
         ])
 
     def test_a_number_of_players_that_does_not_fit(self):

@@ -2,6 +2,7 @@
 
 import contextlib
 import csv
+import io
 import json
 import os
 import pathlib
@@ -10,10 +11,12 @@ import subprocess
 import sys
 import tempfile
 import unittest
+from unittest import mock
 
 from ggp_tools.kif import Refused
-from ggp_tools.records.collection import candidates, game_of
+from ggp_tools.records.collection import LONGEST_RECORD, Pile, candidates, game_of, judged_batch, judged_lines, known_games, line_of, numbered_lines
 from ggp_tools.records.shapes import ACCOUNT_LINE
+from ggp_tools.referee import BadRules
 from tests.support import GAMES, TOP, program
 
 RECORDS = TOP / "examples/records"
@@ -47,6 +50,112 @@ class Sorting(unittest.TestCase):
             self.assertTrue(ACCOUNT_LINE.fullmatch(line))
         for line in (b"1 {}", b"1\t{}", b"7", b"3\tnext m 0", b"3\tplay m\tx", b"1764273600 next m 0\tover", b'3\tnext m 0\to{"cause":null}'):
             self.assertFalse(ACCOUNT_LINE.fullmatch(line))
+
+
+class Says:
+    """A referee to whom a record is lawful by the rules that its key `by` names. It refuses descriptions by their names."""
+
+    def __init__(self, *refused):
+        self.refused, self.asked = refused, []
+
+    def check_rules(self, path):
+        if pathlib.Path(path).stem in self.refused:
+            raise BadRules("bad")
+
+    def verdicts(self, path, records):
+        name = pathlib.Path(path).stem
+        self.asked.append((name, records))
+        return ["lawful" if json.loads(line).get("by") == name else f"not lawful: {name}" for line in records]
+
+
+class Piles(unittest.TestCase):
+    def setUp(self):
+        self.folder = pathlib.Path(self.enterContext(tempfile.TemporaryDirectory()))
+
+    def write(self, name, text):
+        (self.folder / name).write_bytes(text)
+        return str(self.folder / name)
+
+    def games(self, *firsts, refused=()):
+        """Returns the known games of a folder: each has the role a, and these terms in its first state."""
+        (self.folder / "rules").mkdir(exist_ok=True)
+        for at, first in enumerate(firsts):
+            self.write(f"rules/g{at}.kif", b"(role a)" + "".join(f"(init {term})" for term in first).encode())
+        return known_games(str(self.folder / "rules"), Says(*refused))
+
+    def test_lines_have_numbers_and_no_ends(self):
+        lines = list(numbered_lines(io.BytesIO(b"a\n\nb\r\n\r\nc\r\r\nlast")))
+        self.assertEqual(lines, [(1, b"a"), (2, b""), (3, b"b"), (4, b""), (5, b"c"), (6, b"last")])
+        self.assertEqual(list(numbered_lines(io.BytesIO(b""))), [])
+
+    def test_of_a_line_that_is_too_long_so_much_is_read_as_shows_it(self):
+        with mock.patch("ggp_tools.records.collection.LONGEST_RECORD", 4):
+            for data, wanted in ((b"1234\n5\n", [4, 1]), (b"1234\r\n5", [4, 1]), (b"12345\r\n5", [5, 1]), (b"12345\n5", [5, 1]), (b"x" * 7 + b"\n5", [7, 1]), (b"x" * 50 + b"\n5\n", [7, 1]), (b"x" * 50, [7])):
+                found = list(numbered_lines(io.BytesIO(data)))
+                self.assertEqual(([number for number, _ in found], [len(line) for _, line in found]), (list(range(1, len(wanted) + 1)), wanted), data)
+
+    def test_what_a_line_is(self):
+        for data, record, said in (
+            (b'{"matchId":"m"}', {"matchId": "m"}, ""), (b"[]", None, "it is JSON, and no object"), (b"7", None, "it is JSON, and no object"),
+            (b"[" * 99_999, None, "maximum recursion depth exceeded while decoding a JSON array from a unicode string"), (b"{", None, "Expecting property name enclosed in double quotes: line 1 column 2 (char 1)"),
+        ):
+            found = line_of("f", 3, data)
+            self.assertEqual((found.file, found.number, found.data, found.record, found.said), ("f", 3, data, record, said))
+        self.assertEqual([line_of("f", 1, data).match_id for data in (b'{"matchId":"m"}', b'{"matchId":7}', b"{}", b"7")], ["m", "", "", ""])
+        with mock.patch("ggp_tools.records.collection.LONGEST_RECORD", 4):
+            self.assertEqual([line_of("f", 1, data).said for data in (b"{  }", b"{   }")], ["", "it is longer than 16 MiB"])
+        self.assertEqual(LONGEST_RECORD, 16 * 1024 * 1024)
+
+    def test_lines_of_accounts_are_counted_and_the_others_come_some_megabytes_at_a_time(self):
+        one, other = self.write("one", b"{}\n0\tnext m 0\tover\n{ }\n"), self.write("other", b"{  }\n1\tnext m 0\tover\n[]")
+        with mock.patch("ggp_tools.records.collection.BATCH", 5):
+            pile = Pile([one, other])
+            found = [[(line.file, line.number, line.data) for line in batch] for batch in pile.batches()]
+        self.assertEqual(found, [[(one, 1, b"{}"), (one, 3, b"{ }")], [(other, 1, b"{  }"), (other, 3, b"[]")]])
+        self.assertEqual(pile.skipped, 2)
+        self.assertEqual((list(Pile([self.write("none", b"")]).batches()), list(Pile([]).batches())), ([], []))
+
+    def test_games_of_a_folder(self):
+        for name, text in (("h0", b"(role ?x)"), ("h1", b"(init a)"), ("h2", b"(role a)"), ("h3", b")"), ("h4", b"(role)")):
+            (self.folder / "rules").mkdir(exist_ok=True)
+            self.write(f"rules/{name}.kif", text)
+        self.write("rules/none.txt", b")")
+        games, refused = self.games("ab", refused=["h2"])
+        rules = self.folder / "rules"
+        self.assertEqual([(game.name, game.roles, game.first, game.path) for game in games], [("g0", ("a",), ("a", "b"), str(rules / "g0.kif"))])
+        self.assertEqual(refused, [
+            f"{rules}/h0.kif: it has variables: `ggp-instantiate` makes ground rules of it", f"{rules}/h1.kif: it has no role", f"{rules}/h2.kif: bad",
+            f"{rules}/h3.kif: a `)` with no open list", f"{rules}/h4.kif: it has no role",
+        ])
+
+    def test_the_game_whose_first_state_is_most_like_it_comes_first(self):
+        games, _ = self.games("abc", "ab", "", "abd")
+        for first, wanted in ((["a", "b"], "g1 g0 g3 g2"), (["a", "b", "d"], "g3 g1 g0 g2"), (["x"], "g2 g1 g0 g3"), (["b", "a"], "g1 g0 g3 g2")):
+            self.assertEqual(" ".join(game.name for game in candidates({"roles": ["a"], "states": [first]}, games)), wanted, first)
+        for record in ({"roles": ["a"]}, {"roles": ["a"], "states": []}, {"roles": ["a"], "states": [7]}, {"roles": ["a"], "states": [[1, ["x"]]]}, {"roles": ["a"], "states": 7}):
+            self.assertEqual([game.name for game in candidates(record, games)], ["g2", "g1", "g0", "g3"])
+        self.assertEqual(candidates({"roles": ["b"], "states": [["a"]]}, games) + candidates({}, games), [])
+
+    def judged(self, *records):
+        games, _ = self.games("a", "ab", "x")
+        referee = Says()
+        batch = [line_of("f", at, json.dumps(record).encode()) for at, record in enumerate(records)]
+        return [(judged.game and judged.game.name, judged.verdict) for judged in judged_batch(referee, games, batch)], referee
+
+    def test_a_record_is_lawful_if_it_is_so_by_one_of_the_games(self):
+        one = {"roles": ["a"], "states": [["a"]]}
+        found, referee = self.judged({**one, "by": "g1"}, {**one, "by": "g0"}, 7, {"roles": ["b"]}, {**one, "by": "none"})
+        self.assertEqual(found, [("g1", "lawful"), ("g0", "lawful"), (None, "no record: it is JSON, and no object"), (None, "no game has its roles"), ("g0", "not lawful: g0")])
+        self.assertEqual([(name, len(records)) for name, records in referee.asked], [("g0", 3), ("g1", 2), ("g2", 1)])
+        self.assertTrue(all(line.endswith(b"}\n") for _, records in referee.asked for line in records))
+
+    def test_batches_are_judged_side_by_side_and_come_in_order(self):
+        games, _ = self.games("a")
+        file = self.write("pile", b"".join(json.dumps({"roles": ["a"], "states": [["a"]], "by": f"g{at % 2}"}).encode() + b"\n" for at in range(40)))
+        with mock.patch("ggp_tools.records.collection.BATCH", 1):
+            for jobs in (1, 3):
+                found = list(judged_lines(Says(), games, Pile([file]), jobs))
+                self.assertEqual([(judged.line.number, judged.is_lawful) for judged in found], [(at + 1, at % 2 == 0) for at in range(40)])
 
 
 class Commands(unittest.TestCase):

@@ -45,7 +45,7 @@ class Examples(unittest.TestCase):
         status, out, said = run(INSTANTIATE, "--help", env={**os.environ, "COLUMNS": "200"})
         self.assertEqual((status, said), (0, ""))
         self.assertIn("\nReads the description of a game with variables, and writes the ground description", out)
-        for option in ("FILE", "--seconds N", "--folded", "--unfolded", "--told TOLD"):
+        for option in ("FILE", "--seconds N", "--folded", "--unfolded", "--player-rules FILE"):
             self.assertRegex(out, rf"\n  {option} +[a-z]")
 
     def test_a_full_output(self):
@@ -171,7 +171,7 @@ class Examples(unittest.TestCase):
 
     def test_a_folder_in_the_place_of_the_text_for_players(self):
         with tempfile.TemporaryDirectory() as room:
-            status, out, said = run(INSTANTIATE, "--told", pathlib.Path(room), NIM)
+            status, out, said = run(INSTANTIATE, "--player-rules", pathlib.Path(room), NIM)
             self.assertEqual((status, out), (1, ""))
             self.assertEqual(said.splitlines()[-1], f"ggp-instantiate: {room} can't be written: Is a directory")
 
@@ -208,10 +208,10 @@ FAULTS = [
 def changed(record, places):
     record = json.loads(json.dumps(record))
     for (*keys, last), value in places.items():
-        it = record
+        part = record
         for key in keys:
-            it = it[key]
-        it[last] = value
+            part = part[key]
+        part[last] = value
     return {key: held for key, held in record.items() if held != "gone"}
 
 

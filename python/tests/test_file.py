@@ -53,10 +53,12 @@ MISTAKES = [
     ('name = "go"', 'name = "-go"', [(12, "games.name", "is no name")]),
     ('name = "go"', 'name = "g/o"', [(12, "games.name", "is no name")]),
     ('file = "go.kif"', "", [(11, "games.file", "missing")]),
-    ('file = "go.kif"', 'file = "go.kif"\ntold = "both"', [(14, "games.told", "none of ground, variables")]),
+    ('file = "go.kif"', 'file = "go.kif"\nplayer_rules = "both"', [(14, "games.player_rules", "none of ground, variables")]),
     ('file = "go.kif"', 'file = "go.kif"\naborts = 1', [(14, "games.aborts", "true or false is wanted")]),
-    ('file = "go.kif"', 'file = "go.kif"\ntold = true', [(14, "games.told", "a text in quotes")]),
-    ('file = "go.kif"', 'file = "go.kif"\n\ntell = "ground"', [(15, "games.tell", "no such key; there are name, file, described, seconds, start, play, told, aborts")]),
+    ('file = "go.kif"', 'file = "go.kif"\ntold = "variables"', [(14, "games.told", "this key is now player_rules")]),
+    ('file = "go.kif"', 'file = "go.kif"\nlarge = 1', [(14, "games.large", "true or false is wanted")]),
+    ('file = "go.kif"', 'file = "go.kif"\nplayer_rules = true', [(14, "games.player_rules", "a text in quotes")]),
+    ('file = "go.kif"', 'file = "go.kif"\n\ntell = "ground"', [(15, "games.tell", "no such key; there are name, file, described, seconds, start, play, player_rules, aborts, large")]),
     ('name = "bob"', 'name = "ann"', [(18, "players.name", "'ann' stands in line 15 already")]),
     ('name = "bob"', 'name = "b b"', [(18, "players.name", "is no name")]),
     ('"[::1]:9148"', '"10.0.0.1:9147"', [(19, "players.address", "line 16 already")]),
@@ -117,8 +119,8 @@ class CompetitionFile(unittest.TestCase):
         self.assertEqual(told, (Host("one", 0), Host("me@two", 32)))
 
     def test_what_players_are_told(self):
-        found = read_competition(GOOD.replace('file = "go.kif"', 'file = "go.kif"\ntold = "variables"').encode())
-        self.assertEqual([(game.told_line, game.tells_variables()) for game in found.games], [(8, False), (14, True)])
+        found = read_competition(GOOD.replace('file = "go.kif"', 'file = "go.kif"\nplayer_rules = "variables"').encode())
+        self.assertEqual([(game.player_rules_line, game.tells_variables()) for game in found.games], [(8, False), (14, True)])
 
     def test_each_mistake_is_told(self):
         for old, new, wanted in MISTAKES:

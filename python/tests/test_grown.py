@@ -9,7 +9,7 @@ import unittest
 
 from tests.players import TestPlayer
 from tests.support import GAMES, run, toml
-from tests.test_archive import changed, files_of, without
+from tests.test_archive import changed, files_of, packed, without
 
 COUNTDOWN = [("countdown", GAMES / "countdown.kif")]
 REASON = b"the power of ann's machine was out"
@@ -23,32 +23,35 @@ def without_round_2(files):
 
 
 GROWN = {
-    "a reason is another": (changed("cup/again.tsv", lambda it: it.replace(b"power", b"cable")), "table.txt does not follow"),
-    "a reason is another in the line of the match": (changed("cup/matches.jsonl", lambda it: it.replace(b"power", b"cable")), "matches.jsonl does not follow"),
+    "a reason is another": (changed("cup/again.tsv", lambda text: text.replace(b"power", b"cable")), "table.txt does not follow"),
+    "a reason is another in the line of the match": (changed("cup/matches.jsonl", lambda text: text.replace(b"power", b"cable")), "matches.jsonl does not follow"),
     "a match was not ordered again": (without("cup/again.tsv"), "2 matches were planned when earlier/3.toml was replaced, and not 3"),
-    "another match was ordered again": (changed("cup/again.tsv", lambda it: it.replace(b"\tcup-001\t", b"\tcup-002\t")), "schedule.tsv is not what"),
-    "a match was ordered again twice": (changed("cup/again.tsv", lambda it: it + it.splitlines(keepends=True)[1]), "again.tsv is not what"),
+    "another match was ordered again": (changed("cup/again.tsv", lambda text: text.replace(b"\tcup-001\t", b"\tcup-002\t")), "schedule.tsv is not what"),
+    "a match was ordered again twice": (changed("cup/again.tsv", lambda text: text + text.splitlines(keepends=True)[1]), "again.tsv is not what"),
     "a record that does not count is missing": (without("cup/records/cup-001.json"), "cup-001: it has no record"),
-    "a record that does not count is another": (changed("cup/records/cup-001.json", lambda it: it.replace(b'"ann"', b'"eve"')), "cup-001: "),
+    "a record that does not count is another": (changed("cup/records/cup-001.json", lambda text: text.replace(b'"ann"', b'"eve"')), "cup-001: "),
     "the file before is missing": (without("cup/earlier/3.toml"), "which was ordered again, is not the next match"),
-    "the file before has another player": (changed("cup/earlier/3.toml", lambda it: it.replace(b'"bob"', b'"bab"')), "the player bab is there no more"),
+    "the file before has another player": (changed("cup/earlier/3.toml", lambda text: text.replace(b'"bob"', b'"bab"')), "the player bab is there no more"),
     "the file before is another in the order of its players": (
-        changed("cup/earlier/3.toml", lambda it: it.replace(b'"ann"', b'"x"').replace(b'"bob"', b'"ann"').replace(b'"x"', b'"bob"')), "schedule.tsv is not what",
+        changed("cup/earlier/3.toml", lambda text: text.replace(b'"ann"', b'"x"').replace(b'"bob"', b'"ann"').replace(b'"x"', b'"bob"')), "schedule.tsv is not what",
     ),
-    "there is one more file before": (lambda files: changed("cup/competition.toml", lambda it: b"# \n" + it)({**files, "cup/earlier/9.toml": b""}), "earlier/9.toml:1: name: the key is missing"),
-    "a forfeit is taken away": (changed("cup/table.json", lambda it: it.replace(b'"lost_by_forfeit": 4', b'"lost_by_forfeit": 0')), "table.json does not follow"),
+    "there is one more file before": (lambda files: changed("cup/competition.toml", lambda text: b"# \n" + text)({**files, "cup/earlier/9.toml": b""}), "earlier/9.toml:1: name: the key is missing"),
+    "there is one more file before, and nothing has replaced it": (
+        lambda files: packed({**files, "cup/earlier/7.toml": files["cup/competition.toml"]}), "earlier/7.toml asks for the same matches as the file after it",
+    ),
+    "a forfeit is taken away": (changed("cup/table.json", lambda text: text.replace(b'"lost_by_forfeit": 4', b'"lost_by_forfeit": 0')), "table.json does not follow"),
 }
 SWISS = {
-    "a pairing is another": (changed("cup/schedule.tsv", lambda it: re.sub(rb"(cup-003.*\t)(\w+) (\w+)\n", rb"\1\3 \2\n", it)), "schedule.tsv is not what"),
+    "a pairing is another": (changed("cup/schedule.tsv", lambda text: re.sub(rb"(cup-003.*\t)(\w+) (\w+)\n", rb"\1\3 \2\n", text)), "schedule.tsv is not what"),
     "the last round is taken away": (without_round_2, "GAPS.tsv is missing"),
-    "there is another number of rounds": (changed("cup/competition.toml", lambda it: it.replace(b"rounds = 2", b"rounds = 3")), "GAPS.tsv is missing"),
-    "there are fewer rounds": (changed("cup/competition.toml", lambda it: it.replace(b"rounds = 2", b"rounds = 1")), "schedule.tsv is not what"),
+    "there is another number of rounds": (changed("cup/competition.toml", lambda text: text.replace(b"rounds = 2", b"rounds = 3")), "GAPS.tsv is missing"),
+    "there are fewer rounds": (changed("cup/competition.toml", lambda text: text.replace(b"rounds = 2", b"rounds = 1")), "schedule.tsv is not what"),
     "a record of the first round is missing": (without("cup/records/cup-001.json"), "has round 2, which was paired by cup-001"),
-    "a bye is another's": (changed("cup/table.txt", lambda it: it.replace(b"round 1; bye: cid", b"round 1; bye: bob")), "table.txt does not follow"),
-    "a bye is another's on the first page": (changed("cup/pages/index.html", lambda it: it.replace(b"round 1; bye: cid", b"round 1; bye: bob")), "pages/index.html does not follow"),
-    "the round of a match is another": (changed("cup/matches.jsonl", lambda it: it.replace(b'"round":2', b'"round":1', 1)), "matches.jsonl does not follow"),
+    "a bye is another's": (changed("cup/table.txt", lambda text: text.replace(b"round 1; bye: cid", b"round 1; bye: bob")), "table.txt does not follow"),
+    "a bye is another's on the first page": (changed("cup/pages/index.html", lambda text: text.replace(b"round 1; bye: cid", b"round 1; bye: bob")), "pages/index.html does not follow"),
+    "the round of a match is another": (changed("cup/matches.jsonl", lambda text: text.replace(b'"round":2', b'"round":1', 1)), "matches.jsonl does not follow"),
     "the seeds are others": (
-        changed("cup/competition.toml", lambda it: it.replace(b'"ann"', b'"x"').replace(b'"cid"', b'"ann"').replace(b'"x"', b'"cid"')), "schedule.tsv is not what",
+        changed("cup/competition.toml", lambda text: text.replace(b'"ann"', b'"x"').replace(b'"cid"', b'"ann"').replace(b'"x"', b'"cid"')), "schedule.tsv is not what",
     ),
 }
 

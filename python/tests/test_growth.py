@@ -7,7 +7,7 @@ from unittest import mock
 
 from ggp_tools.competition.competition_file import Mistaken, read_competition
 from ggp_tools.competition.files import Folder, Refused
-from ggp_tools.competition.growth import Again, History, Misfit, grown, refuse_changes, shape
+from ggp_tools.competition.growth import Again, History, Misfit, grown, refuse_changes, refuse_unchanged, shape
 from ggp_tools.competition.history import again_text, read_history
 from ggp_tools.competition.schedule import planned
 from tests.support import GAMES, InFolder, run, toml
@@ -105,6 +105,13 @@ class Growth(unittest.TestCase):
         with self.assertRaises(Misfit) as why:
             grown(History(((5, competition(2)),)), competition(3), ROLES)
         self.assertEqual(str(why.exception), "4 matches were planned when earlier/5.toml was replaced, and not 5")
+
+    def test_a_file_before_that_nothing_has_replaced(self):
+        refuse_unchanged(History(((4, competition(2)),)), competition(3))
+        for counts, name in (((2, 2), 4), ((2, 3), 8)):
+            with self.assertRaises(Misfit) as why:
+                refuse_unchanged(History(tuple((4 * at, competition(count)) for at, count in enumerate(counts, 1))), competition(3))
+            self.assertIn(f"earlier/{name}.toml asks for the same matches as the file after it", str(why.exception))
 
     def test_the_limit_of_matches(self):
         orders = [Again("cup-005", "cup-001", "x"), Again("cup-006", "cup-002", "x")]

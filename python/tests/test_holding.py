@@ -1,12 +1,15 @@
 """Records are held against the published description: what is not by it is found, and said by the sentence that shows it."""
 
+import contextlib
 import json
 import subprocess
 import sys
 import unittest
+from unittest import mock
 
-from ggp_tools.holding.command import MOST_CALLS
+from ggp_tools.holding.command import MOST_CALLS, Holding, Late
 from ggp_tools.holding.game import Game
+from ggp_tools.holding.positions import Whole
 from ggp_tools.holding.reading import NotFollowed
 from ggp_tools.kif import expressions
 from tests.ground_matches import differs, played
@@ -22,6 +25,11 @@ STEPS = """(role ann) (role bob) (init (at 1)) (after 1 2) (after 2 3) (after 3 
 (<= terminal (true (at 4)))
 (<= (goal ann 100) (true (at 4))) (<= (goal ann 10) (not (true (at 4)))) (goal bob 50)
 """
+# A game of one turn. What can be reached goes round, and depends on no state.
+ONE_TURN = """(role ann) (init s) (legal ann go) (<= terminal (true t)) (goal ann 50) (<= (next t) (does ann go) (far a c))
+(near a b) (near b c) (<= (far ?x ?y) (near ?x ?y)) (<= (far ?x ?z) (far ?x ?y) (near ?y ?z))
+"""
+ONE_TURN_GROUND = ONE_TURN.splitlines()[0].replace("(far a c)", "")
 
 
 class Words(unittest.TestCase):
@@ -79,8 +87,63 @@ class Words(unittest.TestCase):
         self.assertEqual(self.words(phase="aborted", cause="nogoal 1", goalValues=[]), said)
         said = "after the last turn bob has no legal move in the record, and by the description no role"
         self.assertEqual(self.words(**short, phase="aborted", cause="nolegal 1", goalValues=[]), said)
-        # What was asked to end may end anywhere.
+        # What was asked to end may end wherever the match could have gone on.
         self.assertIsNone(self.words(**short, phase="aborted", cause="asked", goalValues=[]))
+        stuck = Game(STEPS.replace("(legal bob wait)", "(<= (legal bob wait) (true (at 1)))"))
+        first = {"moves": [["(go 2)", "wait"]], "errors": [["", ""]], "states": [["(at 1)"], ["(at 2)"]]}
+        said = "after the last turn no role has no legal move in the record, and by the description bob"
+        self.assertEqual(differs(stuck, {**self.record, **first, "phase": "aborted", "cause": "asked", "goalValues": []}), said)
+
+
+class Records(unittest.TestCase):
+    """A text that is no record, and a record that lacks something, is neither the same game nor a fault of the program."""
+
+    def setUp(self):
+        self.record, self.holding = played(expressions(ONE_TURN_GROUND), 1), Holding(ONE_TURN)
+
+    def words(self, **changes):
+        return self.holding.held(json.dumps({**self.record, **changes}))[1]
+
+    def test_what_is_no_record(self):
+        self.assertEqual(self.words(), "the same: 1 turns")
+        one, text = {"moves": [["go"]], "errors": [[""]]}, "it is no record: errors has a text that is none"
+        for changes, words in [
+            ({"moves": [[5]]}, "it is no record: moves are lists of texts"),
+            ({"states": ["s"]}, "it is no record: states are lists of texts"),
+            ({"roles": [None]}, "it is no record: roles are texts"),
+            ({"errors": [["no"]]}, text),
+            ({"errors": [["illegal"]]}, text),
+            ({"moves": [], "errors": []}, "it is no record: moves, errors and states do not fit together"),
+            ({"moves": [["go", "go"]]}, "it is no record: a turn has not one move for each role"),
+            ({"phase": "over"}, "it is no record: its phase is none"),
+            ({"cause": "asked"}, "it is no record: its cause does not fit its phase"),
+            *(({**one, "phase": "aborted", "cause": cause}, "it is no record: its cause does not fit its phase") for cause in (None, 5, "nogoal", "nogoal 1", "nolegal x", "nogoal 00")),
+            ({"startMarks": 5}, "it is no record: startMarks are of another kind"),
+            ({"startMarks": [None]}, "it is no record: startMarks do not fit its phase"),
+            ({"phase": "starting", "goalValues": []}, "it is no record: startMarks do not fit its phase"),
+            *(({"goalValues": goals}, "it is no record: goalValues do not fit its phase") for goals in ([], [50, 50], ["50"], [50.0], [True])),
+            ({"phase": "playing"}, "it is no record: goalValues do not fit its phase"),
+            *(({"moves": [[move]]}, "it is no record: a text of it is not one term") for move in ("", "go go", ";")),
+            ({"moves": [["GO"]]}, "it is no record: 'GO' is no canonical text"),
+            ({"moves": [["(go"]]}, "line 1: a list that is not closed"),
+        ]:
+            with self.subTest(changes):
+                self.assertEqual(self.words(**changes), f"not followed: {words}")
+        for line in ("[" * 200_000, '{"roles":' * 90_000, "", "5", "[1"):
+            self.assertTrue(self.holding.held(line)[1].startswith("not followed: it is no record: "))
+        self.assertEqual(self.words(), "the same: 1 turns")
+
+    def test_what_was_broken_off_is_looked_up_anew(self):
+        for fault in (Late, MemoryError):
+            holding = Holding(ONE_TURN)
+            with mock.patch.object(Whole, "close", side_effect=fault), contextlib.suppress(Late):
+                self.assertEqual(holding.held(json.dumps(self.record))[1], "not followed: it wants more memory than there is")
+            self.assertEqual(holding.held(json.dumps(self.record))[1], "the same: 1 turns")
+
+    def test_terms_that_grow(self):
+        for rules in ("(p a) (<= (p (g ?x)) (p ?x))", "(n s) (<= (r ?x) (n ?x)) (<= (p ?x) (not (p (g ?x))) (r ?x))"):
+            holding = Holding(f"{ONE_TURN} {rules} (<= terminal (true s) (p s))")
+            self.assertEqual(holding.held(json.dumps(self.record))[1], "not followed: a term has more than 64 lists in one another")
 
 
 class Described(unittest.TestCase):
@@ -90,7 +153,12 @@ class Described(unittest.TestCase):
         for text, words in [
             ("(role a) (<= (p ?x) (not (q ?x)))", "sentence 1, line 1: (<= (p ?x) (not (q ?x))): nothing binds ?x"),
             ("(role a)\n(<= (legal a ?m) (does a ?m))", "legal depends on does"),
+            ("(role a)\n" + "(" * 70_000, "line 2: more than 64 lists in one another"),
+            ("(role a)\n(<= p " + "(not " * 70_000 + "q" + ")" * 70_001, "line 2: more than 64 lists in one another"),
             ("(role a) (p", "line 1: a list that is not closed"),
+            ("(role a) ()", "sentence 1, line 1: (): () is no term"),
+            ("(role a) (init ((s)))", "sentence 1, line 1: (init ((s))): ((s)) is no term"),
+            ("(role a) (<=)", "sentence 1, line 1: (<=): a rule without a head"),
             ("(role a) (goal a)", "sentence 1, line 1: (goal a): (goal a) is no sentence of GDL"),
             ("(role a)\n)", "line 2: a `)` with no open list"),
             ("(true x)", "sentence 0: true is a head"),
@@ -111,6 +179,19 @@ class Described(unittest.TestCase):
         self.assertFalse(game.is_over(position))
         self.assertTrue(game.is_over(game.position(frozenset())))
         self.assertEqual(game.goals(position, "a"), [5])
+
+    def test_many_ways(self):
+        # Each `or` names other variables than all others. Those that bind the same in each way are relations of their own.
+        facts = "(role a) (init s) (p 1) (q 2)"
+        ors = " ".join(f"(or (p ?v{at}) (q ?v{at}))" for at in range(30))
+        game = Game(f"{facts} (<= (legal a (m ?v0 ?v1)) {ors})")
+        self.assertEqual(set(game.moves(game.position(game.initial), "a")), {("m", one, other) for one in "12" for other in "12"})
+        ors = " ".join(f"(or (p ?v{at}) (q ?z))" for at in range(12))
+        game = Game(f"{facts} (<= (legal a ?z) (q ?z) {ors})")
+        self.assertEqual(game.moves(game.position(game.initial), "a"), ["2"])
+        with self.assertRaises(NotFollowed) as why:
+            Game(f"{facts} (<= (legal a ?z) (q ?z) {ors} {ors.replace('?v', '?w')})")
+        self.assertIn("its `or`s can hold in more than 10,000 ways", str(why.exception))
 
     def test_a_relation_that_denies_itself(self):
         text = "(role a) (next 1 2) (after 1 2) (after 2 3) (after 3 4) (init s) (<= (won ?m) (after ?m ?n) (not (won ?n))) (<= (legal a ?m) (won ?m) (true s))"
@@ -150,6 +231,12 @@ class Command(unittest.TestCase):
         self.assertEqual(self.run_it(nim.with_name("none.kif"), data=record)[0], 2)
         self.assertEqual(self.run_it("--seconds", "0", nim, data=record)[0], 2)
         self.assertEqual(self.run_it(TOP / "README.md", data=record)[0], 3)
+
+    def test_streams_that_fail(self):
+        words = f"{sys.executable} {COMMAND} {GAMES / 'general/nim.kif'}"
+        for shell, said in ((f"echo 5 | {words} > /dev/full", "standard output: No space left on device"), (f"{words} <&-", "error: standard input is closed")):
+            done = subprocess.run(["sh", "-c", shell], capture_output=True, text=True)
+            self.assertEqual((done.returncode, done.stderr.splitlines()[-1]), (2, f"ggp-hold-against: {said}"))
 
 
 if __name__ == "__main__":

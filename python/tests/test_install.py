@@ -94,7 +94,7 @@ class Install(unittest.TestCase):
     def test_it_plans_where_it_was_put(self):
         cup = self.room / "cup"
         cup.mkdir()
-        nim = [("nim", GAMES / "general/nim.kif", 'told = "variables"')] if shutil.which("gringo") else []
+        nim = [("nim", GAMES / "general/nim.kif", 'player_rules = "variables"')] if shutil.which("gringo") else []
         games = [("countdown", GAMES / "countdown.kif"), *nim]
         (cup / "competition.toml").write_text(toml([("ann", "h:1"), ("bob", "h:2")], games))
         done = self.run_there("ggp_competition", "plan", cwd=cup, text=True)

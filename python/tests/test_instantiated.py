@@ -27,7 +27,7 @@ class Kept(unittest.TestCase):
         self.enterContext(mock.patch.dict(os.environ, {"XDG_CACHE_HOME": room.name}))
 
     def test_what_is_kept(self):
-        key, other = kept.sum_of_work(b"(role a)", []), kept.sum_of_work(b"(role a)", ["--told"])
+        key, other = kept.sum_of_work(b"(role a)", []), kept.sum_of_work(b"(role a)", ["--player-rules"])
         self.assertNotEqual(key, other)
         self.assertNotEqual(key, kept.sum_of_work(b"(role b)", []))
         self.assertIsNone(kept.kept(key))
@@ -88,16 +88,16 @@ class Described(InFolder):
         return run(self.folder, "plan")
 
     def test_the_plan(self):
-        status, out, said = self.planned('described = "nim.kif"', 'told = "variables"')
+        status, out, said = self.planned('described = "nim.kif"', 'player_rules = "variables"')
         self.assertEqual((status, said), (0, ""), out)
         self.assertEqual((self.folder / "rules/nim.kif").read_bytes(), (self.folder / "ground.kif").read_bytes())
-        told = subprocess.run([TOP / "python/ggp-instantiate", "--told", "told", NIM], cwd=self.folder, check=True, capture_output=True)
-        self.assertEqual((self.folder / "rules/nim.told").read_bytes(), (self.folder / "told").read_bytes(), told.stderr)
+        told = subprocess.run([TOP / "python/ggp-instantiate", "--player-rules", "told", NIM], cwd=self.folder, check=True, capture_output=True)
+        self.assertEqual((self.folder / "rules/nim.players").read_bytes(), (self.folder / "told").read_bytes(), told.stderr)
         sums = f"{sum_of(NIM.read_bytes())}  nim.kif\n"
         self.assertEqual((self.folder / "rules/DESCRIPTIONS.sha256").read_text(), sums)
 
     def test_what_does_not_fit(self):
-        said = self.planned('told = "variables"')
+        said = self.planned('player_rules = "variables"')
         self.assertEqual(said[0], 2)
         self.assertIn('ground.kif has no variables: "ground" is wanted', said[2])
         said = self.planned('described = "ground.kif"')

@@ -8,13 +8,14 @@ import random
 import unittest
 import unittest.mock
 
-from ggp_tools.instantiating import folding, forms, gringo, making, rounds
+from ggp_tools.instantiating import folding, forms, gringo, limits, making, rounds
 from ggp_tools.instantiating.endless import endless
 from ggp_tools.instantiating.grounding import sentence_of
 from ggp_tools.instantiating.sentences import GAME, Literal, Rule, all_rules
 from ggp_tools.instantiating.splitting import MOST_LITERALS, split
-from ggp_tools.instantiating.told import told
+from ggp_tools.instantiating.for_players import text_for_players
 from ggp_tools.kif import Refused, expressions, put, relation, variables
+from tests.support import GAMES
 
 STATE = ["a", "b", "c", "d"]
 MOVES = {"r": ["m1", "m2", "m3", "m4"], "s": ["n1", "n2"]}
@@ -59,7 +60,7 @@ def dice_game(dice):
         if isinstance(head, str):
             before.append(head)
     rules += [Rule(30, ("legal", "r", "m2"), (Literal(True, ("true", "a")),))]
-    return sorted(rules, key=lambda it: it.sentence)
+    return sorted(rules, key=lambda rule: rule.sentence)
 
 
 def refused(rules, most_sentences, most_bytes):
@@ -273,6 +274,16 @@ class Texts(unittest.TestCase):
             self.assertEqual(self.refusal(text)[: len(said)], said)
         self.assertEqual(self.refusal(text, 0.000001), "stopped after 1e-06 s, reading it")
 
+    def test_rounds_that_are_too_many_are_said(self):
+        text = (GAMES / "general/hex.kif").read_text()
+        with unittest.mock.patch.dict(limits.MOST, {"sentences": 100}), self.assertRaises(Refused) as why, contextlib.redirect_stderr(io.StringIO()):
+            making.Making(text, 60, making.WHERE_NEEDED).run()
+        said = "nothing is written, since this is past the limit, however it is folded: sentences (at least "
+        self.assertEqual(str(why.exception)[: len(said)], said)
+        self.assertIn(" ground sentences, since 2 cycles of sentences are unrolled, the largest, of 25 sentences with (joined ", str(why.exception))
+        # What is unrolled is more than any sentence's instances.
+        self.assertNotIn("the most instances", str(why.exception))
+
     def test_few_instances_are_tried_first(self):
         text = "(role r) (d 1) (d 2) (d 3) (<= (legal r (m ?a ?b ?c)) (d ?a) (d ?b) (d ?c) (true s)) (init s)"
         text += "(<= (next s) (does r (m ?a ?b ?c)) (does r (m ?d ?b ?e)) (does r (m ?f ?g ?e)))"
@@ -285,13 +296,13 @@ class Texts(unittest.TestCase):
         sentences = expressions("(p r) (<= (role ?x) (p ?x)) (<= (legal ?r m) (role ?r)) (init s)")
         rules = [Rule(1, ("role", "r"), ()), Rule(2, ("legal", "r", "m"), ()), Rule(3, ("init", "s"), ())]
         lines = "(role r)\n(p r)\n(<= (legal ?r m) (role ?r))\n(init s)\n(base s)\n(input r m)\n"
-        self.assertEqual(told(sentences, rules), lines)
-        self.assertNotIn("(base s)", told([*sentences, ("base", "t")], rules))
-        self.assertNotIn("(base s)\n", told([*sentences, *expressions("(<= terminal (not (base s)))")], rules))
+        self.assertEqual(text_for_players(sentences, rules), lines)
+        self.assertNotIn("(base s)", text_for_players([*sentences, ("base", "t")], rules))
+        self.assertNotIn("(base s)\n", text_for_players([*sentences, *expressions("(<= terminal (not (base s)))")], rules))
 
     def test_told_has_no_and(self):
         text = "(<= (p ?x) (and (q ?x) (or a b)) (or c (and (not d) (distinct ?x 1))) (not (and (e (and)) (distinct ?x 2))))"
-        lines = told(expressions(text), []).splitlines()
+        lines = text_for_players(expressions(text), []).splitlines()
         both = "(<= (p ?x) (q ?x) (or a b)"
         ways = [f"{one} (not {other})" for one in ("c", "(not d) (distinct ?x 1)") for other in ("(e (and))", "(distinct ?x 2)")]
         self.assertEqual(lines, [f"{both} {way})" for way in ways])

@@ -1,15 +1,23 @@
 """Which matches are checked together, and what is not even read."""
 
 import errno
+import json
 import os
 import pathlib
 import tempfile
 import types
 import unittest
+from collections import Counter
+from dataclasses import replace
 from unittest import mock
 
+from ggp_tools.competition import kept
 from ggp_tools.competition.files import Folder, Refused, held, write_whole
-from ggp_tools.competition.kept import fault_of_files, keep, look_at_records, set_aside
+from ggp_tools.competition.kept import (
+    fault_of_files, free_ending, has_shape, is_of_one_match, judged, keep, look_at_records, read_at_most, read_or_none, result_in_file, set_aside, strangers,
+)
+from ggp_tools.competition.known import Known
+from ggp_tools.competition.schedule import Match
 from ggp_tools.referee import Unchecked
 
 
@@ -50,7 +58,8 @@ class Kept(unittest.TestCase):
         self.addCleanup(room.cleanup)
         self.folder = Folder(pathlib.Path(room.name))
         self.folder.make(self.folder.records, self.folder.accounts)
-        self.plan = types.SimpleNamespace(folder=self.folder, competition=types.SimpleNamespace(strikes=0), matches=[])
+        competition = types.SimpleNamespace(strikes=0)
+        self.plan = types.SimpleNamespace(folder=self.folder, competition=competition, matches=[], judge=lambda referee, _: referee)
 
     def matches(self, *sizes):
         """Writes the files of matches of one game, each record and each account of such a size."""
@@ -147,6 +156,232 @@ class Kept(unittest.TestCase):
         with self.assertRaises(Unchecked) as why:
             look_at_records(self.plan, Short())
         self.assertEqual(str(why.exception), "records and accounts can't be checked: want of memory")
+
+
+class Said(Counting):
+    """A referee that says of each record the verdict that stands in it, and of each account whether `right` does. It keeps the accounts and
+    records that it was asked to replay."""
+
+    def __init__(self, path):
+        super().__init__()
+        self.path, self.replayed = path, []
+
+    def verdicts(self, rules, records):
+        super().verdicts(rules, records)
+        return [json.loads(record).get("verdict", "lawful") for record in records]
+
+    def replays(self, _, accounts, records):
+        self.replayed += zip(accounts, records)
+        return [b"right" in account for account in accounts]
+
+
+class Looked(unittest.TestCase):
+    """Records of one match each, with what the referee says of them."""
+
+    def setUp(self):
+        room = pathlib.Path(self.enterContext(tempfile.TemporaryDirectory()))
+        self.enterContext(mock.patch.dict(os.environ, {"XDG_CACHE_HOME": str(room / "cache")}))
+        self.folder = Folder(room / "cup")
+        self.folder.make(self.folder.records, self.folder.accounts, self.folder.rules)
+        for game in ("one", "two"):
+            self.folder.rules_of(game).write_text(game)
+        self.program = room / "program"
+        self.program.write_text("program")
+        self.referee = Said(str(self.program))
+        matches = [Match(f"cup-{at}", "two" if at == 3 else "one", 5, 6, ("ann", "bob")) for at in range(4)]
+        self.plan = types.SimpleNamespace(folder=self.folder, competition=types.SimpleNamespace(strikes=2, forfeit=True), matches=matches, judge=lambda referee, game: referee)
+        for match in matches:
+            self.write(match)
+
+    def write(self, match, account="right", **more):
+        record = {
+            "matchId": match.id, "players": ["ann", "bob"], "startClock": 5, "playClock": 6, "strikes": 2, "phase": "finished", "cause": None,
+            "goalValues": [40, 60], "moves": [["a", "b"]] * 2, "errors": [["TO", ""], ["", ""]], **more,
+        }
+        self.folder.record(match.id).write_text(json.dumps(record) + "\n")
+        self.folder.account(match.id).write_text(f"0\topen {match.id}\t{account}\n")
+
+    def look(self, known=None):
+        self.referee.counts.clear()
+        return look_at_records(self.plan, self.referee, known)
+
+    def test_each_match_counts_or_it_is_told_why_not(self):
+        first, second, third, other = self.plan.matches
+        self.write(second, verdict="not lawful: goals")
+        self.write(third, startClock=7)
+        results, faults, misfits = self.look()
+        self.assertEqual((sorted(results), faults), (["cup-0", "cup-3"], {"cup-1": "not lawful: goals"}))
+        self.assertEqual(list(misfits), ["cup-2"])
+        found = results["cup-0"]
+        self.assertEqual((found.match, found.goals, found.turns, found.errors, found.retirements, found.phase, found.cause, found.counted()),
+                         (first, (40, 60), 2, (Counter({"TO": 1}), Counter()), (None, None), "finished", None, (40, 60)))
+        # What is not lawful is not replayed.
+        self.assertEqual(sorted(json.loads(record)["matchId"] for _, record in self.referee.replayed), ["cup-0", "cup-2", "cup-3"])
+        self.folder.account(other.id).unlink()
+        self.write(first, account="wrong")
+        self.assertEqual(self.look()[1], {"cup-0": "its account does not give its record again", "cup-1": "not lawful: goals", "cup-3": "its account is missing"})
+        self.folder.record(other.id).unlink()
+        self.assertEqual(list(self.look()[1]), ["cup-0", "cup-1"])
+        self.assertEqual(sorted(self.referee.counts), [3])
+
+    def test_a_verdict_stands_before_what_a_replay_says(self):
+        records = [b"{}\n", b'{"verdict":"not lawful: state 1"}\n', b"{}\n"]
+        self.assertEqual(judged(self.plan, self.referee, "one", records, [b"right", b"right", b"wrong"]), [None, "not lawful: state 1", "its account does not give its record again"])
+        self.assertEqual(self.referee.replayed, [(b"right", records[0]), (b"wrong", records[2])])
+        self.assertEqual(judged(self.plan, self.referee, "one", [], []), [])
+
+    def known(self):
+        """Looks at all with what is known, keeps it, and returns the results and how many records the referee was asked for."""
+        known = Known(self.folder.path)
+        results, faults, misfits = self.look(known)
+        known.write()
+        self.assertEqual((faults, misfits), ({}, {}))
+        return {match: repr(found) for match, found in results.items()}, sum(self.referee.counts)
+
+    def test_what_is_known_is_not_asked_again_as_long_as_all_is_the_same(self):
+        results, count = self.known()
+        self.assertEqual((len(results), count), (4, 4))
+        self.assertEqual(self.known(), (results, 0))
+        first, _, _, last = self.plan.matches
+        for change, asked in (
+            (lambda: self.write(first, goalValues=[60, 40]), 1), (lambda: self.write(first, account="right!"), 1), (lambda: self.folder.rules_of("two").write_text("2"), 1),
+            (lambda: self.folder.rules_of("one").write_text("1"), 3), (lambda: self.program.write_text("other"), 4),
+            (lambda: setattr(self.plan.competition, "forfeit", False), 0), (lambda: self.plan.matches.__setitem__(3, replace(last, round=1)), 1),
+        ):
+            change()
+            found, count = self.known()
+            self.assertEqual((sorted(found), count), (sorted(results), asked))
+            self.assertEqual(self.known(), (found, 0))
+        self.assertEqual(self.known()[0], {match: repr(found) for match, found in self.look()[0].items()})
+
+    def test_nothing_is_known_of_what_is_wrong_or_was_judged_by_what_is_gone(self):
+        self.write(self.plan.matches[0], verdict="not lawful: goals")
+        self.write(self.plan.matches[1], startClock=7)
+        known = Known(self.folder.path)
+        self.look(known)
+        known.write()
+        known = Known(self.folder.path)
+        found = self.look(known)
+        self.assertEqual((sorted(found[0]), list(found[1]), list(found[2]), sum(self.referee.counts)), (["cup-2", "cup-3"], ["cup-0"], ["cup-1"], 2))
+        # Where the rules change while records are looked at, or are gone, nothing is kept.
+        for match in self.plan.matches:
+            self.write(match, phase="aborted")
+        rules, plain = self.folder.rules_of("one"), self.referee.verdicts
+
+        def changing(path, records):
+            rules.write_text(rules.read_text() + "x")
+            return plain(path, records)
+
+        with mock.patch.object(self.referee, "verdicts", changing):
+            self.assertEqual(self.known()[1], 4)
+        self.assertEqual(self.known()[1], 3)
+        rules.unlink()
+        self.assertEqual([self.known()[1] for _ in range(2)], [3, 3])
+
+    def test_a_file_that_has_become_wrong_is_not_right_by_what_is_known(self):
+        self.known()
+        account = self.folder.account("cup-0")
+        account.write_text(account.read_text() * 2)
+        self.assertEqual(self.known()[1], 1)
+        account.unlink()
+        known = Known(self.folder.path)
+        self.assertEqual((self.look(known)[1], self.referee.counts), ({"cup-0": "its account is missing"}, []))
+
+    def test_the_result_in_a_file_is_not_verified(self):
+        match, competition = self.plan.matches[0], self.plan.competition
+        self.assertEqual(repr(result_in_file(self.folder, competition, match)), repr(self.look()[0]["cup-0"]))
+        for more in ({"startClock": 7}, {"goalValues": [1]}, {"strikes": 1}):
+            self.write(match, **more)
+            self.assertIsNone(result_in_file(self.folder, competition, match), more)
+        self.folder.record(match.id).unlink()
+        self.assertIsNone(result_in_file(self.folder, competition, match))
+
+    def test_records_of_no_match(self):
+        self.assertEqual(strangers(self.plan), [])
+        for name in ("b.json", "a.json", "cup-0.json.refused", "cup-9.json", "x.txt"):
+            (self.folder.records / name).touch()
+        self.assertEqual(strangers(self.plan), ["a.json", "b.json", "cup-9.json"])
+        self.assertEqual(strangers(types.SimpleNamespace(folder=Folder(self.folder.path / "none"), matches=[])), [])
+
+
+class Files(unittest.TestCase):
+    """What is said of files by their bytes alone."""
+
+    def setUp(self):
+        self.folder = pathlib.Path(self.enterContext(tempfile.TemporaryDirectory()))
+
+    def test_the_most_of_files_are_those_that_the_referee_reads(self):
+        self.assertEqual((kept.MOST_OF_RECORD, kept.MOST_OF_ACCOUNT), (16 << 20, 256 << 20))
+        account, record = b"0\tq cup-1\t\n", b"{}\n"
+        with mock.patch.object(kept, "MOST_OF_ACCOUNT", len(account)), mock.patch.object(kept, "MOST_OF_RECORD", 2):
+            self.assertIsNone(fault_of_files(record, account))
+            self.assertEqual(fault_of_files(record, account + b"\n"), "its account has more than 11 bytes")
+            self.assertEqual(fault_of_files(b"{ }\n", account), "its record has more than 2 bytes")
+
+    def test_what_is_not_handed_to_the_referee(self):
+        account = b"0\tq cup-1\t\n"
+        for record, its, fault in (
+            (b"{}\n", None, "its account is missing"), (b"{}\n", b"0\tq cup-1\t", "its account is cut off"), (b"{}\n", b"", "its account is cut off"),
+            (b"{}\n", b"\n", "its account is not of one match alone"), (b"{}", account, "its record is not one line"), (b"", account, "its record is not one line"),
+            (b"{}\n{}\n", account, "its record is not one line"), (b"{\n}", account, "its record is not one line"), (b"[]\n", account, "its record does not begin with `{`"),
+            (b" {}\n", account, "its record does not begin with `{`"), (b"{}\n", account, None),
+        ):
+            self.assertEqual(fault_of_files(record, its), fault, (record, its))
+
+    def test_calls_on_one_match(self):
+        for account, is_so in (
+            (b"", False), (b"0\tq cup-1\t\n", True), (b"0\tq cup-1 \n", True), (b"0\tq cup-1\n", False), (b"x\tq cup-1\t\n", False), (b"0\tQ cup-1\t\n", False),
+            (b"0\tq cup-1\t\n17\topen cup-1 a\n", True), (b"0\tq cup-1\t\n17\topen cup-2 a\n", False), (b"0\tq cup-1\t\nx\n", False),
+        ):
+            self.assertEqual(is_of_one_match(account), is_so, account)
+
+    def test_a_file_is_read_up_to_one_byte_more(self):
+        file = self.folder / "file"
+        file.write_bytes(b"12345")
+        self.assertEqual([read_at_most(file, most) for most in (3, 4, 5)], [b"1234", b"12345", b"12345"])
+        self.assertEqual((read_or_none(file, 3), read_or_none(self.folder / "none", 3)), (b"1234", None))
+
+    def test_the_shape_that_a_result_needs(self):
+        good = {"goalValues": [1, 2], "errors": [["", "x"]], "moves": []}
+        self.assertTrue(has_shape(good, 2))
+        self.assertTrue(has_shape({**good, "goalValues": [], "errors": []}, 2))
+        wrong = [{key: None} for key in good] + [{"goalValues": goals} for goals in ([1], [1, 2, 3], [1, "2"], [1, True], [1, 2.0], "ab", {})]
+        wrong += [{"errors": errors} for errors in ([["", ""], [""]], [["", 1]], ["ab"], [["", ""], None], {}, "")] + [{"moves": ""}]
+        for more in wrong:
+            self.assertFalse(has_shape({**good, **more}, 2), more)
+        for found in (None, [], "", 1, ["goalValues", "errors", "moves"]):
+            self.assertFalse(has_shape(found, 2), found)
+        self.assertFalse(has_shape({}, 0))
+
+    def test_the_first_ending_that_none_of_the_files_has(self):
+        files = self.folder / "a", self.folder / "b"
+        found = []
+        for _ in range(4):
+            found.append(free_ending(files, "word"))
+            files[len(found) % 2].with_name(files[len(found) % 2].name + found[-1]).touch()
+        self.assertEqual(found, [".word", ".word.2", ".word.3", ".word.4"])
+        (self.folder / "b.word.3").unlink(missing_ok=True)
+        (self.folder / "a.word.3").unlink(missing_ok=True)
+        self.assertEqual((free_ending(files, "word"), free_ending(files, "other")), (".word.3", ".other"))
+
+    def test_files_are_kept_with_an_ending_that_is_free(self):
+        folder = Folder(self.folder)
+        folder.make(folder.records, folder.accounts, folder.logs)
+        for word, name in ((None, "m.json"), ("unchecked", "m.json.unchecked"), ("unchecked", "m.json.unchecked.2")):
+            file = keep(folder, "m", b"record", b"account", b"log", word)
+            self.assertEqual((file, file.read_bytes()), (folder.records / name, b"record"))
+            ending = name.removeprefix("m.json")
+            self.assertEqual([(kind / f"m.txt{ending}").read_bytes() for kind in (folder.accounts, folder.logs)], [b"account", b"log"])
+
+    def test_what_counts_stays_where_it_was_not_all_written(self):
+        folder = Folder(self.folder)
+        folder.make(folder.records, folder.accounts, folder.logs)
+        keep(folder, "m", b"record", b"account", b"log")
+        for stop in range(3):
+            full = broken_off(write_whole, stop, OSError(errno.ENOSPC, "full"))
+            with mock.patch("ggp_tools.competition.kept.write_whole", full), self.assertRaises(OSError):
+                keep(folder, "m", b"record", b"account", b"log")
+            self.assertEqual([file.read_bytes() for file in (folder.record("m"), folder.account("m"), folder.log("m"))], [b"record", b"account", b"log"])
 
 
 if __name__ == "__main__":

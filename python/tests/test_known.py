@@ -63,7 +63,7 @@ class Values(InCache):
         self.assertEqual(two.get("lines", "a"), 1)
         two.write()
         three = Known(self.folder)
-        self.assertEqual([three.get(*its) for its in (("lines", "a"), ("lines", "b"), ("pages", "c"))], [1, None, 1])
+        self.assertEqual([three.get(*pair) for pair in (("lines", "a"), ("lines", "b"), ("pages", "c"))], [1, None, 1])
 
     def test_each_byte_that_is_another_one_is_seen(self):
         one = Known(self.folder)
@@ -116,9 +116,9 @@ class Files(InCache):
 
     def looked_at(self):
         """Returns how many records the referee was asked for, the results, and the faults."""
-        self.referee.count, it = 0, Known(self.folder)
-        results, faults, _ = look_at_records(self.plan, self.referee, it)
-        it.write()
+        self.referee.count, knowledge = 0, Known(self.folder)
+        results, faults, _ = look_at_records(self.plan, self.referee, knowledge)
+        knowledge.write()
         return self.referee.count, results, faults
 
     def change(self, file, at):
@@ -174,12 +174,12 @@ class Files(InCache):
 
     def written(self):
         """Writes the pages, and returns how many pages of matches were made."""
-        it = Known(self.folder)
-        results, _, _ = look_at_records(self.plan, self.referee, it)
+        knowledge = Known(self.folder)
+        results, _, _ = look_at_records(self.plan, self.referee, knowledge)
         made = []
         with mock.patch.object(pages, "match_page", lambda *work: made.append(work) or b"made %d" % len(work[1])):
-            Pages(self.plan, known=it).write(in_order(self.plan, results))
-        it.write()
+            Pages(self.plan, known=knowledge).write(in_order(self.plan, results))
+        knowledge.write()
         return len(made)
 
     def test_a_page_is_made_once(self):
@@ -195,11 +195,11 @@ class Files(InCache):
 
     def test_the_pages_are_those_of_a_first_run(self):
         for number, known_of in enumerate((None, Known, Known)):
-            it = known_of and known_of(self.folder)
-            results = in_order(self.plan, look_at_records(self.plan, self.referee, it)[0])
-            Pages(self.plan, known=it).write(results)
-            if it:
-                it.write()
+            knowledge = known_of and known_of(self.folder)
+            results = in_order(self.plan, look_at_records(self.plan, self.referee, knowledge)[0])
+            Pages(self.plan, known=knowledge).write(results)
+            if knowledge:
+                knowledge.write()
             found = {str(file.relative_to(self.plan.folder.pages)): file.read_bytes() for file in self.plan.folder.pages.rglob("*.html")}
             if not number:
                 first = found
@@ -210,10 +210,10 @@ class Files(InCache):
         self.assertIn("0.9</tr>", (self.plan.folder.pages / "matches.html").read_text())
 
     def published(self):
-        it, path = Known(self.folder), self.folder / "cup.tar.gz"
-        results = in_order(self.plan, look_at_records(self.plan, self.referee, it)[0])
-        found = publish(self.plan, self.referee, results, path, it)
-        it.write()
+        knowledge, path = Known(self.folder), self.folder / "cup.tar.gz"
+        results = in_order(self.plan, look_at_records(self.plan, self.referee, knowledge)[0])
+        found = publish(self.plan, self.referee, results, path, knowledge)
+        knowledge.write()
         return found, path.stat().st_ino
 
     def test_an_archive_is_written_once(self):

@@ -1,6 +1,7 @@
 """What is read of matches that are open: their logs, read on from where they were, and the states that follow by the rules."""
 
 import html
+import json
 import os
 import re
 import tempfile
@@ -9,11 +10,14 @@ import unittest
 from unittest.mock import patch
 
 from ggp_tools.competition import live
-from ggp_tools.competition.live import Reader, Tail
+from ggp_tools.competition.files import held
+from ggp_tools.competition.live import Reader
 from ggp_tools.competition.live_board import NO_LINE, LiveBoard
-from ggp_tools.competition.live_pages import awaited_text, board_html, replaced_part
+from ggp_tools.competition.live_pages import awaited_text, board_html, now_part, replaced_part, turn_row
 from ggp_tools.competition.log_lines import log_line
+from ggp_tools.competition.open_match import leave_players
 from ggp_tools.competition.player_pages import reason_of
+from ggp_tools.competition.tail import Tail
 from ggp_tools.ground_games import Game
 from ggp_tools.kif import expressions
 from tests.support import GAMES
@@ -84,6 +88,15 @@ class Lines(InRoom):
         path.write_text("".join(f"{text}\n" for text in texts))
         self.assertEqual(tail.lines(), (texts, True))
 
+    def test_whether_a_run_holds_the_folder(self):
+        folder = self.plan.folder.path
+        self.assertFalse(live.is_held(folder))
+        with held(folder):
+            self.assertTrue(live.is_held(folder))
+            # A folder of another disk may have the same number.
+            with patch.object(live, "lock_place", lambda found: f"ff:fff:{os.stat(found).st_ino}"):
+                self.assertFalse(live.is_held(folder))
+
     def test_what_is_no_file_holds_up_nothing(self):
         pipe, long, other = self.plan.matches[1:4]
         log, reader = begin(self.plan, self.match), Reader(self.plan)
@@ -129,7 +142,7 @@ class Lines(InRoom):
         reader.look()
         self.assertEqual(seen.since, 1_200.0)
         self.assertEqual((seen.turn(), seen.awaited(), seen.missed), (2, ([0, 1], set()), {1: 1}))
-        self.assertEqual([(its.player, its.turn, its.error) for its, _ in reader.last_replaced()], [(self.match.players[1], 1, SILENT)])
+        self.assertEqual([(entry.player, entry.turn, entry.error) for entry, _ in reader.last_replaced()], [(self.match.players[1], 1, SILENT)])
         # Without strikes nobody is retired: the log lacks a line.
         self.say(log, self.play(3, "((take 1) noop)", ["noop"], [0]) + self.play(4, "(noop (take 1))", ["noop"], [0]))
         reader.look()
@@ -172,9 +185,13 @@ class Lines(InRoom):
         self.assertEqual((seen.awaited(), seen.is_ending()), (([0], set()), True))
 
     def test_answers_that_end_with_a_line(self):
-        # The log shows the end of a line as `?`.
+        # The log shows the end of a line as `?`, and other bytes, for which the same move may have been played in the answer's place.
         log = self.play(2, "NIL", ["(TAKE 1)?", "noop"]) + self.play(3, "((take 1) noop)", ["noop??", "(take 1)"], [1])
-        self.assertEqual(self.seen_after(log, strikes=1).awaited(), ([0], set()))
+        self.assertEqual(self.seen_after(log, strikes=1).awaited(), ([0, 1], {0, 1}))
+        self.assertEqual(self.seen_after(log, strikes=2).awaited(), ([0], set()))
+        # Comments end with a line, too.
+        log = self.play(2, "NIL", ["; one?(take 1)", "noop"]) + self.play(3, "((take 1) noop)", ["; mine?noop ; ??", "(take 1)"])
+        self.assertEqual(self.seen_after(log, strikes=1).awaited(), ([0, 1], {0, 1}))
 
     def test_players_that_begin_again_in_another_order(self):
         first, second = started(self.match).splitlines(keepends=True)
@@ -205,14 +222,15 @@ class Lines(InRoom):
 
     def test_how_many_moves_were_replaced_is_said(self):
         log = "".join(self.play(number, "NIL", [SILENT, "noop"]) for number in range(2, 9))
-        begin(self.plan, self.match, started(self.match) + log)
+        # Its answers were there long after the other match.
+        os.utime(begin(self.plan, self.match, started(self.match) + log), (2e9, 2e9))
         over = self.plan.matches[1]
         moves = [["(take 1)", "noop"]] * 5
         end(self.plan, over, record_of(over, moves, [["IL x", ""]] * 5, [0, 100]))
         reader = Reader(self.plan)
         reader.look()
-        found = [(its.match.id, its.turn, before) for its, before in reader.last_replaced()]
-        wanted = [(over.id, 5, 0), (over.id, 4, 0), (over.id, 3, 2), (self.match.id, 7, 0), (self.match.id, 6, 0), (self.match.id, 5, 4)]
+        found = [(entry.match.id, entry.turn, before) for entry, before in reader.last_replaced()]
+        wanted = [(self.match.id, 7, 0), (self.match.id, 6, 0), (self.match.id, 5, 4), (over.id, 5, 0), (over.id, 4, 0), (over.id, 3, 2)]
         self.assertEqual(found, wanted)
         text = replaced_part(reader.last_replaced()).text
         self.assertIn('<td>5<br><span class="dim">4 more before</span>', text)
@@ -231,11 +249,93 @@ class Lines(InRoom):
         end(self.plan, self.match, record_of(self.match, moves, errors, [0, 100]))
         reader.look()
         self.assertEqual((reader.open, list(reader.results)), ({}, [self.match.id]))
-        self.assertEqual([(its.turn, its.error, its.move) for its, _ in reader.last_replaced()], [(2, "IL x", "noop")])
+        self.assertEqual([(entry.turn, entry.error, entry.move) for entry, _ in reader.last_replaced()], [(2, "IL x", "noop")])
         self.assertEqual(len(reader.waiting()), 5)
         self.plan.folder.record(self.match.id).unlink()
         reader.look()
         self.assertEqual(reader.results, {})
+
+    def test_a_record_that_was_replaced_between_two_looks(self):
+        first, second = self.plan.matches[:2]
+        turns = [["(take 2)", "noop"], ["noop", "(take 1)"]], [["", ""], ["", ""]]
+        end(self.plan, first, record_of(first, *turns, [0, 100]))
+        end(self.plan, second, record_of(second, *turns, [0, 100]))
+        reader = Reader(self.plan)
+        reader.look()
+        file = self.plan.folder.record(first.id)
+        file.rename(f"{file}.refused")
+        end(self.plan, first, record_of(first, *turns, [100, 0]))
+        # It is written in its place, so the folder does not change.
+        self.plan.folder.record(second.id).write_text("no record")
+        with patch.object(live, "LOOK_AGAIN", 0):
+            reader.look()
+            reader.look()
+        self.assertEqual((reader.results[first.id].goals, list(reader.results), list(reader.faults)), ((100, 0), [first.id], [second.id]))
+
+    def test_a_match_of_a_run_that_was_ended_waits(self):
+        log, reader = begin(self.plan, self.match, started(self.match)), Reader(self.plan)
+        reader.look()
+        self.assertEqual(list(reader.open), [self.match.id])
+        leave_players(log.parent)
+        reader.look()
+        self.assertEqual((reader.open, len(reader.waiting()), os.listdir(log.parent)), ({}, 6, ["players"]))
+        # Its players are asked again.
+        (log.parent / "info-0").touch()
+        reader.look()
+        self.assertEqual(reader.open[self.match.id].stage, "asking")
+
+    def test_what_is_replaced_in_an_open_match(self):
+        # Red is retired after turn 2.
+        plan = plan_in(self.plan.folder.path, ["ann", "bob"], head="strikes = 2\n")
+        log, reader = begin(plan, self.match, started(self.match) + self.play(2, "NIL", ["(take 9)", "lost (no memory)"])), Reader(plan)
+        reader.look()
+        self.assertEqual((reader.last_replaced(), reader.open[self.match.id].missed), ([], {}))
+        self.assertIn("known to be", replaced_part([]).text)
+        self.say(log, self.play(3, "((take 1) noop)", ["a b", "(take 1)"]) + self.play(4, "(noop (take 1))", ["", "noop"], [1]))
+        self.say(log, line(self.match, 1, 5, f"(STOP {self.match.id} ((take 1) noop))", "done"))
+        reader.look()
+        found = [(one.player, one.turn, one.error, one.move, before) for one, before in reader.last_replaced()]
+        wanted = [("ann", 3, "RT", "(take 1)", 0), ("ann", 2, "IL ?", "", 0), ("bob", 1, "IL lost (no memory)", "noop", 1)]
+        self.assertEqual(found, wanted)
+        self.assertIn("does not tell", reason_of("lost (no memory)"))
+
+    def test_replaced_moves_are_listed_by_their_times(self):
+        for minute, match in enumerate(reversed(self.plan.matches)):
+            self.plan.folder.record(match.id).write_text(json.dumps(record_of(match, [["noop", "noop"]], [["CE", ""]], [0, 100])))
+            # One log tells of the turn, another one of the end alone.
+            said = line(match, 0, 2, f"(PLAY {match.id} NIL)", "CE (no connection)") if minute % 2 else ""
+            times = [f"2026-01-02T03:{at:02}:05.000Z" for at in (minute, 59 - minute if minute % 2 == 0 else 59)]
+            self.plan.folder.log(match.id).write_text(f"began {times[0]}\n{times[0]} {said}\nended {times[1]}\n")
+        reader = Reader(self.plan)
+        reader.look()
+        self.assertEqual([one.match.id[-1] for one, _ in reader.last_replaced()], list("642135"))
+
+    def test_a_line_with_an_impossible_time_is_passed_over_and_named(self):
+        one = line(self.match, 0, 2, f"(PLAY {self.match.id} NIL)", "(take 1)", 10**17)
+        log = started(self.match) + "0001-01-01T00:00:00.000Z " + one + "2026-13-01T00:00:00.000Z " + one
+        begin(self.plan, self.match, log)
+        reader = Reader(self.plan)
+        reader.look()
+        self.assertEqual(reader.open[self.match.id].awaited(), ([0, 1], set()))
+        self.assertIn("passed over, which has no time that can be: 0001-01-01", now_part(reader, 0).text)
+        self.say(self.plan.folder.open / self.match.id / "played.said", one)
+        reader.look()
+        self.assertEqual(reader.open[self.match.id].since, 0.0)
+
+    def test_a_fault_in_a_look_at_a_match_stops_no_other(self):
+        begin(self.plan, self.match, started(self.match))
+        begin(self.plan, self.plan.matches[1], started(self.plan.matches[1]))
+        end(self.plan, self.plan.matches[2], record_of(self.plan.matches[2], [["noop", "noop"]], [["", ""]], [0, 100]))
+        reader, take = Reader(self.plan), live.Seen.take
+
+        def faulty(seen, *more):
+            return take(seen, *more) if seen.match.id != self.match.id else 1 / 0
+
+        with patch.object(live.Seen, "take", faulty), patch.object(live, "result_of", side_effect=KeyError("goal")):
+            reader.look()
+        self.assertEqual(reader.open[self.plan.matches[1].id].turn(), 1)
+        said = now_part(reader, 0).text
+        self.assertEqual((said.count("these pages have a fault"), "ZeroDivisionError" in said, "KeyError" in said), (2, True, True))
 
     def test_what_is_no_record_of_the_match_does_not_count(self):
         first, second = self.plan.matches[:2]
@@ -291,7 +391,7 @@ class States(InRoom):
         log = self.play(2, "NIL", ["", "noop"], [1]) + self.play(3, "((take 1) noop)", ["", "(take 1)"], [1]) + self.play(4, "(noop (take 1))", ["", "noop"], [1])
         board = self.board(log, strikes=1)
         self.assertEqual([turn.errors for turn in board.turns], [(NO_LINE, ""), (NO_LINE, "")])
-        self.assertEqual((board.turn, board.retired, board.trouble), (2, set(), ""))
+        self.assertEqual((board.turn, board.rows, board.trouble), (2, [(0, 0), (0, 0)], ""))
         board = self.board(self.play(2, "NIL", ["", "noop"], [1]) + self.play(3, "((take 2) noop)", ["noop", "(take 1)"]), strikes=1)
         self.assertEqual([turn.errors for turn in board.turns], [("", ""), ("", "")])
 
@@ -305,6 +405,37 @@ class States(InRoom):
             board = self.board(log)
             self.assertEqual(([turn.errors for turn in board.turns], board.trouble), ([("IL (take 2)?", "")], ""))
             self.assertEqual((board.turn, self.heap(board), len(board.states)), (1, "(heap 2)", 2))
+
+    def test_an_answer_behind_a_comment(self):
+        # Whether the sign is the end of the comment's line the next message tells, where another than the first legal move was played.
+        board = self.board(self.play(2, "NIL", ["; mine?(take 2)", "noop"]), strikes=1)
+        self.assertEqual((self.heap(board), board.turns[-1].errors, board.rows), ("(heap 1)", ("", ""), [(0, 1), (0, 0)]))
+        self.assertIn("The log leaves open what ann answered in turn 1", board_html(board))
+        for move, errors, heap in (("(take 2)", ("", ""), "(heap 1)"), ("(take 1)", ("IL ; mine?(take 9)", ""), "(heap 2)")):
+            answer = "; mine?(take 2)" if move == "(take 2)" else "; mine?(take 9)"
+            board = self.board(self.play(2, "NIL", [answer, "noop"]) + line(self.match, 1, 3, f"(PLAY {self.match.id} ({move} noop))", "(take 1)"))
+            self.assertEqual((self.heap(board), board.turns[0].errors, board.turns[0].doubts, board.doubt()), (heap, errors, (False, False), ""))
+
+    def test_what_stays_open_is_said(self):
+        # The first legal move: played as the player's own, or in the place of an answer that the log shows in the same way.
+        log = self.play(2, "NIL", ["(take?1)", "noop"]) + line(self.match, 1, 3, f"(PLAY {self.match.id} ((take 1) noop))", "(take 1)")
+        board = self.board(log, strikes=1)
+        self.assertEqual((self.heap(board), board.turns[0].doubts, board.rows[0], board.doubt()), ("(heap 2)", (True, False), (0, 1), ""))
+        self.assertIn("(its own, or in the place of its answer)", turn_row(board.turns[0])[1])
+        # The next message is shown in part, so the doubt stays.
+        cut = f"(PLAY {self.match.id} ".ljust(200, "x") + ".."
+        board = self.board(self.play(2, "NIL", ["(take 2)?", "noop"]) + line(self.match, 0, 3, cut, "noop") + line(self.match, 1, 3, cut, "(take 1)"))
+        self.assertIn("turn 1", board.doubt())
+
+    def test_a_long_answer_waits_for_the_next_message(self):
+        board = self.board(self.play(2, "NIL", [f"{' ' * 200}..", "noop"]))
+        self.assertEqual((board.turn, board.trouble, "What ann answered in turn 1" in board.doubt()), (0, "", True))
+        self.say(board.tail.path, line(self.match, 1, 3, f"(PLAY {self.match.id} ((take 2) noop))", "(take 1)"))
+        board.follow(NEVER)
+        self.assertEqual((board.turn, self.heap(board), board.doubt(), board.turns[0].errors), (1, "(heap 1)", "", ("", "")))
+        # It is the beginning of no legal move.
+        board = self.board(self.play(2, "NIL", [f"{'x' * 200}..", "noop"]))
+        self.assertEqual((board.turn, self.heap(board), board.doubt(), board.turns[0].errors[0][:4]), (1, "(heap 2)", "", "IL x"))
 
     def test_words_of_errors_that_are_moves(self):
         rules = "(role a) (init s) (legal a noop) (legal a to) (legal a ce) (legal a lost) (next s) (goal a 0)"

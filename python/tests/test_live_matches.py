@@ -8,10 +8,11 @@ import subprocess
 import threading
 import unittest
 
-from ggp_tools.competition.live import Seen, Tail
+from ggp_tools.competition.live import Seen
 from ggp_tools.competition.live_board import LiveBoard
 from ggp_tools.competition.log_lines import log_line
 from ggp_tools.competition.schedule import Match
+from ggp_tools.competition.tail import Tail
 from ggp_tools.ground_games import Game
 from ggp_tools.kif import expressions
 from ggp_tools.referee import Referee
@@ -23,8 +24,10 @@ STEPS = "".join(f"(<= (next (step {step + 1})) (true (step {step})))" for step i
 RULES = f"(role a) (role b) (init (step 1)) {STEPS} (<= terminal (true (step 8))) (goal a 100) (goal b 0)"
 RULES += "".join(f"(legal {role} {move})" for role, move in (("a", "to"), ("a", "lost"), ("a", "noop"), ("b", "noop"), ("b", "to")))
 # None: the connection is closed without an answer.
-LEGAL = b"noop", b"NOOP\n", b" to ", b"noop\r\n", b"TO", b"to\t"
+LEGAL = b"noop", b"NOOP\n", b" to ", b"noop\r\n", b"TO", b"to\t", b"; mine\nto", b"; a\n;b\r\nnoop ; c\n", b" " * 250 + b"to", b"to ;" + b"x" * 250
 ILLEGAL = b"bad", b"(noop)", b"noop noop", b"", b"bad\n", None, b"no\xe9op", b"ce", b"CE"
+# The log shows these as it shows legal moves, and as what the referee writes after a shortage of its own.
+MISLEADING = b"to\xc2\xa0", b"noop\0", b"to\f", b"?to", b"; to", b"; a?to", b"to ?", b"x" * 250, b" " * 250 + b"bad", b"lost (out of memory)"
 SEEDS, END = range(24), 1 << 30
 
 
@@ -81,7 +84,7 @@ class Matches(InFolder):
         for seed in SEEDS:
             choice = random.Random(seed)
             strikes, badness = seed % 4, choice.choice((0.2, 0.5, 0.8))
-            answers = [[choice.choice(ILLEGAL if choice.random() < badness else LEGAL) for _ in range(9)] for _ in range(2)]
+            answers = [[choice.choice(ILLEGAL + MISLEADING if choice.random() < badness else LEGAL) for _ in range(9)] for _ in range(2)]
             texts, record = self.played(strikes, answers)
             with self.subTest(seed=seed, strikes=strikes):
                 self.look_at(texts, record, strikes)
@@ -98,6 +101,9 @@ class Matches(InFolder):
                 file.write(f"{text}\n")
             self.assertTrue(board.follow(float("inf")))
             seen.take(line, 0.0)
+            self.assertEqual(board.trouble, "", texts[:count])
+            if not board.doubt():
+                self.assertEqual(board.states[-1], record["states"][board.turn], texts[:count])
             if count < len(lines):
                 awaited, turn = asked_after(lines, count)
                 found, unsure = seen.awaited()
@@ -105,11 +111,18 @@ class Matches(InFolder):
                     # That all roles may be retired, or the game be over, follows from the rules.
                     continue
                 self.assertTrue(awaited <= set(found) and set(found) - unsure <= awaited, (texts[:count], found, unsure))
-        followed = [(list(turn.moves), [error.partition(" ")[0] for error in turn.errors]) for turn in board.turns]
-        wanted = [(moves, [error.partition(" ")[0] for error in errors]) for moves, errors in zip(record["moves"], record["errors"])]
         # An ABORT carries no moves.
-        known = len(wanted) - (record["phase"] == "aborted" and board.doubted is not None)
-        self.assertEqual((board.trouble, followed[:known]), ("", wanted[:known]))
+        known = len(record["moves"]) - (record["phase"] == "aborted" and bool(board.presumed or board.waits_for))
+        self.assertGreaterEqual(len(board.turns), known)
+        for turn, moves, errors in zip(list(board.turns)[:known], record["moves"], record["errors"]):
+            self.assertEqual(list(turn.moves), moves, texts)
+            for found, error, is_open in zip(turn.errors, errors, turn.doubts):
+                self.assertTrue(is_open or found.partition(" ")[0] == error.partition(" ")[0], (turn, errors, texts))
+        # What is said to be replaced was.
+        for one in seen.replaced:
+            self.assertTrue(one.turn > known or record["errors"][one.turn - 1][self.match.players.index(one.player)], (one, texts))
+        count = sum(bool(error) for errors in record["errors"] for error in errors)
+        self.assertLessEqual(seen.replaced_count, count + 2 * (record["phase"] == "aborted"), texts)
 
 
 if __name__ == "__main__":

@@ -1,8 +1,13 @@
 """The log of a match is held against its account: all that it says of messages and answers, and not the times."""
 
+import dataclasses
+import pathlib
+import tempfile
+import types
 import unittest
 
-from ggp_tools.competition.log_faults import fault_of_log
+from ggp_tools.competition.files import Folder
+from ggp_tools.competition.log_faults import fault_of_log, faults_of_logs
 from ggp_tools.competition.schedule import Match
 
 MATCH = Match("cup-001", "game", 5, 5, ("ann", "bob"))
@@ -56,6 +61,22 @@ class LogFaults(unittest.TestCase):
         self.assertIsNone(self.fault(before + LOG))
         self.assertEqual(self.fault(LOG + before), "line 11 of its log is not what its account says")
 
+    def test_a_competition_may_be_named_like_the_word_for_that(self):
+        match = dataclasses.replace(MATCH, id="began-001")
+        log, account = LOG.replace("cup-001", "began-001"), ACCOUNT.replace(b"cup-001", b"began-001")
+        self.assertEqual(fault_of_log(match, log.replace("ready", "busy").encode(), account), "line 2 of its log is not what its account says")
+
+    def test_no_line_stands_twice(self):
+        lines = LOG.splitlines(keepends=True)
+        for at in range(1, len(lines) - 1):
+            self.assertEqual(self.fault("".join([*lines[: at + 1], *lines[at:]])), f"line {at + 2} of its log is not what its account says")
+
+    def test_an_answer_of_200_bytes_is_shown_whole(self):
+        for count, more in ((199, ""), (200, ""), (201, "..")):
+            account = b"1\tnext cup-001 0\towe 0 start\n1\tsubmit cup-001 0 0 " + b"x" * count + b"\ttaken\n"
+            log = f"cup-001 role 0 ann message 1 (START cup-001 x: {'x' * min(count, 200)}{more}, 1 ms\n"
+            self.assertIsNone(fault_of_log(MATCH, log.encode(), account), count)
+
     def test_what_is_not_so(self):
         for old, new, line in (
             ("cup-001 role 0", "cup-002 role 0", 2),
@@ -78,6 +99,20 @@ class LogFaults(unittest.TestCase):
             with self.subTest(old):
                 self.assertIn(old, LOG)
                 self.assertEqual(self.fault(LOG.replace(old, new, 1)), f"line {line} of its log is not what its account says")
+
+
+class OfCompetition(unittest.TestCase):
+    def test_each_match_that_counts_is_looked_at(self):
+        folder = Folder(pathlib.Path(self.enterContext(tempfile.TemporaryDirectory())))
+        folder.make(folder.logs, folder.accounts)
+        results = []
+        for name, log in (("cup-001", LOG), ("cup-002", LOG.replace("ready", "busy")), ("cup-003", LOG)):
+            match = dataclasses.replace(MATCH, id=name)
+            folder.log(name).write_bytes(log.replace("cup-001", name).encode())
+            folder.account(name).write_bytes(ACCOUNT.replace(b"cup-001", name.encode()))
+            results.append(types.SimpleNamespace(match=match))
+        found = list(faults_of_logs(types.SimpleNamespace(folder=folder), results))
+        self.assertEqual(found, ["cup-002: line 2 of its log is not what its account says"])
 
 
 if __name__ == "__main__":

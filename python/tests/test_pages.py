@@ -4,6 +4,7 @@ import html.parser
 import json
 import os
 import pathlib
+import re
 import subprocess
 import tempfile
 import time
@@ -151,6 +152,30 @@ class PagesOfMany(unittest.TestCase):
             self.assertIn(word, text)
         self.assertIn("It has played no match.", (pages.folder / "players/player-p24.html").read_text())
         self.assertIn("No move of it was replaced.", (pages.folder / f"players/player-{match.players[0]}.html").read_text())
+
+    def test_the_last_errors_of_a_match_stand_on_the_page_of_a_player(self):
+        match = self.plan.matches[0]
+        turns = 15
+        record = record_of(match, 0) | {"errors": [["", "TO"]] * turns, "moves": [["noop", "noop"]] * turns, "states": [["(a 1)"]] * (turns + 1)}
+        self.plan.folder.record(match.id).write_text(json.dumps(record))
+        pages = Pages(self.plan)
+        pages.write([result_of(record, match)])
+        text = (pages.folder / f"players/player-{match.players[1]}.html").read_text()
+        self.assertEqual(re.findall(r'#state-(\d+)"', text), [str(turn) for turn in range(15, 5, -1)])
+        for words in ("The last 100, and of a match the last 10.", "5 more stand in the records"):
+            self.assertIn(words, text)
+
+    def test_a_clock_that_is_set_back(self):
+        match = self.plan.matches[0]
+        times = ["10:00:00", "10:00:01", "09:00:02", "09:00:03"]
+        for ended in ("09:00:03", "10:30:00"):
+            began, *said, last = [f"2026-01-02T{time}.000Z" for time in (*times[:3], ended)]
+            lines = "".join(f"{time} m role 0 ann message {number} (PLAY m NIL): noop, 1 ms\n" for number, time in enumerate(said, 2))
+            self.plan.folder.log(match.id).write_text(f"began {began}\n{lines}ended {last}\n")
+            pages = Pages(self.plan)
+            pages.write(self.results[:1])
+            text = (pages.folder / "index.html").read_text()
+            self.assertIn("2026-01-02 10:00:00<td>the clock was set back", text)
 
     def test_of_a_log_that_is_too_long_the_first_lines_are_read(self):
         match = self.plan.matches[0]

@@ -445,9 +445,9 @@ class Play(InFolder):
         self.planned(["good", "good", "good"])
         run(self.folder, "play")
         changes = [
-            ("records/cup-001.json", lambda it: it.replace(b"(take 1)", b"(take 2)", 1), "not lawful"),
-            ("records/cup-002.json", lambda it: it[:-20], "not one line"),
-            ("accounts/cup-003.txt", lambda it: it.replace(b"taken", b"over", 1), "does not give its record again"),
+            ("records/cup-001.json", lambda text: text.replace(b"(take 1)", b"(take 2)", 1), "not lawful"),
+            ("records/cup-002.json", lambda text: text[:-20], "not one line"),
+            ("accounts/cup-003.txt", lambda text: text.replace(b"taken", b"over", 1), "does not give its record again"),
             ("accounts/cup-004.txt", None, "its account is missing"),
             ("records/cup-005.json", lambda _: (self.folder / "records/cup-006.json").read_bytes(), "does not give its record again"),
         ]

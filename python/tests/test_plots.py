@@ -41,7 +41,7 @@ class Plots(unittest.TestCase):
         self.assertEqual(found[-1], (1_001, 1_000.0))
 
     def test_times(self):
-        self.assertEqual([bar_of(its) for its in (0, 1, 2, 3, 4, 1_023, 1_024, 10**9)], [0, 1, 2, 2, 3, 10, 11, BARS - 1])
+        self.assertEqual([bar_of(milliseconds) for milliseconds in (0, 1, 2, 3, 4, 1_023, 1_024, 10**9)], [0, 1, 2, 2, 3, 10, 11, BARS - 1])
         plot = times_plot([0, 3, 1, *[0] * (BARS - 3)])
         xml.dom.minidom.parseString(plot)
         heights = [float(high) for high in re.findall(r'height="([0-9.]+)"/>', plot)]

@@ -3,6 +3,7 @@
 import math
 import random
 import unittest
+from unittest import mock
 
 from ggp_tools.competition.ratings import NORMAL_95, SCALE, groups, rated
 
@@ -85,3 +86,96 @@ class Ratings(unittest.TestCase):
         names = [f"p{number}" for number in range(3000)]
         points = {(one, other): 1 for one, other in zip(names, [*names[1:], names[0]])}
         self.assertEqual(len(groups(names, points)), 1)
+
+
+def solved(matrix, right):
+    """Returns the solution of linear equations, by Gauss's elimination."""
+    rows = [[*row, value] for row, value in zip(matrix, right)]
+    for at in range(len(rows)):
+        pivot = max(range(at, len(rows)), key=lambda row: abs(rows[row][at]))
+        rows[at], rows[pivot] = rows[pivot], rows[at]
+        for other in range(len(rows)):
+            if other != at:
+                factor = rows[other][at] / rows[at][at]
+                rows[other] = [entry - factor * above for entry, above in zip(rows[other], rows[at])]
+    return [row[-1] / row[at] for at, row in enumerate(rows)]
+
+
+def halves(players, points, logs):
+    """Returns half the interval of each rating: in terms of all players but the last one, whose logarithm is minus the sum of the others."""
+    count = len(players)
+
+    def information(one, other):
+        total = 0
+        for low in range(count):
+            for high in range(low):
+                met = points.get((players[low], players[high]), 0) + points.get((players[high], players[low]), 0)
+                by = [(place == low) - (place == high) - (low == count - 1) + (high == count - 1) for place in (one, other)]
+                chance = 1 / (1 + math.exp(logs[players[high]] - logs[players[low]]))
+                total += met * chance * (1 - chance) * by[0] * by[1]
+        return total
+
+    matrix = [[information(one, other) for other in range(count - 1)] for one in range(count - 1)]
+    columns = [solved(matrix, [float(at == column) for at in range(count - 1)]) for column in range(count - 1)]
+    found = [columns[at][at] for at in range(count - 1)]
+    return [400 / math.log(10) * 1.959964 * math.sqrt(variance) for variance in (*found, sum(map(sum, columns)))]
+
+
+class Outside(unittest.TestCase):
+    """Ratings against numbers and ways that are not those of the module."""
+
+    def test_three_times_as_many_wins_are_191_points(self):
+        found = rated(["a", "b"], {("a", "b"): 30, ("b", "a"): 10})
+        # 400 times the decimal logarithm of 3; the half is 400 / ln 10 * 1.96 * sqrt(40 / 300) / 2.
+        self.assertAlmostEqual(found["a"].rating - found["b"].rating, 190.8485, 3)
+        self.assertAlmostEqual(found["a"].half, 62.16297, 4)
+        self.assertEqual((found["a"].group, found["a"].is_close), (1, True))
+
+    def test_groups_are_those_who_have_points_against_each_other_by_a_chain(self):
+        chance = random.Random(2)
+        for _ in range(300):
+            players = [f"p{number}" for number in range(chance.randrange(1, 8))]
+            chance.shuffle(players)
+            points = {(one, other): chance.choice((0, 0, 0.5, 1)) for one in players for other in players if one != other and chance.random() < 0.5}
+            reached = {one: {one} for one in players}
+            for _ in players:
+                for (one, other), got in points.items():
+                    for some in players:
+                        if got and one in reached[some]:
+                            reached[some].add(other)
+            wanted = []
+            for one in players:
+                group = [other for other in players if other in reached[one] and one in reached[other]]
+                wanted += [group] if group[0] == one else []
+            self.assertEqual(groups(players, points), wanted)
+
+    def test_intervals_are_those_of_the_information(self):
+        chance = random.Random(3)
+        for _ in range(40):
+            players = [f"p{number}" for number in range(chance.randrange(2, 6))]
+            points = {(one, other): chance.choice((1, 1.5, 3, 7)) for one in players for other in players if one != other}
+            found = rated(players, points)
+            logs = {name: found[name].rating / (400 / math.log(10)) for name in players}
+            for name, half in zip(players, halves(players, points, logs)):
+                self.assertAlmostEqual(found[name].half, half, 2)
+            self.assertAlmostEqual(sum(logs.values()), 0, 9)
+            # Where the likelihood is greatest each has got what is expected of it.
+            for one in players:
+                met = {other: points[one, other] + points[other, one] for other in players if other != one}
+                expected = sum(count / (1 + math.exp(logs[other] - logs[one])) for other, count in met.items())
+                self.assertAlmostEqual(expected, sum(points[one, other] for other in met), 6)
+
+    def test_too_few_steps_are_told(self):
+        points = {("a", "b"): 30, ("b", "a"): 1, ("b", "c"): 20, ("c", "b"): 1, ("c", "d"): 9, ("d", "c"): 2}
+        for steps, is_close in ((3, False), (100_000, True)):
+            with mock.patch("ggp_tools.competition.ratings.MOST_STEPS", steps):
+                self.assertEqual({rating.is_close for rating in rated(list("abcd"), points).values()}, {is_close})
+
+    def test_a_player_alone_has_no_rating_and_no_group(self):
+        found = rated(["a", "b", "c"], {("a", "b"): 1, ("b", "c"): 2, ("c", "b"): 2})
+        self.assertEqual((found["a"].rating, found["a"].half, found["a"].group, found["a"].is_close), (None, None, None, True))
+        self.assertEqual((found["b"].group, list(found)), (1, ["a", "b", "c"]))
+
+
+if __name__ == "__main__":
+    unittest.main()

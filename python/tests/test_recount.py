@@ -1,6 +1,7 @@
 """Hundreds of small competitions with random records: what the package says of them is what a plain computation says, which shares nothing
 with it (plain_competition.py)."""
 
+import pathlib
 import random
 import unittest
 from collections import Counter
@@ -207,6 +208,12 @@ class Rounds(unittest.TestCase):
             self.assertEqual({sum(pair) for pair in first}, {count + 1})
             self.assertEqual({1, 2} & set(places[: count // 2]), {1})
             self.assertEqual(sorted({1, 2, 3, 4} & set(places[: count // 2])), [1, 4])
+
+
+class Plain(unittest.TestCase):
+    def test_the_plain_computation_shares_nothing_with_the_package(self):
+        lines = pathlib.Path(plain.__file__).read_text(encoding="utf-8").splitlines()
+        self.assertEqual([line for line in lines if "import" in line.split()], ["from fractions import Fraction"])
 
 
 if __name__ == "__main__":

@@ -2,8 +2,11 @@
 
 import json
 import unittest
+from dataclasses import replace
 
-from ggp_tools.competition.results import fault_of_record, forfeit_words, kind_of, match_line, result_of, retirement_of, times_of
+from ggp_tools.competition.results import (
+    Result, fault_of_record, forfeit_words, kind_of, match_line, remarks, result_of, result_of_values, retirement_of, times_of, values_of,
+)
 from ggp_tools.competition.schedule import Match
 
 MATCH = Match("cup-001", "nim", 10, 5, ("ann", "bob"))
@@ -116,6 +119,77 @@ class Forfeits(unittest.TestCase):
                         wanted = tuple(0 if role < lost else int(100 / (roles - lost)) for role in range(roles))
                     self.assertEqual(found.counted(), wanted, (roles, lost, goals))
                     self.assertEqual(list(found.forfeits()), list(range(lost)))
+
+
+class Outcomes(unittest.TestCase):
+    def outcomes(self, goals, lost=(), has_forfeits=True):
+        """Returns what a match was for each role, where these roles were retired."""
+        roles = len(goals) or 2
+        errors = [["TO" if role in lost else "" for role in range(roles)]]
+        match = Match("m", "game", 1, 1, tuple(f"p{role}" for role in range(roles)))
+        found = result_of(record(strikes=1, moves=[["x"] * roles], errors=errors, goalValues=goals), match, has_forfeits)
+        return [found.outcome(role) for role in range(roles)]
+
+    def test_the_highest_goal_wins_alone_and_is_drawn_by_several(self):
+        for goals, wanted in (
+            ([100, 0], "WL"), ([0, 100], "LW"), ([50, 50], "DD"), ([0, 0], "DD"), ([1, 0], "WL"), ([70, 30, 0], "WLL"), ([70, 70, 0], "DDL"), ([5, 5, 5], "DDD"), ([0, 7, 7], "LDD"),
+        ):
+            self.assertEqual("".join(word[0].upper() for word in self.outcomes(goals)), wanted, goals)
+
+    def test_a_match_of_one_role_or_without_goals_has_none(self):
+        self.assertEqual((self.outcomes([100]), self.outcomes([]), self.outcomes([100], [0])), ([None], [None] * 2, [None]))
+
+    def test_who_forfeits_has_lost_whatever_the_goals(self):
+        for goals, lost, wanted in (([100, 0], [0], "LW"), ([], [1], "WL"), ([50, 50], [0, 1], "LL"), ([0, 0, 0], [1], "DLD"), ([0, 0, 100], [1, 2], "WLL")):
+            self.assertEqual("".join(word[0].upper() for word in self.outcomes(goals, lost)), wanted, (goals, lost))
+        self.assertEqual(self.outcomes([100, 0], [0], False), ["won", "lost"])
+
+
+class Remarks(unittest.TestCase):
+    def test_what_there_is_to_say_beside_the_goals(self):
+        plain, forfeited = result_of(RECORD, MATCH), result_of(RECORD, MATCH, True)
+        words = "forfeit: ann (CE, IL in turns 2 to 3), counts as ann 0, bob 100"
+        self.assertEqual((list(remarks(plain)), list(remarks(forfeited))), ([], [words]))
+        again = replace(plain, match=replace(MATCH, again="cup-009", reason="late"))
+        self.assertEqual(list(remarks(again)), ["cup-001 does not count: cup-009 was ordered in its place: late"])
+        other = replace(forfeited, match=replace(MATCH, instead_of="cup-000", again="cup-009", reason="late"))
+        self.assertEqual(list(remarks(other)), [words, "cup-001 does not count: cup-009 was ordered in its place: late", "cup-001 was ordered in the place of cup-000"])
+
+    def test_the_line_of_a_match_says_its_round_and_its_orders(self):
+        match = replace(MATCH, round=2, again="cup-009", reason="late", instead_of="cup-000")
+        said = json.loads(match_line(result_of(RECORD, match), "sum", b""))
+        self.assertEqual([said[key] for key in ("round", "again", "reason", "insteadOf")], [2, "cup-009", "late", "cup-000"])
+        said = json.loads(match_line(result_of(RECORD, MATCH), "sum", b""))
+        self.assertFalse({"round", "again", "reason", "insteadOf"} & said.keys())
+        self.assertEqual([said[key] for key in ("begin", "end", "host")], [None] * 3)
+
+
+class Values(unittest.TestCase):
+    def test_values_of_json_say_all_of_a_result(self):
+        for has_forfeits in (False, True):
+            found = result_of(record(phase="aborted", cause="nogoal 1", goalValues=[]), MATCH, has_forfeits)
+            self.assertEqual(result_of_values(json.loads(json.dumps(values_of(found))), MATCH, has_forfeits), found)
+
+    def test_without_a_word_of_it_there_are_no_forfeits(self):
+        found = result_of(RECORD, MATCH)
+        self.assertEqual(Result(MATCH, found.goals, found.turns, found.errors, found.retirements, "finished", None).forfeits(), {})
+
+
+class Began(unittest.TestCase):
+    def test_only_the_last_time_that_a_match_began_counts(self):
+        log = b"began 2025-01-01T00:00:00.000Z\nhost 10.0.0.9\ncup-001 role 0 ann message 1 (START cup-001 x () 10 5): ready, 77 ms\n" + Times.LOG
+        self.assertEqual(times_of(log, 2), times_of(Times.LOG, 2))
+
+    def test_a_log_without_lines_has_no_messages(self):
+        self.assertEqual(times_of(b"", 2), {"begin": None, "end": None, "host": None, "messages": [[], []]})
+
+    def test_a_competition_may_be_named_like_that(self):
+        log = Times.LOG.replace(b"cup-001", b"began-001")
+        self.assertEqual(times_of(log, 2), times_of(Times.LOG, 2))
+
+    def test_lines_that_have_a_time_before_them(self):
+        lines = [b"2026-11-27T20:44:17.700Z " * line.startswith(b"cup") + line for line in Times.LOG.splitlines(keepends=True)]
+        self.assertEqual(times_of(b"".join(lines) + b"no line\n", 2), times_of(Times.LOG, 2))
 
 
 if __name__ == "__main__":

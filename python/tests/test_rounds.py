@@ -3,8 +3,8 @@ referee is a stand-in here, and the records are only what results are read from.
 
 import json
 import pathlib
+import re
 import tempfile
-import types
 import unittest
 from unittest import mock
 
@@ -12,14 +12,16 @@ from ggp_tools.competition.again import order_again
 from ggp_tools.competition.competition_file import Mistaken, read_competition
 from ggp_tools.competition.files import Folder, Refused
 from ggp_tools.competition.kept import result_in_file
+from ggp_tools.competition.pages import Site
 from ggp_tools.competition.plan import make_plan, plan_next_round, read_plan, refuse_lost_results, round_words, rounds_left
+from ggp_tools.competition.round_pages import count_of_all, round_text, rounds_part, rounds_words
 from ggp_tools.competition.rounds import bracket
 from ggp_tools.competition.schedule import Match, asked
 from ggp_tools.competition.table import tables_of
 from ggp_tools.competition.table_text import notes, standings_rows, table_files
-from tests.support import toml
+from tests.support import stand_in, toml
 
-REFEREE = types.SimpleNamespace(roles=lambda *_: ("a", "b"))
+REFEREE = stand_in(roles=lambda *_: ("a", "b"))
 SWISS = 'kind = "swiss"\nrounds = {}'
 
 
@@ -104,6 +106,24 @@ class ByRounds(unittest.TestCase):
         heads, *rows = standings_rows(table)
         self.assertEqual(heads[3], "rounds won")
         self.assertEqual([(row[0], row[1], row[3]) for row in rows], [("1", "p2", "3"), ("2", "p3", "2"), ("3", "p0", "1"), ("3", "p1", "1"), ("5", "p4", "0"), ("5", "p5", "0")])
+
+    def test_what_the_pages_say_of_rounds(self):
+        for form, wanted in (('kind = "knockout"', ["0 of 6 ", "Round 1 of 2; 2 matches"]), (SWISS.format(3), ["0 of 12 ", "Round 1 of 3; 8 matches"])):
+            with self.subTest(form):
+                self.write(4, form)
+                head = Site(plan := self.make()).head([]).text
+                self.assertIn(f"{wanted[0]}matches are over. {wanted[1]} of later rounds are to come, which are not planned yet.", head)
+        self.write(6, 'kind = "knockout"')
+        plan = self.make()
+        plan_next_round(plan, self.play(plan, lambda _: [50, 50]))
+        results = self.play(plan, lambda match: [40, 0] if match.players[0] in ("p0", "p1") else [60, 0])
+        rows = [re.sub("<[^>]*>+", " ", line).split() for line in rounds_part(plan, list(results.values()), 9).text.splitlines()[2:-1]]
+        both = "p0 p3 1 : 1 40 : 60 2 of 2"
+        self.assertEqual([" ".join(row) for row in rows][:4], [f"2 {both}", "2 p1 p2 1 : 1 40 : 60 2 of 2", "1 p3 p4 1 : 1 100 : 100 2 of 2", "1 p2 p5 1 : 1 100 : 100 2 of 2"])
+        self.assertEqual([" ".join(row) for row in rows][4:], ["1 p0 (bye)", "1 p1 (bye)"])
+        self.assertIn("Round 2 of 3.", round_text(plan.competition, plan.matches[-1]))
+        plan_next_round(plan, results)
+        self.assertEqual((count_of_all(plan), rounds_words(plan)), (10, " Round 3 of 3."))
 
     def test_a_schedule_that_does_not_follow_from_the_records(self):
         self.write(4, SWISS.format(3))

@@ -2,22 +2,25 @@
 
 import contextlib
 import http.client
+import io
 import json
 import os
 import re
 import signal
 import socket
+import sys
 import tempfile
 import threading
 import time
 import unittest
 import urllib.request
-from unittest.mock import patch
+from unittest.mock import Mock, patch
 
-from ggp_tools.competition import live, pages, serving
+from ggp_tools.competition import files, live, pages, serving
 from ggp_tools.competition.live_site import LiveSite
 from ggp_tools.competition.page_changes import changes
 from ggp_tools.competition.page_parts import Items, Part
+from ggp_tools.referee import NoReferee
 from tests.live_support import SILENT, begin, end, line, plan_in, record_of, started
 from tests.support import GAMES, InFolder, run, start
 from tests.test_pages import Links
@@ -170,6 +173,28 @@ class Pages(Served):
         self.assertTrue(self.next_event(events)["reload"])
         self.assertTrue(self.next_event(self.events(self.page("/").replace("?after=", "?after=old")))["reload"])
 
+    def test_a_plan_that_can_not_be_read(self):
+        match, other, path = *self.plan.matches[:2], self.plan.folder.path
+        end(self.plan, other, record_of(other, [["(take 1)", "noop"]], [["", ""]], [0, 100]))
+        self.site.look()
+        faults = (
+            (files.Refused(f"{path}/schedule.tsv is not what {path}/competition.toml says"), "schedule.tsv is not what competition.toml says"),
+            (files.Refused(f"{path}/schedule.tsv: /opt/games/heap.kif is there"), "schedule.tsv: heap.kif is there"),
+            (OSError(5, "Input/output error", f"{path}/rules/heap.kif"), "rules/heap.kif: Input/output error"),
+            (NoReferee(f"{path}/ggp_manager is no program that can be run"), "the program can&#x27;t be asked for its rules"),
+        )
+        places = ["/", "/matches.html", "/games/heap.html", f"/matches/{match.id}.html", f"/matches/{other.id}.html", "/players/player-ann.html"]
+        for number, (fault, said) in enumerate(faults):
+            self.site.read_plan = Mock(side_effect=fault)
+            self.plan.folder.schedule.write_text("x" * number)
+            with patch.object(sys, "stderr", io.StringIO()) as told:
+                self.site.look()
+            self.assertIn(str(fault), told.getvalue())
+            for place in places:
+                text = self.page(place)
+                self.assertIn(f"what stands here is of the plan before: {said}", text, place)
+                self.assertFalse(str(path) in text or "/opt" in text, place)
+
     def test_a_plan_that_changes_while_it_is_read(self):
         read = []
 
@@ -269,6 +294,19 @@ class Events(Served):
         self.site.look()
         told = self.next_event(events)
         self.assertTrue(told.get("reload") or f"open-{match.id}" in told["drop"])
+
+    def test_a_fault_in_a_look_is_said_and_the_next_look_goes_on(self):
+        page = self.site.opened("/index.html")
+        page.viewers += 1
+        with patch.object(self.site.reader, "look", side_effect=KeyError("a fault")):
+            with self.assertRaises(KeyError) as raised:
+                self.site.look()
+            self.site.fail(raised.exception)
+        self.assertIn("these pages have a fault", "".join(part.html() for part in page.parts))
+        begin(self.plan, self.plan.matches[0])
+        self.site.look()
+        said = "".join(part.html() for part in page.parts)
+        self.assertEqual(("fault" in said, "1 match is open" in said), (False, True))
 
     def test_a_match_that_ends_gets_its_other_page(self):
         match = self.plan.matches[0]

@@ -11,6 +11,7 @@ from ggp_tools.competition.competition_file import read_competition
 from ggp_tools.competition.plan import Plan
 from ggp_tools.competition.ratings import Rating
 from ggp_tools.competition.results import Result, Retirement, result_of, times_of
+from ggp_tools.competition.rounds import Round
 from ggp_tools.competition.schedule import Match
 from ggp_tools.competition.table import Line, Table, tables_of
 from ggp_tools.competition.table_text import crosstable_rows, notes, rating_text, standings_rows, table_files
@@ -56,6 +57,7 @@ class Tables(unittest.TestCase):
                 self.assertEqual(found.lost, sum(own < max(others) for own, others in versus))
                 self.assertEqual(found.drawn, sum(own == max(others) for own, others in versus))
                 self.assertEqual(found.replaced, sum(played.replaced(at) for played, at in mine))
+                self.assertEqual((found.scored, found.moves, found.absent, found.retired), (len(mine), 5 * len(mine), sum(played.replaced(at) == 5 for played, at in mine), 0))
                 points = sum((own > other_goal) + (own == other_goal) / 2 for own, others in versus for other_goal in others)
                 self.assertEqual(sum(got for (one, _), got in table.points.items() if one == name), points)
 
@@ -99,6 +101,11 @@ class Tables(unittest.TestCase):
         self.assertEqual(found(False, [], [False, True]), [(0, 0, None, 0, 0), (0, 0, None, 0, 0)])
         both = [result(["ann", "bob"], [], [5, 5], retired=[True, True])]
         self.assertEqual(tables_of(competition(), both)[0].met, {})
+
+    def test_who_was_retired_is_counted(self):
+        for forfeit in (False, True):
+            lines = tables_of(competition(), [result(["ann", "bob"], [0, 100], retired=[False, True], forfeit=forfeit)] * 2)[0].lines
+            self.assertEqual((lines["ann"].retired, lines["bob"].retired), (0, 2))
 
     def test_substituted_moves_do_not_decide_places(self):
         # By the goals alone bob, with fewer wins, would stand above ann.
@@ -161,6 +168,52 @@ class Tables(unittest.TestCase):
         files = table_files(Plan(None, competition(), {}, [first.match, second.match]), tables)
         self.assertIn("cup: 1 of 1 matches\n", files["table.txt"].decode())
         self.assertIn("* m does not count: m2 was ordered in its place: the host's cable\n", files["table.txt"].decode())
+
+    def test_a_line_and_a_table_begin_with_nothing(self):
+        values = vars(Line("x"))
+        self.assertEqual({name: value for name, value in values.items() if value}, {"player": "x"})
+        self.assertEqual([name for name, value in values.items() if value is None], ["rating", "buchholz", "rounds_won"])
+        table = Table("two", {})
+        self.assertEqual((table.matches, table.points, table.met, table.by, table.again, table.rounds, table.standings(), table.places(), table.is_of_pairs(), table.has_forfeits()), (0, {}, {}, "", [], (), [], [], False, False))
+
+    def test_what_orders_a_line(self):
+        line = Line("x", scored=3, goals=200, won=3, drawn=3, lost=1, bye_points=4)
+        self.assertEqual((line.points(), line.mean(), Line("x", scored=3, goals=100).mean(), Line("x").mean()), (8.5, 66.67, 33.33, None))
+        self.assertEqual((line.order("goals"), line.order("points")), ((-66.67, -3, 1), (-8.5, -66.67, -3, 1)))
+        self.assertEqual((Line("x").order("goals"), Line("x").order("points")), ((0, 0, 0), (0, 0, 0, 0)))
+        self.assertEqual((line.order("swiss"), replace(line, buchholz=2.5).order("swiss")), ((-8.5, 0), (-8.5, -2.5)))
+        self.assertEqual((line.order("knockout"), replace(line, rounds_won=2).order("knockout")), ((0,), (-2,)))
+
+    def by_rounds(self, kind, rounds, results):
+        """Returns the tables of a competition by rounds: results are the players of a match, its goals, its round, and the match in its place."""
+        players = [(name, f"h:{at + 1}") for at, name in enumerate(NAMES[:3])]
+        found = read_competition(toml(players, [("two", "f"), ("other", "f")], f'kind = "{kind}"' + "\nrounds = 2" * (kind == "swiss")).encode())
+        made = [replace(one, match=replace(one.match, round=number, again=again)) for one, number, again in ((result(names, goals), number, again) for names, goals, number, again in results)]
+        return tables_of(found, made, rounds)
+
+    def test_a_swiss_table_counts_byes_and_the_points_of_opponents(self):
+        rounds = [Round(1, (("ann", "bob"),), ("cid",)), Round(2, (("cid", "ann"),), ("bob",))]
+        results = [(("ann", "bob"), [100, 0], 1, ""), (("bob", "ann"), [50, 50], 1, ""), (("bob", "ann"), [100, 0], 1, "m2"), (("cid", "ann"), [0, 100], 2, "")]
+        whole, two, other = self.by_rounds("swiss", rounds, results)
+        self.assertEqual([(of.player, of.byes, of.bye_points, of.points(), of.buchholz, of.rounds_won) for of in whole.standings()],
+                         [("bob", 1, 4, 4.5, 2.5, None), ("cid", 1, 4, 4, 2.5, None), ("ann", 0, 0, 2.5, 8.5, None)])
+        self.assertEqual((whole.places(), whole.rounds, whole.by, whole.matches, len(whole.again)), ([1, 2, 3], rounds, "swiss", 3, 1))
+        # The tables of games know nothing of rounds.
+        self.assertEqual([(of.player, of.byes, of.points()) for of in two.standings()], [("ann", 0, 2.5), ("bob", 0, 0.5), ("cid", 0, 0)])
+        self.assertEqual((two.by, two.rounds, other.standings()), ("points", (), []))
+
+    def test_who_had_a_bye_alone_stands_in_the_table(self):
+        whole, *_ = self.by_rounds("swiss", [Round(1, (("ann", "bob"),), ("cid",))], [])
+        self.assertEqual([(of.player, of.matches, of.rating) for of in whole.standings()], [("cid", 0, None)])
+
+    def test_a_knockout_table_counts_rounds(self):
+        rounds = [Round(1, (("bob", "cid"),), ("ann",)), Round(2, (("ann", "cid"),), ())]
+        first = [(pair, goals, 1, "") for pair, goals in ((("bob", "cid"), [0, 100]), (("cid", "bob"), [100, 0])) for _ in range(2)]
+        whole, two, _ = self.by_rounds("knockout", rounds, [*first, (("ann", "cid"), [100, 0], 2, "")])
+        self.assertEqual([(of.player, of.rounds_won, of.byes, of.buchholz, of.bye_points) for of in whole.standings()], [("ann", 1, 1, None, 0), ("cid", 1, 0, None, 0), ("bob", 0, 0, None, 0)])
+        self.assertEqual((whole.places(), whole.by, two.by), ([1, 1, 3], "knockout", "points"))
+        second = [(pair, goals, 2, "") for pair, goals in ((("ann", "cid"), [0, 100]), (("cid", "ann"), [100, 0])) for _ in range(2)]
+        self.assertEqual([(of.player, of.rounds_won) for of in self.by_rounds("knockout", rounds, [*first, *second])[0].standings()], [("cid", 2), ("ann", 1), ("bob", 0)])
 
     def test_a_rating_next_to_nothing_has_no_sign(self):
         for rating, said in ((-0.4, "0 +- 118"), (0.4, "0 +- 118"), (-0.6, "-1 +- 118"), (-118.5, "-118 +- 118")):

@@ -83,6 +83,55 @@ class Lines(unittest.TestCase):
         os.close(ours)
 
 
+    def test_only_the_time_at_the_head_of_a_line_is_no_part_of_it(self):
+        time_of_day = b"2026-01-02T03:04:05.678Z "
+        said = b"".join((time_of_day, b"one ", time_of_day, b"\n", time_of_day * 2, b"two\nthree ", time_of_day))
+        self.assertEqual(untimed(said), b"one %b\n%btwo\nthree %b" % (time_of_day, time_of_day, time_of_day))
+
+    def test_a_line_of_64_kib_is_not_cut(self):
+        theirs, lines = self.read(LineReader())
+        for part in (b"x" * 65_536, b"\n", b"y" * 65_536, b"y\n"):
+            os.write(theirs, part)
+            time.sleep(0.05)
+        os.close(theirs)
+        self.wait_for(lambda: lines.is_over)
+        said = untimed(self.file.read_bytes()).splitlines()
+        self.assertEqual((said[0], b"".join(said[1:])), (b"x" * 65_536, b"y" * 65_537))
+
+    def test_how_often_something_was_written_is_counted(self):
+        theirs, lines = self.read(LineReader())
+        self.assertEqual((lines.count, lines.is_over), (0, False))
+        for at, part in enumerate((b"one\ntwo\n", b"three", b"\nfour\n"), 1):
+            os.write(theirs, part)
+            self.wait_for(lambda: lines.rest or lines.count >= (1, 1, 2)[at - 1])
+        self.assertEqual(lines.count, 2)
+        os.close(theirs)
+        self.wait_for(lambda: lines.is_over)
+        self.assertEqual((lines.count, lines.pipe.closed, lines.file.closed, lines.rest), (2, True, True, b""))
+
+    def test_one_thread_reads_all_and_ends_with_the_process(self):
+        reader = LineReader()
+        self.assertTrue(reader.daemon)
+        theirs, lines = self.read(reader)
+        others, more = self.read(reader)
+        self.assertTrue(reader.is_alive())
+        for end in (theirs, others):
+            os.close(end)
+        self.wait_for(lambda: lines.is_over and more.is_over)
+
+    def test_a_pipe_that_is_full_holds_nothing_up(self):
+        ours, beaten = os.pipe()
+        self.addCleanup(os.close, ours)
+        theirs, lines = self.read(LineReader(), open(beaten, "wb", buffering=0))
+        self.assertFalse(os.get_blocking(beaten))
+        for _ in range(70_000):
+            lines.beat()
+        os.write(theirs, b"one\n")
+        os.close(theirs)
+        self.wait_for(lambda: lines.is_over)
+        self.assertEqual((untimed(self.file.read_bytes()), lines.beaten.closed), (b"one\n", True))
+
+
 class SomeJournal(unittest.TestCase):
     def test_lines_are_added_with_their_times(self):
         with tempfile.TemporaryDirectory() as room:

@@ -9,12 +9,12 @@ from tests.players import TestPlayer, example, has_variables
 from tests.support import GAMES, InFolder, run, toml
 from tests.test_archive import changed, files_of, packed, without
 
-TOLD = 'told = "variables"'
-GAMES_TOLD = [("nim", GAMES / "general/nim.kif", TOLD), ("countdown", GAMES / "countdown.kif"), ("nim.told", GAMES / "general/nim.kif")]
+TOLD = 'player_rules = "variables"'
+GAMES_WITH_PLAYER_RULES = [("nim", GAMES / "general/nim.kif", TOLD), ("countdown", GAMES / "countdown.kif"), ("nim.players", GAMES / "general/nim.kif")]
 HEAD = "start = 10\nplay = 10\n"
-OTHERWISE = changed("cup/competition.toml", lambda it: it.replace(b'"variables"', b'"ground"'))
-OTHER_RULES = changed("cup/rules/nim.told", lambda it: it.replace(b"100", b"90"))
-OTHER_PAGE = changed("cup/pages/games/nim.html", lambda it: it.replace(b"?", b"!", 1))
+OTHERWISE = changed("cup/competition.toml", lambda text: text.replace(b'"variables"', b'"ground"'))
+OTHER_RULES = changed("cup/rules/nim.players", lambda text: text.replace(b"100", b"90"))
+OTHER_PAGE = changed("cup/pages/games/nim.html", lambda text: text.replace(b"?", b"!", 1))
 
 
 def another_game(files):
@@ -28,10 +28,10 @@ def another_game(files):
 
 
 SPOILINGS = {
-    "players are told other rules": (OTHER_RULES, "rules/nim.told is not what"),
-    "what players are told is missing": (without("cup/rules/nim.told"), "rules/nim.told is not there"),
+    "players are told other rules": (OTHER_RULES, "rules/nim.players is not what"),
+    "what players are told is missing": (without("cup/rules/nim.players"), "rules/nim.players is not there"),
     "players are told ground rules": (OTHERWISE, "rules/SHA256SUMS is not what"),
-    "a description is another": (changed("cup/games/nim.kif", lambda it: it + b"; more\n"), "games/nim.kif is not the description that the rules of nim were made from"),
+    "a description is another": (changed("cup/games/nim.kif", lambda text: text + b"; more\n"), "games/nim.kif is not the description that the rules of nim were made from"),
     "the matches are of another game": (another_game, "by games/nim.kif it differs: "),
     "a page has other rules for players": (OTHER_PAGE, "pages/games/nim.html does not follow"),
 }
@@ -42,7 +42,7 @@ class Told(InFolder):
     def setUp(self):
         super().setUp()
         self.players = [TestPlayer(name, "good", at) for at, name in enumerate(("ann", "bob"))]
-        self.schedule = self.plan([(player.name, player.place()) for player in self.players], GAMES_TOLD, head=HEAD)
+        self.schedule = self.plan([(player.name, player.place()) for player in self.players], GAMES_WITH_PLAYER_RULES, head=HEAD)
 
     def rules(self, name):
         return (self.folder / f"rules/{name}").read_bytes()
@@ -54,7 +54,7 @@ class Told(InFolder):
     def tell_otherwise(self):
         """Has competition.toml say that players are told ground rules."""
         file = self.folder / "competition.toml"
-        file.write_text(file.read_text().replace(TOLD, 'told = "ground"'))
+        file.write_text(file.read_text().replace(TOLD, 'player_rules = "ground"'))
 
     def assert_refused(self, words, command):
         status, out, said = run(self.folder, command)
@@ -62,20 +62,20 @@ class Told(InFolder):
         self.assertIn(words, said)
 
     def test_the_plan(self):
-        names = "countdown.kif", "nim.kif", "nim.told", "nim.told.kif"
+        names = "countdown.kif", "nim.kif", "nim.players", "nim.players.kif"
         self.assertEqual(sorted(file.name for file in (self.folder / "rules").iterdir()), ["DESCRIPTIONS.sha256", "SHA256SUMS", *names])
         self.assertEqual(self.rules("SHA256SUMS").decode(), "".join(f"{sum_of(self.rules(name))}  {name}\n" for name in names))
-        described = [(name, sum_of((GAMES / file).read_bytes())) for name, file in zip(("countdown", "nim", "nim.told"), ("countdown.kif", "general/nim.kif", "general/nim.kif"))]
+        described = [(name, sum_of((GAMES / file).read_bytes())) for name, file in zip(("countdown", "nim", "nim.players"), ("countdown.kif", "general/nim.kif", "general/nim.kif"))]
         self.assertEqual(self.rules("DESCRIPTIONS.sha256").decode(), "".join(f"{digest}  {name}.kif\n" for name, digest in described))
         self.assertEqual([has_variables(self.read(name)) for name in names], [False, False, True, False])
-        self.assertLess({"base", "input"}, {sentence[0] for sentence in self.read("nim.told")})
-        self.assertEqual(self.rules("nim.kif"), self.rules("nim.told.kif"))
+        self.assertLess({"base", "input"}, {sentence[0] for sentence in self.read("nim.players")})
+        self.assertEqual(self.rules("nim.kif"), self.rules("nim.players.kif"))
 
     def test_what_was_not_planned(self):
-        text = self.rules("nim.told")
-        (self.folder / "rules/nim.told").write_bytes(text.replace(b"100", b"90"))
-        self.assert_refused("rules/nim.told is not what `ggp_competition plan` wrote", "play")
-        (self.folder / "rules/nim.told").write_bytes(text)
+        text = self.rules("nim.players")
+        (self.folder / "rules/nim.players").write_bytes(text.replace(b"100", b"90"))
+        self.assert_refused("rules/nim.players is not what `ggp_competition plan` wrote", "play")
+        (self.folder / "rules/nim.players").write_bytes(text)
         self.tell_otherwise()
         self.assert_refused("rules/SHA256SUMS is not what competition.toml says: `ggp_competition plan` writes it anew", "play")
         self.assertEqual(run(self.folder, "plan")[0], 0)
@@ -85,24 +85,24 @@ class Told(InFolder):
         status, out, said = run(self.folder, "play")
         self.assertEqual((status, said), (0, ""), out)
         self.assert_sound(self.schedule)
-        told = {"nim": self.read("nim.told"), "countdown": self.read("countdown.kif"), "nim.told": self.read("nim.kif")}
+        told = {"nim": self.read("nim.players"), "countdown": self.read("countdown.kif"), "nim.players": self.read("nim.kif")}
         for match, game, *_ in self.schedule:
             self.assertEqual([player.told[match] for player in self.players], [told[game]] * 2, match)
         self.assertEqual({error for record in self.records().values() for turn in record["errors"] for error in turn}, {""})
         self.tell_otherwise()
         self.assert_refused("rules/SHA256SUMS would change, and matches were played", "plan")
-        (self.folder / "competition.toml").write_text(toml([(player.name, player.place()) for player in self.players], GAMES_TOLD, head=HEAD))
+        (self.folder / "competition.toml").write_text(toml([(player.name, player.place()) for player in self.players], GAMES_WITH_PLAYER_RULES, head=HEAD))
         self.assertEqual(run(self.folder, "publish")[0], 0)
         self.look_at_pages()
         self.look_at_archive()
 
     def look_at_pages(self):
-        pages = {name: (self.folder / f"pages/games/{name}.html").read_text() for name in ("nim", "countdown", "nim.told")}
+        pages = {name: (self.folder / f"pages/games/{name}.html").read_text() for name in ("nim", "countdown", "nim.players")}
         for name, page in pages.items():
             is_told = name == "nim"
             self.assertEqual(("Players are told these rules, with variables" in page, "?" in page), (is_told, is_told), name)
             self.assertIn(sum_of(self.rules(f"{name}.kif")), page)
-        self.assertIn(sum_of(self.rules("nim.told")), pages["nim"])
+        self.assertIn(sum_of(self.rules("nim.players")), pages["nim"])
 
     def test_rules_that_are_not_those_of_the_description(self):
         file, sums = self.folder / "rules/nim.kif", self.folder / "rules/SHA256SUMS"
@@ -133,7 +133,7 @@ class Told(InFolder):
         files = files_of(self.folder / "cup.tar.gz")
         held = [name for name, data in files.items() if data.endswith(b"\nheld against the description: the same\n")]
         self.assertEqual(held, [f"cup/logs/{match}.txt" for match, game, *_ in self.schedule if game != "countdown"])
-        self.assertEqual(files["cup/rules/nim.told"], self.rules("nim.told"))
+        self.assertEqual(files["cup/rules/nim.players"], self.rules("nim.players"))
         for name, (spoil, words) in SPOILINGS.items():
             with self.subTest(name):
                 (self.folder / "spoilt.tar.gz").write_bytes(spoil(dict(files)))

@@ -4,6 +4,7 @@ import json
 import re
 import shutil
 import time
+from dataclasses import replace
 
 from ggp_tools.competition.results import times_of
 from ggp_tools.competition.why import Told, parts_of
@@ -135,6 +136,36 @@ class Why(InFolder):
             self.assertIn(words, said)
         # Who answers with these very words has answered.
         self.assertIn(f"turn 4: PLAY was answered `{SILENT}` after 5 ms; IL ?: the answer is not one expression", said)
+
+    def test_a_player_with_the_name_of_a_match(self):
+        plan = plan_in(str(self.folder), ["cup-001", "bob"])
+        lines = [
+            "info cup-001 cup-001: available, 0.0 s", "info cup-002 cup-001: available, 0.0 s", "begin cup-002 heap bob cup-001",
+            "begin cup-001 heap cup-001 bob", "end cup-002 heap bob 100, cup-001 0, 3.1 s", "no answer to abort cup-001: h:1",
+            "stopped heap is not played on, since cup-001 is no match of its description; 3 matches of it do not begin",
+            "round 1 of 2: cup-001 to cup-002", "missing 20 matches, cup-001 to cup-020: it was ended before its end",
+        ]
+        plan.folder.journal.write_text("".join(f"2026-01-01T00:00:00.000Z {line}\n" for line in lines))
+        told = Told(plan, plan.matches[0])
+        self.assertEqual([note.words for note in told.noted()], [lines[at] for at in (0, 3, 5, 6)])
+        self.assertEqual([note.role for note in told.noted()], [0, None, None, None])
+        of_round = Told(plan, replace(plan.matches[0], round=1))
+        self.assertEqual([note.words for note in of_round.noted()], [lines[at] for at in (0, 3, 5, 6, 7)])
+
+    def test_a_clock_that_is_set_back(self):
+        plan = plan_in(str(self.folder), ["ann", "bob"])
+        match = plan.matches[0]
+        texts = [line(match, 0, 1, f"(START {match.id})", "ready"), *(line(match, 0, number, f"(PLAY {match.id} NIL)", "noop") for number in (2, 3, 4))]
+        times = [f"2026-01-01T{time}.000Z" for time in ("10:00:01", "10:00:02", "09:00:03", "09:00:04")]
+        log = "began 2026-01-01T10:00:00.000Z\n" + "".join(f"{time} {text}" for time, text in zip(times, texts)) + "ended 2026-01-01T09:00:05.000Z\n"
+        for begun in (1, 2):
+            with self.subTest(begun):
+                notes = ["10:00:00.001Z begin", *["10:00:00.001Z begin"] * (begun - 1), "09:00:06.000Z end"]
+                plan.folder.journal.write_text("".join(f"2026-01-01T{time} {kind} {match.id} heap\n" for time, kind in (note.split() for note in notes)))
+                plan.folder.log(match.id).write_text(log)
+                said = "\n".join(Told(plan, match).lines(["ann"]))
+                found = re.findall(r"begin|START was|turn \d|the clock was set back|end ", said)
+                self.assertEqual(found, [*["begin"] * begun, "START was", "turn 1", "the clock was set back", "turn 2", "turn 3", "end "])
 
     def test_a_match_begun_again_has_the_times_of_its_last_beginning(self):
         message = "m role 0 a message {} (START m a (x)): ready, {} ms\n"

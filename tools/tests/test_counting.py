@@ -33,6 +33,13 @@ class Counting(unittest.TestCase):
         wanted = {"crates proved": 2, "wrong edits refused by the prover": 51, "wrong edits that can be applied": 582}
         self.assertEqual(tally.counts, wanted)
 
+    def test_wrong_edits_are_counted_once_whether_each_is_told_or_their_number(self):
+        each = [f"rt: must-fail kif_text/{name}.edit: refused, as it must be: src/lib.rt:1:1: a goal" for name in ("one", "two")]
+        number = "rt: ok; handles allowed: Net; must-fail edits: 2 refused; every proof was done in this run"
+        let_through = "rt: must-fail kif_text/three.edit: NOT REFUSED: the crate is still proved with this edit"
+        for lines in ([*each, let_through], [number], [*each, number]):
+            self.assertEqual(tally_of(*lines).counts, {"wrong edits refused by the prover": 2})
+
     def test_fewer_than_the_figure_is_a_fault(self):
         self.assertEqual(faults({"trials": 99}, {"trials": 100}), ["99 trials: fewer than the 100 of tools/counts.txt"])
         self.assertEqual(faults({}, {"trials": 100}), ["0 trials: fewer than the 100 of tools/counts.txt"])

@@ -84,8 +84,8 @@ class Programs(unittest.TestCase):
 
 
 def write(file, text):
-    with open(file, "w", encoding="utf-8") as it:
-        it.write(text)
+    with open(file, "w", encoding="utf-8") as stream:
+        stream.write(text)
     os.chmod(file, 0o755)
 
 

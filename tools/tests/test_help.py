@@ -22,8 +22,8 @@ def scripts():
     found = {}
     for file in (f"{room}/{name}" for folder in FOLDERS for room, _, names in os.walk(f"{TOP}/{folder}") for name in names):
         if os.access(file, os.X_OK):
-            with open(file, encoding="utf-8") as it:
-                text = it.read()
+            with open(file, encoding="utf-8") as stream:
+                text = stream.read()
             if "python" in text.partition("\n")[0]:
                 found[os.path.relpath(file, TOP)] = text
     return found

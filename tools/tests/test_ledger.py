@@ -6,10 +6,16 @@ import unittest
 
 sys.path.insert(0, os.path.dirname(os.path.dirname(os.path.realpath(__file__))))
 from ledger import Counts, Entry, count, read_ledger, tried, write_ledger
+from needs import KITS
 
-ENTRIES = {"edits/low/a.edit": Entry("goal", "01"), "edits/low/b.edit": Entry("proved", "02"), "edits/low/c.edit": Entry("false", "03")}
-# Of `c` something has changed, and `d` is new.
-SUMS = {"edits/low/a.edit": "01", "edits/low/b.edit": "02", "edits/low/c.edit": "04", "edits/low/d.edit": "05"}
+ENTRIES = {
+    "edits/low/a.edit": Entry("goal", KITS[0], "01"),
+    "edits/low/b.edit": Entry("proved", KITS[-1], "02"),
+    "edits/low/c.edit": Entry("false", KITS[0], "03"),
+    "edits/low/e.edit": Entry("false", "rattle-kit-0", "06"),
+}
+# Of `c` something has changed, `d` is new, and `e` was tried with a kit that the gate does not take.
+SUMS = {"edits/low/a.edit": "01", "edits/low/b.edit": "02", "edits/low/c.edit": "04", "edits/low/d.edit": "05", "edits/low/e.edit": "06"}
 
 
 class Ledger(unittest.TestCase):
@@ -22,7 +28,7 @@ class Ledger(unittest.TestCase):
     def test_only_what_rests_on_the_text_as_it_is_was_tried(self):
         words = tried(SUMS, ENTRIES)
         self.assertEqual(words, {"edits/low/a.edit": "goal", "edits/low/b.edit": "proved"})
-        self.assertEqual(count(SUMS, words), Counts(tried=2, refused=1, left=2))
+        self.assertEqual(count(SUMS, words), Counts(tried=2, refused=1, left=3))
 
 
 if __name__ == "__main__":

@@ -12,8 +12,8 @@ LIMITS = [
 
 
 def text_of(file):
-    with open(f"{TOP}/{file}", encoding="utf-8") as it:
-        return it.read()
+    with open(f"{TOP}/{file}", encoding="utf-8") as stream:
+        return stream.read()
 
 
 class Limits(unittest.TestCase):

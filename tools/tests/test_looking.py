@@ -37,8 +37,8 @@ def is_soon(is_so):
 def has_ended(process):
     """Returns whether a process has ended, though nobody may have waited for it."""
     try:
-        with open(f"/proc/{process}/stat", encoding="utf-8", errors="replace") as it:
-            return it.read().rpartition(") ")[2].startswith("Z")
+        with open(f"/proc/{process}/stat", encoding="utf-8", errors="replace") as file:
+            return file.read().rpartition(") ")[2].startswith("Z")
     except OSError:
         return True
 
@@ -101,8 +101,8 @@ class Looking(unittest.TestCase):
             self.assertTrue(is_soon(lambda: os.path.exists(f"{room}/child")))
             beside.end()
             beside.join(SECONDS)
-            with open(f"{room}/child", encoding="ascii") as it:
-                child = int(it.read())
+            with open(f"{room}/child", encoding="ascii") as file:
+                child = int(file.read())
             self.assertTrue(is_soon(lambda: has_ended(child)))
         self.assertEqual((stops, beside.all_well, beside.is_alive()), ([], False, False))
         self.assertEqual([said.getvalue().count(words) for words in ("begins", "WRONG, ")], [1, 1])

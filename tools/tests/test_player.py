@@ -2,6 +2,7 @@
 import contextlib
 import io
 import os
+import queue
 import socket
 import subprocess
 import sys
@@ -23,10 +24,10 @@ TRIES = 5
 def asked(port, body, size=None):
     """Returns the status of the answer to a message whose length is said to be this, and its body; nothing where there is no answer."""
     head = f"POST / HTTP/1.0\r\nReceiver: ann\r\nContent-Length: {len(body) if size is None else size}\r\n\r\n"
-    with socket.create_connection(("127.0.0.1", port), SECONDS) as it:
-        it.sendall((head + body).encode())
+    with socket.create_connection(("127.0.0.1", port), SECONDS) as connection:
+        connection.sendall((head + body).encode())
         said = b""
-        while piece := it.recv(65536):
+        while piece := connection.recv(65536):
             said += piece
     head, _, answer = said.decode().partition("\r\n\r\n")
     return (int(head.split()[1]), answer) if said else None
@@ -35,12 +36,12 @@ def asked(port, body, size=None):
 @contextlib.contextmanager
 def server():
     """The port of a server inside this process, and what it says."""
-    with contextlib.redirect_stderr(io.StringIO()) as said, player.Server(("127.0.0.1", 0), player.Player(lambda moves: moves[0])) as it:
-        threading.Thread(target=it.serve_forever, daemon=True).start()
+    with contextlib.redirect_stderr(io.StringIO()) as said, player.Server(("127.0.0.1", 0), player.Player(lambda moves: moves[0])) as host:
+        threading.Thread(target=host.serve_forever, daemon=True).start()
         try:
-            yield it.server_port, said
+            yield host.server_port, said
         finally:
-            it.shutdown()
+            host.shutdown()
 
 
 @contextlib.contextmanager
@@ -60,8 +61,8 @@ def started(name, errors):
 def is_there(child, port):
     """Waits until a player takes connections. Returns whether it does: it may have ended."""
     while child.poll() is None:
-        with socket.socket() as it:
-            if it.connect_ex(("127.0.0.1", port)) == 0:
+        with socket.socket() as connection:
+            if connection.connect_ex(("127.0.0.1", port)) == 0:
                 return True
         time.sleep(0.02)
     return False
@@ -133,21 +134,27 @@ class Serving(unittest.TestCase):
             self.assertLess(time.monotonic() - began, player.Handler.timeout / 2)
 
     def test_messages_are_answered_in_their_order(self):
-        first, may_go = threading.Event(), threading.Event()
+        came, may_go = threading.Semaphore(0), threading.Event()
+
+        class Queue(queue.SimpleQueue):
+            def put(self, item):
+                super().put(item)
+                came.release()
 
         def answer(message):
-            first.set()
             may_go.wait(SECONDS)
             heard.append(message)
             return "done"
 
         heard, sent = [], [f"m{number:02}" for number in range(20)]
-        with server() as (port, _), unittest.mock.patch.object(player.Player, "answer", lambda _, it: answer(it)), contextlib.ExitStack() as held:
+        with contextlib.ExitStack() as held:
+            held.enter_context(unittest.mock.patch.object(player.queue, "SimpleQueue", Queue))
+            held.enter_context(unittest.mock.patch.object(player.Player, "answer", lambda _, text: answer(text)))
+            port, _ = held.enter_context(server())
             for body in sent:
-                it = held.enter_context(socket.create_connection(("127.0.0.1", port), SECONDS))
-                it.sendall(f"POST / HTTP/1.0\r\nContent-Length: 3\r\n\r\n{body}".encode())
-                first.wait(SECONDS)
-                time.sleep(0.02)
+                connection = held.enter_context(socket.create_connection(("127.0.0.1", port), SECONDS))
+                connection.sendall(f"POST / HTTP/1.0\r\nContent-Length: 3\r\n\r\n{body}".encode())
+                self.assertTrue(came.acquire(timeout=SECONDS))
             may_go.set()
             asked(port, "end")
         self.assertEqual(heard, [*sent, "end"])

@@ -21,7 +21,7 @@ class Expected(unittest.TestCase):
 
     def test_a_size_is_so_many_megabytes_and_one_without_a_figure_has_the_mean(self):
         seconds = by_megabytes(["low", "wide"], {"low": 10, "high": 30})
-        self.assertEqual(seconds, {name: SECONDS_A_CRATE + SECONDS_A_MEGABYTE * it for name, it in {"low": 10, "wide": 20}.items()})
+        self.assertEqual(seconds, {name: SECONDS_A_CRATE + SECONDS_A_MEGABYTE * size for name, size in {"low": 10, "wide": 20}.items()})
 
     def test_the_program_takes_its_share_of_all_that_is_built_into_it(self):
         seconds = by_megabytes(["low", "program"], {"low": 1000}, "program")
@@ -59,8 +59,8 @@ class Times(unittest.TestCase):
 
     def test_a_file_that_is_no_times_counts_for_nothing(self):
         with tempfile.TemporaryDirectory() as room:
-            with open(f"{room}/times.json", "w", encoding="utf-8") as it:
-                it.write("[1, 2")
+            with open(f"{room}/times.json", "w", encoding="utf-8") as file:
+                file.write("[1, 2")
             self.assertEqual(read_times("build", f"{room}/times.json"), {})
 
 
@@ -74,16 +74,16 @@ class Room(unittest.TestCase):
         with tempfile.TemporaryDirectory() as group:
             texts = {"meminfo": "MemAvailable:    8000 kB\n", "memory.max": "5000000\n", "memory.stat": "anon 2000000\nfile 9000000\n", "cpu.max": "100000 100000\n"}
             for name, text in texts.items():
-                with open(f"{group}/{name}", "w", encoding="ascii") as it:
-                    it.write(text)
+                with open(f"{group}/{name}", "w", encoding="ascii") as file:
+                    file.write(text)
             self.assertEqual((free_memory(f"{group}/meminfo", group), processors(group)), (3000000, 1))
 
     def test_without_limits_it_is_what_the_computer_has(self):
         with tempfile.TemporaryDirectory() as group:
             texts = {"meminfo": "MemAvailable:    8000 kB\n", "memory.max": "max\n", "memory.stat": "anon 2000000\nfile 9000000\n", "cpu.max": "max 100000\n"}
             for name, text in texts.items():
-                with open(f"{group}/{name}", "w", encoding="ascii") as it:
-                    it.write(text)
+                with open(f"{group}/{name}", "w", encoding="ascii") as file:
+                    file.write(text)
             self.assertEqual(free_memory(f"{group}/meminfo", group), 8192000)
             self.assertEqual(processors(group), len(os.sched_getaffinity(0)))
 

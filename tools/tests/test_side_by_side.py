@@ -9,10 +9,10 @@ TOP = os.path.dirname(os.path.dirname(os.path.dirname(os.path.realpath(__file__)
 
 def shown(script, does):
     """Returns the status and the lines where a program does this with a script."""
-    with tempfile.NamedTemporaryFile("w") as it:
-        it.write(script)
-        it.flush()
-        ran = subprocess.run([f"{TOP}/examples/side-by-side", it.name, "sh", "-c", does], stdout=subprocess.PIPE, text=True)
+    with tempfile.NamedTemporaryFile("w") as file:
+        file.write(script)
+        file.flush()
+        ran = subprocess.run([f"{TOP}/examples/side-by-side", file.name, "sh", "-c", does], stdout=subprocess.PIPE, text=True)
     return ran.returncode, ran.stdout.splitlines()
 
 

@@ -76,8 +76,8 @@ class Volumes(unittest.TestCase):
             folder = f"{top}/crates/low/out/rlib/low.rlib/toolchain"
             os.makedirs(folder)
             functions = [["low::one", function(1000, 0)], ["low::two", function(1000, 3)], ["low::Told::three+decl", function(1, 0)]]
-            with open(f"{folder}/mir.json", "w", encoding="utf-8") as it:
-                json.dump(functions, it)
+            with open(f"{folder}/mir.json", "w", encoding="utf-8") as file:
+                json.dump(functions, file)
             self.assertEqual(volume_of("low", top), round(2 * OF_A_FUNCTION + 2000 * OF_A_STEP + 3000 * OF_A_PARAMETER))
 
 

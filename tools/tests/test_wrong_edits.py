@@ -15,8 +15,8 @@ class Applied(unittest.TestCase):
         with tempfile.TemporaryDirectory() as top:
             os.makedirs(f"{top}/crates/low/src")
             for file, text in {"crates/low/src/lib.rt": SOURCE, "wrong.edit": edit}.items():
-                with open(f"{top}/{file}", "w", encoding="utf-8") as it:
-                    it.write(text)
+                with open(f"{top}/{file}", "w", encoding="utf-8") as stream:
+                    stream.write(text)
             return applied("wrong.edit", "low", top)
 
     def test_one_line_is_replaced_with_its_spaces(self):

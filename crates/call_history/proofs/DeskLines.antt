@@ -2,12 +2,14 @@
 -- served.
 use Rattle.std.proofs.Common.{◌≡◌, ℕ, ◌<◌, List, [], ◌∷◌, ◌++◌, length, get_or, refl, sym, ◌∙◌, subst, arith, rules}
 use Rattle.std.specs.List.{All}
+use Rattle.call_history.specs.declared.journal.Entry.{Entry}
 use Rattle.call_history.specs.declared.port.Port.{Port}
 use Rattle.call_history.specs.declared.ring_line.RingLine.{RingLine}
 use Rattle.call_history.specs.declared.object.Object.{Ghosts}
 use Rattle.call_history.specs.declared.ring_line.LineEnd.{LineEnd}
-use Rattle.call_history.specs.RingLines.{SamePorts, SameLine, IsPortOf, IsLineOf, AreEndsOf, IsNewLine, AreNewLines}
-use Rattle.call_history.specs.RingClosing.{SameEnds}
+use Rattle.call_history.specs.Parts.{part, calls_of}
+use Rattle.call_history.specs.RingLines.{posted_calls, SamePorts, SameLine, IsPortOf, IsLineOf, AreEndsOf, IsNewLine, AreNewLines}
+use Rattle.call_history.specs.RingClosing.{SameEnds, IsServed, AreEndsInOrder, AreServedInOrder}
 use Rattle.std.proofs.lemmas.List.Elements.{All-push}
 use Rattle.call_history.proofs.ServedLines.{same_port_trans}
 use Rattle.call_history.proofs.ReturnedEnds.{port_of_same}
@@ -62,3 +64,17 @@ module _ {O C R : Type 0} {G : Ghosts O C R} where
   -- ends stay the desk's through its rounds
   pub ends_of_ports : (ps qs : List (Port C R)) (es : List (LineEnd O C R G)) → SamePorts ps qs → AreEndsOf ps es → AreEndsOf qs es
   ends_of_ports ps qs es s all = λ k e below. line_of_same ps qs (get_or es k e).line (get_or es k e).line s (search rules) (all k e below)
+
+  -- the ends of the lines that a desk opened with, in their order
+  pub ordered_ends : (ps qs : List (Port C R)) (ls : List (RingLine O C R G)) (es : List (LineEnd O C R G)) → AreNewLines ps ls → length ls ≡ length ps → SamePorts ps qs → AreEndsInOrder ls es → AreEndsOf qs es
+  ordered_ends ps qs ls es new count same order i e below =
+      let within : i < length ls = omega (arith, below, order.count) in
+      let l = get_or ls i e.line in
+      line_of_same ps qs l (get_or es i e).line same (order.each i e.line e within) (line_of_new ps i l (omega (arith, within, count)) (new i e.line within))
+
+  pub ordered_parts : (ps : List (Port C R)) (ls : List (RingLine O C R G)) (es : List (LineEnd O C R G)) (history : List (Entry C R)) → AreNewLines ps ls → AreEndsInOrder ls es → All (IsServed history) es → AreServedInOrder history es
+  ordered_parts ps ls es history new order served i e below =
+      let within : i < length ls = omega (arith, below, order.count) in
+      let end = get_or es i e in
+      let number : end.line.number ≡ i = (order.each i e.line e within).0 ∙ (new i e.line within).number_is in
+      sym (subst (λ n. posted_calls end.line ≡ calls_of (part n history)) number (served i e below))

@@ -5,6 +5,7 @@ use mathlib.Core.List.{IsPrefix}
 use Rattle.call_history.specs.declared.journal.Entry.{Entry}
 use Rattle.call_history.specs.declared.object.Object.{Ghosts}
 use Rattle.call_history.specs.declared.ring_line.LineEnd.{LineEnd}
+use Rattle.call_history.specs.declared.ring_line.RingLine.{RingLine}
 use Rattle.call_history.specs.declared.ring_desk.RingCloseFault.{RingCloseFault}
 use Rattle.call_history.specs.declared.ring_desk.RingCloseFault.TheVariants.{MissingLine, Unserved}
 use Rattle.call_history.specs.Lines.{HasAll, IsLowestMissing}
@@ -37,6 +38,15 @@ module _ {O C R : Type 0} {G : Ghosts O C R} where
     pub number_is : (e : LineEnd O C R G) → (slice_index_or ends at e).line.number ≡ number
     pub unserved : (e : LineEnd O C R G) → IsUnserved history (slice_index_or ends at e)
     pub lowest : (i : ℕ) (e : LineEnd O C R G) → i < count → (slice_index_or ends i e).line.number < number → IsServed history (slice_index_or ends i e)
+
+  -- each end is that of the line in its place
+  pub record AreEndsInOrder (lines : List (RingLine O C R G)) (ends : List (LineEnd O C R G)) : Type 0 where
+    pub count : length ends ≡ length lines
+    pub each : (i : ℕ) (l : RingLine O C R G) (e : LineEnd O C R G) → i < length lines → SameLine (slice_index_or lines i l) (slice_index_or ends i e).line
+
+  -- the part of each number has exactly the calls that the line posted whose end stands in that place, in their order
+  abbrev pub AreServedInOrder : List (Entry C R) → List (LineEnd O C R G) → Type 0
+  AreServedInOrder history ends = (i : ℕ) (e : LineEnd O C R G) → i < length ends → calls_of (part i history) ≡ posted_calls (slice_index_or ends i e).line
 
   -- What a closed desk leaves: its history and its object, and what each line did.
   pub record IsClosed (desk : RingDeskValue O C R) (ends : List (LineEnd O C R G)) (history : List (Entry C R)) (object : O) (made_by_line : List ℕ) : Type 0 where

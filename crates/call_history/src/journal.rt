@@ -6,22 +6,32 @@ ghost use Rattle.call_history.specs.Limits.{max_entries};
 
 use crate::object::Object;
 use std::alloc::{AllocError, Global};
+use std::error::Error;
+use std::fmt;
 use std::marker::Model;
-use thiserror::Error;
 
 /// The limit of entries that a history may be opened for.
 pub const MAX_ENTRIES: u64 = 1_000_000;
 
 /// Why a call was not made. The history does not hold it, and nothing has changed.
-#[derive(Clone, Copy, Debug, PartialEq, Eq, Error)]
+#[derive(Clone, Copy, Debug, PartialEq, Eq)]
 pub enum CallFault {
     /// The history has reached the limit of entries that it was opened with.
-    #[error("the history is full")]
     Full,
     /// Out of memory.
-    #[error("want of memory")]
     Memory,
 }
+
+impl fmt::Display for CallFault {
+    fn fmt<W: fmt::Write>(&self, f: &mut fmt::Formatter<W>) -> fmt::Result {
+        f.write_str(match *self {
+            CallFault::Full => "the history is full",
+            CallFault::Memory => "want of memory",
+        })
+    }
+}
+
+impl Error for CallFault {}
 
 impl From<AllocError> for CallFault {
     ghost from_gives = { λ _ fault. fault ≡ Memory };

@@ -9,7 +9,7 @@
 ghost use Rattle.std.specs.Prelude.{◌≡◌, ◌↔◌, [], ◌∷◌, ◌++◌};
 ghost use Rattle.call_history.specs.History.{run, IsLegalHistory};
 ghost use Rattle.call_history.specs.Limits.{max_entries, max_lines, max_room};
-ghost use Rattle.call_history.specs.RingLaws.{LinesStay, EndsStay, NewLinesStay, NewLinesAreLines, NumbersAreOfEnds, PortsAreSame, PortsStaySame};
+ghost use Rattle.call_history.specs.RingLaws.{LinesStay, EndsStay, NewLinesStay, NewLinesAreLines, OrderedEndsAreEnds, OrderedEndsAreServed, NumbersAreOfEnds, PortsAreSame, PortsStaySame};
 
 use crate::journal::{Entry, MAX_ENTRIES};
 use crate::lock::MAX_LINES;
@@ -61,6 +61,13 @@ pub fn new_lines_are_lines<O: Object>()
 pub fn desks_stay<O: Object>()
     ensures same { PortsAreSame O.Call O.Reply }
     ensures through { PortsStaySame O.Call O.Reply }
+{}
+
+/// A desk over rings can be closed with the ends of all lines that it opened with, in their order. Once it has closed, the part of each
+/// number has exactly the calls of the line in that place.
+pub fn ends_stand_in_order<O: Object>()
+    ensures ends { OrderedEndsAreEnds O.Object }
+    ensures served { OrderedEndsAreServed O.Object }
 {}
 
 /// A number that is among those of some ends is the number of one of these ends.

@@ -29,7 +29,7 @@ pub use journal::{CallFault, Entry, Journal, MAX_ENTRIES};
 pub use line::LockLine;
 pub use lock::{CloseFault, Closed, LockDesk, MAX_LINES, Unclosed, open_lock};
 pub use lock_wire::LockWire;
-pub use moment::let_a_moment_pass;
+pub use moment::back_off;
 pub use object::Object;
 pub use pause::Pause;
 pub use port::Port;

@@ -6,7 +6,7 @@ const YIELD_EACH: u64 = 64;
 
 /// Lets a moment pass after the try with this number, from 0 on. Most moments are shorter than a call takes, since on a busy computer
 /// a thread that gives its processor away gets it back late.
-pub fn let_a_moment_pass(tried: u64) {
+pub fn back_off(tried: u64) {
     if tried % YIELD_EACH == YIELD_EACH - 1 {
         thread::yield_now();
     } else {

@@ -3,7 +3,7 @@ ghost use Rattle.std.specs.Prelude.{◌≡◌, ◌⊎◌, ◌∷◌, ◌++◌, �
 ghost use Rattle.call_history.specs.RingLines.{posted_calls, taken_replies, SameLine};
 
 use crate::bell::Bell;
-use crate::moment::let_a_moment_pass;
+use crate::moment::back_off;
 use crate::object::Object;
 use crate::ring_line::RingLine;
 use crate::wire::{AskFault, Wire};
@@ -148,7 +148,7 @@ fn post_within<O: Object>(
         if has_stopped(bell) {
             return false;
         }
-        let_a_moment_pass(tried);
+        back_off(tried);
     }
     false
 }
@@ -177,7 +177,7 @@ fn take_within<O: Object>(
         if is_last {
             return None;
         }
-        let_a_moment_pass(tried);
+        back_off(tried);
     }
     None
 }

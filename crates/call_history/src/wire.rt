@@ -4,21 +4,31 @@ ghost use Rattle.call_history.specs.Told.{told_with};
 ghost use Rattle.call_history.specs.Faults.{ask_fault};
 
 use crate::journal::CallFault;
-use thiserror::Error;
+use std::error::Error;
+use std::fmt;
 
 /// Why a call got no reply.
-#[derive(Clone, Copy, Debug, PartialEq, Eq, Error)]
+#[derive(Clone, Copy, Debug, PartialEq, Eq)]
 pub enum AskFault {
     /// The history has reached the limit of entries that it was opened with.
-    #[error("the history is full")]
     Full,
     /// Out of memory.
-    #[error("want of memory")]
     Memory,
     /// The wire gave up waiting. It is not known whether the call is made.
-    #[error("no reply came")]
     Stalled,
 }
+
+impl fmt::Display for AskFault {
+    fn fmt<W: fmt::Write>(&self, f: &mut fmt::Formatter<W>) -> fmt::Result {
+        f.write_str(match *self {
+            AskFault::Full => "the history is full",
+            AskFault::Memory => "want of memory",
+            AskFault::Stalled => "no reply came",
+        })
+    }
+}
+
+impl Error for AskFault {}
 
 impl From<CallFault> for AskFault {
     ghost from_gives = { λ fault passed. passed ≡ ask_fault fault };

@@ -2,9 +2,10 @@
 ghost use Rattle.std.specs.Prelude.{◌≤◌, IfOk};
 
 use crate::program::program;
-use crate::tasks::{AbortPlan, HostedTask, HostingPlan, RunPlan, SeasonPlan, Task};
+use crate::tasks::{AbortPlan, GameOptions, MatchTask, RunPlan, SeasonPlan, Task};
 use clap::ArgMatches;
 use clap::error::ErrorKind;
+use game_core::Limits;
 use match_plans::{
     CheckPlan, GameCommand, GameSource, MAX_AT_ONCE, MatchPlan, PlayerAddress, RecordOrder,
     RulesSource, SeasonForm, decimal, player_address,
@@ -87,16 +88,26 @@ fn strikes<'a>(found: &ArgMatches<'a>) -> Result<u8, WrongValue<'a>> {
     Ok(number(found, "strikes", 0, 255)? as u8)
 }
 
+/// The limits of the game's description.
+fn limits(found: &ArgMatches<'_>) -> Limits {
+    if found.get_flag("large") {
+        Limits::Large
+    } else {
+        Limits::Usual
+    }
+}
+
 /// The game's source. Exactly one of its options must be there.
 fn game_source<'a>(found: &ArgMatches<'a>) -> Result<GameSource<'a>, WrongValue<'a>> {
+    let limits = limits(found);
     let size = found.get_str("countdown");
     match (size, found.get_str("rules"), found.get_str("rules-file")) {
         (Some(_), None, None) => {
             let size = number(found, "countdown", 1, 100)?;
             Ok(GameSource::Countdown(size as u8))
         }
-        (None, Some(text), None) => Ok(GameSource::Described(RulesSource::Text(text))),
-        (None, None, Some(path)) => Ok(GameSource::Described(RulesSource::File(path))),
+        (None, Some(text), None) => Ok(GameSource::Described(RulesSource::Text(text), limits)),
+        (None, None, Some(path)) => Ok(GameSource::Described(RulesSource::File(path), limits)),
         _ => Err(WrongValue::Game),
     }
 }
@@ -110,8 +121,16 @@ fn only_player<'a>(found: &ArgMatches<'a>) -> Result<PlayerAddress<'a>, WrongVal
     player(found.get_str("player").unwrap_or(""))
 }
 
+/// The file that is named for the input. A dash stands for standard input.
+fn input_file<'a>(found: &ArgMatches<'a>) -> Option<&'a str> {
+    match found.get_str("file") {
+        Some("-") => None,
+        file => file,
+    }
+}
+
 fn game_task<'a>(command: GameCommand, found: &ArgMatches<'a>) -> Result<Task<'a>, WrongValue<'a>> {
-    Ok(Task::Game(command, game_source(found)?))
+    Ok(Task::Game(command, game_source(found)?, input_file(found)))
 }
 
 fn verify_command(found: &ArgMatches<'_>) -> GameCommand {
@@ -122,10 +141,10 @@ fn verify_command(found: &ArgMatches<'_>) -> GameCommand {
     }
 }
 
-fn hosting_plan<'a>(found: &ArgMatches<'a>) -> Result<HostingPlan<'a>, WrongValue<'a>> {
-    Ok(HostingPlan {
+fn game_options<'a>(found: &ArgMatches<'a>) -> Result<GameOptions<'a>, WrongValue<'a>> {
+    Ok(GameOptions {
         game: game_source(found)?,
-        told: found.get_str("told"),
+        player_rules: found.get_str("player-rules"),
         is_logged: found.get_flag("log"),
     })
 }
@@ -150,6 +169,7 @@ fn season_plan<'a>(found: &ArgMatches<'a>) -> Result<SeasonPlan<'a>, WrongValue<
             order: record_order(found),
             has_history: found.get_flag("history"),
         },
+        schedule: input_file(found),
         done: found.get_str("done"),
         records: found.get_str("records"),
     })
@@ -204,11 +224,11 @@ fn hosted_task<'a>(
     alloc: Global,
     name: &str,
     found: &ArgMatches<'a>,
-) -> Result<HostedTask<'a>, ArgumentFault<'a>> {
+) -> Result<MatchTask<'a>, ArgumentFault<'a>> {
     match name {
-        "run" => Ok(HostedTask::Run(run_plan(alloc, found)?)),
-        "season" => Ok(HostedTask::Season(season_plan(found)?)),
-        "check" => Ok(HostedTask::Check(check_plan(found)?)),
+        "run" => Ok(MatchTask::Run(run_plan(alloc, found)?)),
+        "season" => Ok(MatchTask::Season(season_plan(found)?)),
+        "check" => Ok(MatchTask::Check(check_plan(found)?)),
         _ => Err(ArgumentFault::Form),
     }
 }
@@ -226,7 +246,7 @@ fn task<'a>(
         "info" => Ok(Task::Info(only_player(found)?)),
         "abort" => Ok(Task::Abort(abort_plan(alloc, found)?)),
         _ => {
-            let hosting = hosting_plan(found)?;
+            let hosting = game_options(found)?;
             Ok(Task::Host(hosting, hosted_task(alloc, name, found)?))
         }
     }

@@ -12,4 +12,4 @@ mod tasks;
 
 pub use arguments::{ArgumentFault, WrongValue, read_arguments};
 pub use refusals::{has_own_word, refusal};
-pub use tasks::{AbortPlan, HostedTask, HostingPlan, RunPlan, SeasonPlan, Task};
+pub use tasks::{AbortPlan, GameOptions, MatchTask, RunPlan, SeasonPlan, Task};

@@ -21,6 +21,8 @@ enum Form {
     Flag,
     /// A word of this name.
     Word(&'static str),
+    /// The file of the input, if it is not standard input.
+    File,
     Player,
     Players,
 }
@@ -52,6 +54,7 @@ impl Argument {
                 .default_value(default),
             Form::Flag => arg.long(self.name).action(ArgAction::SetTrue),
             Form::Word(word) => arg.value_name(word).required(true).action(ArgAction::Set),
+            Form::File => arg.value_name("FILE").action(ArgAction::Set),
             Form::Player => arg.value_name(place).required(true).action(ArgAction::Set),
             Form::Players => arg
                 .value_name(place)
@@ -80,10 +83,16 @@ const RULES_FILE: Argument = Argument {
     help: "The game is the ground description in this file",
 };
 
-const TOLD: Argument = Argument {
-    name: "told",
+const PLAYER_RULES: Argument = Argument {
+    name: "player-rules",
     form: Form::Value("FILE"),
     help: "START carries the description in this file, with variables for instance; the referee plays the game's own rules",
+};
+
+const LARGE: Argument = Argument {
+    name: "large",
+    form: Form::Flag,
+    help: "The description may be large: 4194304 bytes, 65536 sentences and 65536 different atomic sentences",
 };
 
 const STRIKES: Argument = Argument {
@@ -116,12 +125,23 @@ const PLAYER: Argument = Argument {
     help: "The player",
 };
 
-const DESK: [Argument; 3] = [COUNTDOWN, RULES, RULES_FILE];
-
-const RUN: [Argument; 10] = [
+const DESK: [Argument; 5] = [
+    COUNTDOWN,
     RULES,
     RULES_FILE,
-    TOLD,
+    LARGE,
+    Argument {
+        name: "file",
+        form: Form::File,
+        help: "The file of the script; without it, or with -, standard input",
+    },
+];
+
+const RUN: [Argument; 11] = [
+    RULES,
+    RULES_FILE,
+    LARGE,
+    PLAYER_RULES,
     Argument {
         name: "id",
         form: Form::Required("ID"),
@@ -143,11 +163,12 @@ const RUN: [Argument; 10] = [
     },
 ];
 
-const SEASON: [Argument; 13] = [
+const SEASON: [Argument; 14] = [
     COUNTDOWN,
     RULES,
     RULES_FILE,
-    TOLD,
+    LARGE,
+    PLAYER_RULES,
     STRIKES,
     Argument {
         name: "at-once",
@@ -165,11 +186,6 @@ const SEASON: [Argument; 13] = [
         help: "The records are printed in the order of the schedule",
     },
     Argument {
-        name: "as-they-end",
-        form: Form::Flag,
-        help: "The records are printed in the order in which the matches end, as they are without it",
-    },
-    Argument {
         name: "done",
         form: Form::Value("FILE"),
         help: "Matches of which the file has a lawful record are not played",
@@ -185,20 +201,41 @@ const SEASON: [Argument; 13] = [
         form: Form::Flag,
         help: "The account of each match is printed behind its record",
     },
-];
-
-const VERIFY: [Argument; 4] = [
-    COUNTDOWN,
-    RULES,
-    RULES_FILE,
     Argument {
-        name: "lines",
-        form: Form::Flag,
-        help: "Each line of standard input is a record, and gets a line of output",
+        name: "file",
+        form: Form::File,
+        help: "The file of the schedule; without it, or with -, standard input",
     },
 ];
 
-const REPLAY: [Argument; 3] = [COUNTDOWN, RULES, RULES_FILE];
+const VERIFY: [Argument; 6] = [
+    COUNTDOWN,
+    RULES,
+    RULES_FILE,
+    LARGE,
+    Argument {
+        name: "lines",
+        form: Form::Flag,
+        help: "Each line of the input is a record, and gets a line of output",
+    },
+    Argument {
+        name: "file",
+        form: Form::File,
+        help: "The file of the record; without it, or with -, standard input",
+    },
+];
+
+const REPLAY: [Argument; 5] = [
+    COUNTDOWN,
+    RULES,
+    RULES_FILE,
+    LARGE,
+    Argument {
+        name: "file",
+        form: Form::File,
+        help: "The file of the account; without it, or with -, standard input",
+    },
+];
 
 const INFO: [Argument; 1] = [PLAYER];
 
@@ -215,8 +252,17 @@ const ABORT: [Argument; 2] = [
     },
 ];
 
-const CHECK: [Argument; 9] = [
-    COUNTDOWN, RULES, RULES_FILE, TOLD, START, PLAY, STRIKES, LOG, PLAYER,
+const CHECK: [Argument; 10] = [
+    COUNTDOWN,
+    RULES,
+    RULES_FILE,
+    LARGE,
+    PLAYER_RULES,
+    START,
+    PLAY,
+    STRIKES,
+    LOG,
+    PLAYER,
 ];
 
 /// The form of a command.
@@ -242,7 +288,7 @@ impl CommandForm {
 const COMMANDS: [CommandForm; 8] = [
     CommandForm {
         name: "desk",
-        about: "Answers a script from standard input, line by line",
+        about: "Answers a script, line by line",
         arguments: &DESK,
     },
     CommandForm {
@@ -252,17 +298,17 @@ const COMMANDS: [CommandForm; 8] = [
     },
     CommandForm {
         name: "season",
-        about: "Referees the matches of the schedule on standard input, and prints their records",
+        about: "Referees the matches of a schedule, and prints their records",
         arguments: &SEASON,
     },
     CommandForm {
         name: "verify",
-        about: "Says whether the record on standard input is lawful",
+        about: "Says whether a record is lawful",
         arguments: &VERIFY,
     },
     CommandForm {
         name: "replay",
-        about: "Makes the calls of the account on standard input again, and compares each reply",
+        about: "Makes the calls of an account again, and compares each reply",
         arguments: &REPLAY,
     },
     CommandForm {

@@ -9,7 +9,18 @@ use std::alloc::{AllocError, Global};
 const OWN_COMMANDS: [&str; 4] = ["season", "check", "replay", "abort"];
 
 /// The options that do so.
-const OWN_OPTIONS: [&str; 5] = ["--rules-file", "--told", "--lines", "--log", "--history"];
+const OWN_OPTIONS: [&str; 7] = [
+    "--rules-file",
+    "--large",
+    "--player-rules",
+    FORMER_PLAYER_RULES,
+    "--lines",
+    "--log",
+    "--history",
+];
+
+/// The name of `--player-rules` before version 0.2.0.
+const FORMER_PLAYER_RULES: &str = "--told";
 
 /// Whether the word is this option, by itself or with its value.
 fn is_option(word: &str, option: &str) -> bool {
@@ -56,15 +67,19 @@ fn words_of(alloc: Global, command: &str, wrong: WrongValue<'_>) -> Result<Strin
     }
 }
 
-/// The words about a wrong value of a command, and the command's usage.
-fn wrong_value(alloc: Global, command: &str, wrong: WrongValue<'_>) -> Result<String, AllocError> {
-    let what = words_of(alloc, command, wrong)?;
+/// These words about a command line, and the command's usage.
+fn with_usage(
+    alloc: Global,
+    command: &str,
+    kind: ErrorKind,
+    what: &str,
+) -> Result<String, AllocError> {
     let Some(form) = form_named(command) else {
-        return Ok(what);
+        return String::from_str(alloc, what);
     };
     let title = format!(in alloc; "{PROGRAM} {command}")?;
     let mut command = form.command(alloc)?.bin_name(title.as_str())?;
-    let error = command.error(ErrorKind::ValueValidation, what.as_str())?;
+    let error = command.error(kind, what)?;
     error.to_string(alloc)
 }
 
@@ -84,7 +99,19 @@ pub fn refusal<'a>(
     fault: ArgumentFault<'_>,
 ) -> Result<String, AllocError> {
     match (fault, words.first()) {
-        (ArgumentFault::Value(wrong), Some(command)) => wrong_value(alloc, command, wrong),
+        (ArgumentFault::Value(wrong), Some(command)) => {
+            let what = words_of(alloc, command, wrong)?;
+            with_usage(alloc, command, ErrorKind::ValueValidation, what.as_str())
+        }
+        (_, Some(command))
+            if words
+                .iter()
+                .any(|word| is_option(word, FORMER_PLAYER_RULES)) => with_usage(
+            alloc,
+            command,
+            ErrorKind::UnknownArgument,
+            "--told is now --player-rules",
+        ),
         _ => wrong_form(alloc, words),
     }
 }

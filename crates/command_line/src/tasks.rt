@@ -5,10 +5,10 @@ use match_plans::{CheckPlan, GameCommand, GameSource, MatchPlan, PlayerAddress, 
 /// The task of a command line. Its texts are words of the command line.
 #[derive(Drop)]
 pub enum Task<'a> {
-    /// Runs a command on one game, over standard input and output.
-    Game(GameCommand, GameSource<'a>),
+    /// Runs a command on one game. Its input is the file that is named, or standard input.
+    Game(GameCommand, GameSource<'a>, Option<&'a str>),
     /// Plays matches of a game.
-    Host(HostingPlan<'a>, HostedTask<'a>),
+    Host(GameOptions<'a>, MatchTask<'a>),
     /// Asks a player whether it is free.
     Info(PlayerAddress<'a>),
     /// Sends players ABORT.
@@ -19,7 +19,7 @@ pub enum Task<'a> {
 
 /// A task with matches of a game.
 #[derive(Drop)]
-pub enum HostedTask<'a> {
+pub enum MatchTask<'a> {
     /// Referees a match between players on the network.
     Run(RunPlan<'a>),
     /// Referees the matches of a schedule.
@@ -30,9 +30,9 @@ pub enum HostedTask<'a> {
 
 /// The game to play, the file of the rules that players get instead of the game's own, and whether messages are logged.
 #[derive(Clone, Copy)]
-pub struct HostingPlan<'a> {
+pub struct GameOptions<'a> {
     pub game: GameSource<'a>,
-    pub told: Option<&'a str>,
+    pub player_rules: Option<&'a str>,
     pub is_logged: bool,
 }
 
@@ -48,6 +48,8 @@ pub struct RunPlan<'a> {
 pub struct SeasonPlan<'a> {
     pub strikes: u8,
     pub form: SeasonForm,
+    /// The file of the schedule. Without it the schedule is standard input.
+    pub schedule: Option<&'a str>,
     /// The file of the records of matches that are not played again.
     pub done: Option<&'a str>,
     /// The file that records are added to in place of the output. Matches that it has records of are not played again.

@@ -1,8 +1,10 @@
 -- Games that are described in text.
 use Rattle.std.specs.Prelude.{◌≢◌, ℕ, List, map}
 use Rattle.game_core.specs.Expression.{Expression, Expressions, folded}
-use Rattle.kif_text.specs.Faults.{IsFault, any_number}
-use Rattle.kif_text.specs.Spelling.{SpellsAll}
+use Rattle.game_core.specs.Limits.{max_bytes}
+use Rattle.game_core.specs.declared.limits.Limits.{Limits}
+use Rattle.kif_text.specs.Faults.{IsFaultUpTo, any_number}
+use Rattle.kif_text.specs.Spelling.{SpellsUpTo}
 use Rattle.kif_text.specs.View.{expressions}
 use Rattle.rule_sentences.specs.declared.fault.LoadFault.{LoadFault}
 use Rattle.rule_sentences.specs.declared.fault.LoadFault.TheVariants.{Memory as LoadMemory}
@@ -16,28 +18,29 @@ use Rattle.packed_rules.specs.declared.packed_game.PackedGame.{PackedGame}
 use Rattle.described_games.specs.declared.games.DescriptionFault.{DescriptionFault}
 use Rattle.described_games.specs.declared.games.DescriptionFault.TheVariants.{Memory, Unread, Unfit}
 
--- the text spells sentences, and the game is what they describe without their capitals
-pub record IsLoadedFrom (text : List ℕ) (game : GroundGame) : Type 0 where
+-- the text spells sentences, and the game is what they describe without their capitals, all within these limits
+pub record IsLoadedFrom (limits : Limits) (text : List ℕ) (game : GroundGame) : Type 0 where
   pub sentences : List Expression
-  pub spelled : SpellsAll text (expressions sentences)
-  pub loaded : IsLoaded (map folded sentences) game
+  pub spelled : SpellsUpTo (max_bytes limits) text (expressions sentences)
+  pub loaded : IsLoaded limits (map folded sentences) game
 
 -- the game is the packed form of what the text describes
-pub record IsDescribed (text : List ℕ) (game : PackedGame) : Type 0 where
+pub record IsDescribed (limits : Limits) (text : List ℕ) (game : PackedGame) : Type 0 where
   pub plain : GroundGame
-  pub loaded : IsLoadedFrom text plain
+  pub loaded : IsLoadedFrom limits text plain
   pub packed : IsPackedFormOf plain game
 
--- the text spells no sentences, or sentences that have a fault
-pub data DescribesNone (text : List ℕ) : Type 0 where
-  unread : ((xs : Expressions) → ¬ SpellsAll text xs) → DescribesNone text
-  faulty : (sentences : List Expression) (fault : LoadFault) → SpellsAll text (expressions sentences) → fault ≢ LoadMemory → IsLoadFault (map folded sentences) fault → DescribesNone text
+-- the text spells no sentences, or sentences that have a fault, by these limits
+pub data DescribesNone (limits : Limits) (text : List ℕ) : Type 0 where
+  unread : ((xs : Expressions) → ¬ SpellsUpTo (max_bytes limits) text xs) → DescribesNone limits text
+  faulty : (sentences : List Expression) (fault : LoadFault) → SpellsUpTo (max_bytes limits) text (expressions sentences) → fault ≢ LoadMemory → IsLoadFault limits (map folded sentences) fault → DescribesNone limits text
 
--- the text has this first fault of spelling, or the sentences that it spells, without capitals, have this first fault of loading
-abbrev pub IsRefusedAs : List ℕ → DescriptionFault → Type 0
-IsRefusedAs text (Unread fault) = (fault ≢ KifMemory) × IsFault any_number text fault
-IsRefusedAs text (Unfit fault) = (fault ≢ LoadMemory) × (sentences : List Expression) × SpellsAll text (expressions sentences) × IsLoadFault (map folded sentences) fault
-IsRefusedAs text Memory = Unit {0}
+-- By these limits the text has this first fault of spelling, or the sentences that it spells, without capitals, have this first fault of
+-- loading.
+abbrev pub IsRefusedAs : Limits → List ℕ → DescriptionFault → Type 0
+IsRefusedAs limits text (Unread fault) = (fault ≢ KifMemory) × IsFaultUpTo (max_bytes limits) any_number text fault
+IsRefusedAs limits text (Unfit fault) = (fault ≢ LoadMemory) × (sentences : List Expression) × SpellsUpTo (max_bytes limits) text (expressions sentences) × IsLoadFault limits (map folded sentences) fault
+IsRefusedAs limits text Memory = Unit {0}
 
 -- the fault of a text that can't be read, and of sentences that have a fault
 abbrev pub reading_fault : KifFault → DescriptionFault

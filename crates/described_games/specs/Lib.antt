@@ -1,3 +1,2 @@
 pub mod Games
-pub mod Places
 pub mod CountdownText

@@ -2,8 +2,9 @@
 ghost use Rattle.std.specs.Prelude.{◌≡◌, ◌≢◌, IfOk, IfErr};
 ghost use Rattle.described_games.specs.Games.{IsLoadedFrom, IsDescribed, DescribesNone, IsRefusedAs};
 
-use ground_rules::{GroundGame, LoadFault, load_own};
-use kif_text::{KifFault, read_all};
+use game_core::Limits;
+use ground_rules::{GroundGame, LoadFault, load_within};
+use kif_text::{KifFault, read_up_to};
 use packed_rules::{PackedGame, pack};
 use std::alloc::{AllocError, Global};
 
@@ -16,18 +17,6 @@ pub enum DescriptionFault {
     Unfit(LoadFault),
     /// Out of memory.
     Memory,
-}
-
-impl DescriptionFault {
-    /// What helps against the fault, in words, if something does.
-    pub fn remedy(self) -> Option<&'static str> {
-        match self {
-            DescriptionFault::Unfit(LoadFault::Variable(_)) => {
-                Some("ggp-instantiate makes ground rules of rules with variables")
-            }
-            _ => None,
-        }
-    }
 }
 
 impl From<AllocError> for DescriptionFault {
@@ -70,22 +59,27 @@ impl From<LoadFault> for DescriptionFault {
 }
 
 /// The game of a ground description, in the form in which it is loaded.
-fn loaded(alloc: Global, rules: &[u8]) -> Result<GroundGame, DescriptionFault>
-    ensures loaded { IfOk result (IsLoadedFrom rules.now) }
-    ensures refused { IfErr result (λ fault. fault ≢ DescriptionFault.Memory → DescribesNone rules.now) }
-    ensures fault { IfErr result (IsRefusedAs rules.now) }
+fn loaded(alloc: Global, limits: Limits, rules: &[u8]) -> Result<GroundGame, DescriptionFault>
+    ensures loaded { IfOk result (IsLoadedFrom limits rules.now) }
+    ensures refused { IfErr result (λ fault. fault ≢ DescriptionFault.Memory → DescribesNone limits rules.now) }
+    ensures fault { IfErr result (IsRefusedAs limits rules.now) }
 {
-    let sentences = read_all(alloc, rules)?;
-    Ok(load_own(alloc, sentences)?)
+    let sentences = read_up_to(alloc, rules, limits.bytes())?;
+    Ok(load_within(alloc, limits, sentences)?)
 }
 
-/// The game of a ground description, in the form that is fast to play. The error is the first fault of the text, or `Memory`.
-pub fn described_game(alloc: Global, rules: &[u8]) -> Result<PackedGame, DescriptionFault>
-    ensures described { IfOk result (IsDescribed rules.now) }
-    ensures refused { IfErr result (λ fault. fault ≢ DescriptionFault.Memory → DescribesNone rules.now) }
-    ensures fault { IfErr result (IsRefusedAs rules.now) }
+/// The game of a ground description within these limits, in the form that is fast to play. The error is the first fault of the text, or
+/// `Memory`.
+pub fn described_game(
+    alloc: Global,
+    limits: Limits,
+    rules: &[u8],
+) -> Result<PackedGame, DescriptionFault>
+    ensures described { IfOk result (IsDescribed limits rules.now) }
+    ensures refused { IfErr result (λ fault. fault ≢ DescriptionFault.Memory → DescribesNone limits rules.now) }
+    ensures fault { IfErr result (IsRefusedAs limits rules.now) }
 {
-    match pack(alloc, loaded(alloc, rules)?) {
+    match pack(alloc, loaded(alloc, limits, rules)?) {
         Ok(game) => Ok(game),
         Err((_, refused)) => Err(DescriptionFault::from(refused)),
     }

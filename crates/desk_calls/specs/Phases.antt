@@ -1,5 +1,5 @@
 -- How far a match has come.
-use Rattle.std.specs.Prelude.{Bool, true, false}
+use Rattle.std.specs.Prelude.{ℕ, Bool, true, false, List, codes}
 use Rattle.desk_calls.specs.declared.phase.Phase.{Phase}
 use Rattle.desk_calls.specs.declared.phase.Phase.TheVariants.{Starting, Playing, Stopping, Finished, Aborting, Aborted}
 
@@ -11,3 +11,12 @@ is_last Stopping = false
 is_last Finished = true
 is_last Aborting = false
 is_last Aborted = true
+
+-- its word in replies and records
+abbrev pub phase_text : Phase → List ℕ
+phase_text Starting = codes "starting"
+phase_text Playing = codes "playing"
+phase_text Stopping = codes "stopping"
+phase_text Finished = codes "finished"
+phase_text Aborting = codes "aborting"
+phase_text Aborted = codes "aborted"

@@ -2,7 +2,8 @@
 use crate::due::Due;
 use crate::phase::Status;
 use game_core::{Text, Texts};
-use thiserror::Error;
+use std::error::Error;
+use std::fmt;
 
 /// A call on the desk. Games and roles are numbered from 0. A match is named by its id, which is compared byte
 /// for byte.
@@ -65,48 +66,58 @@ pub enum Reply {
 }
 
 /// Why a call is refused: the first of these that holds.
-#[derive(Clone, Copy, Debug, PartialEq, Eq, Error)]
+#[derive(Clone, Copy, Debug, PartialEq, Eq)]
 pub enum Refusal {
     /// The id is not 1 to 64 bytes of ASCII letters, digits, `-`, `_` and `.`.
-    #[error("the id is not lawful")]
     BadId,
     /// There is a match with this id.
-    #[error("the id is used")]
     IdUsed,
     /// There is no game with this number.
-    #[error("there is no such game")]
     NoGame,
     /// The number of players is not the number of roles.
-    #[error("there is not one player for each role")]
     WrongPlayers,
     /// A player's name is not lawful. The rule is that of ids.
-    #[error("a player's name is not lawful")]
     BadName,
     /// A clock is not 1 to 86,400 seconds.
-    #[error("a clock is out of range")]
     BadClock,
     /// More than 255 strikes.
-    #[error("the number of strikes is out of range")]
     BadStrikes,
     /// The desk holds 1,024 matches.
-    #[error("the desk is full")]
     DeskFull,
     /// There is no match with this id.
-    #[error("there is no such match")]
     NoMatch,
     /// The match's game has no such role.
-    #[error("there is no such role")]
     NoRole,
     /// The match is finished or aborted.
-    #[error("the match is over")]
     Over,
     /// The answer is not for the present round, which is this one.
-    #[error("the present round is {0}")]
     Stale(u64),
     /// The role has answered this round.
-    #[error("the role has answered this round")]
     Twice,
     /// The match is stopping or aborting already, or is over.
-    #[error("the match has come to its end")]
     Ended,
 }
+
+impl fmt::Display for Refusal {
+    fn fmt<W: fmt::Write>(&self, f: &mut fmt::Formatter<W>) -> fmt::Result {
+        let words = match *self {
+            Refusal::BadId => "the id is not lawful",
+            Refusal::IdUsed => "the id is used",
+            Refusal::NoGame => "there is no such game",
+            Refusal::WrongPlayers => "there is not one player for each role",
+            Refusal::BadName => "a player's name is not lawful",
+            Refusal::BadClock => "a clock is out of range",
+            Refusal::BadStrikes => "the number of strikes is out of range",
+            Refusal::DeskFull => "the desk is full",
+            Refusal::NoMatch => "there is no such match",
+            Refusal::NoRole => "there is no such role",
+            Refusal::Over => "the match is over",
+            Refusal::Twice => "the role has answered this round",
+            Refusal::Ended => "the match has come to its end",
+            Refusal::Stale(round) => return write!(f, "the present round is {round}"),
+        };
+        f.write_str(words)
+    }
+}
+
+impl Error for Refusal {}

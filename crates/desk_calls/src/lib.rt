@@ -16,5 +16,5 @@ pub use answer::{Answer, LentAnswer};
 pub use call::{Call, Refusal, Reply};
 pub use due::{Due, Owed};
 pub use names::{MAX_CLOCK, MAX_STRIKES, are_clocks, are_names, is_clock, is_name, is_strikes};
-pub use phase::{Phase, Status};
+pub use phase::{Phase, Status, phase_text};
 pub use setup::Setup;

@@ -29,7 +29,12 @@ fn is_name_length(bytes: usize) -> bool
 fn are_name_bytes(text: &[u8]) -> bool
     ensures { result ≡ list_all is_name_byte text.now }
 {
-    text.iter().all(|&byte| is_name_byte(byte))
+    for byte in text {
+        if !is_name_byte(*byte) {
+            return false;
+        }
+    }
+    true
 }
 
 /// Whether the text is a lawful id, or a lawful name of a player.
@@ -43,7 +48,12 @@ pub fn is_name(text: &[u8]) -> bool
 pub fn are_names(texts: &[Text]) -> bool
     ensures { result ≡ list_all is_name texts.now }
 {
-    texts.iter().all(|text| is_name(text.as_slice()))
+    for text in texts {
+        if !is_name(text.as_slice()) {
+            return false;
+        }
+    }
+    true
 }
 
 /// Whether a clock may have this many seconds.

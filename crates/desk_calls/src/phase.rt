@@ -1,9 +1,9 @@
 //! How far a match has come.
 ghost use Rattle.std.specs.Prelude.{◌≡◌};
-ghost use Rattle.desk_calls.specs.Phases.{is_last};
+ghost use Rattle.desk_calls.specs.Phases.{is_last, phase_text};
 
 /// How far a match has come.
-#[derive(Clone, Copy, Debug, PartialEq, Eq)]
+#[derive(Clone, Copy, PartialEq, Eq)]
 pub enum Phase {
     /// Not every role has answered START.
     Starting,
@@ -20,7 +20,7 @@ pub enum Phase {
 }
 
 /// What a query of a match shows.
-#[derive(Clone, Copy, Debug, PartialEq, Eq)]
+#[derive(Clone, Copy, PartialEq, Eq)]
 pub struct Status {
     pub phase: Phase,
     /// 0 while the match is starting; after that, the number of recorded turns plus one. An abort that was asked for adds
@@ -38,5 +38,19 @@ impl Phase {
         ensures { result ≡ is_last self }
     {
         matches!(self, Phase::Finished | Phase::Aborted)
+    }
+}
+
+/// The phase's word in replies and records.
+pub fn phase_text(phase: Phase) -> &'static [u8]
+    ensures { result.now ≡ phase_text phase }
+{
+    match phase {
+        Phase::Starting => b"starting",
+        Phase::Playing => b"playing",
+        Phase::Stopping => b"stopping",
+        Phase::Finished => b"finished",
+        Phase::Aborting => b"aborting",
+        Phase::Aborted => b"aborted",
     }
 }

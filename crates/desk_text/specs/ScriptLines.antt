@@ -3,6 +3,7 @@ use Rattle.std.specs.Prelude.{ℕ, ◌&&◌, nat_le, nat_lt, Bool, true, false, 
 use Rattle.std.specs.List.{list_all}
 use Rattle.std.specs.Fmt.{decimal}
 use Rattle.game_core.specs.Bytes.{left_parenthesis, right_parenthesis}
+use Rattle.desk_calls.specs.Phases.{phase_text}
 use Rattle.desk_calls.specs.declared.due.Due.{Due}
 use Rattle.desk_calls.specs.declared.due.Due.TheVariants.{Owe, Hold, Over}
 use Rattle.desk_calls.specs.declared.due.Owed.{Owed}
@@ -14,7 +15,6 @@ use Rattle.desk_calls.specs.declared.call.Reply.{Reply}
 use Rattle.desk_calls.specs.declared.call.Reply.TheVariants.{Opened, Due as IsDue, Taken, Status, Aborting, Refused}
 use Rattle.desk_calls.specs.declared.call.Refusal.{Refusal}
 use Rattle.desk_calls.specs.declared.call.Refusal.TheVariants.{BadId, IdUsed, NoGame, WrongPlayers, BadName, BadClock, BadStrikes, DeskFull, NoMatch, NoRole, Over as IsOver, Stale, Twice, Ended}
-use Rattle.record_reading.specs.RecordTree.{phase_text}
 use Rattle.game_core.specs.Numerals.{plain_number}
 use Rattle.desk_text.specs.Words.{words, spaced, max_number, max_in_32_bits, max_in_64_bits}
 

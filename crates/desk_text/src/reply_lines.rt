@@ -4,10 +4,9 @@ ghost use Rattle.std.specs.Fmt.{decimal};
 ghost use Rattle.desk_text.specs.Words.{spaced};
 ghost use Rattle.desk_text.specs.ScriptLines.{joint_text, owed_text, due_text, status_text, refusal_word, refusal_text, reply_text};
 
-use desk_calls::{Due, Owed, Refusal, Reply, Status};
+use desk_calls::{Due, Owed, Refusal, Reply, Status, phase_text};
 use game_core::{Text, Texts};
 use itoa::Buffer;
-use record_reading::phase_text;
 use std::alloc::AllocError;
 
 pub(crate) fn push_number(out: &mut Vec<u8>, number: u64) -> Result<(), AllocError>

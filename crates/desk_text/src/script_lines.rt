@@ -213,7 +213,13 @@ pub const MAX_NUMBER: u64 = 1_000_000_000;
 fn are_numbers(numbers: &[u64]) -> bool
     ensures { result ≡ list_all (λ number. nat_le number max_number) numbers.now }
 {
-    numbers.iter().all(|number| *number <= MAX_NUMBER)
+    for number in numbers {
+        let is_small = *number <= MAX_NUMBER;
+        if !is_small {
+            return false;
+        }
+    }
+    true
 }
 
 fn has_numbers(call: &Call) -> bool

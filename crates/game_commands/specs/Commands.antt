@@ -1,11 +1,13 @@
 -- A command on one game: its output for an input, and what its faults say.
-use Rattle.std.specs.Prelude.{◌≡◌, ◌≢◌, ℕ, ◌≤◌, List, [], ◌∷◌, length, Option, ◌⊎◌}
+use Rattle.std.specs.Prelude.{◌≡◌, ◌≢◌, ℕ, ◌≤◌, List, [], ◌∷◌, length, MatchOption, Option, ◌⊎◌}
 use Rattle.std.specs.Io.KnownBytes.{Consumes}
 use Rattle.std.specs.Str.Lines.{lines}
 use Rattle.game_core.specs.Counting.{Counting}
 use Rattle.game_core.specs.Countdown.{countdown, max_heap}
 use Rattle.game_core.specs.declared.countdown.Countdown.{Countdown}
 use Rattle.game_core.specs.Play.{Rules}
+use Rattle.game_core.specs.declared.limits.Limits.{Limits}
+use Rattle.game_core.specs.declared.limits.Limits.TheVariants.{Usual}
 use Rattle.ground_rules.specs.LoadedGame.{loaded_game}
 use Rattle.packed_rules.specs.PackedGames.{tables_of}
 use Rattle.packed_rules.specs.declared.packed_game.PackedGame.{PackedGame}
@@ -21,10 +23,10 @@ use Rattle.match_plans.specs.declared.game_source.RulesSource.{RulesSource}
 use Rattle.match_plans.specs.declared.game_source.RulesSource.TheVariants.{Text, File}
 use Rattle.game_commands.specs.declared.fault.Fault.{Fault}
 use Rattle.game_commands.specs.declared.fault.Fault.TheVariants.{WrongUse, Memory, BadDescription, BadLines, UnlawfulRecords}
-use Rattle.game_commands.specs.declared.files.NamedFile.TheVariants.{Rules as RulesFile}
+use Rattle.game_commands.specs.declared.files.NamedFile.TheVariants.{Input, Rules as RulesFile}
 use Rattle.game_commands.specs.declared.script_fault.ScriptFault.{ScriptFault}
 use Rattle.game_commands.specs.declared.verdicts.Verdict.{Verdict}
-use Rattle.game_commands.specs.Faults.{IsFileFault, script_fault}
+use Rattle.game_commands.specs.Faults.{IsFileFault, input_file_fault, script_fault}
 use Rattle.game_commands.specs.ScriptFaults.{ScriptFails}
 use Rattle.game_commands.specs.Verdicts.{AreVerdicts, verdict_lines, count_unlawful}
 use Rattle.game_commands.specs.Replays.{accounts, AreReplayed, ReplayFails}
@@ -71,6 +73,24 @@ Fails remaining contents rules game command fault reader reader' writer writer' 
     ((wrong : ℕ) × (wrong ≢ 0) × TellsNumber command wrong fault × Answers remaining contents rules game command wrong reader reader' writer writer')
     ⊎ ((given : List ℕ) × Consumes (remaining reader.stream) (remaining reader'.stream) given × Stops remaining contents rules game command given fault reader reader' writer writer')
 
+-- ---- the input of a command
+
+-- All of the input was read, and the command's output for it was written. If a file is named, the input is the file's, which may have any
+-- bytes, and the reader stays as it is.
+abbrev pub AnswersInput : {G S M R F P W : Type 0} → (R → Option (List ℕ)) → (F → Option (List ℕ)) → (W → Option (List ℕ)) → (G → Rules S M) → G → GameCommand → Option P → Counting R → Counting R → Counting W → Counting W → Type 0
+AnswersInput remaining file_remaining contents rules game command file reader reader' writer writer' =
+    MatchOption file (Answers remaining contents rules game command 0 reader reader' writer writer')
+    (λ path. (reader' ≡ reader) × ((opened : Counting _) × (read : Counting _) × Answers file_remaining contents rules game command 0 opened read writer writer'))
+
+-- What a fault says about the input. If a file is named, it can't be opened, and nothing was written; or the fault is that of the command on
+-- the file's bytes, in the words for a file.
+abbrev pub FailsInput : {G S M R F P W : Type 0} → (R → Option (List ℕ)) → (F → Option (List ℕ)) → (W → Option (List ℕ)) → (G → Rules S M) → G → GameCommand → Option P → Fault → Counting R → Counting R → Counting W → Counting W → Type 0
+FailsInput remaining file_remaining contents rules game command file fault reader reader' writer writer' =
+    MatchOption file (Fails remaining contents rules game command fault reader reader' writer writer')
+    (λ path. (reader' ≡ reader) × ((IsFileFault Input fault × (writer' ≡ writer))
+    ⊎ ((why : Fault) × (fault ≡ input_file_fault why)
+    × ((opened : Counting _) × (read : Counting _) × Fails file_remaining contents rules game command why opened read writer writer'))))
+
 -- ---- the game of a source
 
 -- the text is that of the source; a file may have any text
@@ -83,26 +103,31 @@ abbrev pub HasNoText : RulesSource → Fault → Type 0
 HasNoText (Text rules) fault = ⊥
 HasNoText (File path) fault = IsFileFault RulesFile fault
 
+-- the limits of the description of a source. Countdown's is within the usual ones.
+abbrev pub limits_of : GameSource → Limits
+limits_of (OfCountdown size) = Usual
+limits_of (Described source limits) = limits
+
 -- this holds of the game of the source
 abbrev pub HoldsOfGame : GameSource → ((G S M : Type 0) → (G → Rules S M) → G → Type 0) → Type 0
 HoldsOfGame (OfCountdown size) Holds = (game : Countdown) × (game.size ≡ size) × Holds _ _ _ (λ g. countdown g.size) game
-HoldsOfGame (Described source) Holds = (text : List ℕ) × (game : PackedGame) × IsTextOf source text × IsDescribed text game × Holds _ _ _ (λ g. loaded_game (tables_of g)) game
+HoldsOfGame (Described source limits) Holds = (text : List ℕ) × (game : PackedGame) × IsTextOf source text × IsDescribed limits text game × Holds _ _ _ (λ g. loaded_game (tables_of g)) game
 
--- the fault for a text that describes no game, if there is memory
-abbrev pub IsRefused : List ℕ → Fault → Type 0
-IsRefused text fault = (fault ≡ Memory) ⊎ ((fault ≡ BadDescription) × DescribesNone text)
+-- the fault for a text that describes no game within these limits, if there is memory
+abbrev pub IsRefused : Limits → List ℕ → Fault → Type 0
+IsRefused limits text fault = (fault ≡ Memory) ⊎ ((fault ≡ BadDescription) × DescribesNone limits text)
 
 -- the fault for a source that has no game, if there is memory
 abbrev pub HasNoGame : GameSource → Fault → Type 0
 HasNoGame (OfCountdown size) fault = (fault ≡ WrongUse) × ¬ ((1 ≤ size) × (size ≤ max_heap))
-HasNoGame (Described source) fault = HasNoText source fault ⊎ ((text : List ℕ) × IsTextOf source text × IsRefused text fault)
+HasNoGame (Described source limits) fault = HasNoText source fault ⊎ ((text : List ℕ) × IsTextOf source text × IsRefused limits text fault)
 
 -- the fault for a source without a text of its rules for players
-abbrev pub HasNoToldText : GameSource → Fault → Type 0
-HasNoToldText (OfCountdown size) fault = (fault ≡ Memory) ⊎ HasNoGame (OfCountdown size) fault
-HasNoToldText (Described source) fault = HasNoText source fault
+abbrev pub HasNoSourceText : GameSource → Fault → Type 0
+HasNoSourceText (OfCountdown size) fault = (fault ≡ Memory) ⊎ HasNoGame (OfCountdown size) fault
+HasNoSourceText (Described source limits) fault = HasNoText source fault
 
 -- the text of a game's rules for players: that of the source, or Countdown's rules
-abbrev pub IsToldText : GameSource → List ℕ → Type 0
-IsToldText (OfCountdown size) text = text ≡ countdown_text size
-IsToldText (Described source) text = IsTextOf source text
+abbrev pub IsSourceText : GameSource → List ℕ → Type 0
+IsSourceText (OfCountdown size) text = text ≡ countdown_text size
+IsSourceText (Described source limits) text = IsTextOf source text

@@ -11,6 +11,7 @@ use Rattle.game_commands.specs.declared.script_fault.ScriptFault.TheVariants.{Re
 use Rattle.game_commands.specs.declared.fault.Fault.{Fault}
 use Rattle.game_commands.specs.declared.fault.Fault.TheVariants.{WrongUse, Memory, File, ReadFault, InputTooLong, WriteFault, BadSchedule, NotLawful}
 use Rattle.game_commands.specs.declared.files.NamedFile.{NamedFile}
+use Rattle.game_commands.specs.declared.files.NamedFile.TheVariants.{Input}
 use Rattle.game_commands.specs.declared.files.FileFault.{FileFault}
 use Rattle.game_commands.specs.declared.files.FileFault.TheVariants.{Unread, TooLong as FileTooLong}
 
@@ -34,6 +35,12 @@ abbrev pub reading_fault : NamedFile → InputFault → Fault
 reading_fault named InputReadFault = File named Unread
 reading_fault named TooLong = File named FileTooLong
 reading_fault named InputMemory = Memory
+
+-- the fault of a command whose input is a file
+abbrev pub input_file_fault : Fault → Fault
+input_file_fault ReadFault = File Input Unread
+input_file_fault InputTooLong = File Input FileTooLong
+input_file_fault fault = fault
 
 -- out of memory, or why the file that is named for this could not be read
 abbrev pub IsFileFault : NamedFile → Fault → Type 0

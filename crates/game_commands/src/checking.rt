@@ -7,8 +7,8 @@ ghost use Rattle.game_commands.specs.declared.verdicts.Verdict.{Verdict as LineV
 ghost use Rattle.game_commands.specs.Verdicts.{IsVerdict, AreVerdicts, verdict_line, verdict_lines, count_skipped, count_unlawful};
 ghost use Rattle.game_commands.specs.Checks.{lawful_line, CheckFails, BeginsWithLines, LineFails, CheckStops};
 
+use crate::evidence::Evidence;
 use crate::fault::Fault;
-use crate::remarks::Remarks;
 use crate::script_fault::ScriptFault;
 use crate::verdicts::{Verdict, count_skipped, count_unlawful, verdict_line, verdict_on};
 use game_core::{Counted, Game};
@@ -50,14 +50,14 @@ impl From<VerifyFault> for Fault {
     }
 }
 
-/// Reads a record, checks it by the game, and writes `lawful`. For an unlawful record the fault is the first test that it fails. The
-/// remarks say what helps if the input seems to have several records.
+/// Reads a record, checks it by the game, and writes `lawful`. For an unlawful record the fault is the first test that it fails. A text
+/// that is no JSON is kept as evidence.
 pub fn check_record<G: Game, R: Read, W: Write>(
     alloc: Global,
     game: &G,
     reader: &mut Counted<R>,
     writer: &mut Counted<W>,
-    remarks: &mut Remarks,
+    evidence: &mut Evidence,
 ) -> Result<(), Fault>
     ensures lawful { OnOk result ((text : List ℕ)
         × Consumes (R.remaining reader.old.stream) (R.remaining reader.new.stream) text
@@ -71,7 +71,9 @@ pub fn check_record<G: Game, R: Read, W: Write>(
 {
     let record = read_to_end(alloc, reader, MAX_RECORD)?;
     if let Err(fault) = verify(alloc, game, &record) {
-        remarks.unlawful(&record, fault);
+        if let VerifyFault::NotJson = fault {
+            *evidence = Evidence::Record(record);
+        }
         return Err(Fault::from(fault));
     }
     Ok(write_all(writer, b"lawful\n")?)

@@ -1,14 +1,15 @@
-//! The commands over standard input and output for one game.
+//! The commands for one game, over an input and standard output.
 ghost use Rattle.std.specs.Prelude.{◌≡◌, ◌≢◌, ◌⊎◌, ◌∷◌, [], IfErr, IfOk, OnOk};
-ghost use Rattle.game_commands.specs.Commands.{Answers, Fails, HasNoGame, HoldsOfGame};
+ghost use Rattle.game_commands.specs.Commands.{Answers, AnswersInput, Fails, FailsInput, HasNoGame, HoldsOfGame};
 ghost use Rattle.game_commands.specs.declared.fault.Fault.TheVariants.{Memory};
 
 use crate::checking::{check_record, check_records};
+use crate::evidence::Evidence;
 use crate::fault::Fault;
-use crate::remarks::Remarks;
+use crate::files::{NamedFile, input_file_fault, opened};
 use crate::replaying::replay_accounts;
 use crate::rules::{game_of, rules_text};
-use crate::script::run_script_with_remarks;
+use crate::script::run_script_with_evidence;
 use game_core::{Countdown, Counted, Game};
 use match_plans::{GameCommand, GameSource};
 use std::alloc::Global;
@@ -16,7 +17,7 @@ use std::io::{Read, Write};
 use std::rt::Files;
 
 /// The fault, unless the count is 0.
-fn unless_none(count: u64, fault: Fault) -> Result<(), Fault>
+fn fail_if_any(count: u64, fault: Fault) -> Result<(), Fault>
     ensures none { OnOk result (count ≡ 0) }
     ensures some { IfErr result (λ given. (count ≢ 0) × (given ≡ fault)) }
 {
@@ -43,59 +44,84 @@ fn perform<G: Game + Drop, R: Read, W: Write>(
     game: G,
     reader: &mut Counted<R>,
     writer: &mut Counted<W>,
-    remarks: &mut Remarks,
+    evidence: &mut Evidence,
 ) -> Result<(), Fault>
     ensures answers { OnOk result (Answers R.remaining W.contents G.rules game command 0 reader.old reader.new writer.old writer.new) }
     ensures fails { IfErr result (λ fault. Fails R.remaining W.contents G.rules game command fault reader.old reader.new writer.old writer.new) }
 {
     match command {
         GameCommand::Desk => {
-            let count = run_script_with_remarks(
+            let count = run_script_with_evidence(
                 alloc,
                 reader,
                 writer,
                 alone(alloc, game)?,
-                remarks,
+                evidence,
             )?;
-            unless_none(count, Fault::BadLines(count))
+            fail_if_any(count, Fault::BadLines(count))
         }
-        GameCommand::Verify => check_record(alloc, &game, reader, writer, remarks),
+        GameCommand::Verify => check_record(alloc, &game, reader, writer, evidence),
         GameCommand::VerifyLines => match check_records(alloc, &game, reader, writer) {
             Ok(counts) => {
-                remarks.skipped_lines(counts.skipped);
-                unless_none(counts.unlawful, Fault::UnlawfulRecords(counts.unlawful))
+                *evidence = Evidence::SkippedLines(counts.skipped);
+                fail_if_any(counts.unlawful, Fault::UnlawfulRecords(counts.unlawful))
             }
             Err(fault) => Err(fault),
         },
-        GameCommand::Replay => replay_accounts(alloc, reader, writer, &game, remarks),
+        GameCommand::Replay => replay_accounts(alloc, reader, writer, &game, evidence),
     }
 }
 
-/// Performs a command for the game of the command line.
+/// Performs a command for this game. Its input is the file that is named, or the reader.
+fn perform_on<F: Files, G: Game + Drop, R: Read, W: Write>(
+    files: &F,
+    alloc: Global,
+    command: GameCommand,
+    game: G,
+    file: Option<&str>,
+    reader: &mut Counted<R>,
+    writer: &mut Counted<W>,
+    evidence: &mut Evidence,
+) -> Result<(), Fault>
+    ensures answers { OnOk result (AnswersInput R.remaining F.File.remaining W.contents G.rules game command file.entry reader.old reader.new writer.old writer.new) }
+    ensures fails { IfErr result (λ fault. FailsInput R.remaining F.File.remaining W.contents G.rules game command file.entry fault reader.old reader.new writer.old writer.new) }
+{
+    let Some(path) = file else {
+        return perform(alloc, command, game, reader, writer, evidence);
+    };
+    let mut input = opened(files, NamedFile::Input, path)?;
+    match perform(alloc, command, game, &mut input, writer, evidence) {
+        Ok(()) => Ok(()),
+        Err(fault) => Err(input_file_fault(fault)),
+    }
+}
+
+/// Performs a command for the game of the command line. Its input is the file that is named, or the reader.
 pub fn for_game<F: Files, R: Read, W: Write>(
     files: &F,
     alloc: Global,
     command: GameCommand,
     source: GameSource<'_>,
+    file: Option<&str>,
     reader: &mut Counted<R>,
     writer: &mut Counted<W>,
-    remarks: &mut Remarks,
+    evidence: &mut Evidence,
 ) -> Result<(), Fault>
-    ensures answers { OnOk result (HoldsOfGame source.entry (λ _ _ _ rules game. Answers R.remaining W.contents rules game command 0 reader.old reader.new writer.old writer.new)) }
+    ensures answers { OnOk result (HoldsOfGame source.entry (λ _ _ _ rules game. AnswersInput R.remaining F.File.remaining W.contents rules game command file.entry reader.old reader.new writer.old writer.new)) }
     ensures fails { IfErr result (λ fault. (HasNoGame source.entry fault × (reader.new ≡ reader.old) × (writer.new ≡ writer.old))
-        ⊎ HoldsOfGame source.entry (λ _ _ _ rules game. Fails R.remaining W.contents rules game command fault reader.old reader.new writer.old writer.new)) }
+        ⊎ HoldsOfGame source.entry (λ _ _ _ rules game. FailsInput R.remaining F.File.remaining W.contents rules game command file.entry fault reader.old reader.new writer.old writer.new)) }
 {
     match source {
         GameSource::Countdown(size) => {
             let Some(game) = Countdown::new(size) else {
                 return Err(Fault::WrongUse);
             };
-            perform(alloc, command, game, reader, writer, remarks)
+            perform_on(files, alloc, command, game, file, reader, writer, evidence)
         }
-        GameSource::Described(rules) => {
-            let text = rules_text(files, alloc, rules)?;
-            match game_of(alloc, &text, remarks) {
-                Ok(game) => perform(alloc, command, game, reader, writer, remarks),
+        GameSource::Described(rules, limits) => {
+            let text = rules_text(files, alloc, limits, rules)?;
+            match game_of(alloc, limits, &text, evidence) {
+                Ok(game) => perform_on(files, alloc, command, game, file, reader, writer, evidence),
                 Err(fault) => Err(fault),
             }
         }

@@ -11,7 +11,7 @@ ghost use Rattle.game_commands.specs.declared.files.NamedFile.TheVariants.{Recor
 
 use crate::checking::MAX_LINE;
 use crate::fault::Fault;
-use crate::files::{FileFault, NamedFile, opening_fault, reading_fault};
+use crate::files::{FileFault, NamedFile, opened, reading_fault};
 use crate::verdicts::is_account_line;
 use game_core::{Counted, Game};
 use indexmap::IndexSet;
@@ -21,7 +21,6 @@ use record_check::lawful_parts;
 use record_reading::RecordParts;
 use record_reading::laws::{holds_one_parts_at_most, lawful_parts_have_shape};
 use std::alloc::{AllocError, Global};
-use std::fs;
 use std::io::Read;
 use std::rt::Files;
 use whole_streams::laws::lines_are_taken;
@@ -186,9 +185,6 @@ pub fn done_matches<F: Files, G: Game>(
     ensures done { IfOk result (λ done. (input : List ℕ) × AreDone (G.rules game.now) (lines input) done) }
     ensures fault { IfErr result (IsFileFault Records) }
 {
-    let file = match fs::open(files, path) {
-        Ok(file) => file,
-        Err(error) => return Err(opening_fault(NamedFile::Records, error)),
-    };
-    done_in(alloc, game, &mut Counted::new(file))
+    let mut file = opened(files, NamedFile::Records, path)?;
+    done_in(alloc, game, &mut file)
 }

@@ -13,7 +13,7 @@ use std::alloc::{AllocError, AllocFailed};
 use std::fmt;
 use whole_streams::WriteFault;
 
-/// A fault of the program. Its text is what standard error shows after the program's name. `Remarks` says more about some.
+/// A fault of the program. Its text is what standard error shows after the program's name. `Evidence` says more about some.
 #[derive(Clone, Copy)]
 pub enum Fault {
     /// The command line is refused.
@@ -27,7 +27,7 @@ pub enum Fault {
     /// The file that the command line names for this could not be read or added to.
     File(NamedFile, FileFault),
     /// The file of the players' rules is not KIF.
-    BadTold,
+    BadPlayerRules,
     /// Standard input failed.
     ReadFault,
     /// The input is longer than its limit.
@@ -82,7 +82,7 @@ impl Fault {
             Fault::ClosedStream => "a standard stream is closed",
             Fault::BadDescription => "bad description",
             Fault::File(named, _) => named.words(),
-            Fault::BadTold => "bad told description",
+            Fault::BadPlayerRules => "bad description for players",
             Fault::ReadFault => "read fault",
             Fault::InputTooLong => "input too long",
             Fault::WriteFault => "write fault",

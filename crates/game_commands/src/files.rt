@@ -1,6 +1,6 @@
 //! The files that a command line names.
 ghost use Rattle.std.specs.Prelude.{◌≡◌, IfErr};
-ghost use Rattle.game_commands.specs.Faults.{IsFileFault, reading_fault};
+ghost use Rattle.game_commands.specs.Faults.{IsFileFault, input_file_fault, reading_fault};
 
 use crate::fault::Fault;
 use game_core::Counted;
@@ -10,8 +10,8 @@ use std::rt::Files;
 use std::{fs, io};
 use whole_streams::{InputFault, read_to_end};
 
-/// The limit of the bytes in a file of rules, which is that of a description.
-const MAX_RULES: usize = 1_048_576;
+/// The limit of the bytes in a file of rules for players, which is that of a text.
+pub const MAX_PLAYER_RULES: usize = 1_048_576;
 
 /// What a file that a command line names holds.
 #[derive(Clone, Copy)]
@@ -19,9 +19,11 @@ pub enum NamedFile {
     /// The game's rules.
     Rules,
     /// The rules that players get in place of the game's own.
-    Told,
+    PlayerRules,
     /// The records of matches that are over.
     Records,
+    /// The input, in place of standard input.
+    Input,
 }
 
 impl NamedFile {
@@ -29,8 +31,9 @@ impl NamedFile {
     pub fn words(self) -> &'static str {
         match self {
             NamedFile::Rules => "bad description: ",
-            NamedFile::Told => "bad told description: ",
+            NamedFile::PlayerRules => "bad description for players: ",
             NamedFile::Records => "bad file of records: ",
+            NamedFile::Input => "bad input: ",
         }
     }
 }
@@ -69,13 +72,23 @@ impl FileFault {
 }
 
 /// The fault for a file that can't be opened.
-pub fn opening_fault(named: NamedFile, error: io::Error) -> Fault
+fn opening_fault(named: NamedFile, error: io::Error) -> Fault
     ensures { IsFileFault named result }
 {
     match error.kind() {
         ErrorKind::OutOfMemory => Fault::Memory,
         ErrorKind::NotFound => Fault::File(named, FileFault::NoFile),
         _ => Fault::File(named, FileFault::Unopened),
+    }
+}
+
+/// Opens the file at this path, which is named for this.
+pub fn opened<F: Files>(files: &F, named: NamedFile, path: &str) -> Result<Counted<F::File>, Fault>
+    ensures { IfErr result (IsFileFault named) }
+{
+    match fs::open(files, path) {
+        Ok(file) => Ok(Counted::new(file)),
+        Err(error) => Err(opening_fault(named, error)),
     }
 }
 
@@ -91,20 +104,29 @@ pub fn reading_fault(named: NamedFile, fault: InputFault) -> Fault
     }
 }
 
-/// The text of a file of rules.
+/// The fault of a command whose input is a file.
+pub fn input_file_fault(fault: Fault) -> Fault
+    ensures { result ≡ input_file_fault fault }
+{
+    match fault {
+        Fault::ReadFault => Fault::File(NamedFile::Input, FileFault::Unread),
+        Fault::InputTooLong => Fault::File(NamedFile::Input, FileFault::TooLong),
+        fault => fault,
+    }
+}
+
+/// The text of a file with at most this many bytes.
 pub fn file_text<F: Files>(
     files: &F,
     alloc: Global,
     named: NamedFile,
     path: &str,
+    limit: usize,
 ) -> Result<Vec<u8>, Fault>
     ensures { IfErr result (IsFileFault named) }
 {
-    let file = match fs::open(files, path) {
-        Ok(file) => file,
-        Err(error) => return Err(opening_fault(named, error)),
-    };
-    match read_to_end(alloc, &mut Counted::new(file), MAX_RULES) {
+    let mut file = opened(files, named, path)?;
+    match read_to_end(alloc, &mut file, limit) {
         Ok(text) => Ok(text),
         Err(fault) => Err(reading_fault(named, fault)),
     }

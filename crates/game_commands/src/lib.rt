@@ -2,19 +2,17 @@
 //! line as one, and the calls of an account made again.
 //!
 //! `for_game` performs one of them for the game of the command line. `done_matches` reads from a file of records which matches have
-//! finished or were aborted. `Fault` is every fault of the program.
+//! finished or were aborted. `Fault` is every fault of the program, and `Evidence` what a command leaves for the words about it.
 //!
 //! Free functions take the allocator first, behind a handle for files.
 #![tactic(auto)]
 
-mod bad_entries;
-mod bad_lines;
 mod checking;
 mod commands;
 mod done;
+mod evidence;
 mod fault;
 mod files;
-mod remarks;
 mod replaying;
 mod rules;
 mod script;
@@ -23,9 +21,9 @@ mod verdicts;
 
 pub use commands::for_game;
 pub use done::{DoneMatches, done_matches};
+pub use evidence::Evidence;
 pub use fault::Fault;
-pub use files::{FileFault, NamedFile, file_text};
-pub use remarks::Remarks;
-pub use rules::{game_of, rules_text, told_fault, told_rules};
-pub use script::{run_script, run_script_with_remarks};
+pub use files::{FileFault, MAX_PLAYER_RULES, NamedFile, file_text};
+pub use rules::{game_of, limits_of, player_rules_fault, rules_text, source_text};
+pub use script::{run_script, run_script_with_evidence};
 pub use script_fault::ScriptFault;

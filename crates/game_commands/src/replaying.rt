@@ -7,14 +7,15 @@ ghost use Rattle.game_commands.specs.Replays.{accounts, begins_as_record, is_ski
 ghost use Rattle.game_commands.specs.Whole.{ReadsAndWrites};
 
 use crate::checking::MAX_LINE;
+use crate::evidence::Evidence;
 use crate::fault::Fault;
-use crate::remarks::Remarks;
 use desk_scripts::push_records;
 use desk_text::{ReplayFault, Replayed, replay};
 use game_core::{Counted, Game, Lent};
 use match_desk::Manager;
 use std::alloc::{AllocError, Global};
 use std::io::{Read, Write};
+use std::mem;
 use whole_streams::laws::lines_are_taken;
 use whole_streams::{LineBuffer, NextLine, write_all};
 
@@ -59,14 +60,14 @@ fn replayed_text<G: Game + Drop>(
     Ok(text)
 }
 
-/// Explains the first wrong line of an account in the remarks, and returns the fault. The right line is the output, if there is one.
-/// `before` lines were read before the account.
+/// Keeps a refused account as evidence, and returns the fault. The right line is the output, if there is one. `before` lines were read
+/// before the account.
 fn refuse(
-    account: &[u8],
+    account: Vec<u8>,
     before: u64,
     fault: ReplayFault,
     output: &mut Vec<u8>,
-    remarks: &mut Remarks,
+    evidence: &mut Evidence,
 ) -> Result<u64, Fault>
     requires { IsNumbered before fault }
     ensures refused { IsErr result }
@@ -76,11 +77,13 @@ fn refuse(
     match fault {
         ReplayFault::Memory => Err(Fault::Memory),
         ReplayFault::NoEntry(place) => {
-            remarks.bad_entry(account, place, before, None);
+            *evidence = Evidence::Account(account, before, fault);
             Err(Fault::NoEntry(before + place))
         }
         ReplayFault::Differs(place, mut right) => {
-            remarks.bad_entry(account, place, before, Some(&right));
+            if let Ok(kept) = right.clone() {
+                *evidence = Evidence::Account(account, before, ReplayFault::Differs(place, kept));
+            }
             right.push(b'\n')?;
             *output = right;
             Err(Fault::Differs(before + place))
@@ -93,17 +96,17 @@ fn refuse(
 fn answer<G: Game + Drop>(
     alloc: Global,
     games: Vec<G>,
-    account: &[u8],
+    account: Vec<u8>,
     before: u64,
     output: &mut Vec<u8>,
-    remarks: &mut Remarks,
+    evidence: &mut Evidence,
 ) -> Result<u64, Fault>
-    requires { before + length (lines account.now) ≤ last_count }
-    ensures replayed { OnOk result (IsReplayed G.rules games.items (lines account.now) output.new.items) }
-    ensures counted { IfOk result (λ calls. calls ≡ length (lines account.now)) }
-    ensures refused { IfErr result (λ fault. output.old.items ≡ [] → IsRefusedAccount G.rules games.items before (lines account.now) fault output.new.items) }
+    requires { before + length (lines account.items) ≤ last_count }
+    ensures replayed { OnOk result (IsReplayed G.rules games.items (lines account.items) output.new.items) }
+    ensures counted { IfOk result (λ calls. calls ≡ length (lines account.items)) }
+    ensures refused { IfErr result (λ fault. output.old.items ≡ [] → IsRefusedAccount G.rules games.items before (lines account.items) fault output.new.items) }
 {
-    match replay(alloc, games, account) {
+    match replay(alloc, games, &account) {
         Ok(replayed) => match replayed_text(alloc, &replayed) {
             Ok(text) => {
                 *output = text;
@@ -111,7 +114,7 @@ fn answer<G: Game + Drop>(
             }
             Err(fault) => Err(Fault::from(fault)),
         },
-        Err(fault) => refuse(account, before, fault, output, remarks),
+        Err(fault) => refuse(account, before, fault, output, evidence),
     }
 }
 
@@ -155,7 +158,7 @@ impl OpenAccount {
         game: &G,
         is_last: bool,
         writer: &mut Counted<W>,
-        remarks: &mut Remarks,
+        evidence: &mut Evidence,
     ) -> Result<(), Fault>
         requires { self.old.before + length (lines self.old.text.items) ≤ last_count }
         ensures ended { OnOk result ((self.new.text.items ≡ []) × (self.new.before ≡ self.old.before + length (lines self.old.text.items))) }
@@ -169,11 +172,11 @@ impl OpenAccount {
         }
         let mut games = Vec::new(alloc);
         games.push(Lent::new(game))?;
+        let account = mem::replace(&mut self.text, Vec::new(alloc));
         let mut output = Vec::new(alloc);
-        let answered = answer(alloc, games, &self.text, self.before, &mut output, remarks);
+        let answered = answer(alloc, games, account, self.before, &mut output, evidence);
         write_all(writer, &output)?;
         self.before += answered?;
-        self.text.clear();
         Ok(())
     }
 }
@@ -185,7 +188,7 @@ pub fn replay_accounts<R: Read, W: Write, G: Game>(
     reader: &mut Counted<R>,
     writer: &mut Counted<W>,
     game: &G,
-    remarks: &mut Remarks,
+    evidence: &mut Evidence,
 ) -> Result<(), Fault>
     ensures replayed { OnOk result ((input output : List ℕ) × ReadsAndWrites R.remaining W.contents input output reader.old reader.new writer.old writer.new
         × AreReplayed G.rules (game.now ∷ []) (accounts input) output) }
@@ -203,14 +206,14 @@ pub fn replay_accounts<R: Read, W: Write, G: Game>(
         match buffer.next_line(alloc, reader, MAX_LINE) {
             Ok(NextLine::Ended(line)) => {
                 if account.push(&line)? {
-                    account.end(alloc, game, false, writer, remarks)?;
+                    account.end(alloc, game, false, writer, evidence)?;
                 }
             }
             Ok(NextLine::Last(line)) => {
                 account.push(&line)?;
-                return account.end(alloc, game, true, writer, remarks);
+                return account.end(alloc, game, true, writer, evidence);
             }
-            Ok(NextLine::Nothing) => return account.end(alloc, game, true, writer, remarks),
+            Ok(NextLine::Nothing) => return account.end(alloc, game, true, writer, evidence),
             Err(fault) => return Err(Fault::from(fault)),
         }
     }

@@ -2,14 +2,14 @@
 ghost use Rattle.std.specs.Prelude.{◌≡◌, ◌⊎◌, IfErr, IfOk};
 ghost use Rattle.std.specs.Cow.{cow_slice_items};
 ghost use Rattle.described_games.specs.Games.{IsDescribed};
-ghost use Rattle.game_commands.specs.declared.fault.Fault.TheVariants.{BadTold, Memory};
-ghost use Rattle.game_commands.specs.Commands.{HasNoText, HasNoToldText, IsRefused, IsTextOf, IsToldText};
+ghost use Rattle.game_commands.specs.declared.fault.Fault.TheVariants.{BadPlayerRules, Memory};
+ghost use Rattle.game_commands.specs.Commands.{HasNoText, HasNoSourceText, IsRefused, IsTextOf, IsSourceText, limits_of};
 
+use crate::evidence::Evidence;
 use crate::fault::Fault;
 use crate::files::{NamedFile, file_text};
-use crate::remarks::Remarks;
 use described_games::{DescriptionFault, countdown_rules, described_game};
-use game_core::Countdown;
+use game_core::{Countdown, Limits};
 use kif_text::KifFault;
 use match_plans::{GameSource, RulesSource};
 use packed_rules::PackedGame;
@@ -17,10 +17,11 @@ use std::alloc::Global;
 use std::borrow::CowSlice;
 use std::rt::Files;
 
-/// The text of a description. A file is read whole.
+/// The text of a description. A file is read whole, within these limits.
 pub fn rules_text<'a, F: Files>(
     files: &F,
     alloc: Global,
+    limits: Limits,
     rules: RulesSource<'a>,
 ) -> Result<CowSlice<'a, u8>, Fault>
     ensures text { IfOk result (λ text. IsTextOf rules.entry (cow_slice_items text)) }
@@ -29,50 +30,66 @@ pub fn rules_text<'a, F: Files>(
     match rules {
         RulesSource::Text(text) => Ok(CowSlice::Borrowed(text.as_bytes())),
         RulesSource::File(path) => {
-            Ok(CowSlice::Owned(file_text(files, alloc, NamedFile::Rules, path)?))
+            let text = file_text(files, alloc, NamedFile::Rules, path, limits.bytes())?;
+            Ok(CowSlice::Owned(text))
         }
     }
 }
 
-/// The game of a description. If the text describes none, the remarks explain why.
-pub fn game_of(alloc: Global, text: &[u8], remarks: &mut Remarks) -> Result<PackedGame, Fault>
-    ensures described { IfOk result (IsDescribed text.now) }
-    ensures refused { IfErr result (IsRefused text.now) }
+/// The game of a description within these limits. If the text describes none, it is kept as evidence.
+pub fn game_of(
+    alloc: Global,
+    limits: Limits,
+    text: &[u8],
+    evidence: &mut Evidence,
+) -> Result<PackedGame, Fault>
+    ensures described { IfOk result (IsDescribed limits text.now) }
+    ensures refused { IfErr result (IsRefused limits text.now) }
 {
-    match described_game(alloc, text) {
+    match described_game(alloc, limits, text) {
         Ok(game) => Ok(game),
         Err(DescriptionFault::Memory) => Err(Fault::Memory),
         Err(fault) => {
-            remarks.describe(text, fault);
+            *evidence = Evidence::of_description(alloc, limits, text, fault);
             Err(Fault::BadDescription)
         }
     }
 }
 
-/// The fault for a players' description that is not KIF. The remarks explain it.
-pub fn told_fault(text: &[u8], fault: KifFault, remarks: &mut Remarks) -> Fault
-    ensures { (result ≡ Memory) ⊎ (result ≡ BadTold) }
+/// The fault for a players' description that is not KIF. It is kept as evidence.
+pub fn player_rules_fault(text: Vec<u8>, fault: KifFault, evidence: &mut Evidence) -> Fault
+    ensures { (result ≡ Memory) ⊎ (result ≡ BadPlayerRules) }
 {
     match DescriptionFault::from(fault) {
         DescriptionFault::Memory => Fault::Memory,
         fault => {
-            remarks.describe(text, fault);
-            Fault::BadTold
+            *evidence = Evidence::Description(text, Limits::Usual, fault);
+            Fault::BadPlayerRules
         }
     }
 }
 
+/// The limits of a game's description. Countdown's is within the usual ones.
+pub fn limits_of(game: GameSource<'_>) -> Limits
+    ensures { result ≡ limits_of game.entry }
+{
+    match game {
+        GameSource::Described(_, limits) => limits,
+        GameSource::Countdown(_) => Limits::Usual,
+    }
+}
+
 /// The text of a game's rules for players. Countdown's is written here.
-pub fn told_rules<'a, F: Files>(
+pub fn source_text<'a, F: Files>(
     files: &F,
     alloc: Global,
     game: GameSource<'a>,
 ) -> Result<CowSlice<'a, u8>, Fault>
-    ensures text { IfOk result (λ text. IsToldText game.entry (cow_slice_items text)) }
-    ensures fault { IfErr result (HasNoToldText game.entry) }
+    ensures text { IfOk result (λ text. IsSourceText game.entry (cow_slice_items text)) }
+    ensures fault { IfErr result (HasNoSourceText game.entry) }
 {
     match game {
-        GameSource::Described(rules) => rules_text(files, alloc, rules),
+        GameSource::Described(rules, limits) => rules_text(files, alloc, limits, rules),
         GameSource::Countdown(size) => {
             let Some(game) = Countdown::new(size) else {
                 return Err(Fault::WrongUse);

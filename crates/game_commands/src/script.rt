@@ -5,7 +5,7 @@ ghost use Rattle.std.specs.Str.Lines.{lines};
 ghost use Rattle.desk_scripts.specs.Script.{bad_lines, script_output};
 ghost use Rattle.game_commands.specs.ScriptFaults.{ScriptFails};
 
-use crate::remarks::Remarks;
+use crate::evidence::Evidence;
 use crate::script_fault::ScriptFault;
 use desk_scripts::answer_script;
 use game_core::{Counted, Game};
@@ -34,17 +34,17 @@ pub fn run_script<R: Read, W: Write, G: Game + Drop>(
         × Consumes (R.remaining reader.old.stream) (R.remaining reader.new.stream) given
         × ScriptFails R.remaining W.contents (script_output G.rules games.items given) fault (length given) reader.old reader.new writer.old writer.new) }
 {
-    let mut unwanted = Remarks::new(alloc, false);
-    run_script_with_remarks(alloc, reader, writer, games, &mut unwanted)
+    let mut unread = Evidence::Nothing;
+    run_script_with_evidence(alloc, reader, writer, games, &mut unread)
 }
 
-/// Runs a script as `run_script` does. The remarks explain the first of its bad lines.
-pub fn run_script_with_remarks<R: Read, W: Write, G: Game + Drop>(
+/// Runs a script as `run_script` does. One with a bad line is kept as evidence.
+pub fn run_script_with_evidence<R: Read, W: Write, G: Game + Drop>(
     alloc: Global,
     reader: &mut Counted<R>,
     writer: &mut Counted<W>,
     games: Vec<G>,
-    remarks: &mut Remarks,
+    evidence: &mut Evidence,
 ) -> Result<u64, ScriptFault>
     ensures output { IfOk result (λ bad. (input : List ℕ)
         × Consumes (R.remaining reader.old.stream) (R.remaining reader.new.stream) input
@@ -60,7 +60,7 @@ pub fn run_script_with_remarks<R: Read, W: Write, G: Game + Drop>(
     let answers = answer_script(alloc, games, &input)?;
     write_all(writer, answers.text.as_slice())?;
     if answers.bad_lines > 0 {
-        remarks.first_bad_line(&input);
+        *evidence = Evidence::Script(input);
     }
     Ok(answers.bad_lines)
 }

@@ -3,13 +3,13 @@ use Rattle.std.proofs.Common.{◌≡◌, ℕ, ◌<◌, ◌≤◌, ◌^◌, Bool,
 use Rattle.std.specs.Fmt.{decimal}
 use Rattle.std.specs.Str.Parse.{digits_value}
 use Rattle.std.proofs.lemmas.Bool.Decides.{nat_tests}
+use Rattle.game_core.specs.GameTexts.{is_atom, number_is_folded}
 use Rattle.game_core.specs.Numerals.{is_plain_numeral, number_up_to, plain_number}
 use Rattle.game_core.specs.Laws.{NumbersAreAtoms, NumbersArePlain, NumbersReadBack}
-use Rattle.game_core.proofs.Numerals.{decimal_is_digits}
 use Rattle.game_core.proofs.PlainNumerals.{decimal_is_plain, decimal_value, plain_is_decimal}
 
 pub numbers_are_atoms : NumbersAreAtoms
-numbers_are_atoms n small = let digits = decimal_is_digits n small in (digits.some, digits.bytes)
+numbers_are_atoms n small = is_atom (decimal n) (number_is_folded n small)
 
 pub numbers_are_plain : NumbersArePlain
 numbers_are_plain n small = (decimal_is_plain n small, decimal_value n small)

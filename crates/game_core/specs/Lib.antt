@@ -1,8 +1,10 @@
 pub mod Bytes
 pub mod Expression
+pub mod Limits
 pub mod Canonical
 pub mod Numerals
 pub mod Texts
+pub mod GameTexts
 pub mod Play
 pub mod PlayAnswer
 pub mod Countdown

@@ -21,7 +21,7 @@ pub use counted::{Counted, MAX_STREAM_CALLS};
 pub use game::Game;
 pub use joint::Joint;
 pub use lent::Lent;
-pub use limits::{MAX_DEPTH, MAX_GOAL, MAX_ROLES};
+pub use limits::{Limits, MAX_DEPTH, MAX_GOAL, MAX_ROLES};
 pub use play::{PlayFault, play_list};
 pub use text::Text;
 pub use texts::Texts;

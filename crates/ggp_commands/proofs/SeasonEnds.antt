@@ -6,7 +6,7 @@ use Rattle.match_plans.specs.declared.addresses.PlayerAddress.{PlayerAddress}
 use Rattle.match_plans.specs.declared.plan.MatchPlan.{MatchPlan}
 use Rattle.match_plans.specs.declared.reach.RolePlace.{RolePlace}
 use Rattle.match_plans.specs.declared.season_form.SeasonForm.{SeasonForm}
-use Rattle.match_play.specs.declared.hosting.HostedGame.{HostedGame}
+use Rattle.match_play.specs.declared.playable_game.PlayableGame.{PlayableGame}
 use Rattle.match_season.specs.Outputs.{IsOutputOf}
 use Rattle.match_season.specs.Seasons.{WritesAllBut}
 use Rattle.command_line.specs.declared.tasks.SeasonPlan.{SeasonPlan}
@@ -17,14 +17,14 @@ use Rattle.game_commands.specs.declared.files.NamedFile.TheVariants.{Records}
 use Rattle.ggp_commands.specs.Schedules.{AreLeft, AreToPlay, AreUndone, GoesTo, HasNoPlans, WritesPlans, WritesPlansUpTo}
 
 -- Fewer matches at once change nothing of what is written.
-pub same_output : {P : Type 0} (is_reached : RolePlace → PlayerAddress → P → Type 0) (handed : P → Option (List Handed)) (game : HostedGame) (whole form : SeasonForm) (plans : List MatchPlan) (missing : ℕ) (old new : Option (List ℕ))
+pub same_output : {P : Type 0} (is_reached : RolePlace → PlayerAddress → P → Type 0) (handed : P → Option (List Handed)) (game : PlayableGame) (whole form : SeasonForm) (plans : List MatchPlan) (missing : ℕ) (old new : Option (List ℕ))
     → form ≡ record whole { at_once = form.at_once }
     → WritesAllBut (IsOutputOf is_reached handed game plans form.has_history) form.order missing (length plans) old new → WritesPlans is_reached handed game whole plans missing old new
 same_output is_reached handed game whole form plans missing old new same written =
     subst (λ (f : SeasonForm). WritesAllBut (IsOutputOf is_reached handed game plans f.has_history) f.order missing (length plans) old new) same written
 
 -- The matches of a file of records were written to that file, and the output stays as it is.
-pub written_to_file : {P F : Type 0} (is_reached : RolePlace → PlayerAddress → P → Type 0) (handed : P → Option (List Handed)) (game : HostedGame) (season : SeasonPlan) (schedule : List ℕ) (records : Option F) (path : F) (plans : List MatchPlan) (missing : ℕ) (old : Option (List ℕ))
+pub written_to_file : {P F : Type 0} (is_reached : RolePlace → PlayerAddress → P → Type 0) (handed : P → Option (List Handed)) (game : PlayableGame) (season : SeasonPlan) (schedule : List ℕ) (records : Option F) (path : F) (plans : List MatchPlan) (missing : ℕ) (old : Option (List ℕ))
     → records ≡ Some path → AreUndone game.game.now season.strikes season.done schedule plans
     → ((left : List MatchPlan) × AreLeft game.game.now (Some path) plans left × ((before : Option (List ℕ)) × (after : Option (List ℕ)) × WritesPlans is_reached handed game season.form left missing before after))
     → (played : List MatchPlan) × AreToPlay game.game.now season.strikes season.done records schedule played × GoesTo records (WritesPlans is_reached handed game season.form played missing) old old
@@ -33,7 +33,7 @@ written_to_file is_reached handed game season schedule records path plans missin
     (sym is) (found.0, (plans, undone, found.1), (refl, found.2))
 
 -- The season's own end is that of the call that plays its matches into the file.
-pub season_into_file : {P F : Type 0} (is_reached : RolePlace → PlayerAddress → P → Type 0) (handed : P → Option (List Handed)) (game : HostedGame) (season : SeasonPlan) (schedule : List ℕ) (records : Option F) (path : F) (plans : List MatchPlan) (old : Option (List ℕ))
+pub season_into_file : {P F : Type 0} (is_reached : RolePlace → PlayerAddress → P → Type 0) (handed : P → Option (List Handed)) (game : PlayableGame) (season : SeasonPlan) (schedule : List ℕ) (records : Option F) (path : F) (plans : List MatchPlan) (old : Option (List ℕ))
     → records ≡ Some path → AreUndone game.game.now season.strikes season.done schedule plans
     → (result : Result ℕ Fault)
     → IfOk result (λ missing. (left : List MatchPlan) × AreLeft game.game.now (Some path) plans left × ((before : Option (List ℕ)) × (after : Option (List ℕ)) × WritesPlans is_reached handed game season.form left missing before after))
@@ -42,14 +42,14 @@ season_into_file is_reached handed game season schedule records path plans old i
 season_into_file is_reached handed game season schedule records path plans old is undone (Err fault) found = found
 
 -- The file was lost once the matches were played, in the call that plays them into it and in the season.
-pub lost_file : {P F : Type 0} (is_reached : RolePlace → PlayerAddress → P → Type 0) (handed : P → Option (List Handed)) (game : HostedGame) (season : SeasonPlan) (schedule : List ℕ) (records : Option F) (path : F) (plans : List MatchPlan) (fault : Fault) (old : Option (List ℕ))
+pub lost_file : {P F : Type 0} (is_reached : RolePlace → PlayerAddress → P → Type 0) (handed : P → Option (List Handed)) (game : PlayableGame) (season : SeasonPlan) (schedule : List ℕ) (records : Option F) (path : F) (plans : List MatchPlan) (fault : Fault) (old : Option (List ℕ))
     → records ≡ Some path → AreUndone game.game.now season.strikes season.done schedule plans
     → (fault ≡ WriteFault) × ((missing : ℕ) × (left : List MatchPlan) × AreLeft game.game.now (Some path) plans left × ((before : Option (List ℕ)) × (after : Option (List ℕ)) × WritesPlans is_reached handed game season.form left missing before after))
     → (is_some records ≡ true) × (fault ≡ WriteFault) × ((missing : ℕ) × ((played : List MatchPlan) × AreToPlay game.game.now season.strikes season.done records schedule played × GoesTo records (WritesPlans is_reached handed game season.form played missing) old old))
 lost_file is_reached handed game season schedule records path plans fault old is undone lost =
     (subst (λ r. is_some r ≡ true) (sym is) refl, lost.0, (lost.1.0, written_to_file is_reached handed game season schedule records path plans lost.1.0 old is undone (lost.1.1, lost.1.2, lost.1.3)))
 
-pub stopped_in_file : {P F : Type 0} (is_reached : RolePlace → PlayerAddress → P → Type 0) (handed : P → Option (List Handed)) (game : HostedGame) (season : SeasonPlan) (schedule : List ℕ) (records : Option F) (path : F) (plans : List MatchPlan) (fault : Fault) (old : Option (List ℕ))
+pub stopped_in_file : {P F : Type 0} (is_reached : RolePlace → PlayerAddress → P → Type 0) (handed : P → Option (List Handed)) (game : PlayableGame) (season : SeasonPlan) (schedule : List ℕ) (records : Option F) (path : F) (plans : List MatchPlan) (fault : Fault) (old : Option (List ℕ))
     → records ≡ Some path → AreUndone game.game.now season.strikes season.done schedule plans
     → ((IsFileFault Records fault
     ⊎ ((fault ≡ WriteFault) × ((missing : ℕ) × (left : List MatchPlan) × AreLeft game.game.now (Some path) plans left × ((before : Option (List ℕ)) × (after : Option (List ℕ)) × WritesPlans is_reached handed game season.form left missing before after))))
@@ -63,7 +63,7 @@ stopped_in_file is_reached handed game season schedule records path plans fault 
     inr (subst (λ r. (played : List MatchPlan) × AreToPlay game.game.now season.strikes season.done r schedule played × GoesTo r (WritesPlansUpTo is_reached handed game season.form played fault) old old)
     (sym is) (part.0, (plans, undone, part.1), (refl, part.2)))
 
-pub season_stops_in_file : {P F : Type 0} (is_reached : RolePlace → PlayerAddress → P → Type 0) (handed : P → Option (List Handed)) (game : HostedGame) (season : SeasonPlan) (schedule : List ℕ) (records : Option F) (path : F) (plans : List MatchPlan) (old : Option (List ℕ))
+pub season_stops_in_file : {P F : Type 0} (is_reached : RolePlace → PlayerAddress → P → Type 0) (handed : P → Option (List Handed)) (game : PlayableGame) (season : SeasonPlan) (schedule : List ℕ) (records : Option F) (path : F) (plans : List MatchPlan) (old : Option (List ℕ))
     → records ≡ Some path → AreUndone game.game.now season.strikes season.done schedule plans
     → (result : Result ℕ Fault)
     → IfErr result (λ fault. (IsFileFault Records fault

@@ -1,18 +1,18 @@
 -- The end of a task, by that of its matches.
 use Rattle.std.proofs.Common.{◌≡◌, ◌≢◌, ◌⊎◌, ◌∙◌, ℕ, inl, inr, ap, refl, subst, sym, IfErr, IfOk}
 use Rattle.std.specs.Prelude.{OnErr, OnOk, Result, Ok, Err}
-use Rattle.command_line.specs.declared.tasks.HostedTask.{HostedTask}
-use Rattle.command_line.specs.declared.tasks.HostedTask.TheVariants.{Run, Season, Check}
+use Rattle.command_line.specs.declared.tasks.MatchTask.{MatchTask}
+use Rattle.command_line.specs.declared.tasks.MatchTask.TheVariants.{Run, Season, Check}
 use Rattle.game_commands.specs.declared.fault.Fault.{Fault}
 use Rattle.ggp_commands.specs.Faults.{task_fault}
 
-same_fault : (task : HostedTask) (fault : Fault) → task_fault task (Err fault) ≡ fault
+same_fault : (task : MatchTask) (fault : Fault) → task_fault task (Err fault) ≡ fault
 same_fault (Run plan) fault = refl
 same_fault (Season plan) fault = refl
 same_fault (Check plan) fault = refl
 
 -- A task that ends with a fault has a number of missing matches or bad answers, or its matches ended with the fault.
-pub ends_or_fails : {E : Type 0} (Q : ℕ → Type 0) (R : Fault → Type 0) (task : HostedTask) (held : Result ℕ Fault) (ended : Result E Fault)
+pub ends_or_fails : {E : Type 0} (Q : ℕ → Type 0) (R : Fault → Type 0) (task : MatchTask) (held : Result ℕ Fault) (ended : Result E Fault)
     → OnErr ended (held ≢ Ok 0) → IfErr ended (λ fault. fault ≡ task_fault task held) → IfOk held Q → IfErr held R
     → IfErr ended (λ fault. ((count : ℕ) × (count ≢ 0) × (fault ≡ task_fault task (Ok count)) × Q count) ⊎ R fault)
 ends_or_fails Q R task held (Ok e) some is ok err = tt

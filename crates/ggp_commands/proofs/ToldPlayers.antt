@@ -8,7 +8,7 @@ use Rattle.std.proofs.lemmas.List.Folds.{list_all-append}
 use Rattle.std.specs.Io.KnownBytes.{Appends}
 use Rattle.std.specs.List.{flat_map, list_all}
 use Rattle.match_plans.specs.declared.addresses.PlayerAddress.{PlayerAddress}
-use Rattle.ggp_commands.specs.Errands.{TellsAnswers, abort_line, aborted_lines}
+use Rattle.ggp_commands.specs.PlayerCommands.{TellsAnswers, abort_line, aborted_lines}
 
 and_true : (b : Bool) → (b && true) ≡ b
 and_true true = refl

@@ -9,8 +9,8 @@ use Rattle.player_check.specs.declared.check.CheckFault.{CheckFault}
 use Rattle.player_check.specs.declared.check.CheckFault.TheVariants.{Match as CheckMatch, WriteFault as CheckWriteFault, Memory as CheckMemory}
 use Rattle.network_players.specs.declared.contacting.ContactFault.{ContactFault}
 use Rattle.network_players.specs.declared.contacting.ContactFault.TheVariants.{Shortage as ContactShortage}
-use Rattle.command_line.specs.declared.tasks.HostedTask.{HostedTask}
-use Rattle.command_line.specs.declared.tasks.HostedTask.TheVariants.{Check}
+use Rattle.command_line.specs.declared.tasks.MatchTask.{MatchTask}
+use Rattle.command_line.specs.declared.tasks.MatchTask.TheVariants.{Check}
 use Rattle.command_line.specs.declared.arguments.ArgumentFault.{ArgumentFault}
 use Rattle.command_line.specs.declared.arguments.ArgumentFault.TheVariants.{Memory as ArgumentMemory}
 use Rattle.game_commands.specs.declared.fault.Fault.{Fault}
@@ -43,7 +43,7 @@ contact_fault (ContactShortage shortage) = NotSent shortage
 contact_fault fault = NoAnswer
 
 -- the fault of a task with this number of matches without a record, or of bad answers, or of one that ended with a fault
-abbrev pub task_fault : HostedTask → Result ℕ Fault → Fault
+abbrev pub task_fault : MatchTask → Result ℕ Fault → Fault
 task_fault (Check plan) (Ok count) = BadAnswers count
 task_fault task (Ok count) = NoRecords count
 task_fault task (Err fault) = fault

@@ -1,7 +1,7 @@
 pub mod Faults
 pub mod Descriptors
-pub mod Errands
-pub mod Hosting
+pub mod PlayerCommands
+pub mod LoadedGame
 pub mod Schedules
 pub mod Runs
 pub mod Tasks

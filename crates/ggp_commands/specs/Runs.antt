@@ -9,7 +9,7 @@ use Rattle.match_plans.specs.declared.reach.RolePlace.{RolePlace}
 use Rattle.role_workers.specs.Handing.{Handed}
 use Rattle.match_play.specs.EndedMatches.{match_text}
 use Rattle.match_play.specs.PlayedMatches.{IsPlannedMatch, IsSetupOf, packed_refusal}
-use Rattle.match_play.specs.declared.hosting.HostedGame.{HostedGame}
+use Rattle.match_play.specs.declared.playable_game.PlayableGame.{PlayableGame}
 use Rattle.match_season.specs.Seasons.{AppendsPart}
 use Rattle.command_line.specs.declared.tasks.RunPlan.{RunPlan}
 use Rattle.game_commands.specs.declared.fault.Fault.{Fault}
@@ -17,17 +17,17 @@ use Rattle.game_commands.specs.declared.fault.Fault.TheVariants.{Refused, WriteF
 
 -- From one content of a stream to the other the record of a match was written, and its account if the plan wants it. The match has this
 -- plan and is of this game. Its players were reached at the addresses of their roles, and got the game's rules.
-abbrev pub WritesRun : {P : Type 0} → (RolePlace → PlayerAddress → P → Type 0) → (P → Option (List Handed)) → HostedGame → RunPlan → Option (List ℕ) → Option (List ℕ) → Type 0
+abbrev pub WritesRun : {P : Type 0} → (RolePlace → PlayerAddress → P → Type 0) → (P → Option (List Handed)) → PlayableGame → RunPlan → Option (List ℕ) → Option (List ℕ) → Type 0
 WritesRun is_reached handed game run old new = (line : List ℕ) × (history : _) × IsPlannedMatch is_reached handed game 0 run.plan line history
     × Appends old new (match_text line history run.has_history)
 
 -- a match of this game with this plan is not opened, for this reason
-abbrev pub IsRefusedFor : HostedGame → MatchPlan → Refusal → Type 0
+abbrev pub IsRefusedFor : PlayableGame → MatchPlan → Refusal → Type 0
 IsRefusedFor game plan reason = (setup : Setup) × IsSetupOf plan setup × (packed_refusal game.game.now setup ≡ Some reason)
 
 -- What a single match that ended with this fault has written: a beginning of its record and account where a write failed, and otherwise
 -- nothing. If it was refused, then for this reason.
-abbrev pub WritesRunUpTo : {P : Type 0} → (RolePlace → PlayerAddress → P → Type 0) → (P → Option (List Handed)) → HostedGame → RunPlan → Option (List ℕ) → Option (List ℕ) → Fault → Type 0
+abbrev pub WritesRunUpTo : {P : Type 0} → (RolePlace → PlayerAddress → P → Type 0) → (P → Option (List Handed)) → PlayableGame → RunPlan → Option (List ℕ) → Option (List ℕ) → Fault → Type 0
 WritesRunUpTo is_reached handed game run old new WriteFault = (line : List ℕ) × (history : _) × IsPlannedMatch is_reached handed game 0 run.plan line history
     × AppendsPart old new (match_text line history run.has_history)
 WritesRunUpTo is_reached handed game run old new (Refused reason) = (new ≡ old) × IsRefusedFor game run.plan reason

@@ -11,8 +11,8 @@ use Rattle.game_commands.specs.declared.done.DoneMatches.{DoneMatches}
 use Rattle.game_commands.specs.declared.fault.Fault.{Fault}
 use Rattle.game_commands.specs.declared.fault.Fault.TheVariants.{Memory, WriteFault}
 use Rattle.game_commands.specs.declared.files.NamedFile.TheVariants.{Records}
-use Rattle.command_line.specs.declared.tasks.HostedTask.{HostedTask}
-use Rattle.command_line.specs.declared.tasks.HostedTask.TheVariants.{Season}
+use Rattle.command_line.specs.declared.tasks.MatchTask.{MatchTask}
+use Rattle.command_line.specs.declared.tasks.MatchTask.TheVariants.{Season}
 use Rattle.command_line.specs.declared.tasks.SeasonPlan.{SeasonPlan}
 use Rattle.match_plans.specs.Schedules.{cut_lines, match_lines, IsBadLine, IsPlanned}
 use Rattle.match_plans.specs.declared.addresses.PlayerAddress.{PlayerAddress}
@@ -21,14 +21,14 @@ use Rattle.match_plans.specs.declared.reach.RolePlace.{RolePlace}
 use Rattle.match_plans.specs.declared.schedule_fault.ScheduleFault.{ScheduleFault}
 use Rattle.match_plans.specs.declared.season_form.SeasonForm.{SeasonForm}
 use Rattle.role_workers.specs.Handing.{Handed}
-use Rattle.match_play.specs.declared.hosting.HostedGame.{HostedGame}
+use Rattle.match_play.specs.declared.playable_game.PlayableGame.{PlayableGame}
 use Rattle.match_season.specs.Outputs.{IsOutputOf}
 use Rattle.match_season.specs.Seasons.{WritesAllBut, WritesUpTo}
 use Rattle.match_season.specs.declared.season_output.SeasonFault.{SeasonFault}
 use Rattle.ggp_commands.specs.Faults.{season_fault}
 
 -- the task has a schedule for its input
-abbrev pub has_schedule : HostedTask → Bool
+abbrev pub has_schedule : MatchTask → Bool
 has_schedule (Season plan) = true
 has_schedule task = false
 
@@ -67,11 +67,11 @@ HasNoPlans game strikes done records schedule fault = HasNoUndone game strikes d
 
 -- From one content of a stream to the other the output of each of these matches was written, as the form asks, but for the missing ones.
 -- Each match is of this game. Its players were reached at the addresses of their roles, and got the game's rules.
-abbrev pub WritesPlans : {P : Type 0} → (RolePlace → PlayerAddress → P → Type 0) → (P → Option (List Handed)) → HostedGame → SeasonForm → List MatchPlan → ℕ → Option (List ℕ) → Option (List ℕ) → Type 0
+abbrev pub WritesPlans : {P : Type 0} → (RolePlace → PlayerAddress → P → Type 0) → (P → Option (List Handed)) → PlayableGame → SeasonForm → List MatchPlan → ℕ → Option (List ℕ) → Option (List ℕ) → Type 0
 WritesPlans is_reached handed game form plans missing old new = WritesAllBut (IsOutputOf is_reached handed game plans form.has_history) form.order missing (length plans) old new
 
 -- What was written of these matches up to this fault: the outputs, as `match_season` says.
-abbrev pub WritesPlansUpTo : {P : Type 0} → (RolePlace → PlayerAddress → P → Type 0) → (P → Option (List Handed)) → HostedGame → SeasonForm → List MatchPlan → Fault → Option (List ℕ) → Option (List ℕ) → Type 0
+abbrev pub WritesPlansUpTo : {P : Type 0} → (RolePlace → PlayerAddress → P → Type 0) → (P → Option (List Handed)) → PlayableGame → SeasonForm → List MatchPlan → Fault → Option (List ℕ) → Option (List ℕ) → Type 0
 WritesPlansUpTo is_reached handed game form plans fault old new =
     (why : SeasonFault) × (fault ≡ season_fault why) × WritesUpTo (IsOutputOf is_reached handed game plans form.has_history) form.order (length plans) old new why
 
@@ -80,18 +80,18 @@ abbrev pub GoesTo : {F : Type 0} → Option F → (Option (List ℕ) → Option 
 GoesTo file Writes old new = MatchOption file (Writes old new) (λ name. (new ≡ old) × ((before : Option (List ℕ)) × (after : Option (List ℕ)) × Writes before after))
 
 -- The output of each match to play was written, to the output or the file of records, but for the missing ones.
-abbrev pub WritesSeason : {P : Type 0} → (RolePlace → PlayerAddress → P → Type 0) → (P → Option (List Handed)) → HostedGame → SeasonPlan → List ℕ → ℕ → Option (List ℕ) → Option (List ℕ) → Type 0
+abbrev pub WritesSeason : {P : Type 0} → (RolePlace → PlayerAddress → P → Type 0) → (P → Option (List Handed)) → PlayableGame → SeasonPlan → List ℕ → ℕ → Option (List ℕ) → Option (List ℕ) → Type 0
 WritesSeason is_reached handed game season schedule missing old new = (plans : List MatchPlan) × AreToPlay game.game.now season.strikes season.done season.records schedule plans
     × GoesTo season.records (WritesPlans is_reached handed game season.form plans missing) old new
 
 -- The season was played, and then the name of the file that its records were added to did not name it any more. That is a write fault.
-abbrev pub LosesFile : {P : Type 0} → (RolePlace → PlayerAddress → P → Type 0) → (P → Option (List Handed)) → HostedGame → SeasonPlan → List ℕ → Fault → Option (List ℕ) → Option (List ℕ) → Type 0
+abbrev pub LosesFile : {P : Type 0} → (RolePlace → PlayerAddress → P → Type 0) → (P → Option (List Handed)) → PlayableGame → SeasonPlan → List ℕ → Fault → Option (List ℕ) → Option (List ℕ) → Type 0
 LosesFile is_reached handed game season schedule fault old new = (is_some season.records ≡ true) × (fault ≡ WriteFault)
     × ((missing : ℕ) × WritesSeason is_reached handed game season schedule missing old new)
 
 -- What a season that ended with this fault has written: nothing if it has no matches to play, all if it then lost its file of records, and
 -- otherwise the outputs up to that fault.
-abbrev pub WritesSeasonUpTo : {P : Type 0} → (RolePlace → PlayerAddress → P → Type 0) → (P → Option (List Handed)) → HostedGame → SeasonPlan → List ℕ → Option (List ℕ) → Option (List ℕ) → Fault → Type 0
+abbrev pub WritesSeasonUpTo : {P : Type 0} → (RolePlace → PlayerAddress → P → Type 0) → (P → Option (List Handed)) → PlayableGame → SeasonPlan → List ℕ → Option (List ℕ) → Option (List ℕ) → Fault → Type 0
 WritesSeasonUpTo is_reached handed game season schedule old new fault =
     ((HasNoPlans game.game.now season.strikes season.done season.records schedule fault × (new ≡ old))
     ⊎ LosesFile is_reached handed game season schedule fault old new)

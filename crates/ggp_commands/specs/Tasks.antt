@@ -1,52 +1,55 @@
 -- What a task reads and writes.
-use Rattle.std.specs.Prelude.{◌≡◌, ◌≢◌, ◌⊎◌, ℕ, List, [], Option, false, Ok, string_bytes}
+use Rattle.std.specs.Prelude.{◌≡◌, ◌≢◌, ◌⊎◌, ℕ, List, [], MatchOption, Option, false, Ok, string_bytes}
 use Rattle.std.specs.Io.KnownBytes.{Appends, Consumes, IsAtEnd}
 use Rattle.game_core.specs.Counting.{Counting}
 use Rattle.match_plans.specs.declared.addresses.PlayerAddress.{PlayerAddress}
 use Rattle.match_plans.specs.declared.reach.RolePlace.{RolePlace}
 use Rattle.match_messages.specs.InfoReading.{info_reading}
 use Rattle.role_workers.specs.Handing.{Handed}
-use Rattle.match_play.specs.declared.hosting.HostedGame.{HostedGame}
-use Rattle.command_line.specs.declared.tasks.HostedTask.{HostedTask}
-use Rattle.command_line.specs.declared.tasks.HostedTask.TheVariants.{Run, Season, Check}
-use Rattle.command_line.specs.declared.tasks.HostingPlan.{HostingPlan}
+use Rattle.match_play.specs.declared.playable_game.PlayableGame.{PlayableGame}
+use Rattle.command_line.specs.declared.tasks.MatchTask.{MatchTask}
+use Rattle.command_line.specs.declared.tasks.MatchTask.TheVariants.{Run, Season, Check}
+use Rattle.command_line.specs.declared.tasks.GameOptions.{GameOptions}
 use Rattle.command_line.specs.declared.tasks.Task.{Task}
 use Rattle.command_line.specs.declared.tasks.Task.TheVariants.{Game, Host, Info, Abort, Show}
-use Rattle.game_commands.specs.Commands.{Answers, Fails as CommandFails, HasNoGame, HoldsOfGame}
-use Rattle.game_commands.specs.Faults.{input_fault}
+use Rattle.game_commands.specs.Commands.{AnswersInput, FailsInput, HasNoGame, HoldsOfGame}
+use Rattle.game_commands.specs.Faults.{IsFileFault, input_fault}
 use Rattle.game_commands.specs.declared.fault.Fault.{Fault}
 use Rattle.game_commands.specs.declared.fault.Fault.TheVariants.{Memory, NoAnswer, WriteFault}
+use Rattle.game_commands.specs.declared.files.NamedFile.TheVariants.{Input}
 use Rattle.match_season.specs.Seasons.{AppendsPart}
 use Rattle.whole_streams.specs.Streams.{InputFails}
 use Rattle.whole_streams.specs.declared.whole.InputFault.{InputFault}
 use Rattle.player_check.specs.Checks.{EndsEarly, WritesCheck}
 use Rattle.player_check.specs.declared.check.CheckFault.{CheckFault}
-use Rattle.ggp_commands.specs.Errands.{TellsAnswers, aborted_lines, info_line}
+use Rattle.ggp_commands.specs.PlayerCommands.{TellsAnswers, aborted_lines, info_line}
 use Rattle.ggp_commands.specs.Faults.{check_fault, task_fault}
-use Rattle.ggp_commands.specs.Hosting.{IsNotHosted, IsHosted}
+use Rattle.ggp_commands.specs.LoadedGame.{IsNotLoadedGame, IsLoadedGame}
 use Rattle.ggp_commands.specs.Runs.{WritesRun, WritesRunUpTo}
 use Rattle.ggp_commands.specs.Schedules.{WritesSeason, WritesSeasonUpTo}
 
 -- From one content of a stream to the other the task wrote the output of its match, or of each match to play of its schedule but for the
 -- missing ones, or the table of its check. The number is that of the missing matches, or of the bad answers in the table.
-abbrev pub WritesTask : (H : Type 0) → {P : Type 0} → (RolePlace → PlayerAddress → P → Type 0) → (P → Option (List Handed)) → HostedGame → HostedTask → List ℕ → ℕ → Option (List ℕ) → Option (List ℕ) → Type 0
+abbrev pub WritesTask : (H : Type 0) → {P : Type 0} → (RolePlace → PlayerAddress → P → Type 0) → (P → Option (List Handed)) → PlayableGame → MatchTask → List ℕ → ℕ → Option (List ℕ) → Option (List ℕ) → Type 0
 WritesTask H is_reached handed game (Run run) input count old new = (count ≡ 0) × WritesRun is_reached handed game run old new
 WritesTask H is_reached handed game (Season season) input count old new = WritesSeason is_reached handed game season input count old new
 WritesTask H is_reached handed game (Check plan) input count old new = WritesCheck H is_reached handed game plan count old new
 
 -- What a task that ended with this fault has written.
-abbrev pub WritesTaskUpTo : (H : Type 0) → {P : Type 0} → (RolePlace → PlayerAddress → P → Type 0) → (P → Option (List Handed)) → HostedGame → HostedTask → List ℕ → Option (List ℕ) → Option (List ℕ) → Fault → Type 0
+abbrev pub WritesTaskUpTo : (H : Type 0) → {P : Type 0} → (RolePlace → PlayerAddress → P → Type 0) → (P → Option (List Handed)) → PlayableGame → MatchTask → List ℕ → Option (List ℕ) → Option (List ℕ) → Fault → Type 0
 WritesTaskUpTo H is_reached handed game (Run run) input old new fault = WritesRunUpTo is_reached handed game run old new fault
 WritesTaskUpTo H is_reached handed game (Season season) input old new fault = WritesSeasonUpTo is_reached handed game season input old new fault
 WritesTaskUpTo H is_reached handed game (Check plan) input old new fault = (why : CheckFault) × (fault ≡ check_fault why) × EndsEarly H is_reached handed game plan why old new
 
 -- The task ended with this fault: out of memory before it began, or later.
-abbrev pub EndsTask : (H : Type 0) → {P : Type 0} → (RolePlace → PlayerAddress → P → Type 0) → (P → Option (List Handed)) → HostedGame → HostedTask → List ℕ → Option (List ℕ) → Option (List ℕ) → Fault → Type 0
+abbrev pub EndsTask : (H : Type 0) → {P : Type 0} → (RolePlace → PlayerAddress → P → Type 0) → (P → Option (List Handed)) → PlayableGame → MatchTask → List ℕ → Option (List ℕ) → Option (List ℕ) → Fault → Type 0
 EndsTask H is_reached handed game task input old new fault = ((fault ≡ Memory) × (new ≡ old)) ⊎ WritesTaskUpTo H is_reached handed game task input old new fault
 
--- This is the input of a task with matches: the whole schedule of a season. Any other task reads nothing.
-abbrev pub ReadsInput : {R : Type 0} → (R → Option (List ℕ)) → HostedTask → List ℕ → Counting R → Counting R → Type 0
-ReadsInput remaining (Season season) input reader reader' = Consumes (remaining reader.stream) (remaining reader'.stream) input × IsAtEnd (remaining reader'.stream)
+-- This is the input of a task with matches: the whole schedule of a season, or any text if a file is named for it, and then the reader stays
+-- as it is. Any other task reads nothing.
+abbrev pub ReadsInput : {R : Type 0} → (R → Option (List ℕ)) → MatchTask → List ℕ → Counting R → Counting R → Type 0
+ReadsInput remaining (Season season) input reader reader' =
+    MatchOption season.schedule (Consumes (remaining reader.stream) (remaining reader'.stream) input × IsAtEnd (remaining reader'.stream)) (λ path. reader' ≡ reader)
 ReadsInput remaining task input reader reader' = (input ≡ []) × (reader' ≡ reader)
 
 -- the limit of bytes of a schedule
@@ -54,49 +57,51 @@ abbrev pub max_schedule : ℕ
 max_schedule = 16777216
 
 -- Why the input of a task can't be had: only that of a season, which is read.
-abbrev pub HasNoInput : {R : Type 0} → (R → Option (List ℕ)) → HostedTask → Fault → Counting R → Counting R → Type 0
-HasNoInput remaining (Season season) fault reader reader' = (why : InputFault) × (given : List ℕ) × (fault ≡ input_fault why)
-    × Consumes (remaining reader.stream) (remaining reader'.stream) given × InputFails max_schedule why given reader reader'
+abbrev pub HasNoInput : {R : Type 0} → (R → Option (List ℕ)) → MatchTask → Fault → Counting R → Counting R → Type 0
+HasNoInput remaining (Season season) fault reader reader' = MatchOption season.schedule
+    ((why : InputFault) × (given : List ℕ) × (fault ≡ input_fault why)
+    × Consumes (remaining reader.stream) (remaining reader'.stream) given × InputFails max_schedule why given reader reader')
+    (λ path. IsFileFault Input fault × (reader' ≡ reader))
 HasNoInput remaining task fault reader reader' = ⊥
 
 -- Why a task was not begun: it has no game with rules for its players, or then no input.
-abbrev pub IsNotBegun : {R : Type 0} → (R → Option (List ℕ)) → HostingPlan → HostedTask → Fault → Counting R → Counting R → Type 0
-IsNotBegun remaining plan task fault reader reader' = (IsNotHosted plan fault × (reader' ≡ reader)) ⊎ HasNoInput remaining task fault reader reader'
+abbrev pub IsNotBegun : {R : Type 0} → (R → Option (List ℕ)) → GameOptions → MatchTask → Fault → Counting R → Counting R → Type 0
+IsNotBegun remaining plan task fault reader reader' = (IsNotLoadedGame plan fault × (reader' ≡ reader)) ⊎ HasNoInput remaining task fault reader reader'
 
 -- The task was performed on the game of its plan and its input. The number is that of the missing matches, or of the bad answers.
-abbrev pub Plays : (H : Type 0) → {P R W : Type 0} → (RolePlace → PlayerAddress → P → Type 0) → (P → Option (List Handed)) → (R → Option (List ℕ)) → (W → Option (List ℕ)) → HostingPlan → HostedTask → Counting R → Counting R → Counting W → Counting W → ℕ → Type 0
-Plays H is_reached handed remaining contents plan task reader reader' writer writer' count = (game : HostedGame) × (input : List ℕ)
-    × IsHosted plan game.game.now game.rules.now.items × ReadsInput remaining task input reader reader'
+abbrev pub Plays : (H : Type 0) → {P R W : Type 0} → (RolePlace → PlayerAddress → P → Type 0) → (P → Option (List Handed)) → (R → Option (List ℕ)) → (W → Option (List ℕ)) → GameOptions → MatchTask → Counting R → Counting R → Counting W → Counting W → ℕ → Type 0
+Plays H is_reached handed remaining contents plan task reader reader' writer writer' count = (game : PlayableGame) × (input : List ℕ)
+    × IsLoadedGame plan game.game.now game.rules.now.items × ReadsInput remaining task input reader reader'
     × WritesTask H is_reached handed game task input count (contents writer.stream) (contents writer'.stream)
 
 -- Why the task was not performed, or not well: without its game or its input it was not begun, and nothing was written; otherwise matches are
 -- missing or answers bad, and the fault has their number, or it ended with the fault.
-abbrev pub FailsToPlay : (H : Type 0) → {P R W : Type 0} → (RolePlace → PlayerAddress → P → Type 0) → (P → Option (List Handed)) → (R → Option (List ℕ)) → (W → Option (List ℕ)) → HostingPlan → HostedTask → Counting R → Counting R → Counting W → Counting W → Fault → Type 0
+abbrev pub FailsToPlay : (H : Type 0) → {P R W : Type 0} → (RolePlace → PlayerAddress → P → Type 0) → (P → Option (List Handed)) → (R → Option (List ℕ)) → (W → Option (List ℕ)) → GameOptions → MatchTask → Counting R → Counting R → Counting W → Counting W → Fault → Type 0
 FailsToPlay H is_reached handed remaining contents plan task reader reader' writer writer' fault = (IsNotBegun remaining plan task fault reader reader' × (writer' ≡ writer))
     ⊎ (((count : ℕ) × (count ≢ 0) × (fault ≡ task_fault task (Ok count)) × Plays H is_reached handed remaining contents plan task reader reader' writer writer' count)
-    ⊎ ((game : HostedGame) × (input : List ℕ) × IsHosted plan game.game.now game.rules.now.items × ReadsInput remaining task input reader reader'
+    ⊎ ((game : PlayableGame) × (input : List ℕ) × IsLoadedGame plan game.game.now game.rules.now.items × ReadsInput remaining task input reader reader'
     × EndsTask H is_reached handed game task input (contents writer.stream) (contents writer'.stream) fault))
 
 -- What a task that ended well has read and written.
-abbrev pub Performs : (H : Type 0) → {P R W : Type 0} → (RolePlace → PlayerAddress → P → Type 0) → (P → Option (List Handed)) → (R → Option (List ℕ)) → (W → Option (List ℕ)) → Task → Counting R → Counting R → Counting W → Counting W → Type 0
-Performs H is_reached handed remaining contents (Show text) reader reader' writer writer' = (reader' ≡ reader) × Appends (contents writer.stream) (contents writer'.stream) (string_bytes text)
-Performs H is_reached handed remaining contents (Game command source) reader reader' writer writer' =
-    HoldsOfGame source (λ _ _ _ rules game. Answers remaining contents rules game command 0 reader reader' writer writer')
-Performs H is_reached handed remaining contents (Info player) reader reader' writer writer' =
+abbrev pub Performs : (H : Type 0) → {P R F W : Type 0} → (RolePlace → PlayerAddress → P → Type 0) → (P → Option (List Handed)) → (R → Option (List ℕ)) → (F → Option (List ℕ)) → (W → Option (List ℕ)) → Task → Counting R → Counting R → Counting W → Counting W → Type 0
+Performs H is_reached handed remaining file_remaining contents (Show text) reader reader' writer writer' = (reader' ≡ reader) × Appends (contents writer.stream) (contents writer'.stream) (string_bytes text)
+Performs H is_reached handed remaining file_remaining contents (Game command source file) reader reader' writer writer' =
+    HoldsOfGame source (λ _ _ _ rules game. AnswersInput remaining file_remaining contents rules game command file reader reader' writer writer')
+Performs H is_reached handed remaining file_remaining contents (Info player) reader reader' writer writer' =
     (reader' ≡ reader) × ((answer : List ℕ) × Appends (contents writer.stream) (contents writer'.stream) (info_line (info_reading answer)))
-Performs H is_reached handed remaining contents (Abort plan) reader reader' writer writer' =
+Performs H is_reached handed remaining file_remaining contents (Abort plan) reader reader' writer writer' =
     (reader' ≡ reader) × Appends (contents writer.stream) (contents writer'.stream) (aborted_lines plan.players.items)
-Performs H is_reached handed remaining contents (Host plan task) reader reader' writer writer' = Plays H is_reached handed remaining contents plan task reader reader' writer writer' 0
+Performs H is_reached handed remaining file_remaining contents (Host plan task) reader reader' writer writer' = Plays H is_reached handed remaining contents plan task reader reader' writer writer' 0
 
 -- What a task that ended with this fault has read and written.
-abbrev pub Fails : (H : Type 0) → {P R W : Type 0} → (RolePlace → PlayerAddress → P → Type 0) → (P → Option (List Handed)) → (R → Option (List ℕ)) → (W → Option (List ℕ)) → Task → Counting R → Counting R → Counting W → Counting W → Fault → Type 0
-Fails H is_reached handed remaining contents (Show text) reader reader' writer writer' fault =
+abbrev pub Fails : (H : Type 0) → {P R F W : Type 0} → (RolePlace → PlayerAddress → P → Type 0) → (P → Option (List Handed)) → (R → Option (List ℕ)) → (F → Option (List ℕ)) → (W → Option (List ℕ)) → Task → Counting R → Counting R → Counting W → Counting W → Fault → Type 0
+Fails H is_reached handed remaining file_remaining contents (Show text) reader reader' writer writer' fault =
     (reader' ≡ reader) × (fault ≡ WriteFault) × AppendsPart (contents writer.stream) (contents writer'.stream) (string_bytes text)
-Fails H is_reached handed remaining contents (Game command source) reader reader' writer writer' fault =
+Fails H is_reached handed remaining file_remaining contents (Game command source file) reader reader' writer writer' fault =
     (HasNoGame source fault × (reader' ≡ reader) × (writer' ≡ writer))
-    ⊎ HoldsOfGame source (λ _ _ _ rules game. CommandFails remaining contents rules game command fault reader reader' writer writer')
-Fails H is_reached handed remaining contents (Info player) reader reader' writer writer' fault = (reader' ≡ reader)
+    ⊎ HoldsOfGame source (λ _ _ _ rules game. FailsInput remaining file_remaining contents rules game command file fault reader reader' writer writer')
+Fails H is_reached handed remaining file_remaining contents (Info player) reader reader' writer writer' fault = (reader' ≡ reader)
     × ((writer' ≡ writer) ⊎ ((fault ≡ WriteFault) × ((answer : List ℕ) × AppendsPart (contents writer.stream) (contents writer'.stream) (info_line (info_reading answer)))))
-Fails H is_reached handed remaining contents (Abort plan) reader reader' writer writer' fault =
+Fails H is_reached handed remaining file_remaining contents (Abort plan) reader reader' writer writer' fault =
     (reader' ≡ reader) × (fault ≡ NoAnswer → TellsAnswers plan.players.items false (contents writer.stream) (contents writer'.stream))
-Fails H is_reached handed remaining contents (Host plan task) reader reader' writer writer' fault = FailsToPlay H is_reached handed remaining contents plan task reader reader' writer writer' fault
+Fails H is_reached handed remaining file_remaining contents (Host plan task) reader reader' writer writer' fault = FailsToPlay H is_reached handed remaining contents plan task reader reader' writer writer' fault

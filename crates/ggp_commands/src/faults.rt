@@ -4,7 +4,7 @@ ghost use Rattle.game_commands.specs.Faults.{IsFileFault};
 ghost use Rattle.game_commands.specs.declared.files.NamedFile.TheVariants.{Records};
 ghost use Rattle.ggp_commands.specs.Faults.{argument_fault, check_fault, contact_fault, match_fault, season_fault, task_fault};
 
-use command_line::{ArgumentFault, HostedTask};
+use command_line::{ArgumentFault, MatchTask};
 use game_commands::{Fault, FileFault, NamedFile};
 use match_plans::Shortage;
 use match_play::MatchFault;
@@ -83,17 +83,17 @@ pub fn contact_fault(fault: ContactFault) -> Fault
 }
 
 /// The program's fault where so many matches of a task have no record, or so many answers in its check are bad.
-fn lacking_fault(task: &HostedTask<'_>, count: u64) -> Fault
+fn lacking_fault(task: &MatchTask<'_>, count: u64) -> Fault
     ensures { result ≡ task_fault task.now (Ok count) }
 {
     match task {
-        HostedTask::Run(_) | HostedTask::Season(_) => Fault::NoRecords(count),
-        HostedTask::Check(_) => Fault::BadAnswers(count),
+        MatchTask::Run(_) | MatchTask::Season(_) => Fault::NoRecords(count),
+        MatchTask::Check(_) => Fault::BadAnswers(count),
     }
 }
 
 /// The end of a task, by the number of its matches without a record, or of bad answers in its check.
-pub fn task_end(task: &HostedTask<'_>, held: Result<u64, Fault>) -> Result<(), Fault>
+pub fn task_end(task: &MatchTask<'_>, held: Result<u64, Fault>) -> Result<(), Fault>
     ensures all { OnOk result (held ≡ Ok 0) }
     ensures some { OnErr result (held ≢ Ok 0) }
     ensures fault { IfErr result (λ fault. fault ≡ task_fault task.now held) }

@@ -10,17 +10,18 @@
 
 mod commands;
 mod descriptors;
-mod errands;
+mod explaining;
 mod faults;
-mod hosting;
+mod loaded_game;
 mod matches;
+mod player_commands;
 mod records_file;
 mod schedules;
 mod terminals;
 
 pub use command_line::AbortPlan;
 pub use commands::{command, report};
-pub use errands::{abort, info};
 pub use faults::contact_fault;
 pub use game_commands::{Fault, FileFault, NamedFile, ScriptFault};
+pub use player_commands::{abort, info};
 pub use terminals::Terminals;

@@ -18,15 +18,15 @@ use crate::faults::{check_fault, match_fault, season_fault};
 use crate::records_file::{records_file, tell_of_file};
 use crate::schedules::{plans_of, undone};
 use crate::terminals::Terminals;
-use command_line::{HostedTask, RunPlan, SeasonPlan};
-use game_commands::Fault;
+use command_line::{MatchTask, RunPlan, SeasonPlan};
+use game_commands::{Fault, NamedFile, file_text};
 use game_core::{Counted, Game};
 use match_log::{
-    ClearedOutput, LoggedPlayer, Logging, Notices, Outlet, Progress, ReportStream, StatusStream,
-    Telling,
+    ClearedOutput, LoggedPlayer, Logging, Notices, Progress, ReportStream, Reporting, StatusStream,
+    WriterBrand,
 };
-use match_plans::{CheckPlan, MatchPlan, Reach, SeasonForm, TellsShortages};
-use match_play::{Entrants, HostedGame, ended_match, entrants_of};
+use match_plans::{CheckPlan, MatchPlan, Reach, ReportsShortages, SeasonForm};
+use match_play::{PlayableGame, PreparedMatch, ended_match, prepared_match};
 use match_season::play_season;
 use network_players::Explains;
 use player_check::check_player;
@@ -55,20 +55,20 @@ struct Console {
 
 impl Console {
     /// The reports on messages that are wanted.
-    fn telling(&self) -> Telling<'_> {
+    fn reporting(&self) -> Reporting<'_> {
         if self.is_logged {
-            Telling::Messages
+            Reporting::Messages
         } else if self.is_terminal {
-            Telling::Progress(&self.progress)
+            Reporting::Progress(&self.progress)
         } else {
-            Telling::Nothing
+            Reporting::Nothing
         }
     }
 
     /// Reports the number of matches to play.
     fn plan<R: Wait>(&self, rt: &R, count: usize) {
         self.progress.plan(count);
-        if let Telling::Progress(_) = self.telling() {
+        if let Reporting::Progress(_) = self.reporting() {
             self.notices.move_on(rt);
         }
     }
@@ -80,19 +80,19 @@ fn run<H, P, S, W: Write>(
     alloc: Global,
     reach: &S,
     run: &RunPlan<'_>,
-    game: HostedGame<'_>,
+    game: PlayableGame<'_>,
     writer: &mut Counted<W>,
 ) -> Result<(), Fault>
 where
     H: Threads + Wait + Sync,
     P: Player + Drop + Send,
-    S: Reach<P> + TellsShortages,
+    S: Reach<P> + ReportsShortages,
     ensures clear { OnOk result (S.is_clear reach.now 0) }
     ensures written { OnOk result (WritesRun (S.is_reached reach.now) P.handed game.entry run.now (W.contents writer.old.stream) (W.contents writer.new.stream)) }
     ensures at_fault { IfErr result (WritesRunUpTo (S.is_reached reach.now) P.handed game.entry run.now (W.contents writer.old.stream) (W.contents writer.new.stream)) }
 {
-    let entrants: Entrants<P> = entrants_of(alloc, reach, game, 0, &run.plan)?;
-    let ended = match ended_match(rt, alloc, reach, entrants, game, run.has_history) {
+    let prepared: PreparedMatch<P> = prepared_match(alloc, reach, game, 0, &run.plan)?;
+    let ended = match ended_match(rt, alloc, reach, prepared, game, run.has_history) {
         Ok(ended) => ended,
         Err(fault) => return Err(match_fault(fault)),
     };
@@ -102,10 +102,11 @@ where
 /// The limit of bytes of a schedule.
 const MAX_SCHEDULE: usize = 16_777_216;
 
-/// The input of a task: the schedule of a season, and nothing for other tasks.
-pub fn input_of<R: Read>(
+/// The input of a task: the schedule of a season, from the file that is named or the reader, and nothing for other tasks.
+pub fn input_of<F: Files, R: Read>(
+    files: &F,
     alloc: Global,
-    task: &HostedTask<'_>,
+    task: &MatchTask<'_>,
     reader: &mut Counted<R>,
 ) -> Result<Vec<u8>, Fault>
     ensures unread { has_schedule task.now ≡ false → reader.new ≡ reader.old }
@@ -113,8 +114,11 @@ pub fn input_of<R: Read>(
     ensures fault { IfErr result (λ fault. HasNoInput R.remaining task.now fault reader.old reader.new) }
 {
     match task {
-        HostedTask::Season(_) => Ok(read_to_end(alloc, reader, MAX_SCHEDULE)?),
-        HostedTask::Run(_) | HostedTask::Check(_) => Ok(Vec::new(alloc)),
+        MatchTask::Season(plan) => match plan.schedule {
+            None => Ok(read_to_end(alloc, reader, MAX_SCHEDULE)?),
+            Some(path) => file_text(files, alloc, NamedFile::Input, path, MAX_SCHEDULE),
+        },
+        MatchTask::Run(_) | MatchTask::Check(_) => Ok(Vec::new(alloc)),
     }
 }
 
@@ -125,7 +129,7 @@ fn play_plans<H, P, S, W: Write>(
     alloc: Global,
     reach: &S,
     form: SeasonForm,
-    game: HostedGame<'_>,
+    game: PlayableGame<'_>,
     plans: &[MatchPlan<'_>],
     writer: &mut Counted<W>,
     console: &Console,
@@ -133,7 +137,7 @@ fn play_plans<H, P, S, W: Write>(
 where
     H: Files + Threads + Wait + Sync,
     P: Player + Drop + Send,
-    S: Reach<P> + TellsShortages + Sync,
+    S: Reach<P> + ReportsShortages + Sync,
     ensures written { IfOk result (λ missing. WritesPlans (S.is_reached reach.now) P.handed game.entry form plans.now missing (W.contents writer.old.stream) (W.contents writer.new.stream)) }
     ensures at_fault { IfErr result (λ fault. WritesPlansUpTo (S.is_reached reach.now) P.handed game.entry form plans.now fault (W.contents writer.old.stream) (W.contents writer.new.stream)) }
 {
@@ -157,7 +161,7 @@ fn play_into_file<H, P, S>(
     alloc: Global,
     reach: &S,
     form: SeasonForm,
-    game: HostedGame<'_>,
+    game: PlayableGame<'_>,
     plans: Vec<MatchPlan<'_>>,
     path: &str,
     console: &Console,
@@ -165,7 +169,7 @@ fn play_into_file<H, P, S>(
 where
     H: LockedFiles + Threads + Wait + Sync,
     P: Player + Drop + Send,
-    S: Reach<P> + TellsShortages + Sync,
+    S: Reach<P> + ReportsShortages + Sync,
     ensures written { IfOk result (λ missing. (left : List MatchPlan) × AreLeft game.entry.game.now (Some path.entry) plans.entry.items left
         × ((before : Option (List ℕ)) × (after : Option (List ℕ)) × WritesPlans (S.is_reached reach.now) P.handed game.entry form left missing before after)) }
     ensures at_fault { IfErr result (λ fault. (IsFileFault Records fault
@@ -200,7 +204,7 @@ fn season<H, P, S, W: Write>(
     alloc: Global,
     reach: &S,
     season: SeasonPlan<'_>,
-    game: HostedGame<'_>,
+    game: PlayableGame<'_>,
     schedule: &[u8],
     writer: &mut Counted<W>,
     console: &Console,
@@ -208,7 +212,7 @@ fn season<H, P, S, W: Write>(
 where
     H: LockedFiles + Threads + Wait + Sync,
     P: Player + Drop + Send,
-    S: Reach<P> + TellsShortages + Sync,
+    S: Reach<P> + ReportsShortages + Sync,
     ensures written { IfOk result (λ missing. WritesSeason (S.is_reached reach.now) P.handed game.entry season.entry schedule.now missing (W.contents writer.old.stream) (W.contents writer.new.stream)) }
     ensures at_fault { IfErr result (WritesSeasonUpTo (S.is_reached reach.now) P.handed game.entry season.entry schedule.now (W.contents writer.old.stream) (W.contents writer.new.stream)) }
 {
@@ -244,13 +248,13 @@ fn check<H, P, S, W: Write>(
     alloc: Global,
     reach: &S,
     plan: &CheckPlan<'_>,
-    game: HostedGame<'_>,
+    game: PlayableGame<'_>,
     writer: &mut Counted<W>,
 ) -> Result<u64, Fault>
 where
     H: Clock + Threads + Wait + Sync,
     P: Player + Explains + Drop + Send,
-    S: Reach<P> + TellsShortages,
+    S: Reach<P> + ReportsShortages,
     ensures clear { OnOk result (S.is_clear reach.now 0) }
     ensures written { IfOk result (λ bad. WritesCheck H (S.is_reached reach.now) P.handed game.entry plan.now bad (W.contents writer.old.stream) (W.contents writer.new.stream)) }
     ensures at_fault { IfErr result (λ fault. (why : CheckFault) × (fault ≡ check_fault why) × EndsEarly H (S.is_reached reach.now) P.handed game.entry plan.now why (W.contents writer.old.stream) (W.contents writer.new.stream)) }
@@ -262,12 +266,12 @@ where
 }
 
 /// Performs a task on a game, and reports on its matches. Returns the number of matches without a record, or of bad answers.
-fn perform_hosted<H, P, S, W: Write>(
+fn perform_match_task<H, P, S, W: Write>(
     rt: &H,
     alloc: Global,
     reach: &S,
-    task: &HostedTask<'_>,
-    game: HostedGame<'_>,
+    task: &MatchTask<'_>,
+    game: PlayableGame<'_>,
     input: &[u8],
     writer: &mut Counted<W>,
     console: &Console,
@@ -275,27 +279,27 @@ fn perform_hosted<H, P, S, W: Write>(
 where
     H: Clock + LockedFiles + Threads + Wait + Sync,
     P: Player + Explains + Drop + Send,
-    S: Reach<P> + TellsShortages + Sync,
+    S: Reach<P> + ReportsShortages + Sync,
     ensures written { IfOk result (λ count. WritesTask H (is_logged_reached H (S.is_reached reach.now)) (logged_handed H P.handed) game.entry task.now input.now count (W.contents writer.old.stream) (W.contents writer.new.stream)) }
     ensures at_fault { IfErr result (WritesTaskUpTo H (is_logged_reached H (S.is_reached reach.now)) (logged_handed H P.handed) game.entry task.now input.now (W.contents writer.old.stream) (W.contents writer.new.stream)) }
 {
     let logging = Logging {
         rt,
         reach,
-        telling: console.telling(),
+        reporting: console.reporting(),
         notices: &console.notices,
-        is_alone: matches!(task, HostedTask::Check(_)),
+        is_alone: matches!(task, MatchTask::Check(_)),
     };
     match task {
-        HostedTask::Run(plan) => {
+        MatchTask::Run(plan) => {
             console.plan(rt, 1);
             run::<H, LoggedPlayer<'_, H, P>, _, W>(rt, alloc, &logging, plan, game, writer)?;
             Ok(0)
         }
-        HostedTask::Season(plan) => season::<H, LoggedPlayer<'_, H, P>, _, W>(
+        MatchTask::Season(plan) => season::<H, LoggedPlayer<'_, H, P>, _, W>(
             rt, alloc, &logging, *plan, game, input, writer, console,
         ),
-        HostedTask::Check(plan) => {
+        MatchTask::Check(plan) => {
             console.plan(rt, game.game.roles());
             check::<H, LoggedPlayer<'_, H, P>, _, W>(rt, alloc, &logging, plan, game, writer)
         }
@@ -307,8 +311,8 @@ fn perform_beside_notices<H, P, S, W: Write, E: Write + Send>(
     rt: &H,
     alloc: Global,
     reach: &S,
-    task: &HostedTask<'_>,
-    game: HostedGame<'_>,
+    task: &MatchTask<'_>,
+    game: PlayableGame<'_>,
     input: &[u8],
     writer: &mut Counted<W>,
     console: &Console,
@@ -317,7 +321,7 @@ fn perform_beside_notices<H, P, S, W: Write, E: Write + Send>(
 where
     H: Clock + LockedFiles + Threads + Wait + Sync,
     P: Player + Explains + Drop + Send,
-    S: Reach<P> + TellsShortages + Sync,
+    S: Reach<P> + ReportsShortages + Sync,
     ensures written { IfOk result (λ count. WritesTask H (is_logged_reached H (S.is_reached reach.now)) (logged_handed H P.handed) game.entry task.now input.now count (W.contents writer.old.stream) (W.contents writer.new.stream)) }
     ensures at_fault { IfErr result (EndsTask H (is_logged_reached H (S.is_reached reach.now)) (logged_handed H P.handed) game.entry task.now input.now (W.contents writer.old.stream) (W.contents writer.new.stream)) }
 {
@@ -337,7 +341,7 @@ where
             if scope.spawn(writing).is_err() {
                 return (Err(Fault::Memory), writer);
             }
-            let performed = perform_hosted::<H, P, S, W>(
+            let performed = perform_match_task::<H, P, S, W>(
                 rt, alloc, reach, task, game, input, writer, console,
             );
             console.notices.close(rt);
@@ -350,13 +354,13 @@ where
 /// Plays matches of a game and reports on them: each message if that is wanted, otherwise the progress if `errors` is a terminal. No match
 /// waits for a reader of the reports. Returns the number of matches without a record, or of bad answers. Hands the output back, so its
 /// content is known.
-pub fn hold_matches<'w, N: Outlet, H, P, S, W: Write, E: Write + Send>(
+pub fn play_with_reports<'w, N: WriterBrand, H, P, S, W: Write, E: Write + Send>(
     rt: &H,
     alloc: Global,
     reach: &S,
     is_logged: bool,
-    task: &HostedTask<'_>,
-    game: HostedGame<'_>,
+    task: &MatchTask<'_>,
+    game: PlayableGame<'_>,
     input: &[u8],
     writer: &'w mut Counted<W>,
     errors: &mut E,
@@ -365,7 +369,7 @@ pub fn hold_matches<'w, N: Outlet, H, P, S, W: Write, E: Write + Send>(
 where
     H: Clock + LockedFiles + Threads + Wait + Sync,
     P: Player + Explains + Drop + Send,
-    S: Reach<P> + TellsShortages + Sync,
+    S: Reach<P> + ReportsShortages + Sync,
     requires picked { N.name ≡ writer.ghost_name }
     ensures output { result.1.ghost_name ≡ writer.entry.ghost_name }
     ensures written { IfOk result.0 (λ count. WritesTask H (is_logged_reached H (S.is_reached reach.now)) (logged_handed H P.handed) game.entry task.now input.now count (W.contents writer.entry.now.stream) (W.contents result.1.now.stream)) }
@@ -383,7 +387,7 @@ where
         output: writer,
         status: &stream,
         shares_terminal: terminals.output && terminals.errors && !is_logged,
-        outlet: PhantomData,
+        brand: PhantomData,
     });
     let performed = perform_beside_notices::<H, P, S, ClearedOutput<'_, 'w, N, H, W, &mut E>, E>(
         rt,

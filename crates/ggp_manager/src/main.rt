@@ -6,7 +6,7 @@ ghost use Rattle.std.specs.Prelude.{◌<◌};
 use game_core::Counted;
 use ggp_commands::{Fault, Terminals, command, report};
 use match_plans::MAX_SCHEDULED;
-use network_players::{Signal, SocketPlayer, Sockets};
+use network_players::{RoundSignal, SocketPlayer, Sockets};
 use process_streams::{ERRORS, FILE_SIZE, INPUT, OUTPUT, Standard, hold_closed, limit_of};
 use std::io::{ErrorKind, IsTerminal, Write};
 use std::os::fd::AsFd;
@@ -53,7 +53,7 @@ fn main(rt: HostRuntime) -> ExitCode {
             return ended(&mut rt.stderr(), fault);
         }
     };
-    let Ok(signals) = Signal::many(rt.alloc(), places(&words)) else {
+    let Ok(signals) = RoundSignal::many(rt.alloc(), places(&words)) else {
         return ended(&mut rt.stderr(), Fault::Memory);
     };
     let limit = limit_of(&rt, rt.alloc(), FILE_SIZE);

@@ -1,11 +1,13 @@
 -- The size of a description against the limits.
 use Rattle.std.proofs.Common.{◌≡◌, ℕ, ◌<◌, ◌≤◌, true, false, ◌&&◌, nat_le, List, [], ◌∷◌, length, map, refl, sym, ap, ◌∙◌, arith}
 use Rattle.std.proofs.lemmas.Bool.Decides.{nat_tests}
+use Rattle.game_core.specs.Limits.{max_sentences, max_atomic_sentences}
+use Rattle.game_core.specs.declared.limits.Limits.{Limits}
 use Rattle.game_core.specs.Play.{max_roles}
 use Rattle.rule_sentences.specs.declared.sentence.Derived.{Derived}
-use Rattle.ground_rules.specs.Lawfulness.Bools.{and-both}
+use Rattle.ground_rules.specs.Lawfulness.Bools.{and-both, and-right}
 use Rattle.rule_sentences.specs.Descriptions.{Description, each_once, role_names, heads, moves_in}
-use Rattle.rule_sentences.specs.Sizes.{max_sentences, max_atomic_sentences, max_moves, same_atomic, atomics, have_few_moves, is_small}
+use Rattle.rule_sentences.specs.Sizes.{max_moves, same_atomic, atomics, have_few_moves, is_small}
 use Rattle.ground_rules.specs.Internal.GameParts.{is_small_so_far, have_few_moves_by}
 use Rattle.ground_rules.specs.Internal.Resolved.{NameTable, role_table, with_mention, mentions_by}
 use Rattle.ground_rules.specs.declared.tables.Mention.{Mention}
@@ -19,17 +21,23 @@ more m n lt = grind (arith, nat_tests)
 most : (m n : ℕ) → m ≤ n → nat_le m n ≡ true
 most m n le = grind (arith, nat_tests)
 
-pub too-many-sentences : (n : ℕ) (d : Description) → max_sentences < n → is_small n d ≡ false
-too-many-sentences n d lt = and_left _ _ (and_left _ _ (and_left (nat_le n max_sentences) _ (more n max_sentences lt)))
+pub too-many-sentences : (limits : Limits) (n : ℕ) (d : Description) → (max_sentences limits) < n → is_small limits n d ≡ false
+too-many-sentences limits n d lt = and_left _ _ (and_left _ _ (and_left (nat_le n (max_sentences limits)) _ (more n (max_sentences limits) lt)))
 
-pub too-many-atomics : (n : ℕ) (d : Description) → nat_le (length (each_once same_atomic (atomics d))) max_atomic_sentences ≡ false → is_small n d ≡ false
-too-many-atomics n d many = and_left _ _ (and_left _ _ (and_right (nat_le n max_sentences) _ many))
+pub too-many-atomics : (limits : Limits) (n : ℕ) (d : Description) → nat_le (length (each_once same_atomic (atomics d))) (max_atomic_sentences limits) ≡ false → is_small limits n d ≡ false
+too-many-atomics limits n d many = and_left _ _ (and_left _ _ (and_right (nat_le n (max_sentences limits)) _ many))
 
-pub too-many-roles : (n k : ℕ) (d : Description) → k ≡ length (role_names d) → max_roles < k → is_small n d ≡ false
-too-many-roles n k d e lt = and_left _ _ (and_right (nat_le n max_sentences && nat_le (length (each_once same_atomic (atomics d))) max_atomic_sentences) _ (more (length (role_names d)) max_roles (omega (arith, e, lt))))
+pub too-many-roles : (limits : Limits) (n k : ℕ) (d : Description) → k ≡ length (role_names d) → max_roles < k → is_small limits n d ≡ false
+too-many-roles limits n k d e lt = and_left _ _ (and_right (nat_le n (max_sentences limits) && nat_le (length (each_once same_atomic (atomics d))) (max_atomic_sentences limits)) _ (more (length (role_names d)) max_roles (omega (arith, e, lt))))
 
-pub few-so-far : (n m : ℕ) (d : Description) → n ≤ max_sentences → nat_le (length (each_once same_atomic (atomics d))) max_atomic_sentences ≡ true → m ≡ length (role_names d) → m ≤ max_roles → is_small_so_far n d ≡ true
-few-so-far n m d le few f le' = and-both _ _ (and-both _ _ (most n max_sentences le) few) (most _ max_roles (omega (arith, f, le')))
+pub few-so-far : (limits : Limits) (n m : ℕ) (d : Description) → n ≤ (max_sentences limits) → nat_le (length (each_once same_atomic (atomics d))) (max_atomic_sentences limits) ≡ true → m ≡ length (role_names d) → m ≤ max_roles → is_small_so_far limits n d ≡ true
+few-so-far limits n m d le few f le' = and-both _ _ (and-both _ _ (most n (max_sentences limits) le) few) (most _ max_roles (omega (arith, f, le')))
+
+at-most : (m n : ℕ) → nat_le m n ≡ true → m ≤ n
+at-most m n h = grind (arith, nat_tests)
+
+pub few-roles-so-far : (limits : Limits) (n : ℕ) (d : Description) → is_small_so_far limits n d ≡ true → length (role_names d) ≤ max_roles
+few-roles-so-far limits n d so_far = at-most (length (role_names d)) max_roles (and-right (nat_le n (max_sentences limits) && nat_le (length (each_once same_atomic (atomics d))) (max_atomic_sentences limits)) _ so_far)
 
 one-more : (terms : List (List ℕ)) (n : ℕ) (o : Option (List ℕ)) (ms : List Mention) (ts : List (List ℕ)) → length ms ≡ length ts → length (with_mention terms n o ms) ≡ length (with_text o ts)
 one-more terms n (Some t) ms ts e = ap suc e
@@ -49,7 +57,7 @@ few-moves t d (n ∷ ns) same =
     cc
 
 -- the moves decide the rest
-pub small-by-moves : (n : ℕ) (t : NameTable) (d : Description) → t.heads ≡ heads d → t.roles ≡ role_names d → is_small_so_far n d ≡ true → is_small n d ≡ have_few_moves_by (map (role_table t) t.roles)
-small-by-moves n t d same roles so_far =
+pub small-by-moves : (limits : Limits) (n : ℕ) (t : NameTable) (d : Description) → t.heads ≡ heads d → t.roles ≡ role_names d → is_small_so_far limits n d ≡ true → is_small limits n d ≡ have_few_moves_by (map (role_table t) t.roles)
+small-by-moves limits n t d same roles so_far =
     let e : have_few_moves_by (map (role_table t) t.roles) ≡ have_few_moves (role_names d) d = few-moves t d t.roles same ∙ ap (λ ns. have_few_moves ns d) roles in
     ap (λ b. b && have_few_moves (role_names d) d) so_far ∙ sym e

@@ -1,6 +1,7 @@
 -- What loading returns.
 use Rattle.std.specs.Prelude.{ℕ, ◌≡◌, ◌≢◌, true, false, List, [], length}
 use Rattle.game_core.specs.Expression.{Expression}
+use Rattle.game_core.specs.declared.limits.Limits.{Limits}
 use Rattle.rule_sentences.specs.declared.fault.LoadFault.{LoadFault}
 use Rattle.rule_sentences.specs.declared.fault.LoadFault.TheVariants.{Variable, BadForm, Misplaced, NoRole, RoleTwice, TooLarge, Cyclic, Depends, Memory}
 use Rattle.rule_sentences.specs.Descriptions.{Description, role_names, are_different}
@@ -14,29 +15,29 @@ pub record HasRoles (d : Description) : Type 0 where
   pub some' : role_names d ≢ []
   pub differ : are_different (role_names d) ≡ true
 
--- the first fault of a description with this number of sentences
-abbrev pub IsDescriptionFault : ℕ → Description → LoadFault → Type 0
-IsDescriptionFault n d NoRole = role_names d ≡ []
-IsDescriptionFault n d RoleTwice = (role_names d ≢ []) × (are_different (role_names d) ≡ false)
-IsDescriptionFault n d TooLarge = HasRoles d × (is_small n d ≡ false)
-IsDescriptionFault n d Cyclic = HasRoles d × (is_small n d ≡ true) × ¬ (IsAcyclic d)
-IsDescriptionFault n d Depends = HasRoles d × (is_small n d ≡ true) × IsAcyclic d × HasBarredHead d
-IsDescriptionFault n d Memory = Unit {0}
-IsDescriptionFault n d (Variable i) = ⊥
-IsDescriptionFault n d (BadForm i) = ⊥
-IsDescriptionFault n d (Misplaced i) = ⊥
+-- the first fault of a description with this number of sentences, by these limits
+abbrev pub IsDescriptionFault : Limits → ℕ → Description → LoadFault → Type 0
+IsDescriptionFault limits n d NoRole = role_names d ≡ []
+IsDescriptionFault limits n d RoleTwice = (role_names d ≢ []) × (are_different (role_names d) ≡ false)
+IsDescriptionFault limits n d TooLarge = HasRoles d × (is_small limits n d ≡ false)
+IsDescriptionFault limits n d Cyclic = HasRoles d × (is_small limits n d ≡ true) × ¬ (IsAcyclic d)
+IsDescriptionFault limits n d Depends = HasRoles d × (is_small limits n d ≡ true) × IsAcyclic d × HasBarredHead d
+IsDescriptionFault limits n d Memory = Unit {0}
+IsDescriptionFault limits n d (Variable i) = ⊥
+IsDescriptionFault limits n d (BadForm i) = ⊥
+IsDescriptionFault limits n d (Misplaced i) = ⊥
 
--- a description with this number of sentences, without fault
-pub record IsSound (n : ℕ) (d : Description) : Type 0 where
+-- a description with this number of sentences, without fault by these limits
+pub record IsSound (limits : Limits) (n : ℕ) (d : Description) : Type 0 where
   pub roles : HasRoles d
-  pub small : is_small n d ≡ true
+  pub small : is_small limits n d ≡ true
   pub acyclic : IsAcyclic d
   pub independent : ¬ (HasBarredHead d)
 
--- the first fault of expressions, which have no capitals
-abbrev pub IsLoadFault : List Expression → LoadFault → Type 0
-IsLoadFault xs (Variable i) = IsSentenceFault xs (Variable i)
-IsLoadFault xs (BadForm i) = IsSentenceFault xs (BadForm i)
-IsLoadFault xs (Misplaced i) = IsSentenceFault xs (Misplaced i)
-IsLoadFault xs Memory = Unit {0}
-IsLoadFault xs e = AreSentences xs × IsDescriptionFault (length xs) (description_of xs) e
+-- the first fault of expressions by these limits; the expressions have no capitals
+abbrev pub IsLoadFault : Limits → List Expression → LoadFault → Type 0
+IsLoadFault limits xs (Variable i) = IsSentenceFault xs (Variable i)
+IsLoadFault limits xs (BadForm i) = IsSentenceFault xs (BadForm i)
+IsLoadFault limits xs (Misplaced i) = IsSentenceFault xs (Misplaced i)
+IsLoadFault limits xs Memory = Unit {0}
+IsLoadFault limits xs e = AreSentences xs × IsDescriptionFault limits (length xs) (description_of xs) e

@@ -1,5 +1,5 @@
 //! The game of a ground description.
-ghost use Rattle.std.specs.Prelude.{◌≡◌, length};
+ghost use Rattle.std.specs.Prelude.{◌≡◌};
 ghost use Rattle.kif_text.specs.View.{views};
 
 use crate::evaluate::{evaluate, pass};
@@ -116,10 +116,10 @@ impl GroundGame {
     ghost use Rattle.kif_text.specs.View.{view as expression};
     ghost use Rattle.numbered_rules.specs.Numbered.{rules_of};
     ghost use Rattle.ground_rules.specs.Internal.Resolved.{table_of};
-    ghost use Rattle.rule_sentences.specs.SentenceFaults.{AreSentences, description_of};
+    ghost use Rattle.rule_sentences.specs.SentenceFaults.{description_of};
+    ghost use Rattle.ground_rules.specs.Described.{IsGameOf};
     ghost use Rattle.ground_rules.specs.Internal.GameParts.{AreGameParts};
-    ghost use Rattle.ground_rules.specs.Loaded.{IsLoaded};
-    ghost use Rattle.ground_rules.specs.LoadedGame.{settled};
+    ghost use Rattle.ground_rules.specs.LoadedGame.{loaded_game, settled};
     ghost use Rattle.ground_rules.specs.GroundGames.{sentences_of, tables_of};
 
     /// The state with this row of terms.
@@ -136,9 +136,9 @@ impl GroundGame {
         description: Vec<Expr>,
         parts: GameParts,
     ) -> Result<GroundGame, AllocError>
-        requires sentences { AreSentences (map expression description.items) }
-        requires parts { AreGameParts (length (map expression description.items)) (description_of (map expression description.items)) (table_of parts.names) parts.roles.items (rules_of parts.rules.rest.items) (rules_of parts.rules.turn.items) }
-        ensures { IfOk result (IsLoaded (map expression description.items)) }
+        requires { AreGameParts (description_of (map expression description.items)) (table_of parts.names) parts.roles.items (rules_of parts.rules.rest.items) (rules_of parts.rules.turn.items) }
+        ensures game { IfOk result (λ g. IsGameOf (description_of (map expression description.items)) (loaded_game (tables_of g))) }
+        ensures description { IfOk result (λ g. sentences_of g ≡ map expression description.items) }
     {
         let GameParts {
             names,

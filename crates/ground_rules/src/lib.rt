@@ -1,7 +1,7 @@
 //! Games by their rules: ground GDL descriptions.
 //!
 //! `load` makes the game of a description, which is a list of KIF expressions, or names its first
-//! fault. What it makes is a `Game` of `game_core`, for all that plays games.
+//! fault. `load_within` does the same by limits that the caller gives. What it makes is a `Game` of `game_core`, for all that plays games.
 //!
 //! A state keeps the truth of the derived atoms that do not depend on moves, so `legal`, `terminal` and
 //! `goal` only look it up. `next` starts from there and evaluates the other rules. Then it evaluates
@@ -24,6 +24,6 @@ pub mod vocabulary;
 
 pub use evaluate::makes;
 pub use ground_game::GroundGame;
-pub use load_game::{load, load_own};
+pub use load_game::{load, load_within};
 pub use rule_sentences::LoadFault;
 pub use state::{GroundMove, GroundState};

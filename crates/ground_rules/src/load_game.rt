@@ -2,38 +2,47 @@
 ghost use Rattle.std.specs.Prelude.{map};
 ghost use Rattle.game_core.specs.Expression.{folded};
 ghost use Rattle.kif_text.specs.View.{view as expression};
-ghost use Rattle.ground_rules.specs.Loaded.{IsLoadAnswer};
+ghost use Rattle.ground_rules.specs.Loaded.{IsLoadAnswer, IsLoadAnswerWithin};
 
 use crate::ground_game::GroundGame;
 use crate::loading::game_parts;
+use game_core::Limits;
 use kif_text::{Expr, folded_copies};
 use rule_sentences::{LoadFault, fold_each, read_rules};
 use std::alloc::Global;
 
-/// The game of a description without capitals, or its first fault.
-fn load_folded(alloc: Global, description: Vec<Expr>) -> Result<GroundGame, LoadFault>
-    ensures { IsLoadAnswer (map expression description.items) result }
+/// The game of a description without capitals, or its first fault by these limits.
+fn load_folded(
+    alloc: Global,
+    limits: Limits,
+    description: Vec<Expr>,
+) -> Result<GroundGame, LoadFault>
+    ensures { IsLoadAnswerWithin limits (map expression description.items) result }
 {
     let rules = read_rules(alloc, &description)?;
-    let parts = game_parts(alloc, description.len(), &rules)?;
+    let parts = game_parts(alloc, limits, description.len(), &rules)?;
     Ok(GroundGame::new(alloc, description, parts)?)
 }
 
 /// The game of a ground description: facts and rules of GDL without variables, in any case of
-/// letters. Sentences are numbered from 0. Faults are found in the order of `LoadFault`, each over
-/// all sentences before the next.
+/// letters, within the usual limits. Sentences are numbered from 0. Faults are found in the order of
+/// `LoadFault`, each over all sentences before the next.
 pub fn load(alloc: Global, sentences: &[Expr]) -> Result<GroundGame, LoadFault>
     ensures { IsLoadAnswer (map folded (map expression sentences.now)) result }
 {
     let description = folded_copies(alloc, sentences)?;
-    load_folded(alloc, description)
+    load_folded(alloc, Limits::Usual, description)
 }
 
-/// What `load` returns. The game keeps these sentences, whereas `load` makes copies.
-pub fn load_own(alloc: Global, sentences: Vec<Expr>) -> Result<GroundGame, LoadFault>
-    ensures { IsLoadAnswer (map folded (map expression sentences.items)) result }
+/// What `load` returns, by these limits. The game keeps these sentences, whereas `load` makes copies.
+pub fn load_within(
+    alloc: Global,
+    limits: Limits,
+    sentences: Vec<Expr>,
+) -> Result<GroundGame, LoadFault>
+    ensures { IsLoadAnswerWithin limits (map folded (map expression sentences.items)) result }
 {
     let mut description = sentences;
     fold_each(&mut description);
-    load_folded(alloc, description)
+    load_folded(alloc, limits, description)
 }

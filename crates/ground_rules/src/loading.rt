@@ -5,7 +5,7 @@ ghost use Rattle.ground_rules.specs.Acyclic.{IsAcyclic};
 ghost use Rattle.numbered_rules.specs.Numbered.{rules_of as numbered_rules, numbered, row_after, unset};
 ghost use Rattle.ground_rules.specs.Internal.Resolved.{table_of, role_table};
 ghost use Rattle.ground_rules.specs.Internal.Barred.{barred_by, has_barred};
-ghost use Rattle.ground_rules.specs.Loading.{HasRoles, IsDescriptionFault};
+ghost use Rattle.ground_rules.specs.Loading.{HasRoles, IsDescriptionFault, IsSound};
 ghost use Rattle.rule_sentences.specs.Descriptions.{Description};
 ghost use Rattle.ground_rules.specs.Dependence.{HasBarredHead};
 ghost use Rattle.ground_rules.specs.Internal.GameParts.{IsTestOf, IsTableOf, is_small_so_far, have_few_moves_by, AreRankedOf, AreGameParts};
@@ -15,14 +15,14 @@ ghost use Rattle.numbered_rules.specs.Exposed.{exposed_rules};
 use crate::names::{TermKind, head_terms, heads, role_names};
 use crate::resolve::{Names, resolve_rules};
 use crate::tables::{Role, goal_heads, legal_mentions};
-use game_core::{MAX_ROLES, Text};
+use game_core::{Limits, MAX_ROLES, Text};
 use numbered_rules::dependence::dependence;
 use numbered_rules::rank::rank;
 use numbered_rules::split::{SplitRules, split};
 use numbered_rules::{Row, needs_of, numbered, sort_by_rank};
 use rule_sentences::LoadFault;
 use rule_sentences::sentence::{Derived, Rule};
-use rule_sentences::sizes::{MAX_MOVES, MAX_SENTENCES, have_few_atomic_sentences};
+use rule_sentences::sizes::{MAX_MOVES, have_few_atomic_sentences};
 use std::alloc::{AllocError, Global};
 
 fn role_of(alloc: Global, names: &Names, name: &Text) -> Result<Role, AllocError>
@@ -80,15 +80,20 @@ fn has_barred(heads: &[Derived], on_moves: &Row, on_given: &Row) -> bool
 
 /// The tables of names of a description with this number of sentences, or its first fault in roles or
 /// size. The numbers of moves are tested later.
-fn names_of(alloc: Global, sentences: usize, rules: &[Rule]) -> Result<Names, LoadFault>
+fn names_of(
+    alloc: Global,
+    limits: Limits,
+    sentences: usize,
+    rules: &[Rule],
+) -> Result<Names, LoadFault>
     ensures table { IfOk result (λ t. IsTableOf (rules_of rules.now) (table_of t)) }
     ensures roles { IfOk result (λ _. HasRoles (rules_of rules.now)) }
-    ensures small { IfOk result (λ _. is_small_so_far sentences (rules_of rules.now) ≡ true) }
-    ensures fault { IfErr result (IsDescriptionFault sentences (rules_of rules.now)) }
+    ensures small { IfOk result (λ _. is_small_so_far limits sentences (rules_of rules.now) ≡ true) }
+    ensures fault { IfErr result (IsDescriptionFault limits sentences (rules_of rules.now)) }
 {
     let roles = role_names(alloc, rules)?;
-    let few_atomics = have_few_atomic_sentences(alloc, rules)?;
-    if sentences > MAX_SENTENCES || !few_atomics || roles.len() > MAX_ROLES {
+    let few_atomics = have_few_atomic_sentences(alloc, rules, limits)?;
+    if sentences > limits.sentences() || !few_atomics || roles.len() > MAX_ROLES {
         return Err(LoadFault::TooLarge);
     }
     let heads = heads(alloc, rules)?;
@@ -159,12 +164,18 @@ pub struct GameParts {
     pub rules: SplitRules,
 }
 
-/// The parts of the game of a description with this number of sentences, or its first fault.
-pub fn game_parts(alloc: Global, sentences: usize, rules: &[Rule]) -> Result<GameParts, LoadFault>
-    ensures parts { IfOk result (λ p. AreGameParts sentences (rules_of rules.now) (table_of p.names) p.roles.items (numbered_rules p.rules.rest.items) (numbered_rules p.rules.turn.items)) }
-    ensures fault { IfErr result (IsDescriptionFault sentences (rules_of rules.now)) }
+/// The parts of the game of a description with this number of sentences, or its first fault by these limits.
+pub fn game_parts(
+    alloc: Global,
+    limits: Limits,
+    sentences: usize,
+    rules: &[Rule],
+) -> Result<GameParts, LoadFault>
+    ensures sound { IfOk result (λ _. IsSound limits sentences (rules_of rules.now)) }
+    ensures parts { IfOk result (λ p. AreGameParts (rules_of rules.now) (table_of p.names) p.roles.items (numbered_rules p.rules.rest.items) (numbered_rules p.rules.turn.items)) }
+    ensures fault { IfErr result (IsDescriptionFault limits sentences (rules_of rules.now)) }
 {
-    let names = names_of(alloc, sentences, rules)?;
+    let names = names_of(alloc, limits, sentences, rules)?;
     let roles = roles_of(alloc, &names)?;
     if !have_few_moves(&roles) {
         return Err(LoadFault::TooLarge);

@@ -1,6 +1,7 @@
 //! The names of a description: its roles, the derived atoms at its heads and the terms of its states
 //! and moves, each numbered by its place in a table.
 ghost use Rattle.std.specs.Prelude.{◌≡◌, ℕ, not, true, IfOk, IfErr, OnOk, [], bytes_eq, ◌≢◌};
+ghost use Rattle.game_core.specs.declared.limits.Limits.{Limits};
 ghost use Rattle.rule_sentences.specs.SentenceViews.{rules_of};
 ghost use Rattle.rule_sentences.specs.Descriptions.{with_new, same_derived, role_names, name_in, heads, is_among, are_different};
 ghost use Rattle.std.specs.List.{list_any};
@@ -51,7 +52,7 @@ pub fn role_names(alloc: Global, rules: &[Rule]) -> Result<IndexSet<Text>, LoadF
     ensures names { IfOk result (λ s. s.keys ≡ role_names (rules_of rules.now)) }
     ensures differ { IfOk result (λ _. are_different (role_names (rules_of rules.now)) ≡ true) }
     ensures some { IfOk result (λ _. role_names (rules_of rules.now) ≢ []) }
-    ensures fault { IfErr result (λ e. (n : ℕ) → IsDescriptionFault n (rules_of rules.now) e) }
+    ensures fault { IfErr result (λ e. (limits : Limits) (n : ℕ) → IsDescriptionFault limits n (rules_of rules.now) e) }
 {
     let mut names = IndexSet::new(alloc);
     for rule in rules {

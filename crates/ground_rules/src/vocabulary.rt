@@ -54,7 +54,7 @@ impl Vocabulary {
         names: Names,
         roles: Vec<Role>,
     ) -> Result<Vocabulary, AllocError>
-        requires { AreNamesOf (length (map expression description.items)) (description_of (map expression description.items)) (table_of names) roles.items }
+        requires { AreNamesOf (description_of (map expression description.items)) (table_of names) roles.items }
         ensures { IfOk result (IsVocabularyOf description.items roles.items (table_of names)) }
     {
         let heads = names.heads.as_slice();

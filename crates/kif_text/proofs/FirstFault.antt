@@ -5,8 +5,7 @@ use Rattle.std.proofs.lemmas.Bool.{eqb-true, eqb-false, ne_eqb, eq-eqb, cases_lt
 use Rattle.std.proofs.lemmas.Bool.Decides.{nat_tests}
 use Rattle.game_core.specs.Bytes.{line_feed, space, left_parenthesis, right_parenthesis, semicolon, is_white, is_atom_byte}
 use Rattle.game_core.specs.Expression.{Expressions, max_depth}
-use Rattle.kif_text.specs.Spelling.{max_length}
-use Rattle.kif_text.specs.Faults.{is_inside, bare_from, bare, is_known, opened, closed, level, StandsAt, IsClear, IsFirst, StaysOpen, IsUnclosed, IsFault}
+use Rattle.kif_text.specs.Faults.{is_inside, bare_from, bare, is_known, opened, closed, level, StandsAt, IsClear, IsFirst, StaysOpen, IsUnclosed, IsFaultUpTo}
 use Rattle.kif_text.specs.Machine.{Open, State, start, ◌>>=◌, with_word, flushed, close_on, act, step, run, finish_on, finish, read}
 use Rattle.kif_text.specs.declared.fault.KifFault.{KifFault}
 use Rattle.kif_text.specs.declared.fault.KifFault.TheVariants.{BadByte, Unopened, TooDeep, Unclosed, Nothing, More, TooLong, Memory}
@@ -298,23 +297,23 @@ open_ends one t (l ∷ ls) xs e k h =
       ),
     )
 
-fault_of : (text : List ℕ) (e : KifFault) → length text ≤ max_length → IsFirst false (bare text) e → IsFault false text e
-fault_of text (BadByte i) le h = (le, h)
-fault_of text (Unopened i) le h = (le, h)
-fault_of text (TooDeep i) le h = (le, h)
-fault_of text (Unclosed i) le h = absurd h.1
-fault_of text Nothing le h = absurd h.1
-fault_of text (More i) le h = (le, h)
-fault_of text TooLong le h = absurd h.1
-fault_of text Memory le h = le
+fault_of : (limit : ℕ) (text : List ℕ) (e : KifFault) → length text ≤ limit → IsFirst false (bare text) e → IsFaultUpTo limit false text e
+fault_of limit text (BadByte i) le h = (le, h)
+fault_of limit text (Unopened i) le h = (le, h)
+fault_of limit text (TooDeep i) le h = (le, h)
+fault_of limit text (Unclosed i) le h = absurd h.1
+fault_of limit text Nothing le h = absurd h.1
+fault_of limit text (More i) le h = (le, h)
+fault_of limit text TooLong le h = absurd h.1
+fault_of limit text Memory le h = le
 
 -- what is refused has that fault
-pub read_fails : (text : List ℕ) (e : KifFault) → length text ≤ max_length → read max_depth text ≡ Err e → IsFault false text e
-read_fails text e le h =
+pub read_fails : (limit : ℕ) (text : List ℕ) (e : KifFault) → length text ≤ limit → read max_depth text ≡ Err e → IsFaultUpTo limit false text e
+read_fails limit text e le h =
     elim (bind_err (run (step max_depth) start 0 text) finish e h) [
-      | inl p ↦ fault_of text e le (run_fails text (bare text) 0 start e refl (knows_none false (bare text)) p)
+      | inl p ↦ fault_of limit text e le (run_fails text (bare text) 0 start e refl (knows_none false (bare text)) p)
       | inr p ↦ (let s = p.0 in
           let k = run_knows text (bare text) 0 start s refl (omega arith) (knows_none false (bare text)) p.1 in
           let u = open_ends false (bare text) s.levels (with_word s.here s.word) e k p.2 in
-          subst (IsFault false text) (sym u.1) (le, subst (IsClear false (bare text)) (length_bare text false) k.clear, u.2))
+          subst (IsFaultUpTo limit false text) (sym u.1) (le, subst (IsClear false (bare text)) (length_bare text false) k.clear, u.2))
     ]

@@ -3,8 +3,7 @@ use Rattle.std.proofs.Common.{◌≡◌, ℕ, ◌<◌, ◌≤◌, List, length, 
 use Rattle.std.proofs.lemmas.Bool.{cases_lt, eqb-true, and_parts, true≢false}
 use Rattle.game_core.specs.Bytes.{left_parenthesis, right_parenthesis, is_white, is_atom_byte}
 use Rattle.game_core.specs.Expression.{max_depth}
-use Rattle.kif_text.specs.Spelling.{max_length}
-use Rattle.kif_text.specs.Faults.{bare, is_known, level, begins, starts, StandsAt, IsClear, IsFirst, IsUnclosed, IsNothing, IsFault}
+use Rattle.kif_text.specs.Faults.{bare, is_known, level, begins, starts, StandsAt, IsClear, IsFirst, IsUnclosed, IsNothing, IsFaultUpTo}
 use Rattle.kif_text.specs.Laws.{OneFaultAtMost}
 use Rattle.kif_text.specs.declared.fault.KifFault.{KifFault}
 use Rattle.kif_text.specs.declared.fault.KifFault.TheVariants.{BadByte, Unopened, TooDeep, Unclosed, Nothing, More, TooLong, Memory}
@@ -133,20 +132,20 @@ end_once t Nothing e h k = absurd k
 end_once t d e h k = absurd h
 
 -- what kind of fault it is
-data Kind (one : Bool) (text : List ℕ) (e : KifFault) : Type 0 where
-  too_long : e ≡ TooLong → max_length < length text → Kind one text e
-  at_place : length text ≤ max_length → IsFirst one (bare text) e → Kind one text e
-  at_end : length text ≤ max_length → IsClear one (bare text) (length text) → StandsAtEnd (bare text) e → Kind one text e
+data Kind (limit : ℕ) (one : Bool) (text : List ℕ) (e : KifFault) : Type 0 where
+  too_long : e ≡ TooLong → limit < length text → Kind limit one text e
+  at_place : length text ≤ limit → IsFirst one (bare text) e → Kind limit one text e
+  at_end : length text ≤ limit → IsClear one (bare text) (length text) → StandsAtEnd (bare text) e → Kind limit one text e
 
-kind_of : (one : Bool) (text : List ℕ) (e : KifFault) → (e ≡ Memory → ⊥) → IsFault one text e → Kind one text e
-kind_of one text (BadByte at) other h = at_place h.0 h.1
-kind_of one text (Unopened at) other h = at_place h.0 h.1
-kind_of one text (TooDeep at) other h = at_place h.0 h.1
-kind_of one text (More at) other h = at_place h.0 h.1
-kind_of one text (Unclosed at) other h = at_end h.0 h.1 h.2
-kind_of one text Nothing other h = at_end h.0 h.2 h.3
-kind_of one text TooLong other h = too_long refl h
-kind_of one text Memory other h = absurd (other refl)
+kind_of : (limit : ℕ) (one : Bool) (text : List ℕ) (e : KifFault) → (e ≡ Memory → ⊥) → IsFaultUpTo limit one text e → Kind limit one text e
+kind_of limit one text (BadByte at) other h = at_place h.0 h.1
+kind_of limit one text (Unopened at) other h = at_place h.0 h.1
+kind_of limit one text (TooDeep at) other h = at_place h.0 h.1
+kind_of limit one text (More at) other h = at_place h.0 h.1
+kind_of limit one text (Unclosed at) other h = at_end h.0 h.1 h.2
+kind_of limit one text Nothing other h = at_end h.0 h.2 h.3
+kind_of limit one text TooLong other h = too_long refl h
+kind_of limit one text Memory other h = absurd (other refl)
 
 not_at_end : (one : Bool) (text : List ℕ) (e : KifFault) → IsFirst one (bare text) e → IsClear one (bare text) (length text) → ⊥
 not_at_end one text e h clear =
@@ -154,16 +153,16 @@ not_at_end one text e h clear =
     let same = length_bare text false in
     clear e h.0 (omega (arith, inside, same)) h.1
 
-same_kind : (one : Bool) (text : List ℕ) (d e : KifFault) → Kind one text d → Kind one text e → d ≡ e
-same_kind one text d e (too_long a h) (too_long b k) = a ∙ sym b
-same_kind one text d e (too_long a h) (at_place le k) = absurd (omega (arith, h, le))
-same_kind one text d e (too_long a h) (at_end le clear k) = absurd (omega (arith, h, le))
-same_kind one text d e (at_place le h) (too_long b k) = absurd (omega (arith, k, le))
-same_kind one text d e (at_place le h) (at_place ge k) = first_once one (bare text) d e h k
-same_kind one text d e (at_place le h) (at_end ge clear k) = absurd (not_at_end one text d h clear)
-same_kind one text d e (at_end le clear h) (too_long b k) = absurd (omega (arith, k, le))
-same_kind one text d e (at_end le clear h) (at_place ge k) = absurd (not_at_end one text e k clear)
-same_kind one text d e (at_end le clear h) (at_end ge other k) = end_once (bare text) d e h k
+same_kind : (limit : ℕ) (one : Bool) (text : List ℕ) (d e : KifFault) → Kind limit one text d → Kind limit one text e → d ≡ e
+same_kind limit one text d e (too_long a h) (too_long b k) = a ∙ sym b
+same_kind limit one text d e (too_long a h) (at_place le k) = absurd (omega (arith, h, le))
+same_kind limit one text d e (too_long a h) (at_end le clear k) = absurd (omega (arith, h, le))
+same_kind limit one text d e (at_place le h) (too_long b k) = absurd (omega (arith, k, le))
+same_kind limit one text d e (at_place le h) (at_place ge k) = first_once one (bare text) d e h k
+same_kind limit one text d e (at_place le h) (at_end ge clear k) = absurd (not_at_end one text d h clear)
+same_kind limit one text d e (at_end le clear h) (too_long b k) = absurd (omega (arith, k, le))
+same_kind limit one text d e (at_end le clear h) (at_place ge k) = absurd (not_at_end one text e k clear)
+same_kind limit one text d e (at_end le clear h) (at_end ge other k) = end_once (bare text) d e h k
 
 pub one_fault_at_most : OneFaultAtMost
-one_fault_at_most one text d e other another h k = same_kind one text d e (kind_of one text d other h) (kind_of one text e another k)
+one_fault_at_most limit one text d e other another h k = same_kind limit one text d e (kind_of limit one text d other h) (kind_of limit one text e another k)

@@ -71,7 +71,7 @@ clash text TooLong le wanted clear flat n h = omega (arith, h, le)
 clash text Memory le wanted clear flat n h = wanted refl
 
 -- what a text spells alone within the limits is not refused
-pub one_not_refused : (text : List ℕ) (x : Expression) → SpellsOne text x → HasFault one_expression text → ⊥
+pub one_not_refused : (text : List ℕ) (x : Expression) → SpellsOne text x → HasFault max_length one_expression text → ⊥
 one_not_refused text x spells faulty =
     let readable = spelled_read max_depth text (more x none) spells.spelled (omega (arith, spells.shallow)) in
     let last = bind_ok (run (step max_depth) start 0 text) finish (more x none) readable in
@@ -81,13 +81,13 @@ one_not_refused text x spells faulty =
     let done = finished s.levels s.here (more x none) s.word last.2 in
     clash text faulty.0 spells.short faulty.1 k.clear (whole text s.levels (with_word s.here s.word) (more x none) k last.2) (omega (arith, c.count, done.0)) faulty.2
 
-by_outcome : (text : List ℕ) (r : Result Expression KifFault) → read_single text ≡ r → length text ≤ max_length → ((x : Expression) × SpellsOne text x) ⊎ HasFault one_expression text
+by_outcome : (text : List ℕ) (r : Result Expression KifFault) → read_single text ≡ r → length text ≤ max_length → ((x : Expression) × SpellsOne text x) ⊎ HasFault max_length one_expression text
 by_outcome text (Ok x) h le = (let found = single_found text x h in inl (x, record { short = le; spelled = found.0; shallow = found.1 }))
 by_outcome text (Err e) h le = inr (e, single_not_memory text e le h, single_fault text e le h)
 
-either_one : (text : List ℕ) → ((x : Expression) × SpellsOne text x) ⊎ HasFault one_expression text
+either_one : (text : List ℕ) → ((x : Expression) × SpellsOne text x) ⊎ HasFault max_length one_expression text
 either_one text =
-    elim (cases_lt max_length (length text)) [ inl p ↦ inr (too_long one_expression text p) | inr p ↦ by_outcome text (read_single text) refl p ]
+    elim (cases_lt max_length (length text)) [ inl p ↦ inr (too_long max_length one_expression text p) | inr p ↦ by_outcome text (read_single text) refl p ]
 
 pub one_spelled_or_faulty : OneSpelledOrFaulty
 one_spelled_or_faulty text = record { either = either_one text; not_both = λ spelled faulty. one_not_refused text spelled.0 spelled.1 faulty }

@@ -90,13 +90,17 @@ IsUnclosed t i = (0 < level t (length t)) × StaysOpen t i × ((k : ℕ) → Sta
 abbrev pub IsNothing : List ℕ → Type 0
 IsNothing t = (level t (length t) ≡ 0) × (started t (length t) ≡ 0)
 
--- why a text is refused: its length, or else the fault at the lowest place, or else a fault at its end; or out of memory
+-- why a text is refused that may have at most `limit` bytes: its length, or else the fault at the lowest place, or else a fault at its end; or out of memory
+abbrev pub IsFaultUpTo : ℕ → Bool → List ℕ → KifFault → Type 0
+IsFaultUpTo limit one text (BadByte at) = (length text ≤ limit) × IsFirst one (bare text) (BadByte at)
+IsFaultUpTo limit one text (Unopened at) = (length text ≤ limit) × IsFirst one (bare text) (Unopened at)
+IsFaultUpTo limit one text (TooDeep at) = (length text ≤ limit) × IsFirst one (bare text) (TooDeep at)
+IsFaultUpTo limit one text (More at) = (length text ≤ limit) × IsFirst one (bare text) (More at)
+IsFaultUpTo limit one text (Unclosed at) = (length text ≤ limit) × IsClear one (bare text) (length text) × IsUnclosed (bare text) at
+IsFaultUpTo limit one text Nothing = (length text ≤ limit) × (one ≡ one_expression) × IsClear one (bare text) (length text) × IsNothing (bare text)
+IsFaultUpTo limit one text TooLong = limit < length text
+IsFaultUpTo limit one text Memory = length text ≤ limit
+
+-- the same at the limit of bytes in a text
 abbrev pub IsFault : Bool → List ℕ → KifFault → Type 0
-IsFault one text (BadByte at) = (length text ≤ max_length) × IsFirst one (bare text) (BadByte at)
-IsFault one text (Unopened at) = (length text ≤ max_length) × IsFirst one (bare text) (Unopened at)
-IsFault one text (TooDeep at) = (length text ≤ max_length) × IsFirst one (bare text) (TooDeep at)
-IsFault one text (More at) = (length text ≤ max_length) × IsFirst one (bare text) (More at)
-IsFault one text (Unclosed at) = (length text ≤ max_length) × IsClear one (bare text) (length text) × IsUnclosed (bare text) at
-IsFault one text Nothing = (length text ≤ max_length) × (one ≡ one_expression) × IsClear one (bare text) (length text) × IsNothing (bare text)
-IsFault one text TooLong = max_length < length text
-IsFault one text Memory = length text ≤ max_length
+IsFault one text e = IsFaultUpTo max_length one text e

@@ -3,8 +3,8 @@ use Rattle.std.specs.Prelude.{◌≡◌, ◌≢◌, ◌↔◌, ℕ, ◌<◌, ◌
 use Rattle.game_core.specs.Bytes.{lower, line_feed, semicolon, space}
 use Rattle.game_core.specs.Expression.{Expression, Expressions, none, more, folded, AllHaveAtoms, IsProper}
 use Rattle.game_core.specs.Canonical.{canonical, IsFoldedText}
-use Rattle.kif_text.specs.Spelling.{SpellsText, SpellsAll, SpellsOne, max_length}
-use Rattle.kif_text.specs.Faults.{bare, IsFault, one_expression, any_number}
+use Rattle.kif_text.specs.Spelling.{SpellsText, SpellsUpTo, SpellsOne, max_length}
+use Rattle.kif_text.specs.Faults.{bare, IsFaultUpTo, one_expression, any_number}
 use Rattle.kif_text.specs.Reading.{reading}
 use Rattle.kif_text.specs.declared.fault.KifFault.{KifFault}
 use Rattle.kif_text.specs.declared.fault.KifFault.TheVariants.{Memory}
@@ -30,26 +30,26 @@ CanonicalSpellsAlone = (x : Expression) → IsProper x → SpellsAlone (canonica
 abbrev pub CanonicalUnderDouble : Type 0
 CanonicalUnderDouble = (text : List ℕ) (x : Expression) → SpellsText text (more x none) → length (canonical x) < 2 * length text
 
--- the text has a fault other than out of memory
-abbrev pub HasFault : Bool → List ℕ → Type 0
-HasFault one text = (e : KifFault) × (e ≢ Memory) × IsFault one text e
+-- the text, which may have at most `limit` bytes, has a fault other than out of memory
+abbrev pub HasFault : ℕ → Bool → List ℕ → Type 0
+HasFault limit one text = (e : KifFault) × (e ≢ Memory) × IsFaultUpTo limit one text e
 
--- a text has at most one fault other than out of memory
+-- a text has at most one fault other than out of memory, whatever the limit of bytes
 abbrev pub OneFaultAtMost : Type 0
-OneFaultAtMost = (one : Bool) (text : List ℕ) (d e : KifFault) → d ≢ Memory → e ≢ Memory → IsFault one text d → IsFault one text e → d ≡ e
+OneFaultAtMost = (limit : ℕ) (one : Bool) (text : List ℕ) (d e : KifFault) → d ≢ Memory → e ≢ Memory → IsFaultUpTo limit one text d → IsFaultUpTo limit one text e → d ≡ e
 
 -- one of the two, and not both
 pub record EitherOnly (P Q : Type 0) : Type 0 where
   pub either : P ⊎ Q
   pub not_both : P → Q → ⊥
 
--- a text spells expressions within the limits or has a fault, and never both
+-- a text spells expressions within the limits or has a fault, and never both, whatever the limit of bytes
 abbrev pub SpelledOrFaulty : Type 0
-SpelledOrFaulty = (text : List ℕ) → EitherOnly ((xs : Expressions) × SpellsAll text xs) (HasFault any_number text)
+SpelledOrFaulty = (limit : ℕ) (text : List ℕ) → EitherOnly ((xs : Expressions) × SpellsUpTo limit text xs) (HasFault limit any_number text)
 
 -- a text spells one expression within the limits or has a fault, and never both
 abbrev pub OneSpelledOrFaulty : Type 0
-OneSpelledOrFaulty = (text : List ℕ) → EitherOnly ((x : Expression) × SpellsOne text x) (HasFault one_expression text)
+OneSpelledOrFaulty = (text : List ℕ) → EitherOnly ((x : Expression) × SpellsOne text x) (HasFault max_length one_expression text)
 
 -- a semicolon stands at or before place i, and no line feed stands from it up to and including
 -- place i

@@ -34,11 +34,15 @@ SpellsText text xs = (body end : List ℕ) × (text ≡ body ++ end) × Spells b
 abbrev pub max_length : ℕ
 max_length = 1048576
 
--- the text spells these expressions, within the limits of length and depth
-pub record SpellsAll (text : List ℕ) (xs : Expressions) : Type 0 where
-  pub short : length text ≤ max_length
+-- the text has at most `limit` bytes and spells these expressions, within the limit of depth
+pub record SpellsUpTo (limit : ℕ) (text : List ℕ) (xs : Expressions) : Type 0 where
+  pub short : length text ≤ limit
   pub spelled : SpellsText text xs
   pub shallow : depth_all xs ≤ max_depth
+
+-- the text spells these expressions, within the limits of length and depth
+abbrev pub SpellsAll : List ℕ → Expressions → Type 0
+SpellsAll text xs = SpellsUpTo max_length text xs
 
 -- the text spells this one expression, within the limits of length and depth
 pub record SpellsOne (text : List ℕ) (x : Expression) : Type 0 where

@@ -30,7 +30,7 @@ pub enum KifFault {
     /// One expression was expected, but a second one begins here.
     #[error("a second expression begins at {0}")]
     More(usize),
-    /// The text has more than 1,048,576 bytes.
+    /// The text has more bytes than its limit.
     #[error("the text is too long")]
     TooLong,
     /// Out of memory.

@@ -21,7 +21,7 @@ pub fn canonical_under_double()
     ensures { CanonicalUnderDouble }
 {}
 
-/// A text spells expressions within the limits or has a fault, and never both.
+/// Whatever the limit of bytes, a text spells expressions within the limits or has a fault, and never both.
 pub fn spelled_or_faulty()
     ensures { SpelledOrFaulty }
 {}
@@ -31,7 +31,7 @@ pub fn one_spelled_or_faulty()
     ensures { OneSpelledOrFaulty }
 {}
 
-/// A text has at most one fault, apart from `Memory`.
+/// Whatever the limit of bytes, a text has at most one fault, apart from `Memory`.
 pub fn one_fault_at_most()
     ensures { OneFaultAtMost }
 {}

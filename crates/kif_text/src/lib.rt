@@ -20,4 +20,4 @@ pub use expr::{Expr, copy, fold, folded_copies, folded_copy};
 pub use fault::KifFault;
 pub use printing::print;
 pub use reader::is_atom_byte;
-pub use reading::{read_all, read_one};
+pub use reading::{read_all, read_one, read_up_to};

@@ -3,8 +3,8 @@ ghost use Rattle.std.specs.Prelude.{◌≡◌, ◌≢◌, IfOk, IfErr, Some, Non
 ghost use Rattle.game_core.specs.Expression.{Expressions, max_depth};
 ghost use Rattle.kif_text.specs.declared.fault.KifFault.TheVariants.{Memory};
 ghost use Rattle.kif_text.specs.View.{view, views};
-ghost use Rattle.kif_text.specs.Spelling.{SpellsAll, SpellsOne};
-ghost use Rattle.kif_text.specs.Faults.{IsFault, one_expression, any_number};
+ghost use Rattle.kif_text.specs.Spelling.{SpellsAll, SpellsOne, SpellsUpTo};
+ghost use Rattle.kif_text.specs.Faults.{IsFault, IsFaultUpTo, one_expression, any_number};
 ghost use Rattle.kif_text.specs.Machine.{read, read_single};
 ghost use Rattle.kif_text.specs.Internal.Following.{Gives};
 ghost use Rattle.kif_text.specs.Reading.{reading};
@@ -25,7 +25,18 @@ pub fn read_all(alloc: Global, text: &[u8]) -> Result<Vec<Expr>, KifFault>
     ensures refused { IfErr result (λ e. e ≢ Memory
         → (xs : Expressions) → ¬ (SpellsAll text.now xs)) }
 {
-    if text.len() > MAX_LENGTH {
+    read_up_to(alloc, text, MAX_LENGTH)
+}
+
+/// Reads all expressions of the text, of at most `limit` bytes, with at most 64 nested lists.
+pub fn read_up_to(alloc: Global, text: &[u8], limit: usize) -> Result<Vec<Expr>, KifFault>
+    ensures spelled { IfOk result (λ v. SpellsUpTo limit text.now (views v.items)) }
+    ensures fault { IfErr result (IsFaultUpTo limit any_number text.now) }
+    // A text that spells expressions within the limits is refused only when out of memory.
+    ensures refused { IfErr result (λ e. e ≢ Memory
+        → (xs : Expressions) → ¬ (SpellsUpTo limit text.now xs)) }
+{
+    if text.len() > limit {
         return Err(KifFault::TooLong);
     }
     read(alloc, text)

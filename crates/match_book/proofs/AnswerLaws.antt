@@ -57,7 +57,7 @@ not_refused role roles n present over answered e = step (nat_lt role roles) refl
     step true is false true same' true e = absurd cc
     step true is false true same' false e = (less is, same same', refl, refl)
 
-taken : {S M : Type 0} (g : Rules S M) (m : MatchValue M) (role n : ℕ) → refusal g m role n ≡ None → (role < g.roles) × (n ≡ round g m) × (is_over g m ≡ false) × (has_answered g m role ≡ false)
+pub taken : {S M : Type 0} (g : Rules S M) (m : MatchValue M) (role n : ℕ) → refusal g m role n ≡ None → (role < g.roles) × (n ≡ round g m) × (is_over g m ≡ false) × (has_answered g m role ≡ false)
 taken g m role n e = not_refused role g.roles n (round g m) (is_over g m) (has_answered g m role) e
 
 pub taken_for_the_round : {S M : Type 0} (g : Rules S M) → TakenForTheRound g

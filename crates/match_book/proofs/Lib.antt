@@ -9,4 +9,5 @@ pub mod LawfulTurns
 pub mod LawfulMatches
 pub mod KeptMatches
 pub mod AnswerLaws
+pub mod Progress
 mod StrictMatches

@@ -1,5 +1,5 @@
 -- Open answers become a turn.
-use Rattle.std.proofs.Common.{◌≡◌, ℕ, zero, suc, ◌+◌, ◌<◌, Bool, true, false, Option, Some, None, List, [], ◌∷◌, ◌++◌, length, slice_index_or, refl, arith, ap, ◌∙◌}
+use Rattle.std.proofs.Common.{◌≡◌, ℕ, zero, suc, ◌<◌, Bool, true, false, Option, Some, None, List, [], ◌∷◌, ◌++◌, length, slice_index_or, refl, arith, ap, ◌∙◌}
 use Rattle.std.proofs.lemmas.List.{map-append, get_or_default}
 use Rattle.std.specs.Prelude.{is_some, map, option_to_list, slice_get, if◌then◌else◌}
 use Rattle.match_book.specs.declared.judgement.Judgement.{Judgement}

@@ -1,5 +1,5 @@
 -- Laws of the definitions, for a lawful game.
-use Rattle.std.specs.Prelude.{◌≡◌, ◌≢◌, ◌↔◌, ◌⊎◌, ℕ, ◌<◌, ◌≤◌, true, false, List, [], ◌∷◌, ◌++◌, length, Some, None, All, replicate, slice_get, slice_index_or, slice_set}
+use Rattle.std.specs.Prelude.{◌≡◌, ◌≢◌, ◌↔◌, ◌⊎◌, ℕ, ◌+◌, ◌<◌, ◌≤◌, true, false, List, [], ◌∷◌, ◌++◌, length, Some, None, All, replicate, slice_get, slice_index_or, slice_set}
 use Rattle.game_core.specs.Canonical.{IsFoldedText}
 use Rattle.game_core.specs.Play.{Rules, AreLegal}
 use Rattle.match_book.specs.Roles.{every_role, is_there, blank}
@@ -8,9 +8,10 @@ use Rattle.match_book.specs.Judgement.{judgement}
 use Rattle.match_book.specs.MatchValue.{MatchValue, state_after, joint_moves, is_error}
 use Rattle.match_book.specs.Retirement.{are_all_retired}
 use Rattle.match_book.specs.RoleStrikes.{AreStrikes, after_turn, unstruck}
-use Rattle.match_book.specs.Phase.{stage, round, has_answered, has_no_goal, has_no_move, is_playing, max_turns}
+use Rattle.match_book.specs.Phase.{stage, round, has_answered, has_no_goal, has_no_move, is_over, is_playing, max_turns}
 use Rattle.match_book.specs.Lawful.{IsLawfulTurn, AreLawful, IsLawfulMatch}
 use Rattle.match_book.specs.Steps.{new_match, refusal, turn_of, part, parts, after_answer, after_abort}
+use Rattle.match_book.specs.Rounds.{after_rounds}
 use Rattle.desk_calls.specs.declared.setup.Setup.{Setup}
 use Rattle.desk_calls.specs.declared.answer.Answer.{Answer}
 use Rattle.desk_calls.specs.declared.answer.Answer.TheVariants.{Text, Silent, Broken}
@@ -128,6 +129,11 @@ StoppingMeans {S} {M} g = (m : MatchValue M) → (stage g m ≡ Stopping) ↔ Ha
 -- in a round of play that has just begun, some role has not answered
 abbrev pub BegunRoundsAreOpen : {S M : Type 0} → Rules S M → Type 0
 BegunRoundsAreOpen {S} {M} g = (m : MatchValue M) → is_playing (stage g m) ≡ true → m.open_answers ≡ blank g.roles → every_role g.roles (has_answered g m) ≡ false
+
+-- A lawful match is over once every role has answered in as many rounds as there may be turns, and in two more: for START, and for STOP
+-- or ABORT. An answer that is refused counts as one that is given.
+abbrev pub RoundsEnd : {S M : Type 0} → Rules S M → Type 0
+RoundsEnd {S} {M} g = (m : MatchValue M) (answers : ℕ → ℕ → Answer) (rounds : ℕ) → IsLawfulMatch g m → max_turns + 2 ≤ rounds → is_over g (after_rounds g m answers rounds) ≡ true
 
 -- what is read of an answer is a folded text within the limit
 abbrev pub ReadingsAreFolded : Type 0

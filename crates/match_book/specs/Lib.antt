@@ -10,5 +10,6 @@ pub mod LegalMoves
 pub mod Due
 pub mod Lawful
 pub mod Steps
+pub mod Rounds
 pub mod Laws
 pub mod Internal

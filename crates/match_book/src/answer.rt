@@ -7,7 +7,8 @@ ghost use Rattle.match_book.specs.Steps.{fault_of};
 
 use desk_calls::LentAnswer;
 use std::alloc::AllocError;
-use thiserror::Error;
+use std::error::Error;
+use std::fmt;
 
 /// The part of an answer to START, STOP or ABORT that is kept, whatever its text says.
 #[derive(Clone, Copy)]
@@ -32,24 +33,34 @@ pub enum AnswerRefusal {
 }
 
 /// Why an answer is not taken: it is refused, or memory ran out. In both cases nothing changes.
-#[derive(Clone, Copy, Debug, PartialEq, Eq, Error)]
+#[derive(Clone, Copy, Debug, PartialEq, Eq)]
 pub enum AnswerFault {
     /// The game has no such role.
-    #[error("there is no such role")]
     NoRole,
     /// The match is finished or aborted.
-    #[error("the match is over")]
     Over,
     /// The answer is not for the present round, which is this one.
-    #[error("the present round is {0}")]
     Stale(u64),
     /// The role has answered this round.
-    #[error("the role has answered this round")]
     Twice,
     /// Out of memory.
-    #[error("want of memory")]
     Memory,
 }
+
+impl fmt::Display for AnswerFault {
+    fn fmt<W: fmt::Write>(&self, f: &mut fmt::Formatter<W>) -> fmt::Result {
+        let words = match *self {
+            AnswerFault::NoRole => "there is no such role",
+            AnswerFault::Over => "the match is over",
+            AnswerFault::Twice => "the role has answered this round",
+            AnswerFault::Memory => "want of memory",
+            AnswerFault::Stale(round) => return write!(f, "the present round is {round}"),
+        };
+        f.write_str(words)
+    }
+}
+
+impl Error for AnswerFault {}
 
 impl From<AnswerRefusal> for AnswerFault {
     ghost from_gives = { λ refusal fault. fault ≡ fault_of refusal };
@@ -73,12 +84,21 @@ impl From<AllocError> for AnswerFault {
 }
 
 /// Why an abort is refused.
-#[derive(Clone, Copy, Debug, PartialEq, Eq, Error)]
+#[derive(Clone, Copy, Debug, PartialEq, Eq)]
 pub enum AbortFault {
     /// The match is stopping or aborting already, or is over.
-    #[error("the match has come to its end")]
     Ended,
 }
+
+impl fmt::Display for AbortFault {
+    fn fmt<W: fmt::Write>(&self, f: &mut fmt::Formatter<W>) -> fmt::Result {
+        f.write_str(match *self {
+            AbortFault::Ended => "the match has come to its end",
+        })
+    }
+}
+
+impl Error for AbortFault {}
 
 impl Mark {
     /// The mark of an answer.

@@ -3,18 +3,28 @@ ghost use Rattle.std.specs.Prelude.{◌≡◌};
 ghost use Rattle.match_book.specs.declared.due.OwedFault.TheVariants.{Memory};
 
 use std::alloc::AllocError;
-use thiserror::Error;
+use std::error::Error;
+use std::fmt;
 
 /// Why `owed` fails.
-#[derive(Clone, Copy, Debug, PartialEq, Eq, Error)]
+#[derive(Clone, Copy, Debug, PartialEq, Eq)]
 pub enum OwedFault {
     /// The game has no such role.
-    #[error("there is no such role")]
     NoRole,
     /// Out of memory.
-    #[error("want of memory")]
     Memory,
 }
+
+impl fmt::Display for OwedFault {
+    fn fmt<W: fmt::Write>(&self, f: &mut fmt::Formatter<W>) -> fmt::Result {
+        f.write_str(match *self {
+            OwedFault::NoRole => "there is no such role",
+            OwedFault::Memory => "want of memory",
+        })
+    }
+}
+
+impl Error for OwedFault {}
 
 impl From<AllocError> for OwedFault {
     ghost from_gives = { λ _ fault. fault ≡ Memory };

@@ -1,8 +1,10 @@
 //! What holds of the definitions, for every game.
 //!
-//! The laws have no arguments, as they speak of every game of a type: call them with that type.
-ghost use Rattle.match_book.specs.Laws.{NewMatchIsLawful, AnswersKeepLawful, AbortKeepsLawful, RecordedMovesAreLegal, NoErrorMeansNamed, AnswersInPlay, AnswersOutOfPlay, TakenForTheRound, TurnsLeadToStates, TurnsHaveMoves, OneMoreTurn, StrikesBegin, StrikesOfOneMore, FewStrikes, StartingMeans, PlayingMeans, StoppingMeans, BegunRoundsAreOpen, ReadingsAreFolded};
+//! Laws without arguments speak of every game of a type: call them with that type.
+ghost use Rattle.match_book.specs.Laws.{NewMatchIsLawful, AnswersKeepLawful, AbortKeepsLawful, RecordedMovesAreLegal, NoErrorMeansNamed, AnswersInPlay, AnswersOutOfPlay, TakenForTheRound, TurnsLeadToStates, TurnsHaveMoves, OneMoreTurn, StrikesBegin, StrikesOfOneMore, FewStrikes, StartingMeans, PlayingMeans, StoppingMeans, BegunRoundsAreOpen, RoundsEnd, ReadingsAreFolded};
+ghost use Rattle.match_book.specs.Lawful.{IsLawfulMatch};
 
+use crate::matches::Match;
 use game_core::Game;
 use kif_text::laws::{reading_is_proper, reading_under_double};
 
@@ -81,6 +83,21 @@ pub fn stages_are_settled<G: Game>()
 pub fn begun_rounds_are_open<G: Game>()
     ensures { (game : G) → BegunRoundsAreOpen (G.rules game) }
 {}
+
+/// A match is over once every role has answered in 10,002 rounds: for START, in the most turns that there may be, and for STOP or
+/// ABORT.
+pub fn rounds_come_to_an_end<G: Game>()
+    ensures { (game : G) → RoundsEnd (G.rules game) }
+{
+    readings_are_folded();
+}
+
+/// Each match is lawful.
+pub fn matches_are_lawful<G: Game>(held: &Match<G>)
+    ensures { IsLawfulMatch (G.rules held.now.game) held.now.value }
+{
+    held.state();
+}
 
 /// What is read of an answer is a folded text within the limit.
 pub fn readings_are_folded()

@@ -5,7 +5,7 @@ ghost use Rattle.match_book.specs.Phase.{phase_in, cause_in};
 use desk_calls::Phase;
 
 /// Why a match is aborted. Roles are numbered from 0.
-#[derive(Clone, Copy, Debug, PartialEq, Eq)]
+#[derive(Clone, Copy, PartialEq, Eq)]
 pub enum Cause {
     /// The referee asked for it.
     Asked,

@@ -47,11 +47,7 @@ impl RoleStrikes {
 pub fn all_unstruck(alloc: Global, roles: usize) -> Result<Vec<RoleStrikes>, AllocError>
     ensures { IfOk result (λ v. v.items ≡ replicate roles unstruck) }
 {
-    let mut kept = Vec::with_capacity(alloc, roles)?;
-    for role in 0..roles {
-        kept.push(UNSTRUCK)?;
-    }
-    Ok(kept)
+    vec![in alloc; UNSTRUCK; roles]
 }
 
 /// Each role's strikes after one more turn with these errors. `kept` holds the strikes after the earlier

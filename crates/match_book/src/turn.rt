@@ -139,10 +139,13 @@ pub fn turn_of<M: Drop>(
 pub fn count_errors(errors: &[Text]) -> usize
     ensures { result ≡ count_by is_error errors.now }
 {
-    errors
-        .iter()
-        .filter(|error| !error.as_slice().is_empty())
-        .count()
+    let mut count = 0;
+    for error in errors {
+        if !error.as_slice().is_empty() {
+            count += 1;
+        }
+    }
+    count
 }
 
 /// The texts of these moves.

@@ -7,6 +7,7 @@
 
 mod asked_setup;
 mod closing;
+mod copied_call;
 pub mod laws;
 mod manager;
 mod slot;

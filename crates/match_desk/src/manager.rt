@@ -10,6 +10,7 @@ ghost use Rattle.match_desk.specs.Steps.{next_reply, answer_reply, query_reply, 
 ghost use Rattle.desk_calls.specs.declared.call.Reply.TheVariants.{Opened};
 
 use crate::asked_setup::AskedSetup;
+use crate::copied_call::copied_call;
 use crate::slot::{self, Slot};
 use call_history::Object;
 use desk_calls::{Call, LentAnswer, Refusal, Reply, are_clocks, are_names, is_name, is_strikes};
@@ -332,41 +333,7 @@ impl<G: Game> Object for Manager<G> {
     }
 
     fn copy_call(alloc: Global, call: &Call) -> Result<Call, AllocError> {
-        Ok(match call {
-            Call::Open { .. } => AskedSetup::of(call).to_call(alloc)?,
-            Call::Next { id, role } => Call::Next {
-                id: id.copy(alloc)?,
-                role: *role,
-            },
-            Call::Submit {
-                id,
-                role,
-                round,
-                text,
-            } => Call::Submit {
-                id: id.copy(alloc)?,
-                role: *role,
-                round: *round,
-                text: text.copy(alloc)?,
-            },
-            Call::Miss {
-                id,
-                role,
-                round,
-                broken,
-            } => Call::Miss {
-                id: id.copy(alloc)?,
-                role: *role,
-                round: *round,
-                broken: *broken,
-            },
-            Call::Query { id } => Call::Query {
-                id: id.copy(alloc)?,
-            },
-            Call::Abort { id } => Call::Abort {
-                id: id.copy(alloc)?,
-            },
-        })
+        copied_call(alloc, call)
     }
 
     ghost keeps_opening = { opening-after G.rules };

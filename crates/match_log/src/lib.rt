@@ -9,7 +9,7 @@ mod notices;
 mod shown_text;
 mod status;
 
-pub use logging::{LoggedPlayer, Logging, Telling};
+pub use logging::{LoggedPlayer, Logging, Reporting};
 pub use notices::{Notices, ReportStream};
 pub use shown_text::Shown;
-pub use status::{ClearedOutput, Outlet, Progress, StatusStream};
+pub use status::{ClearedOutput, Progress, StatusStream, WriterBrand};

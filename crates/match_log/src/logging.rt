@@ -6,7 +6,7 @@ use crate::shown_text::Shown;
 use crate::status::Progress;
 use desk_calls::Answer;
 use match_messages::MessageKind;
-use match_plans::{PlayerAddress, Reach, RolePlace, Shortage, TellsShortages};
+use match_plans::{PlayerAddress, Reach, ReportsShortages, RolePlace, Shortage};
 use network_players::{ContactFault, Explains, time_since};
 use role_workers::Player;
 use shared_text::SharedText;
@@ -49,7 +49,7 @@ impl fmt::Display for AnswerShown<'_> {
 
 /// What is reported of messages.
 #[derive(Clone, Copy)]
-pub enum Telling<'a> {
+pub enum Reporting<'a> {
     Nothing,
     /// One line for each message, once its answer is there.
     Messages,
@@ -62,7 +62,7 @@ pub enum Telling<'a> {
 pub struct Logging<'a, H, S> {
     pub rt: &'a H,
     pub reach: &'a S,
-    pub telling: Telling<'a>,
+    pub reporting: Reporting<'a>,
     pub notices: &'a Notices,
     /// Whether only one player of each match is reached through this. Then this player counts for the match, whatever its role.
     /// Otherwise the player of the first role counts.
@@ -83,7 +83,7 @@ pub struct LoggedPlayer<'a, H, P> {
     counts: bool,
     /// The number of messages that the player got.
     messages: u64,
-    telling: Telling<'a>,
+    reporting: Reporting<'a>,
     notices: &'a Notices,
 }
 
@@ -112,7 +112,7 @@ impl<'a, H, P, S: Reach<P>> Reach<LoggedPlayer<'a, H, P>> for Logging<'a, H, S> 
             name,
             counts: self.is_alone || at.role == 0,
             messages: 0,
-            telling: self.telling,
+            reporting: self.reporting,
             notices: self.notices,
         })
     }
@@ -121,7 +121,7 @@ impl<'a, H, P, S: Reach<P>> Reach<LoggedPlayer<'a, H, P>> for Logging<'a, H, S> 
 impl<H: Clock + Wait, P: Explains> LoggedPlayer<'_, H, P> {
     /// Counts the match that begins with a message. Returns the present time, if the clock can be read.
     fn begin(&self, message: &SharedText<'_>) -> Option<Instant> {
-        if let Telling::Progress(progress) = self.telling {
+        if let Reporting::Progress(progress) = self.reporting {
             progress.begin(self.counts, MessageKind::of(message));
             self.notices.move_on(self.rt);
         }
@@ -130,10 +130,10 @@ impl<H: Clock + Wait, P: Explains> LoggedPlayer<'_, H, P> {
 
     /// Reports a message that was handed over at the time `began`.
     fn tell(&self, message: &SharedText<'_>, answer: &Answer, began: Option<Instant>) {
-        match self.telling {
-            Telling::Nothing => {}
-            Telling::Messages => self.tell_message(message, answer, time_since(self.rt, began)),
-            Telling::Progress(progress) => {
+        match self.reporting {
+            Reporting::Nothing => {}
+            Reporting::Messages => self.tell_message(message, answer, time_since(self.rt, began)),
+            Reporting::Progress(progress) => {
                 progress.count(self.counts, MessageKind::of(message));
                 self.notices.move_on(self.rt);
             }
@@ -161,7 +161,7 @@ impl<H: Clock + Wait, P: Explains> LoggedPlayer<'_, H, P> {
     }
 }
 
-impl<H, S: TellsShortages> TellsShortages for Logging<'_, H, S> {
+impl<H, S: ReportsShortages> ReportsShortages for Logging<'_, H, S> {
     ghost is_clear = { λ l place. S.is_clear l.reach.now place };
 
     fn shortage(&self, place: usize) -> Option<Shortage> {

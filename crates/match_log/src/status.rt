@@ -148,28 +148,28 @@ impl<E: Write> Write for StatusStream<E> {
 
 /// The reference through which an output writes. It is picked where the output is made, so that contracts know the stream that code over
 /// any writer wrote to.
-pub trait Outlet {
+pub trait WriterBrand {
     ghost name: { ℕ };
 }
 
-impl Outlet for Brand {
+impl WriterBrand for Brand {
     ghost name = { 0 };
 }
 
 /// An output through the picked reference. Before each write the status line is erased, if both may stand on the same terminal. An output
 /// that shares no terminal waits for no report.
 #[derive(Drop)]
-pub struct ClearedOutput<'a, 'w, N: Outlet, R, W, E> {
+pub struct ClearedOutput<'a, 'w, N: WriterBrand, R, W, E> {
     pub rt: &'a R,
     pub output: &'w mut Counted<W>,
     pub status: &'a Mutex<StatusStream<E>>,
     /// Whether the status line may stand on the terminal that the output goes to.
     pub shares_terminal: bool,
-    pub outlet: PhantomData<N>,
+    pub brand: PhantomData<N>,
     pub ghost picked: { output.ghost_name ≡ N.name },
 }
 
-impl<N: Outlet, R: Wait, W: Write, E: Write> Write for ClearedOutput<'_, '_, N, R, W, E> {
+impl<N: WriterBrand, R: Wait, W: Write, E: Write> Write for ClearedOutput<'_, '_, N, R, W, E> {
     ghost contents = { λ cleared. W.contents cleared.output.now.stream };
 
     fn write(&mut self, bytes: &[u8]) -> io::Result<usize> {

@@ -5,7 +5,8 @@ ghost use Rattle.match_messages.specs.declared.messages.MessageFault.TheVariants
 use game_core::Text;
 use kif_text::Expr;
 use std::alloc::{AllocError, AllocFailed};
-use thiserror::Error;
+use std::error::Error;
+use std::fmt;
 
 /// A message's content. Role, rules and moves are without capitals, the id is as it was sent. The moves are
 /// those of the last turn, in the order of the roles. They are `None` before the first turn.
@@ -33,21 +34,30 @@ pub enum Message {
 }
 
 /// Why a text is no message: the first of these that holds.
-#[derive(Clone, Copy, Debug, PartialEq, Eq, Error)]
+#[derive(Clone, Copy, Debug, PartialEq, Eq)]
 pub enum MessageFault {
     /// The text is not one expression within the limits of length and depth.
-    #[error("the text is not one expression")]
     Unreadable,
     /// The expression is not a message.
-    #[error("the expression is no message")]
     BadMessage,
     /// A clock of START is not a number from 1 to 86,400.
-    #[error("a clock is out of range")]
     BadClock,
     /// Out of memory.
-    #[error("want of memory")]
     Memory,
 }
+
+impl fmt::Display for MessageFault {
+    fn fmt<W: fmt::Write>(&self, f: &mut fmt::Formatter<W>) -> fmt::Result {
+        f.write_str(match *self {
+            MessageFault::Unreadable => "the text is not one expression",
+            MessageFault::BadMessage => "the expression is no message",
+            MessageFault::BadClock => "a clock is out of range",
+            MessageFault::Memory => "want of memory",
+        })
+    }
+}
+
+impl Error for MessageFault {}
 
 impl From<AllocError> for MessageFault {
     ghost from_gives = { λ _ fault. fault ≡ Memory };

@@ -7,7 +7,7 @@ use Rattle.std.proofs.lemmas.Bool.{both_ways, cases_lt, cond-false, cond-true, n
 use Rattle.std.proofs.lemmas.List.{get_or_append_left, get_or_default, get_or_push, length_push, map_push, map-append}
 use Rattle.std.proofs.lemmas.List.Elements.{All-cons, All-nil, All-weaker, filter-append}
 use Rattle.std.proofs.lemmas.Slice.Eq.{bytes_eq-Decides}
-use Rattle.match_plans.specs.Schedules.{AreMatchesOf, HaveIdsOnce, IsBadLine, IsFaultOf, IsPlanned, line_words, match_words, misplaced, tells_nothing}
+use Rattle.match_plans.specs.Schedules.{AreMatchesOf, HaveIdsOnce, IsBadLine, IsFaultOf, IsPlanned, line_words, match_words, misplaced, is_blank_or_comment}
 use Rattle.match_plans.specs.declared.plan.MatchPlan.{MatchPlan}
 use Rattle.match_plans.specs.declared.schedule_fault.LineFault.{LineFault}
 use Rattle.match_plans.specs.declared.schedule_fault.LineFault.TheVariants.{IdTwice, WrongPlayers}
@@ -70,22 +70,22 @@ placed roles ids id players = by (eqb players roles) (list_any (bytes_eq id) ids
     by true true same new none = let bad : ⊥ = cc in absurd bad
     by false b same new none = let bad : ⊥ = cc in absurd bad
 
-one-more : (lines : List (List ℕ)) (line : List ℕ) → tells_nothing (line_words (strip_carriage_return line)) ≡ false
+one-more : (lines : List (List ℕ)) (line : List ℕ) → is_blank_or_comment (line_words (strip_carriage_return line)) ≡ false
     → match_words (lines ++ line ∷ []) ≡ match_words lines ++ line_words (strip_carriage_return line) ∷ []
 one-more lines line tells =
     let words = λ (l : List ℕ). line_words (strip_carriage_return l) in
-    let kept = λ (ws : List (List ℕ)). not (tells_nothing ws) in
+    let kept = λ (ws : List (List ℕ)). not (is_blank_or_comment ws) in
     ap (filter kept) (map-append words lines (line ∷ [])) ∙ filter-append kept (map words lines) (words line ∷ [])
     ∙ ap (λ more. match_words lines ++ more) (cond-true (kept (words line)) (words line ∷ []) [] (not_from_false _ tells))
 
 -- one more line with a match
-pub next : (strikes : ℕ) (lines : List (Bor (List ℕ))) (line : Bor (List ℕ)) (words : List (List ℕ)) (plans : List MatchPlan) (plan : MatchPlan) → words ≡ line_words (strip_carriage_return line.now) → tells_nothing words ≡ false
+pub next : (strikes : ℕ) (lines : List (Bor (List ℕ))) (line : Bor (List ℕ)) (words : List (List ℕ)) (plans : List MatchPlan) (plan : MatchPlan) → words ≡ line_words (strip_carriage_return line.now) → is_blank_or_comment words ≡ false
     → AllZip (IsPlanned strikes) (match_words (map (λ it. it.now) lines)) plans → IsPlanned strikes words plan
     → AllZip (IsPlanned strikes) (match_words (map (λ it. it.now) (lines ++ line ∷ []))) (plans ++ plan ∷ [])
 next strikes lines line words plans plan are tells before here =
     let more : match_words (map (λ it. it.now) (lines ++ line ∷ [])) ≡ match_words (map (λ it. it.now) lines) ++ words ∷ [] =
     ap match_words (map_push (λ (it : Bor (List ℕ)). it.now) lines line)
-    ∙ one-more (map (λ it. it.now) lines) line.now (subst (λ ws. tells_nothing ws ≡ false) are tells)
+    ∙ one-more (map (λ it. it.now) lines) line.now (subst (λ ws. is_blank_or_comment ws ≡ false) are tells)
     ∙ ap (λ ws. match_words (map (λ it. it.now) lines) ++ ws ∷ []) (sym are) in
     subst (λ ws. AllZip (IsPlanned strikes) ws (plans ++ plan ∷ [])) (sym more) (zip-push (IsPlanned strikes) _ plans words plan before here)
 

@@ -30,13 +30,13 @@ is_comment [] = false
 is_comment (b ∷ more) = b == 35
 
 -- a line without words, or with a first word that begins with #, holds no match, and is not bad
-abbrev pub tells_nothing : List (List ℕ) → Bool
-tells_nothing [] = true
-tells_nothing (word ∷ words) = is_comment word
+abbrev pub is_blank_or_comment : List (List ℕ) → Bool
+is_blank_or_comment [] = true
+is_blank_or_comment (word ∷ words) = is_comment word
 
 -- the words of the lines that hold a match, line by line
 abbrev pub match_words : List (List ℕ) → List (List (List ℕ))
-match_words lines = filter (λ words. not (tells_nothing words)) (map (λ line. line_words (strip_carriage_return line)) lines)
+match_words lines = filter (λ words. not (is_blank_or_comment words)) (map (λ line. line_words (strip_carriage_return line)) lines)
 
 abbrev pub match_lines : List ℕ → List (List (List ℕ))
 match_lines text = match_words (cut_lines text)
@@ -90,7 +90,7 @@ HasFault roles before plan fault =
 -- the fault of a line with these words, behind these matches: that of its words, and if they have none, that of its match
 abbrev pub IsFaultOf : ℕ → ℕ → List MatchPlan → List (List ℕ) → LineFault → Type 0
 IsFaultOf roles strikes before words fault =
-    (tells_nothing words ≡ false)
+    (is_blank_or_comment words ≡ false)
     × ((word_fault words ≡ Some fault)
     ⊎ ((plan : MatchPlan) × (word_fault words ≡ None) × IsPlanned strikes words plan × HasFault roles before plan fault))
 

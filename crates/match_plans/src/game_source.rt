@@ -1,5 +1,7 @@
 //! The source of a game, and the commands on a game that need no players.
 
+use game_core::Limits;
+
 /// The source of a ground description.
 #[derive(Clone, Copy)]
 pub enum RulesSource<'a> {
@@ -14,8 +16,8 @@ pub enum RulesSource<'a> {
 pub enum GameSource<'a> {
     /// Countdown with a heap of this size. The size may be out of range.
     Countdown(u8),
-    /// The game of a ground description.
-    Described(RulesSource<'a>),
+    /// The game of a ground description within these limits.
+    Described(RulesSource<'a>, Limits),
 }
 
 /// A command on one game. It uses standard input and output and no players.

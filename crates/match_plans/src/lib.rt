@@ -1,5 +1,5 @@
 //! Plans of matches: the addresses of players, the source of a game, one match, the matches of a schedule, the check of a player. The
-//! trait `Reach` reaches the players of a planned match, and `TellsShortages` reports what the referee was short of in it.
+//! trait `Reach` reaches the players of a planned match, and `ReportsShortages` reports what the referee was short of in it.
 //!
 //! Free functions take the allocator first.
 #![tactic(auto)]
@@ -23,4 +23,4 @@ pub use reach::{Reach, RolePlace};
 pub use schedule::{MAX_AT_ONCE, MAX_SCHEDULED, read_schedule};
 pub use schedule_fault::{LineFault, ScheduleFault};
 pub use season_form::{RecordOrder, SeasonForm};
-pub use shortages::{Shortage, TellsShortages};
+pub use shortages::{ReportsShortages, Shortage};

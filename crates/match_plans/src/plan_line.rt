@@ -3,7 +3,7 @@ ghost use Rattle.std.specs.Prelude.{◌≡◌, ◌==◌, IfOk, IfSome, is_some, 
 ghost use Rattle.std.specs.List.{AllZip};
 ghost use Rattle.std.specs.Result.{result_err};
 ghost use Rattle.match_plans.specs.Addresses.{IsAddress, is_player};
-ghost use Rattle.match_plans.specs.Schedules.{IsPlanned, clock_of, line_words, player_fault, tells_nothing, word_fault};
+ghost use Rattle.match_plans.specs.Schedules.{IsPlanned, clock_of, line_words, player_fault, is_blank_or_comment, word_fault};
 
 use crate::addresses::{PlayerAddress, player_address};
 use crate::plan::MatchPlan;
@@ -26,8 +26,8 @@ pub(crate) fn words<'a>(alloc: Global, line: &'a [u8]) -> Result<Vec<&'a [u8]>, 
 }
 
 /// Whether a line with these words holds no match, and is not bad: it has no words, or the first one begins with `#`.
-pub(crate) fn tells_nothing(words: &[&[u8]]) -> bool
-    ensures { result ≡ tells_nothing (map (λ w. w.now) words.now) }
+pub(crate) fn is_blank_or_comment(words: &[&[u8]]) -> bool
+    ensures { result ≡ is_blank_or_comment (map (λ w. w.now) words.now) }
 {
     match words.first() {
         Some(word) => word.first() == Some(&b'#'),

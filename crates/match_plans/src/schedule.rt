@@ -5,7 +5,7 @@ ghost use Rattle.match_plans.specs.declared.schedule_fault.ScheduleFault.TheVari
 ghost use Rattle.match_plans.specs.Schedules.{HaveIdsOnce, IsBadLine, IsPlanned, cut_lines, match_lines, misplaced};
 
 use crate::plan::MatchPlan;
-use crate::plan_line::{planned_match, tells_nothing, words};
+use crate::plan_line::{is_blank_or_comment, planned_match, words};
 use crate::schedule_fault::{LineFault, ScheduleFault};
 use game_core::lines::without_return;
 use indexmap::IndexSet;
@@ -58,7 +58,7 @@ pub fn read_schedule<'a>(
     for line in input.split(|b| *b == b'\n') {
         number += 1;
         let words = words(alloc, without_return(line))?;
-        if tells_nothing(&words) {
+        if is_blank_or_comment(&words) {
             continue;
         }
         let plan = match planned_match(alloc, &words, strikes)? {

@@ -29,7 +29,7 @@ pub enum Shortage {
 }
 
 /// Reports what the referee was short of in a match. A match with a shortage has no record, since an answer in it is not the player's.
-pub trait TellsShortages {
+pub trait ReportsShortages {
     /// It has reported that the referee was short of nothing in the match at this place.
     ghost is_clear: { Self → ℕ → Type 0 };
 

@@ -21,7 +21,7 @@ use Rattle.match_workers.specs.Refusals.{match_refusal}
 use Rattle.match_play.specs.Limits.{max_tries}
 use Rattle.match_play.specs.Matches.{IsEndedRecord}
 use Rattle.match_play.specs.RoleTurns.{AreEndedTurns}
-use Rattle.match_play.specs.declared.hosting.HostedGame.{HostedGame}
+use Rattle.match_play.specs.declared.playable_game.PlayableGame.{PlayableGame}
 use Rattle.match_play.specs.declared.role_turns.RoleTurn.{RoleTurn}
 
 -- the setup has the plan's id, clocks, strikes and names
@@ -58,7 +58,7 @@ pub record IsPlayedMatch {P : Type 0} (handed : P → Option (List Handed)) (gam
 
 -- A match with this plan, at this place of its season, is of this game. It was played by players that were reached at the addresses of
 -- their roles, and they got the game's rules. Its record is this text, and its desk has this history.
-abbrev pub IsPlannedMatch : {P : Type 0} → (RolePlace → PlayerAddress → P → Type 0) → (P → Option (List Handed)) → HostedGame → ℕ → MatchPlan → List ℕ → List (Entry Call Reply) → Type 0
+abbrev pub IsPlannedMatch : {P : Type 0} → (RolePlace → PlayerAddress → P → Type 0) → (P → Option (List Handed)) → PlayableGame → ℕ → MatchPlan → List ℕ → List (Entry Call Reply) → Type 0
 IsPlannedMatch {P} is_reached handed game place plan text history = (setup : _) × IsSetupOf plan setup × (players : List P) × AreReached is_reached game.longest_move place plan players
     × IsPlayedMatch handed game.game.now game.rules.now.items max_tries setup players text history
 

@@ -1,17 +1,17 @@
 //! One match between players at their addresses, from its plan to its record.
 //!
-//! `entrants_of` makes the players of a plan, and `HostedGame` is the game to play. `played_match` referees a match and returns its
+//! `prepared_match` makes the players of a plan, and `PlayableGame` is the game to play. `played_match` referees a match and returns its
 //! record and history, `ended_match` its record and account as text, and `played_turns` the turns of a role.
 //!
 //! Free functions take the allocator first, after a handle for threads and waiting.
 #![tactic(auto)]
 
-mod hosting;
+mod playable_game;
 mod playing;
 mod role_turns;
 
-pub use hosting::{HostedGame, other_rules, own_rules};
+pub use playable_game::{PlayableGame, other_rules, own_rules};
 pub use playing::{
-    EndedMatch, Entrants, MatchFault, PlayedMatch, ended_match, entrants_of, played_match,
+    EndedMatch, MatchFault, PlayedMatch, PreparedMatch, ended_match, played_match, prepared_match,
 };
 pub use role_turns::{RoleTurn, played_turns};

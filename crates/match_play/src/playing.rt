@@ -10,14 +10,14 @@ ghost use Rattle.match_play.specs.EndedMatches.{IsEndedMatch, match_text};
 ghost use Rattle.match_play.specs.Limits.{max_tries};
 ghost use Rattle.match_play.specs.PlayedMatches.{AreReached, IsSetupOf, IsPlayedMatch, packed_refusal};
 
-use crate::hosting::HostedGame;
+use crate::playable_game::PlayableGame;
 use call_history::Entry;
 use desk_calls::{Call, Phase, Refusal, Reply, Setup};
 use desk_text::{push_history, refusal_word};
 use game_core::{Game, Lent, Text, Texts};
 use match_book::Match;
 use match_messages::StartRules;
-use match_plans::{MatchPlan, Reach, RolePlace, Shortage, TellsShortages};
+use match_plans::{MatchPlan, Reach, ReportsShortages, RolePlace, Shortage};
 use match_record::record_json;
 use match_workers::{RefereeFault, Refereed, referee_shared};
 use packed_rules::PackedGame;
@@ -126,28 +126,28 @@ fn players_of<P: Drop, S: Reach<P>>(
 
 /// A match before it is played: its place in its season, its setup, and a player for each name in the setup.
 #[derive(Drop)]
-pub struct Entrants<P> {
+pub struct PreparedMatch<P> {
     pub place: usize,
     pub setup: Setup,
     pub players: Vec<P>,
     ghost one_each: { vec_len players ≡ length setup.players },
 }
 
-/// Makes the entrants of the match of this game at this place of its season. The error is out of memory.
-pub fn entrants_of<P: Drop, S: Reach<P>>(
+/// Makes the prepared of the match of this game at this place of its season. The error is out of memory.
+pub fn prepared_match<P: Drop, S: Reach<P>>(
     alloc: Global,
     reach: &S,
-    game: HostedGame<'_>,
+    game: PlayableGame<'_>,
     place: usize,
     plan: &MatchPlan<'_>,
-) -> Result<Entrants<P>, AllocError>
+) -> Result<PreparedMatch<P>, AllocError>
     ensures setup { IfOk result (λ e. IsSetupOf plan.now e.setup) }
     ensures place { IfOk result (λ e. e.place ≡ place) }
     ensures reached { IfOk result (λ e. AreReached (S.is_reached reach.now) game.entry.longest_move place plan.now e.players.items) }
 {
     let setup = setup_of(alloc, plan)?;
     let players = players_of(alloc, reach, game.longest_move, place, plan)?;
-    Ok(Entrants {
+    Ok(PreparedMatch {
         place,
         setup,
         players,
@@ -210,34 +210,34 @@ fn ran_out_of_memory<G: Game>(refereed: &Refereed<G>) -> bool
     ended_match_of(refereed).is_none() && !had_memory(&refereed.ends)
 }
 
-/// Referees a match of this game between its entrants. Returns the closed desk. The error is `Shortage` if the referee was short of
+/// Referees a match of this game between its prepared. Returns the closed desk. The error is `Shortage` if the referee was short of
 /// something in the match, and `Memory` also if the match did not end since a role's worker was.
-pub(crate) fn refereed_match<'g, R, P, S: TellsShortages>(
+pub(crate) fn refereed_match<'g, R, P, S: ReportsShortages>(
     rt: &R,
     alloc: Global,
     reach: &S,
-    entrants: Entrants<P>,
-    game: HostedGame<'g>,
+    prepared: PreparedMatch<P>,
+    game: PlayableGame<'g>,
 ) -> Result<Refereed<Lent<'g, PackedGame>>, MatchFault>
 where
     R: Threads + Wait + Sync,
     P: Player + Drop + Send,
-    ensures clear { IfOk result (λ r. S.is_clear reach.now entrants.place) }
-    ensures refereed { IfOk result (λ r. (left : List _) × IsRefereed ⟦<PackedGame as Game>⟧.rules P.handed game.entry.game.now entrants.setup game.entry.rules.now.items max_tries entrants.players.items left
+    ensures clear { IfOk result (λ r. S.is_clear reach.now prepared.place) }
+    ensures refereed { IfOk result (λ r. (left : List _) × IsRefereed ⟦<PackedGame as Game>⟧.rules P.handed game.entry.game.now prepared.setup game.entry.rules.now.items max_tries prepared.players.items left
         r.closed.object r.closed.history.items r.closed.made_by_line.items r.ends.items) }
 
     // A match that did not end for want of memory is told as such.
     ensures whole { IfOk result (λ r. HasNoEndedMatch ⟦<PackedGame as Game>⟧.rules r.closed.object → All (λ end. end ≢ Err AttendFault.Memory) r.ends.items) }
 
     // If the match is refused, so is this call, for the same reason, unless memory runs out. No other fault is a refusal.
-    ensures opens { OnOk result (packed_refusal game.entry.game.now entrants.setup ≡ None) }
-    ensures refused { IfErr result (λ fault. fault ≢ MatchFault.Memory → reason_of fault ≡ packed_refusal game.entry.game.now entrants.setup) }
+    ensures opens { OnOk result (packed_refusal game.entry.game.now prepared.setup ≡ None) }
+    ensures refused { IfErr result (λ fault. fault ≢ MatchFault.Memory → reason_of fault ≡ packed_refusal game.entry.game.now prepared.setup) }
 {
-    let Entrants {
+    let PreparedMatch {
         place,
         setup,
         players,
-    } = entrants;
+    } = prepared;
     let (refereed, _players) = referee_shared(
         rt,
         alloc,
@@ -254,26 +254,26 @@ where
     }
 }
 
-/// Referees a match of this game between its entrants. Returns its record and history. There is no record if the opening is refused, if
+/// Referees a match of this game between its prepared. Returns its record and history. There is no record if the opening is refused, if
 /// the match does not end, or if `reach` reports a shortage.
-pub fn played_match<R, P, S: TellsShortages>(
+pub fn played_match<R, P, S: ReportsShortages>(
     rt: &R,
     alloc: Global,
     reach: &S,
-    entrants: Entrants<P>,
-    game: HostedGame<'_>,
+    prepared: PreparedMatch<P>,
+    game: PlayableGame<'_>,
 ) -> Result<PlayedMatch, MatchFault>
 where
     R: Threads + Wait + Sync,
     P: Player + Drop + Send,
-    ensures clear { IfOk result (λ played. S.is_clear reach.now entrants.place) }
-    ensures played { IfOk result (λ played. IsPlayedMatch P.handed game.entry.game.now game.entry.rules.now.items max_tries entrants.setup entrants.players.items played.record played.history.items) }
+    ensures clear { IfOk result (λ played. S.is_clear reach.now prepared.place) }
+    ensures played { IfOk result (λ played. IsPlayedMatch P.handed game.entry.game.now game.entry.rules.now.items max_tries prepared.setup prepared.players.items played.record played.history.items) }
 
     // If the match is refused, so is this call, for the same reason, unless memory runs out. No other fault is a refusal.
-    ensures opens { OnOk result (packed_refusal game.entry.game.now entrants.setup ≡ None) }
-    ensures refused { IfErr result (λ fault. fault ≢ MatchFault.Memory → reason_of fault ≡ packed_refusal game.entry.game.now entrants.setup) }
+    ensures opens { OnOk result (packed_refusal game.entry.game.now prepared.setup ≡ None) }
+    ensures refused { IfErr result (λ fault. fault ≢ MatchFault.Memory → reason_of fault ≡ packed_refusal game.entry.game.now prepared.setup) }
 {
-    let refereed = refereed_match(rt, alloc, reach, entrants, game)?;
+    let refereed = refereed_match(rt, alloc, reach, prepared, game)?;
     let record = ended_record(alloc, &refereed)?;
     Ok(PlayedMatch {
         record,
@@ -299,25 +299,25 @@ fn match_text(
 }
 
 /// Referees a match as `played_match` does, with the same errors. Returns its output.
-pub fn ended_match<R, P, S: TellsShortages>(
+pub fn ended_match<R, P, S: ReportsShortages>(
     rt: &R,
     alloc: Global,
     reach: &S,
-    entrants: Entrants<P>,
-    game: HostedGame<'_>,
+    prepared: PreparedMatch<P>,
+    game: PlayableGame<'_>,
     has_account: bool,
 ) -> Result<EndedMatch, MatchFault>
 where
     R: Threads + Wait + Sync,
     P: Player + Drop + Send,
-    ensures clear { IfOk result (λ e. S.is_clear reach.now entrants.place) }
-    ensures played { IfOk result (λ e. (line : List ℕ) × (history : List (Entry DeskCall DeskReply)) × IsPlayedMatch P.handed game.entry.game.now game.entry.rules.now.items max_tries entrants.setup entrants.players.items line history × (e.text ≡ match_text line history has_account)) }
+    ensures clear { IfOk result (λ e. S.is_clear reach.now prepared.place) }
+    ensures played { IfOk result (λ e. (line : List ℕ) × (history : List (Entry DeskCall DeskReply)) × IsPlayedMatch P.handed game.entry.game.now game.entry.rules.now.items max_tries prepared.setup prepared.players.items line history × (e.text ≡ match_text line history has_account)) }
 
     // If the match is refused, so is this call, for the same reason, unless memory runs out. No other fault is a refusal.
-    ensures opens { OnOk result (packed_refusal game.entry.game.now entrants.setup ≡ None) }
-    ensures refused { IfErr result (λ fault. fault ≢ MatchFault.Memory → reason_of fault ≡ packed_refusal game.entry.game.now entrants.setup) }
+    ensures opens { OnOk result (packed_refusal game.entry.game.now prepared.setup ≡ None) }
+    ensures refused { IfErr result (λ fault. fault ≢ MatchFault.Memory → reason_of fault ≡ packed_refusal game.entry.game.now prepared.setup) }
 {
-    let PlayedMatch { record, history } = played_match(rt, alloc, reach, entrants, game)?;
+    let PlayedMatch { record, history } = played_match(rt, alloc, reach, prepared, game)?;
     let text = match_text(alloc, record, &history, has_account)?;
     Ok(EndedMatch { text })
 }

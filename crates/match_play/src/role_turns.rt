@@ -5,11 +5,11 @@ ghost use Rattle.match_play.specs.Limits.{max_tries};
 ghost use Rattle.match_play.specs.PlayedMatches.{ArePlayedTurns, packed_refusal};
 ghost use Rattle.match_play.specs.RoleTurns.{AreTurnsOf, AreEndedTurns, HasNoEndedTurns};
 
-use crate::hosting::HostedGame;
-use crate::playing::{Entrants, MatchFault, ended_match_of, refereed_match};
+use crate::playable_game::PlayableGame;
+use crate::playing::{MatchFault, PreparedMatch, ended_match_of, refereed_match};
 use game_core::{Game, Text};
 use match_book::Match;
-use match_plans::TellsShortages;
+use match_plans::ReportsShortages;
 use match_workers::Refereed;
 use packed_rules::PackedGame;
 use role_workers::Player;
@@ -68,25 +68,25 @@ fn ended_turns<G: Game>(
 
 /// Referees a match as `played_match` does, with the same errors. Returns its turns for this role. The error is also `NotEnded` if there
 /// is no such role.
-pub fn played_turns<R, P, S: TellsShortages>(
+pub fn played_turns<R, P, S: ReportsShortages>(
     rt: &R,
     alloc: Global,
     reach: &S,
-    entrants: Entrants<P>,
-    game: HostedGame<'_>,
+    prepared: PreparedMatch<P>,
+    game: PlayableGame<'_>,
     role: usize,
 ) -> Result<Vec<RoleTurn>, MatchFault>
 where
     R: Threads + Wait + Sync,
     P: Player + Drop + Send,
-    ensures clear { IfOk result (λ told. S.is_clear reach.now entrants.place) }
-    ensures played { IfOk result (λ told. ArePlayedTurns P.handed game.entry.game.now game.entry.rules.now.items max_tries entrants.setup entrants.players.items role told.items) }
+    ensures clear { IfOk result (λ told. S.is_clear reach.now prepared.place) }
+    ensures played { IfOk result (λ told. ArePlayedTurns P.handed game.entry.game.now game.entry.rules.now.items max_tries prepared.setup prepared.players.items role told.items) }
 
     // If the match is refused, so is this call, for the same reason, unless memory runs out. No other fault is a refusal.
-    ensures opens { OnOk result (packed_refusal game.entry.game.now entrants.setup ≡ None) }
-    ensures refused { IfErr result (λ fault. fault ≢ MatchFault.Memory → reason_of fault ≡ packed_refusal game.entry.game.now entrants.setup) }
+    ensures opens { OnOk result (packed_refusal game.entry.game.now prepared.setup ≡ None) }
+    ensures refused { IfErr result (λ fault. fault ≢ MatchFault.Memory → reason_of fault ≡ packed_refusal game.entry.game.now prepared.setup) }
 {
-    let refereed = refereed_match(rt, alloc, reach, entrants, game)?;
+    let refereed = refereed_match(rt, alloc, reach, prepared, game)?;
     let turns = ended_turns(alloc, &refereed, role)?;
     Ok(turns)
 }

@@ -20,10 +20,10 @@ use Rattle.match_book.specs.Lawful.{IsLawfulTurn, AreLawful}
 use Rattle.match_book.specs.declared.answer.Mark.{Mark}
 use Rattle.match_book.specs.declared.answer.Mark.TheVariants.{Clear, TimeOut, ConnectionError}
 use Rattle.match_book.specs.declared.judgement.Substitution.TheVariants.{TimeOut as OfTime, ConnectionError as OfConnection, Unreadable, Illegal, Retired}
+use Rattle.desk_calls.specs.Phases.{phase_text}
 use Rattle.desk_calls.specs.declared.phase.Phase.{Phase}
 use Rattle.desk_calls.specs.declared.phase.Phase.TheVariants.{Starting, Playing, Stopping, Finished, Aborting, Aborted}
 use Rattle.match_book.specs.declared.turn.Turn.{Turn}
-use Rattle.record_reading.specs.RecordTree.{phase_text}
 
 small_byte : (b : ℕ) → nat_lt b 128 ≡ true → b < 128
 small_byte b is = grind (arith, nat_tests)

@@ -15,6 +15,7 @@ use crate::writing::{
 use game_core::{Game, Text};
 use json::Writer;
 use match_book::Match;
+use match_book::laws::matches_are_lawful;
 use record_reading::laws::{lawful_parts_have_shape, records_are_lawful};
 use record_reading::{Key, Version, phase_text};
 use std::alloc::{AllocError, Global};
@@ -271,8 +272,7 @@ pub fn record_json<G: Game>(alloc: Global, game: &G, held: &Match<G>) -> Result<
 {
     records_are_lawful(game);
     lawful_parts_have_shape(game);
-    // This reader says that the match is lawful.
-    let _state = held.state();
+    matches_are_lawful(held);
     let mut out = Writer::new(Vec::new(alloc));
     write_record(alloc, &mut out, game, held)?;
     Ok(Text {
@@ -297,8 +297,7 @@ pub fn push_record<G: Game>(
 {
     records_are_lawful(game);
     lawful_parts_have_shape(game);
-    // This reader says that the match is lawful.
-    let _state = held.state();
+    matches_are_lawful(held);
     let mut writer = Writer::new(mem::replace(out, Vec::new(alloc)));
     let written = write_record(alloc, &mut writer, game, held);
     *out = writer.into_inner();

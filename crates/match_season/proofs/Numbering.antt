@@ -9,8 +9,8 @@ use Rattle.std.proofs.lemmas.List.Sums.{sum_by-cons, sum_by_push}
 use Rattle.std.proofs.lemmas.Slice.Zip.{all_zipped_more}
 use Rattle.match_plans.specs.declared.addresses.PlayerAddress.{PlayerAddress}
 use Rattle.match_plans.specs.declared.plan.MatchPlan.{MatchPlan}
-use Rattle.match_season.specs.Lineups.{Addresses, AreNumbersOf, Lengthens, ListsOnce, is_at, number_of, times}
-use Rattle.match_season.specs.declared.lineup.Fixture.{Fixture}
+use Rattle.match_season.specs.Queues.{Addresses, AreNumbersOf, Lengthens, ListsOnce, is_at, number_of, times}
+use Rattle.match_season.specs.declared.queue.WaitingMatch.{WaitingMatch}
 
 one-further : (passed : Bool) (m n len whole : ℕ) → whole ≡ 1 + len → cond passed (1 + m) 0 < whole → (m < len → n ≡ m) → ◌≡◌ {A = ℕ} (cond passed (1 + n) 0) (cond passed (1 + m) 0)
 one-further true m n len whole is lt kept = ap (λ (k : ℕ). 1 + k) (kept (omega (arith, is, lt)))
@@ -115,18 +115,18 @@ numbers-more addresses players at d old new number within is listed lists before
     }
 
 -- the matches keep their numbers
-pub all-kept : (old new : Addresses) (plans : List MatchPlan) (waiting : List Fixture) → Lengthens old new → AllZip (λ plan fixture. AreNumbersOf old plan.players.items fixture.players.items) plans waiting
-    → AllZip (λ plan fixture. AreNumbersOf new plan.players.items fixture.players.items) plans waiting
+pub all-kept : (old new : Addresses) (plans : List MatchPlan) (waiting : List WaitingMatch) → Lengthens old new → AllZip (λ plan waiting_match. AreNumbersOf old plan.players.items waiting_match.players.items) plans waiting
+    → AllZip (λ plan waiting_match. AreNumbersOf new plan.players.items waiting_match.players.items) plans waiting
 all-kept old new [] [] longer all = tt
-all-kept old new [] (fixture ∷ fixtures) longer all = absurd all
+all-kept old new [] (waiting_match ∷ waiting_matches) longer all = absurd all
 all-kept old new (plan ∷ plans) [] longer all = absurd all
-all-kept old new (plan ∷ plans) (fixture ∷ fixtures) longer all = (numbers-kept old new plan.players.items fixture.players.items longer all.0, all-kept old new plans fixtures longer all.1)
+all-kept old new (plan ∷ plans) (waiting_match ∷ waiting_matches) longer all = (numbers-kept old new plan.players.items waiting_match.players.items longer all.0, all-kept old new plans waiting_matches longer all.1)
 
 -- one match more has its numbers
-pub all-more : (old new : Addresses) (plans : List MatchPlan) (at : ℕ) (d : MatchPlan) (waiting all : List Fixture) (fixture : Fixture) → at < length plans → all ≡ waiting ++ fixture ∷ [] → Lengthens old new
-    → AllZip (λ plan fixture. AreNumbersOf old plan.players.items fixture.players.items) (take at plans) waiting → AreNumbersOf new (get_or plans at d).players.items fixture.players.items
-    → AllZip (λ plan fixture. AreNumbersOf new plan.players.items fixture.players.items) (take (at + 1) plans) all
-all-more old new plans at d waiting all fixture within is longer before this =
-    let R : MatchPlan → Fixture → Type 0 = λ plan it. AreNumbersOf new plan.players.items it.players.items in
-    let more = all_zipped_more R (take at plans) waiting (get_or plans at d) fixture (all-kept old new (take at plans) waiting longer before) this in
-    subst (AllZip R (take (at + 1) plans)) (sym is) (subst (λ (them : List MatchPlan). AllZip R them (waiting ++ fixture ∷ [])) (sym (take_more plans at d within)) more)
+pub all-more : (old new : Addresses) (plans : List MatchPlan) (at : ℕ) (d : MatchPlan) (waiting all : List WaitingMatch) (waiting_match : WaitingMatch) → at < length plans → all ≡ waiting ++ waiting_match ∷ [] → Lengthens old new
+    → AllZip (λ plan waiting_match. AreNumbersOf old plan.players.items waiting_match.players.items) (take at plans) waiting → AreNumbersOf new (get_or plans at d).players.items waiting_match.players.items
+    → AllZip (λ plan waiting_match. AreNumbersOf new plan.players.items waiting_match.players.items) (take (at + 1) plans) all
+all-more old new plans at d waiting all waiting_match within is longer before this =
+    let R : MatchPlan → WaitingMatch → Type 0 = λ plan it. AreNumbersOf new plan.players.items it.players.items in
+    let more = all_zipped_more R (take at plans) waiting (get_or plans at d) waiting_match (all-kept old new (take at plans) waiting longer before) this in
+    subst (AllZip R (take (at + 1) plans)) (sym is) (subst (λ (them : List MatchPlan). AllZip R them (waiting ++ waiting_match ∷ [])) (sym (take_more plans at d within)) more)

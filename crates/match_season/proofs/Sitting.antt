@@ -4,7 +4,7 @@ use Rattle.std.specs.Prelude.{◌==◌}
 use Rattle.std.proofs.lemmas.Bool.{cases_eq, cases_lt, eq-eqb, ne_eqb}
 use Rattle.std.proofs.lemmas.List.{get_or-set_same, get_or-set_other, get_or_past, set_past}
 use Rattle.std.proofs.lemmas.List.Sums.{count_by_more_yes, count_by_more_no}
-use Rattle.match_season.specs.Lineups.{SitDown, StandUp, times}
+use Rattle.match_season.specs.Queues.{SitDown, StandUp, times}
 
 times_yes : (players : List ℕ) (at player : ℕ) → at < length players → get_or players at 0 ≡ player → times (take (at + 1) players) player ≡ times (take at players) player + 1
 times_yes players at player within is = count_by_more_yes (λ it. it == player) players at 0 within (eq-eqb (get_or players at 0) player is)

@@ -9,7 +9,7 @@ use Rattle.std.proofs.lemmas.List.{append_assoc, append-nil, get_or-set_same, ge
 use Rattle.std.proofs.lemmas.List.Sums.{count_by-le-length, sum_by-append, sum_by-set}
 use Rattle.match_plans.specs.declared.season_form.RecordOrder.{RecordOrder}
 use Rattle.match_plans.specs.declared.season_form.RecordOrder.TheVariants.{OfSchedule}
-use Rattle.match_season.specs.Lineups.{times}
+use Rattle.match_season.specs.Queues.{times}
 use Rattle.match_season.specs.Seasons.{Rises, Settles, WritesAllBut, WritesMatches, WritesMore, WritesMoreAndPart, WritesPart, WritesSomeAndPart, WritesUpTo, is_open, mark, places_of, settled_in}
 use Rattle.match_season.specs.declared.season_output.SeasonFault.{SeasonFault}
 use Rattle.match_season.specs.declared.season_output.SeasonFault.TheVariants.{WriteFault}

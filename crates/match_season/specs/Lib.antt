@@ -1,4 +1,4 @@
-pub mod Floors
-pub mod Lineups
+pub mod Scheduling
+pub mod Queues
 pub mod Outputs
 pub mod Seasons

@@ -5,7 +5,7 @@ use Rattle.std.specs.Io.KnownBytes.{Appends}
 use Rattle.game_core.specs.Counting.{one_more}
 use Rattle.match_plans.specs.declared.season_form.RecordOrder.{RecordOrder}
 use Rattle.match_plans.specs.declared.season_form.RecordOrder.TheVariants.{OfSchedule}
-use Rattle.match_season.specs.Lineups.{times}
+use Rattle.match_season.specs.Queues.{times}
 use Rattle.match_season.specs.declared.season_output.SeasonFault.{SeasonFault}
 use Rattle.match_season.specs.declared.season_output.SeasonFault.TheVariants.{WriteFault, Memory}
 use Rattle.match_season.specs.declared.written.Written.{Written}

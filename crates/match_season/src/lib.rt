@@ -6,9 +6,9 @@
 //! Free functions take the allocator first, behind a handle for threads and waiting.
 #![tactic(auto)]
 
-mod floor;
-mod lineup;
+mod queue;
 mod results;
+mod scheduler;
 mod season;
 mod season_output;
 mod written;

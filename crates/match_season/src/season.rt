@@ -7,15 +7,15 @@ ghost use Rattle.match_play.specs.declared.playing.MatchFault.TheVariants.{Memor
 ghost use Rattle.match_season.specs.Outputs.{IsOutputOf};
 ghost use Rattle.match_season.specs.Seasons.{WritesAllBut, WritesUpTo, faults_after};
 
-use crate::floor::{Floor, Next};
-use crate::lineup::Lineup;
-use crate::results::{Naming, Over, Results};
+use crate::queue::MatchQueue;
+use crate::results::{MatchResult, OutputBrand, Results};
+use crate::scheduler::{AfterMatch, Scheduler};
 use crate::season_output::{Reports, SeasonFault, write_season};
 use crate::written::Written;
 use crossbeam_channel::{Receiver, Sender, bounded};
 use game_core::Counted;
-use match_plans::{MatchPlan, Reach, RecordOrder, SeasonForm, TellsShortages};
-use match_play::{EndedMatch, HostedGame, MatchFault, ended_match, entrants_of};
+use match_plans::{MatchPlan, Reach, RecordOrder, ReportsShortages, SeasonForm};
+use match_play::{EndedMatch, MatchFault, PlayableGame, ended_match, prepared_match};
 use role_workers::Player;
 use std::alloc::Global;
 use std::io::Write;
@@ -33,68 +33,68 @@ fn was_short(outcome: &Result<EndedMatch, MatchFault>) -> bool
 
 /// The matches of a season, as its threads see them.
 #[derive(Drop)]
-struct Season<'f, 'a, P: Player, S: Reach<P>, N: Naming> {
+struct Season<'f, 'a, P: Player, S: Reach<P>, N: OutputBrand> {
     alloc: Global,
     reach: &'f S,
-    game: HostedGame<'f>,
+    game: PlayableGame<'f>,
     plans: &'f [MatchPlan<'a>],
     has_history: bool,
-    floor: Floor,
+    scheduler: Scheduler,
     /// The type of the players. A player is made when its match begins.
     players: PhantomData<Mutex<P>>,
     of: PhantomData<N>,
     ghost named: { (place : ℕ) (text : List ℕ) → IsOutputOf (S.is_reached reach.now) P.handed game plans.now has_history place text → ∥ N.is_output place text ∥₁ },
 }
 
-impl<P: Player, S: Reach<P>, N: Naming> Season<'_, '_, P, S, N> {
+impl<P: Player, S: Reach<P>, N: OutputBrand> Season<'_, '_, P, S, N> {
     /// Plays the match at this place.
     fn play<R>(&self, rt: &R, place: usize) -> Result<EndedMatch, MatchFault>
     where
         R: Threads + Wait + Sync,
         P: Player + Drop + Send,
-        S: Reach<P> + TellsShortages,
+        S: Reach<P> + ReportsShortages,
         ensures clear { IfOk result (λ ended. S.is_clear self.now.reach.now place) }
         ensures played { IfOk result (λ ended. IsOutputOf (S.is_reached self.now.reach.now) P.handed self.now.game self.now.plans.now self.now.has_history place ended.text) }
     {
         let Some(plan) = self.plans.get(place) else {
             return Err(MatchFault::NotEnded);
         };
-        let entrants = entrants_of(self.alloc, self.reach, self.game, place, plan)?;
+        let prepared = prepared_match(self.alloc, self.reach, self.game, place, plan)?;
         ended_match(
             rt,
             self.alloc,
             self.reach,
-            entrants,
+            prepared,
             self.game,
             self.has_history,
         )
     }
 
     /// Plays matches, one after another, until none waits, and sends each result.
-    fn play_matches<R>(&self, rt: &R, sender: &Sender<Over<N>>)
+    fn play_matches<R>(&self, rt: &R, sender: &Sender<MatchResult<N>>)
     where
         R: Threads + Wait + Sync,
         P: Player + Drop + Send,
-        S: Reach<P> + TellsShortages,
+        S: Reach<P> + ReportsShortages,
     {
-        self.floor.enter(rt);
+        self.scheduler.enter(rt);
         for _ in rt.forever() {
-            let Some(fixture) = self.floor.begin(rt) else {
+            let Some(waiting_match) = self.scheduler.begin(rt) else {
                 return;
             };
-            let place = fixture.place;
+            let place = waiting_match.place;
             let outcome = self.play(rt, place);
-            match self.floor.end(rt, fixture, was_short(&outcome)) {
-                Next::HandOn => {
-                    let over = Over {
+            match self.scheduler.end(rt, waiting_match, was_short(&outcome)) {
+                AfterMatch::Report => {
+                    let over = MatchResult {
                         place,
                         outcome,
                         of: PhantomData,
                     };
                     let _ = sender.send(rt, over);
                 }
-                Next::GoOn => {}
-                Next::End => return,
+                AfterMatch::Retry => {}
+                AfterMatch::EndThread => return,
             }
         }
     }
@@ -107,15 +107,15 @@ fn is_shared<T: Sync>(_value: &T)
 
 /// Writes the results of a season's matches. If a write fails, no further match begins. The missing records are reported. Returns the
 /// number of missing records.
-fn write_played<N: Naming, R: Wait, W: Write, E: Write>(
+fn write_played<N: OutputBrand, R: Wait, W: Write, E: Write>(
     rt: &R,
     alloc: Global,
     plans: &[MatchPlan<'_>],
-    floor: &Floor,
+    scheduler: &Scheduler,
     has_thread: bool,
     order: RecordOrder,
     nothing: Written,
-    receiver: &Receiver<Over<N>>,
+    receiver: &Receiver<MatchResult<N>>,
     writer: &mut Counted<W>,
     errors: &Mutex<E>,
 ) -> Result<u64, SeasonFault>
@@ -140,7 +140,7 @@ fn write_played<N: Naming, R: Wait, W: Write, E: Write>(
             Ok(written.missing())
         }
         Err(fault) => {
-            floor.close(rt);
+            scheduler.close(rt);
             reports.report_rest(&written);
             Err(fault)
         }
@@ -159,17 +159,17 @@ fn play_in_threads<N, R, P, S, W: Write, E: Write + Send>(
     rt: &R,
     alloc: Global,
     season: &Season<'_, '_, P, S, N>,
-    sender: &Sender<Over<N>>,
-    receiver: &Receiver<Over<N>>,
+    sender: &Sender<MatchResult<N>>,
+    receiver: &Receiver<MatchResult<N>>,
     form: SeasonForm,
     writer: &mut Counted<W>,
     errors: &Mutex<E>,
 ) -> Result<u64, SeasonFault>
 where
-    N: Naming + Send + Sync,
+    N: OutputBrand + Send + Sync,
     R: Threads + Wait + Sync,
     P: Player + Drop + Send,
-    S: Reach<P> + TellsShortages + Sync,
+    S: Reach<P> + ReportsShortages + Sync,
     ensures written { IfOk result (λ missing. WritesAllBut N.is_output form.order missing (length season.now.plans.now) (W.contents writer.old.stream) (W.contents writer.new.stream)) }
     ensures at_fault { IfErr result (WritesUpTo N.is_output form.order (length season.now.plans.now) (W.contents writer.old.stream) (W.contents writer.new.stream)) }
     ensures faults { writer.new.faults ≡ faults_after result writer.old.faults }
@@ -199,12 +199,12 @@ where
                 }
                 has_thread = true;
             }
-            let floor = &season.floor;
+            let scheduler = &season.scheduler;
             let played = write_played(
                 rt,
                 alloc,
                 season.plans,
-                floor,
+                scheduler,
                 has_thread,
                 form.order,
                 nothing,
@@ -223,23 +223,23 @@ fn play_named<'f, 'a, N, R, P, S, W: Write, E: Write + Send>(
     rt: &R,
     alloc: Global,
     reach: &'f S,
-    game: HostedGame<'f>,
+    game: PlayableGame<'f>,
     plans: &'f [MatchPlan<'a>],
     form: SeasonForm,
     writer: &mut Counted<W>,
     errors: &Mutex<E>,
 ) -> Result<u64, SeasonFault>
 where
-    N: Naming + Send + Sync,
+    N: OutputBrand + Send + Sync,
     R: Threads + Wait + Sync,
     P: Player + Drop + Send,
-    S: Reach<P> + TellsShortages + Sync,
+    S: Reach<P> + ReportsShortages + Sync,
     requires named { (place : ℕ) (text : List ℕ) → IsOutputOf (S.is_reached reach.now) P.handed game plans.now form.has_history place text → N.is_output place text }
     ensures written { IfOk result (λ missing. WritesAllBut N.is_output form.order missing (length plans.now) (W.contents writer.old.stream) (W.contents writer.new.stream)) }
     ensures at_fault { IfErr result (WritesUpTo N.is_output form.order (length plans.now) (W.contents writer.old.stream) (W.contents writer.new.stream)) }
     ensures faults { writer.new.faults ≡ faults_after result writer.old.faults }
 {
-    let floor = Floor::of(Lineup::of(alloc, plans, form)?);
+    let scheduler = Scheduler::of(MatchQueue::of(alloc, plans, form)?);
     // All results find room, so no thread waits for a reader of the records.
     let (sender, receiver) = bounded(alloc, plans.len())?;
     let season: Season<'f, 'a, P, S, N> = Season {
@@ -248,7 +248,7 @@ where
         game,
         plans,
         has_history: form.has_history,
-        floor,
+        scheduler,
         players: PhantomData,
         of: PhantomData,
     };
@@ -270,7 +270,7 @@ pub fn play_season<'f, 'a, R, P, S, W: Write, E: Write + Send>(
     rt: &R,
     alloc: Global,
     reach: &'f S,
-    game: HostedGame<'f>,
+    game: PlayableGame<'f>,
     plans: &'f [MatchPlan<'a>],
     form: SeasonForm,
     writer: &mut Counted<W>,
@@ -279,7 +279,7 @@ pub fn play_season<'f, 'a, R, P, S, W: Write, E: Write + Send>(
 where
     R: Threads + Wait + Sync,
     P: Player + Drop + Send,
-    S: Reach<P> + TellsShortages + Sync,
+    S: Reach<P> + ReportsShortages + Sync,
     ensures written { IfOk result (λ missing. WritesAllBut (IsOutputOf (S.is_reached reach.now) P.handed game.entry plans.now form.has_history) form.order missing (length plans.now) (W.contents writer.old.stream) (W.contents writer.new.stream)) }
     ensures at_fault { IfErr result (WritesUpTo (IsOutputOf (S.is_reached reach.now) P.handed game.entry plans.now form.has_history) form.order (length plans.now) (W.contents writer.old.stream) (W.contents writer.new.stream)) }
     ensures faults { writer.new.faults ≡ faults_after result writer.old.faults }

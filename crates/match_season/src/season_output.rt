@@ -6,7 +6,7 @@ ghost use Rattle.match_plans.specs.declared.season_form.RecordOrder.TheVariants.
 ghost use Rattle.match_season.specs.Seasons.{AppendsPart, ArePlaced, Settles, HasAll, Rises, WritesMatches, WritesMore, WritesMoreAndPart, WritesPart, WritesUpTo, faults_after, is_open, places_of, settled_on};
 ghost use Rattle.match_season.specs.declared.season_output.SeasonFault.TheVariants.{WriteFault as write_fault};
 
-use crate::results::{Naming, Over, Results};
+use crate::results::{MatchResult, OutputBrand, Results};
 use crate::written::Written;
 use game_core::Counted;
 use match_plans::{MatchPlan, RecordOrder};
@@ -104,9 +104,9 @@ fn write_ended<W: Write>(
 }
 
 /// Writes the record of a match, or reports why it has none.
-fn write_outcome<N: Naming, R: Wait, W: Write, E: Write>(
+fn write_outcome<N: OutputBrand, R: Wait, W: Write, E: Write>(
     reports: &Reports<'_, '_, '_, '_, R, E>,
-    over: Over<N>,
+    over: MatchResult<N>,
     written: &mut Written,
     writer: &mut Counted<W>,
 ) -> Result<(), SeasonFault>
@@ -116,7 +116,7 @@ fn write_outcome<N: Naming, R: Wait, W: Write, E: Write>(
     ensures at_fault { IfErr result (λ fault. (fault ≡ write_fault) × (is_open written.old.is_settled.items over.place ≡ true) × WritesPart N.is_output over.place (W.contents writer.old.stream) (W.contents writer.new.stream)) }
     ensures faults { writer.new.faults ≡ faults_after result writer.old.faults }
 {
-    let Over {
+    let MatchResult {
         place,
         outcome,
         of: _,
@@ -132,9 +132,9 @@ fn write_outcome<N: Naming, R: Wait, W: Write, E: Write>(
 }
 
 /// Writes the kept results from this place on, up to the first match that is not over. Returns the place of that match.
-fn write_waiting<N: Naming, R: Wait, W: Write, E: Write>(
+fn write_waiting<N: OutputBrand, R: Wait, W: Write, E: Write>(
     reports: &Reports<'_, '_, '_, '_, R, E>,
-    waiting: &mut [Option<Over<N>>],
+    waiting: &mut [Option<MatchResult<N>>],
     next: usize,
     written: &mut Written,
     writer: &mut Counted<W>,
@@ -159,7 +159,7 @@ fn write_waiting<N: Naming, R: Wait, W: Write, E: Write>(
 }
 
 /// Keeps a match that is over at its place.
-fn keep<N: Naming>(waiting: &mut [Option<Over<N>>], over: Over<N>)
+fn keep<N: OutputBrand>(waiting: &mut [Option<MatchResult<N>>], over: MatchResult<N>)
     ensures kept { waiting.new ≡ slice_set waiting.old over.place (Some over) }
     ensures placed { ArePlaced (λ over. over.place) waiting.old → ArePlaced (λ over. over.place) waiting.new }
 {
@@ -170,7 +170,10 @@ fn keep<N: Naming>(waiting: &mut [Option<Over<N>>], over: Over<N>)
 }
 
 /// `count` empty places.
-fn none_waiting<N: Naming>(alloc: Global, count: usize) -> Result<Vec<Option<Over<N>>>, AllocError>
+fn none_waiting<N: OutputBrand>(
+    alloc: Global,
+    count: usize,
+) -> Result<Vec<Option<MatchResult<N>>>, AllocError>
     ensures { IfOk result (λ waiting. waiting.items ≡ replicate count None) }
 {
     let mut waiting = Vec::with_capacity(alloc, count)?;
@@ -191,7 +194,7 @@ fn first_to_write(order: RecordOrder, next: usize, place: usize) -> usize
 }
 
 /// Writes the records of the matches in this order, each followed by its account if that is asked for.
-pub fn write_season<N: Naming, R: Wait, W: Write, E: Write>(
+pub fn write_season<N: OutputBrand, R: Wait, W: Write, E: Write>(
     alloc: Global,
     order: RecordOrder,
     reports: &Reports<'_, '_, '_, '_, R, E>,

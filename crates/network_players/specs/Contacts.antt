@@ -1,5 +1,5 @@
 -- What an exchange with a player counts as.
-use Rattle.std.specs.Prelude.{◌≡◌, ℕ, ℤ, List, Option, Some, None, Result, Ok, Err}
+use Rattle.std.specs.Prelude.{ℕ, ℤ, Bool, if◌then◌else◌, List, Option, Some, None, Result, Ok, Err}
 use Rattle.std.specs.declared.io.ErrorKind.{ErrorKind}
 use Rattle.std.specs.declared.io.ErrorKind.TheVariants.{WouldBlock, TimedOut}
 use Rattle.desk_calls.specs.declared.answer.Answer.{Answer}
@@ -13,6 +13,8 @@ use Rattle.network_players.specs.declared.deadline.Halt.{Halt}
 use Rattle.network_players.specs.declared.deadline.Halt.TheVariants as halts
 use Rattle.network_players.specs.declared.contacting.ContactFault.{ContactFault}
 use Rattle.network_players.specs.declared.contacting.ContactFault.TheVariants as faults
+use Rattle.network_players.specs.declared.contacting.AfterTry.{AfterTry}
+use Rattle.network_players.specs.declared.contacting.AfterTry.TheVariants.{Waits, Tries, Ends}
 
 -- no answer in time is a silence, every other fault a broken answer
 abbrev pub answer_of : Result (List ℕ) WireFault → Answer
@@ -66,6 +68,14 @@ fault_so_far faults.NoAddress last = last
 fault_so_far before (faults.Shortage Ports) = before
 fault_so_far before (faults.Shortage Network) = before
 fault_so_far before last = last
+
+-- What follows a try to connect: after a shortage another one, also if the player has taken no connection for some seconds; after a player
+-- that takes no connection another one, if there is patience left. A try without time is none, so the fault before it counts.
+abbrev pub after_try : ContactFault → Bool → ContactFault → AfterTry
+after_try before is_patient (faults.Shortage shortage) = Waits shortage
+after_try before is_patient faults.NoConnection = if is_patient then Tries else Ends faults.NoConnection
+after_try before is_patient faults.Late = Ends before
+after_try before is_patient fault = Ends fault
 
 -- a message that had to wait for a shortage and then had no time has the shortage for its fault
 abbrev pub fault_after : Option Shortage → ContactFault → ContactFault

@@ -3,3 +3,4 @@ pub mod Contacts
 pub mod Fronts
 pub mod Budgets
 pub mod Players
+pub mod Paces

@@ -1,7 +1,9 @@
 //! A message to a player, on a connection of its own.
 ghost use Rattle.std.specs.Prelude.{◌≡◌};
 ghost use Rattle.std.specs.IoError.{error_kind, raw_os_error};
-ghost use Rattle.network_players.specs.Contacts.{address_fault, fault_at_end, fault_so_far, fault_after, halt_fault, lookup_fault, outcome_of};
+ghost use Rattle.std.specs.Net.Addr.{is_ipv4};
+ghost use Rattle.std.specs.Net.Socket.{socket_ip};
+ghost use Rattle.network_players.specs.Contacts.{address_fault, after_try, fault_at_end, fault_so_far, fault_after, halt_fault, lookup_fault, outcome_of};
 
 use crate::deadline::{Deadline, Halt, TimedStream};
 use crate::lookup::Lookup;
@@ -13,7 +15,7 @@ use match_plans::{PlayerAddress, Shortage};
 use shared_text::SharedText;
 use std::alloc::Global;
 use std::io::ErrorKind;
-use std::net::{Ipv4Addr, Ipv6Addr, Net, SocketAddr, TcpStream, UdpSocket};
+use std::net::{IpAddr, Ipv4Addr, Ipv6Addr, Net, SocketAddr, TcpStream, UdpSocket};
 use std::time::{Clock, Duration};
 use std::{io, thread};
 use thiserror::Error;
@@ -117,13 +119,19 @@ fn address_fault(error: &io::Error) -> ContactFault
     }
 }
 
+/// The address of this computer from which one of the same family is reached.
+fn any_address(address: &SocketAddr) -> SocketAddr
+    ensures { is_ipv4 (socket_ip result) ≡ is_ipv4 (socket_ip address.now) }
+{
+    match address {
+        SocketAddr::V4(_) => SocketAddr::new(IpAddr::V4(Ipv4Addr::UNSPECIFIED), 0),
+        SocketAddr::V6(_) => SocketAddr::new(IpAddr::V6(Ipv6Addr::UNSPECIFIED), 0),
+    }
+}
+
 /// Whether this computer has a route to the address. Without one the system refuses even a socket that sends nothing.
 fn has_route<N: Net>(net: &N, address: &SocketAddr) -> bool {
-    let any = match address {
-        SocketAddr::V4(_) => SocketAddr::from((Ipv4Addr::UNSPECIFIED, 0)),
-        SocketAddr::V6(_) => SocketAddr::from((Ipv6Addr::UNSPECIFIED, 0)),
-    };
-    match UdpSocket::bind(net, any) {
+    match UdpSocket::bind(net, any_address(address)) {
         Ok(socket) => socket.connect(*address).is_ok(),
         Err(_) => false,
     }
@@ -203,7 +211,7 @@ fn connect_once<N: Net + Clock>(
 
 /// The player that a message is for, and the message's deadline.
 #[derive(Clone, Copy)]
-struct Errand<'a> {
+struct AddressedMessage<'a> {
     player: &'a PlayerAddress<'a>,
     deadline: Deadline,
 }
@@ -212,16 +220,16 @@ struct Errand<'a> {
 fn find_host<N: Net + Clock>(
     net: &N,
     alloc: Global,
-    errand: Errand<'_>,
+    addressed: AddressedMessage<'_>,
     lookup: &mut Lookup,
 ) -> Result<(), ContactFault> {
     if lookup.is_known() {
         return Ok(());
     }
-    if let Err(shortage) = lookup.look_up(net, alloc, errand.player) {
+    if let Err(shortage) = lookup.look_up(net, alloc, addressed.player) {
         return Err(ContactFault::Shortage(shortage));
     }
-    match errand.deadline.left(net) {
+    match addressed.deadline.left(net) {
         Ok(_) => Ok(()),
         Err(halt) => Err(lookup_fault(halt)),
     }
@@ -243,37 +251,59 @@ fn pause<N: Clock>(net: &N, deadline: Deadline, fault: ContactFault) -> Result<(
     }
 }
 
+/// What follows a try to connect that has failed.
+enum AfterTry {
+    /// Another one, and the player may take no connection for some seconds more: the referee was short of this.
+    Waits(Shortage),
+    /// Another one.
+    Tries,
+    /// Nothing: the message has this fault.
+    Ends(ContactFault),
+}
+
+/// What follows a try with this fault, behind one with the fault `before`. A player that takes no connection is tried again only if there is
+/// patience left. A try without time is none, so then the fault before it counts.
+fn after_try(fault: ContactFault, before: ContactFault, is_patient: bool) -> AfterTry
+    ensures { result ≡ after_try before is_patient fault }
+{
+    match fault {
+        ContactFault::Shortage(shortage) => AfterTry::Waits(shortage),
+        ContactFault::NoConnection if is_patient => AfterTry::Tries,
+        ContactFault::Late => AfterTry::Ends(before),
+        _ => AfterTry::Ends(fault),
+    }
+}
+
 /// Connects to the player within the time left. Tries again while the referee is short of something, and notes this in `waited`. Where the
 /// player takes no connection it is tried again for some seconds, since the message began or since such a shortage.
 fn connect<N: Net + Clock>(
     net: &N,
     alloc: Global,
-    errand: Errand<'_>,
+    addressed: AddressedMessage<'_>,
     lookup: &mut Lookup,
     waited: &mut Option<Shortage>,
 ) -> Result<N::Stream, ContactFault> {
     let mut patience = Deadline::within(net, RETRY_SECONDS).map_err(ContactFault::Shortage)?;
     let mut before = ContactFault::Late;
     for _ in 0..MAX_CONNECTS {
-        let connected = match find_host(net, alloc, errand, lookup) {
-            Ok(()) => connect_once(net, lookup.addresses(), errand.deadline),
+        let connected = match find_host(net, alloc, addressed, lookup) {
+            Ok(()) => connect_once(net, lookup.addresses(), addressed.deadline),
             Err(fault) => Err(fault),
         };
         let fault = match connected {
             Ok(stream) => return Ok(stream),
             Err(fault) => fault,
         };
-        match fault {
-            ContactFault::Shortage(shortage) => {
+        let is_patient = fault == ContactFault::NoConnection && patience.left(net).is_ok();
+        match after_try(fault, before, is_patient) {
+            AfterTry::Waits(shortage) => {
                 *waited = Some(shortage);
                 patience = Deadline::within(net, RETRY_SECONDS).map_err(ContactFault::Shortage)?;
             }
-            ContactFault::NoConnection if patience.left(net).is_ok() => {}
-            // There was no time left for this try.
-            ContactFault::Late => return Err(before),
-            _ => return Err(fault),
+            AfterTry::Tries => {}
+            AfterTry::Ends(fault) => return Err(fault),
         }
-        pause(net, errand.deadline, fault)?;
+        pause(net, addressed.deadline, fault)?;
         before = fault;
     }
     Err(before)
@@ -283,12 +313,17 @@ fn connect<N: Net + Clock>(
 fn exchange_over<N: Net + Clock>(
     net: &N,
     alloc: Global,
-    errand: Errand<'_>,
+    addressed: AddressedMessage<'_>,
     stream: N::Stream,
     message: &SharedText<'_>,
 ) -> Result<Text, ContactFault> {
-    let mut stream = Counted::new(TimedStream::new(net, errand.deadline, stream));
-    let exchanged = exchange_shared(alloc, &mut stream, errand.player.name.as_bytes(), message);
+    let mut stream = Counted::new(TimedStream::new(net, addressed.deadline, stream));
+    let exchanged = exchange_shared(
+        alloc,
+        &mut stream,
+        addressed.player.name.as_bytes(),
+        message,
+    );
     let stream = stream.end();
     outcome_of(stream.halt(), stream.status(), exchanged)
 }
@@ -307,10 +342,10 @@ pub fn contact_found<N: Net + Clock>(
         Ok(deadline) => deadline,
         Err(shortage) => return Err(ContactFault::Shortage(shortage)),
     };
-    let errand = Errand { player, deadline };
+    let addressed = AddressedMessage { player, deadline };
     let mut waited = None;
-    let reached = match connect(net, alloc, errand, lookup, &mut waited) {
-        Ok(stream) => exchange_over(net, alloc, errand, stream, message),
+    let reached = match connect(net, alloc, addressed, lookup, &mut waited) {
+        Ok(stream) => exchange_over(net, alloc, addressed, stream, message),
         Err(fault) => Err(fault),
     };
     match reached {

@@ -16,5 +16,5 @@ mod socket_player;
 
 pub use contacting::{ContactFault, Explains, contact};
 pub use shortage::shortage_of;
-pub use signal::{Pace, Signal, time_since};
+pub use signal::{Pace, RoundSignal, time_since};
 pub use socket_player::{SocketPlayer, Sockets, answer_of};

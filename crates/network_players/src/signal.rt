@@ -23,7 +23,7 @@ const NO_SHORTAGE: u64 = 0;
 /// A round begins when a player gets its next message, since each role gets one message in a round. No promise depends on when a player
 /// is woken: a player that is not woken goes on when its rest is over.
 #[derive(Drop)]
-pub struct Signal {
+pub struct RoundSignal {
     /// The highest number of a message that one of the players got.
     latest: AtomicU64,
     /// The number of times that the resting players were woken.
@@ -37,10 +37,10 @@ pub struct Signal {
     shortage: AtomicU64,
 }
 
-impl Signal {
+impl RoundSignal {
     /// The signal of a new match.
-    pub const fn new() -> Signal {
-        Signal {
+    pub const fn new() -> RoundSignal {
+        RoundSignal {
             latest: AtomicU64::new(0),
             calls: AtomicU64::new(0),
             seated: AtomicU64::new(0),
@@ -51,12 +51,12 @@ impl Signal {
     }
 
     /// The signals of `count` new matches. The error is out of memory.
-    pub fn many(alloc: Global, count: usize) -> Result<Vec<Signal>, AllocError>
+    pub fn many(alloc: Global, count: usize) -> Result<Vec<RoundSignal>, AllocError>
         ensures { IfOk result (λ signals. length signals.items ≡ count) }
     {
         let mut signals = Vec::with_capacity(alloc, count)?;
         for _ in 0..count {
-            signals.push(Signal::new())?;
+            signals.push(RoundSignal::new())?;
         }
         Ok(signals)
     }
@@ -155,7 +155,7 @@ fn rest_after(rest: Duration) -> Duration
 /// The rests of a player between its messages. Each ends when a round begins. The first one after a message takes a tenth of a second at
 /// most, and each further one twice as long, up to two seconds.
 pub struct Pace<'a> {
-    signal: &'a Signal,
+    signal: &'a RoundSignal,
     /// The number of messages that the player got.
     messages: u64,
     /// The number of times that the players had been woken before the role last asked what is due.
@@ -187,7 +187,7 @@ impl Drop for Pace<'_> {
 
 impl<'a> Pace<'a> {
     /// The pace of a new player, in the match of this signal.
-    pub fn new(signal: &'a Signal) -> Pace<'a>
+    pub fn new(signal: &'a RoundSignal) -> Pace<'a>
         ensures rest { as_nanos result.rest ≡ 100_000_000 }
         ensures here { IsFalse result.has_left }
     {
@@ -204,7 +204,7 @@ impl<'a> Pace<'a> {
 
     /// Notes that the player gets a message, with which a round has begun.
     pub fn begin(&mut self)
-        ensures { self.new.messages ≡ min (2 ^ 64 - 1) (self.old.messages + 1) }
+        ensures { self.new ≡ record self.old { messages = min (2 ^ 64 - 1) (self.old.messages + 1) } }
     {
         self.messages = self.messages.saturating_add(1);
         self.signal.raise(self.messages);
@@ -214,6 +214,7 @@ impl<'a> Pace<'a> {
     pub fn end(&mut self)
         ensures rest { as_nanos self.new.rest ≡ 100_000_000 }
         ensures rested { IsFalse self.new.has_rested }
+        ensures others { (self.new.messages ≡ self.old.messages) × (self.new.has_left ≡ self.old.has_left) }
     {
         self.seen = self.signal.calls();
         self.rest = first_rest();
@@ -222,7 +223,8 @@ impl<'a> Pace<'a> {
 
     /// Notes that the player gets no further message.
     pub fn leave(&mut self)
-        ensures { IsTrue self.new.has_left }
+        ensures left { IsTrue self.new.has_left }
+        ensures messages { self.new.messages ≡ self.old.messages }
     {
         if !self.has_left {
             self.has_left = true;
@@ -235,6 +237,7 @@ impl<'a> Pace<'a> {
     pub fn rest<R: Wait>(&mut self, rt: &R)
         ensures rest { as_nanos self.new.rest ≡ min 2_000_000_000 (as_nanos self.old.rest * 2) }
         ensures rested { IsTrue self.new.has_rested }
+        ensures others { (self.new.messages ≡ self.old.messages) × (self.new.has_left ≡ self.old.has_left) }
     {
         if self.signal.begin_rest() && !self.has_rested && self.signal.call() == self.seen {
             // Its own call must not end its rest.

@@ -2,16 +2,17 @@
 ghost use Rattle.std.specs.Prelude.{◌≡◌, ◌<◌, Err, IfErr, IfOk, IsOkAnd, IsTrue, MatchOption, MatchResult, None, OnErr, length};
 ghost use Rattle.network_players.specs.Budgets.{IsPaidBy, IsPaidText};
 ghost use Rattle.network_players.specs.Contacts.{answer_of, contact_answer};
+ghost use Rattle.network_players.specs.Paces.{HasAnswered, HasRested};
 ghost use Rattle.network_players.specs.declared.contacting.ContactFault.TheVariants.{OverBudget};
 
 use crate::answer_budget::AnswerBudget;
 use crate::contacting::{ContactFault, Explains, contact_found};
 use crate::lookup::Lookup;
-use crate::signal::{Pace, Signal};
+use crate::signal::{Pace, RoundSignal};
 use desk_calls::Answer;
 use game_core::Text;
 use http_exchange::WireFault;
-use match_plans::{PlayerAddress, Reach, RolePlace, Shortage, TellsShortages};
+use match_plans::{PlayerAddress, Reach, ReportsShortages, RolePlace, Shortage};
 use role_workers::Player;
 use shared_text::SharedText;
 use std::alloc::{AllocError, Global};
@@ -27,7 +28,7 @@ pub struct Sockets<'a, H> {
     pub rt: &'a H,
     /// A signal for each place of a match. With fewer signals some matches share one: their players may rest longer, and a shortage in
     /// one of these matches counts for all of them.
-    pub signals: &'a [Signal],
+    pub signals: &'a [RoundSignal],
     ghost has_one: { 0 < length signals.now },
 }
 
@@ -35,7 +36,7 @@ pub struct Sockets<'a, H> {
 #[derive(Drop)]
 pub struct SocketPlayer<'a, H> {
     rt: &'a H,
-    signal: &'a Signal,
+    signal: &'a RoundSignal,
     pace: Pace<'a>,
     alloc: Global,
     name: String,
@@ -49,12 +50,12 @@ pub struct SocketPlayer<'a, H> {
 
 impl<'a, H> Sockets<'a, H> {
     /// The signal of the match at this place. No clause says which: to contracts all signals are one, since none can name what they carry.
-    fn signal_at(&self, place: usize) -> &'a Signal {
+    fn signal_at(&self, place: usize) -> &'a RoundSignal {
         &self.signals[place % self.signals.len()]
     }
 }
 
-impl<H> TellsShortages for Sockets<'_, H> {
+impl<H> ReportsShortages for Sockets<'_, H> {
     // No contract can name what a signal carries.
     ghost is_clear = { λ s place. Unit {0} };
 
@@ -149,11 +150,11 @@ impl<H> Explains for SocketPlayer<'_, H> {
 }
 
 impl<H: Net + Clock> SocketPlayer<'_, H> {
-    /// Hands the message over, and notes why it brought no answer.
-    fn hand_over(&mut self, seconds: u32, message: &SharedText<'_>) -> Answer
-        ensures { MatchOption self.new.fault (IsPaidText self.old.budget self.new.budget result) (λ fault. result ≡ contact_answer (Err fault)) }
+    /// The answer to a message. Notes why it brought none.
+    fn answer_to(&mut self, seconds: u32, message: &SharedText<'_>) -> Answer
+        ensures answer { MatchOption self.new.fault (IsPaidText self.old.budget self.new.budget result) (λ fault. result ≡ contact_answer (Err fault)) }
+        ensures pace { self.new.pace ≡ self.old.pace }
     {
-        self.pace.begin();
         let address = PlayerAddress {
             name: self.name.as_str(),
             host: self.host.as_str(),
@@ -167,13 +168,23 @@ impl<H: Net + Clock> SocketPlayer<'_, H> {
             seconds,
             message,
         );
-        self.pace.end();
         let reached = paid(&mut self.budget, reached);
         self.fault = reached.as_ref().err().copied();
         if let Some(ContactFault::Shortage(shortage)) = self.fault {
             self.signal.note(shortage);
         }
         contact_answer(reached)
+    }
+
+    /// Hands a message over, which begins a round, and whose answer ends the player's wait.
+    fn hand_over(&mut self, seconds: u32, message: &SharedText<'_>) -> Answer
+        ensures answer { MatchOption self.new.fault (IsPaidText self.old.budget self.new.budget result) (λ fault. result ≡ contact_answer (Err fault)) }
+        ensures pace { HasAnswered self.old.pace self.new.pace }
+    {
+        self.pace.begin();
+        let answer = self.answer_to(seconds, message);
+        self.pace.end();
+        answer
     }
 }
 
@@ -182,7 +193,8 @@ impl<H: Net + Clock + Wait> Player for SocketPlayer<'_, H> {
     ghost handed = { λ p. None };
 
     fn ask(&mut self, seconds: u32, body: &[u8]) -> Answer
-        ensures { MatchOption self.new.fault (IsPaidText self.old.budget self.new.budget result) (λ fault. result ≡ contact_answer (Err fault)) }
+        ensures answer { MatchOption self.new.fault (IsPaidText self.old.budget self.new.budget result) (λ fault. result ≡ contact_answer (Err fault)) }
+        ensures pace { HasAnswered self.old.pace self.new.pace }
     {
         self.hand_over(seconds, &SharedText::lent(self.alloc, body))
     }
@@ -193,12 +205,15 @@ impl<H: Net + Clock + Wait> Player for SocketPlayer<'_, H> {
         seconds: u32,
         message: &SharedText<'_>,
     ) -> Result<Answer, AllocError>
-        ensures { IsOkAnd result (λ answer. MatchOption self.new.fault (IsPaidText self.old.budget self.new.budget answer) (λ fault. answer ≡ contact_answer (Err fault))) }
+        ensures answer { IsOkAnd result (λ answer. MatchOption self.new.fault (IsPaidText self.old.budget self.new.budget answer) (λ fault. answer ≡ contact_answer (Err fault))) }
+        ensures pace { HasAnswered self.old.pace self.new.pace }
     {
         Ok(self.hand_over(seconds, message))
     }
 
-    fn rest(&mut self) {
+    fn rest(&mut self)
+        ensures { HasRested self.old.pace self.new.pace }
+    {
         self.pace.rest(self.rt);
     }
 

@@ -13,7 +13,7 @@ use Rattle.match_plans.specs.declared.plan.CheckPlan.{CheckPlan}
 use Rattle.match_plans.specs.declared.reach.RolePlace.{RolePlace}
 use Rattle.role_workers.specs.Handing.{Handed}
 use Rattle.role_workers.specs.Places.{EachAt}
-use Rattle.match_play.specs.declared.hosting.HostedGame.{HostedGame}
+use Rattle.match_play.specs.declared.playable_game.PlayableGame.{PlayableGame}
 use Rattle.match_play.specs.declared.role_turns.RoleTurn.{RoleTurn}
 use Rattle.player_check.specs.Checks.{EndsEarly, IsTable, IsToldOf, Told, WritesEarlier, all_bad, all_rows, table_text}
 use Rattle.player_check.specs.Tables.{header}
@@ -121,7 +121,7 @@ if-is (Ok bad) Q fault is holds = tt
 if-is (Err it) Q fault is holds = subst Q (sym is) holds
 
 -- what was written before a fault that is no write fault
-pub ends-earlier : (H : Type 0) {P : Type 0} (R : RolePlace → PlayerAddress → P → Type 0) (handed : P → Option (List Handed)) (game : HostedGame) (plan : CheckPlan) (a b : Option (List ℕ)) (fault : CheckFault) → fault ≢ faults.WriteFault
+pub ends-earlier : (H : Type 0) {P : Type 0} (R : RolePlace → PlayerAddress → P → Type 0) (handed : P → Option (List Handed)) (game : PlayableGame) (plan : CheckPlan) (a b : Option (List ℕ)) (fault : CheckFault) → fault ≢ faults.WriteFault
     → WritesEarlier H R handed game plan a b → EndsEarly H R handed game plan fault a b
 ends-earlier H R handed game plan a b (faults.Match fault) other earlier = earlier
 ends-earlier H R handed game plan a b faults.WriteFault other earlier = absurd (other refl)

@@ -6,10 +6,10 @@ use Rattle.desk_calls.specs.declared.answer.Answer.TheVariants as answers
 use Rattle.match_log.specs.ShownTexts.{shown_text}
 use Rattle.match_messages.specs.MessageKinds.{kind_word}
 use Rattle.match_messages.specs.declared.kind.MessageKind.TheVariants.{Play}
-use Rattle.player_check.specs.declared.watched.Brought.{Brought}
-use Rattle.player_check.specs.declared.watched.Brought.TheVariants.{Text, Silence, Break}
+use Rattle.player_check.specs.declared.watched.AnswerKind.{AnswerKind}
+use Rattle.player_check.specs.declared.watched.AnswerKind.TheVariants.{Text, Silence, Break}
 
-abbrev pub brought_by : Answer → Brought
+abbrev pub brought_by : Answer → AnswerKind
 brought_by (answers.Text text) = Text
 brought_by answers.Silent = Silence
 brought_by answers.Broken = Break
@@ -20,7 +20,7 @@ answer_text (answers.Text text) = text
 answer_text answer = []
 
 -- These are the beginnings of a message and of the text that answers it, whether the message asks for a move, and what it brought.
-pub record AreOfMessage (message : List ℕ) (is_play : Bool) (answer : List ℕ) (brought : Brought) : Type 0 where
+pub record AreOfMessage (message : List ℕ) (is_play : Bool) (answer : List ℕ) (brought : AnswerKind) : Type 0 where
   pub body : List ℕ
   pub given : Answer
   pub message_shown : message ≡ shown_text body

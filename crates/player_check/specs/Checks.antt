@@ -16,7 +16,7 @@ use Rattle.role_workers.specs.Handing.{Handed}
 use Rattle.role_workers.specs.Places.{EachAt}
 use Rattle.match_play.specs.Limits.{max_tries}
 use Rattle.match_play.specs.PlayedMatches.{ArePlayedTurns, AreReached, IsSetupOf}
-use Rattle.match_play.specs.declared.hosting.HostedGame.{HostedGame}
+use Rattle.match_play.specs.declared.playable_game.PlayableGame.{PlayableGame}
 use Rattle.match_play.specs.declared.role_turns.RoleTurn.{RoleTurn}
 use Rattle.player_check.specs.Rows.{bad_answers}
 use Rattle.player_check.specs.Seats.{IsPlanFor}
@@ -24,27 +24,27 @@ use Rattle.player_check.specs.Tables.{AreRows, header}
 use Rattle.player_check.specs.declared.check.CheckFault.{CheckFault}
 use Rattle.player_check.specs.declared.check.CheckFault.TheVariants.{WriteFault}
 use Rattle.player_check.specs.declared.watched.Exchange.{Exchange}
-use Rattle.player_check.specs.declared.watched.Participant.{Participant}
+use Rattle.player_check.specs.declared.watched.CheckedPlayer.{CheckedPlayer}
 
 -- the id of the match in which the player has this role
 abbrev pub match_id : ℕ → List ℕ
 match_id role = codes "check-" ++ decimal role
 
 -- A participant of this match is watched exactly if it has this role. Then it is around a player that was reached at the address.
-abbrev pub is_watched : (H : Type 0) → {P : Type 0} → (RolePlace → PlayerAddress → P → Type 0) → ℕ → RolePlace → PlayerAddress → Participant H P → Type 0
+abbrev pub is_watched : (H : Type 0) → {P : Type 0} → (RolePlace → PlayerAddress → P → Type 0) → ℕ → RolePlace → PlayerAddress → CheckedPlayer H P → Type 0
 is_watched H is_reached role at address participant = (is_some participant.watched ≡ (at.role == role)) × IfSome participant.watched (is_reached at address)
 
 -- what a participant was handed: what its player was, if it is watched
-abbrev pub watched_handed : (H : Type 0) → {P : Type 0} → (P → Option (List Handed)) → Participant H P → Option (List Handed)
+abbrev pub watched_handed : (H : Type 0) → {P : Type 0} → (P → Option (List Handed)) → CheckedPlayer H P → Option (List Handed)
 watched_handed H handed participant = option_and_then handed participant.watched
 
 -- A match of this game was played, in which the player has this role and was handed the role's messages. These are the role's turns in it.
-pub record AreTurnsIn (H : Type 0) {P : Type 0} (is_reached : RolePlace → PlayerAddress → P → Type 0) (handed : P → Option (List Handed)) (game : HostedGame) (plan : CheckPlan) (role : ℕ) (turns : List RoleTurn) : Type 0 where
+pub record AreTurnsIn (H : Type 0) {P : Type 0} (is_reached : RolePlace → PlayerAddress → P → Type 0) (handed : P → Option (List Handed)) (game : PlayableGame) (plan : CheckPlan) (role : ℕ) (turns : List RoleTurn) : Type 0 where
   pub made : MatchPlan
   pub planned : IsPlanFor plan (match_id role) role (loaded_game (tables_of game.game.now)).roles made
   pub setup : Setup
   pub is_setup : IsSetupOf made setup
-  pub participants : List (Participant H P)
+  pub participants : List (CheckedPlayer H P)
   pub reached : AreReached (is_watched H is_reached role) game.longest_move 0 made participants
   pub played : ArePlayedTurns (watched_handed H handed) game.game.now game.rules.now.items max_tries setup participants role turns
 
@@ -85,10 +85,10 @@ pub record IsTable {S M : Type 0} (AreTurns : ℕ → List RoleTurn → Type 0) 
   pub is_text : text ≡ table_text roles
 
 -- the number of roles of this game
-abbrev pub roles_of : HostedGame → ℕ
+abbrev pub roles_of : PlayableGame → ℕ
 roles_of game = (loaded_game (tables_of game.game.now)).roles
 
-module _ (H : Type 0) {P : Type 0} (is_reached : RolePlace → PlayerAddress → P → Type 0) (handed : P → Option (List Handed)) (game : HostedGame) (plan : CheckPlan) where
+module _ (H : Type 0) {P : Type 0} (is_reached : RolePlace → PlayerAddress → P → Type 0) (handed : P → Option (List Handed)) (game : PlayableGame) (plan : CheckPlan) where
   -- the text is the table of the check of a player in the first roles of this game
   abbrev pub IsTableOf : ℕ → ℕ → List ℕ → Type 0
   IsTableOf count bad text = IsTable (AreTurnsIn H is_reached handed game plan) (loaded_game (tables_of game.game.now)) count bad text

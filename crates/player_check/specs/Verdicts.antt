@@ -1,8 +1,8 @@
 -- What an answer counted as.
 use Rattle.std.specs.Prelude.{◌==◌, ℕ, Bool, true, false, List, Option, Some, None, length, bytes_eq, codes}
 use Rattle.match_book.specs.Judgement.{unreadable_text}
-use Rattle.player_check.specs.declared.watched.Brought.{Brought}
-use Rattle.player_check.specs.declared.watched.Brought.TheVariants.{Text, Silence, Break}
+use Rattle.player_check.specs.declared.watched.AnswerKind.{AnswerKind}
+use Rattle.player_check.specs.declared.watched.AnswerKind.TheVariants.{Text, Silence, Break}
 use Rattle.player_check.specs.declared.table.Verdict.{Verdict}
 use Rattle.player_check.specs.declared.table.Verdict.TheVariants.{Taken, Legal, Illegal, NoMove, Late, Broken, Dropped}
 
@@ -17,7 +17,7 @@ abbrev pub judged : Option (List ℕ) → Verdict
 judged None = Dropped
 judged (Some error) = judged_as (length error == 0) (bytes_eq error unreadable_text)
 
-abbrev pub verdict_of : Bool → Brought → Option (List ℕ) → Verdict
+abbrev pub verdict_of : Bool → AnswerKind → Option (List ℕ) → Verdict
 verdict_of is_play Silence error = Late
 verdict_of is_play Break error = Broken
 verdict_of false Text error = Taken

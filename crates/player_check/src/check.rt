@@ -8,11 +8,11 @@ ghost use Rattle.player_check.specs.Tables.{AreRows};
 ghost use Rattle.player_check.specs.declared.check.CheckFault.TheVariants as faults;
 
 use crate::table::{HEADER, Row, fault_words};
-use crate::watched::{Exchanges, Participant, Watching};
+use crate::watched::{CheckReach, CheckedPlayer, Exchanges};
 use game_core::{Counted, Game};
-use match_plans::{CheckPlan, MatchPlan, PlayerAddress, Reach, TellsShortages};
-use match_play::{Entrants, HostedGame, MatchFault, RoleTurn, entrants_of, played_turns};
-use network_players::{Explains, Signal};
+use match_plans::{CheckPlan, MatchPlan, PlayerAddress, Reach, ReportsShortages};
+use match_play::{MatchFault, PlayableGame, PreparedMatch, RoleTurn, played_turns, prepared_match};
+use network_players::{Explains, RoundSignal};
 use packed_rules::PackedGame;
 use role_workers::Player;
 use std::alloc::{AllocError, AllocFailed, Global};
@@ -160,14 +160,14 @@ fn check_role<H, P, S>(
     alloc: Global,
     reach: &S,
     plan: &CheckPlan<'_>,
-    game: HostedGame<'_>,
+    game: PlayableGame<'_>,
     role: usize,
     table: &mut Vec<u8>,
 ) -> Result<u64, CheckFault>
 where
     H: Clock + Threads + Wait + Sync,
     P: Player + Explains + Drop + Send,
-    S: Reach<P> + TellsShortages,
+    S: Reach<P> + ReportsShortages,
     requires { role < (⟦<PackedGame as Game>⟧.rules game.game.now).roles }
     ensures told { IfOk result (λ bad. (rows : List ℕ) × IsToldOf (AreTurnsIn H (S.is_reached reach.now) P.handed game.entry plan.now role) ((⟦<PackedGame as Game>⟧.rules game.entry.game.now).role_name role) rows bad
         × (table.new.items ≡ table.old.items ++ rows)) }
@@ -175,9 +175,9 @@ where
     ensures others { IfErr result (λ fault. fault ≢ faults.WriteFault) }
 {
     let id = format!(in alloc; "check-{role}")?;
-    let signal = Signal::new();
+    let signal = RoundSignal::new();
     let exchanges = Mutex::new(Exchanges::new(alloc));
-    let watching = Watching {
+    let watching = CheckReach {
         rt,
         reach,
         role,
@@ -185,14 +185,14 @@ where
         exchanges: &exchanges,
     };
     let match_plan = match_plan(alloc, plan, id.as_str(), role, game.game.roles())?;
-    let entrants: Entrants<Participant<'_, H, P>> = entrants_of(
+    let prepared: PreparedMatch<CheckedPlayer<'_, H, P>> = prepared_match(
         alloc,
         &watching,
         game,
         0,
         &match_plan,
     )?;
-    let turns = played_turns(rt, alloc, &watching, entrants, game, role)?;
+    let turns = played_turns(rt, alloc, &watching, prepared, game, role)?;
     let exchanges = exchanges.lock(rt);
     Ok(push_rows(alloc, table, game.game.role_name(role), &exchanges, &turns)?)
 }
@@ -204,13 +204,13 @@ pub fn check_player<H, P, S, W: Write>(
     alloc: Global,
     reach: &S,
     plan: &CheckPlan<'_>,
-    game: HostedGame<'_>,
+    game: PlayableGame<'_>,
     writer: &mut Counted<W>,
 ) -> Result<u64, CheckFault>
 where
     H: Clock + Threads + Wait + Sync,
     P: Player + Explains + Drop + Send,
-    S: Reach<P> + TellsShortages,
+    S: Reach<P> + ReportsShortages,
     ensures table { IfOk result (λ bad. WritesCheck H (S.is_reached reach.now) P.handed game.entry plan.now bad (W.contents writer.old.stream) (W.contents writer.new.stream)) }
     ensures clear { OnOk result (S.is_clear reach.now 0) }
     ensures early { IfErr result (λ fault. EndsEarly H (S.is_reached reach.now) P.handed game.entry plan.now fault (W.contents writer.old.stream) (W.contents writer.new.stream)) }

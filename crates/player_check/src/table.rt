@@ -4,7 +4,7 @@ ghost use Rattle.player_check.specs.Rows.{row_verdict};
 ghost use Rattle.player_check.specs.Tables.{played_text};
 ghost use Rattle.player_check.specs.Verdicts.{verdict_of};
 
-use crate::watched::{Brought, Exchange};
+use crate::watched::{AnswerKind, Exchange};
 use match_book::UNREADABLE;
 use match_log::Shown;
 use match_play::RoleTurn;
@@ -64,17 +64,17 @@ impl fmt::Display for Verdict {
 }
 
 /// What an answer counted as. `error` is the error of its turn, if that was recorded.
-pub fn verdict_of(is_play: bool, brought: Brought, error: Option<&[u8]>) -> Verdict
+pub fn verdict_of(is_play: bool, brought: AnswerKind, error: Option<&[u8]>) -> Verdict
     ensures { result ≡ verdict_of is_play brought (option_copied error.entry) }
 {
     match (brought, error) {
-        (Brought::Silence, _) => Verdict::Late,
-        (Brought::Break, _) => Verdict::Broken,
-        (Brought::Text, _) if !is_play => Verdict::Taken,
-        (Brought::Text, None) => Verdict::Dropped,
-        (Brought::Text, Some(error)) if error.is_empty() => Verdict::Legal,
-        (Brought::Text, Some(error)) if error == UNREADABLE => Verdict::NoMove,
-        (Brought::Text, Some(_)) => Verdict::Illegal,
+        (AnswerKind::Silence, _) => Verdict::Late,
+        (AnswerKind::Break, _) => Verdict::Broken,
+        (AnswerKind::Text, _) if !is_play => Verdict::Taken,
+        (AnswerKind::Text, None) => Verdict::Dropped,
+        (AnswerKind::Text, Some(error)) if error.is_empty() => Verdict::Legal,
+        (AnswerKind::Text, Some(error)) if error == UNREADABLE => Verdict::NoMove,
+        (AnswerKind::Text, Some(_)) => Verdict::Illegal,
     }
 }
 

@@ -1,17 +1,19 @@
 //! A watched player, among players that answer nothing.
-ghost use Rattle.std.specs.Prelude.{◌≡◌, ◌==◌, ◌↔◌, ◌⊎◌, ◌++◌, ◌∷◌, ◌+◌, ◌-◌, ◌^◌, ◌/◌, [], IfOk, IfSome, IsFalse, IsTrue, min, OnErr, is_some, string_bytes};
+ghost use Rattle.std.specs.Prelude.{◌≡◌, ◌==◌, ◌↔◌, ◌⊎◌, ◌++◌, ◌∷◌, ◌+◌, ◌-◌, ◌^◌, ◌/◌, [], IfOk, IfSome, IsFalse, IsTrue, min, OnErr, is_some, option_and_then, string_bytes};
 ghost use Rattle.std.specs.Duration.{as_nanos};
 ghost use mathlib.Core.List.{IsPrefix};
 ghost use Rattle.match_log.specs.ShownTexts.{shown_text};
 ghost use Rattle.match_messages.specs.MessageKinds.{kind_word};
 ghost use Rattle.match_messages.specs.declared.kind.MessageKind.TheVariants.{Play};
+ghost use Rattle.network_players.specs.Paces.{HasAnswered, HasRested};
 ghost use Rattle.player_check.specs.Answers.{AreOfMessage, answer_text, brought_by};
+ghost use Rattle.role_workers.specs.Handing.{MayKeep};
 
 use desk_calls::Answer;
 use match_log::Shown;
 use match_messages::MessageKind;
-use match_plans::{PlayerAddress, Reach, RolePlace, Shortage, TellsShortages};
-use network_players::{ContactFault, Explains, Pace, Signal, time_since};
+use match_plans::{PlayerAddress, Reach, ReportsShortages, RolePlace, Shortage};
+use network_players::{ContactFault, Explains, Pace, RoundSignal, time_since};
 use role_workers::Player;
 use shared_text::SharedText;
 use std::alloc::{AllocError, Global};
@@ -20,7 +22,7 @@ use std::time::{Clock, Duration, Instant};
 
 /// What a message brought.
 #[derive(Clone, Copy)]
-pub enum Brought {
+pub enum AnswerKind {
     Text,
     /// No answer in time.
     Silence,
@@ -37,7 +39,7 @@ pub struct Exchange {
     pub is_play: bool,
     /// The beginning of the answer's text. It is empty without an answer.
     pub answer: String,
-    pub brought: Brought,
+    pub brought: AnswerKind,
     /// Why there is no answer, if that is known.
     pub fault: Option<ContactFault>,
     /// The time that the message took, in milliseconds.
@@ -89,14 +91,14 @@ fn asks_for_move(message: &SharedText<'_>) -> bool
 }
 
 /// What an answer brought, and its text. The text is empty without an answer.
-fn brought_of(answer: &Answer) -> (Brought, &[u8])
+fn brought_of(answer: &Answer) -> (AnswerKind, &[u8])
     ensures brought { result.0 ≡ brought_by answer.now }
     ensures text { result.1.now ≡ answer_text answer.now }
 {
     match answer {
-        Answer::Text(text) => (Brought::Text, text.as_slice()),
-        Answer::Silent => (Brought::Silence, &[]),
-        Answer::Broken => (Brought::Break, &[]),
+        Answer::Text(text) => (AnswerKind::Text, text.as_slice()),
+        Answer::Silent => (AnswerKind::Silence, &[]),
+        Answer::Broken => (AnswerKind::Break, &[]),
     }
 }
 
@@ -126,18 +128,18 @@ fn exchange_of(
 
 /// Reaches the watched player for its role as `reach` does, and players that answer nothing for the other roles.
 #[derive(Drop)]
-pub struct Watching<'a, H, S> {
+pub struct CheckReach<'a, H, S> {
     pub rt: &'a H,
     pub reach: &'a S,
     /// The role of the watched player.
     pub role: usize,
-    pub signal: &'a Signal,
+    pub signal: &'a RoundSignal,
     pub exchanges: &'a Mutex<Exchanges>,
 }
 
 /// A player of a match in which one player is watched.
 #[derive(Drop)]
-pub struct Participant<'a, H, P> {
+pub struct CheckedPlayer<'a, H, P> {
     rt: &'a H,
     alloc: Global,
     pace: Pace<'a>,
@@ -146,7 +148,7 @@ pub struct Participant<'a, H, P> {
     watched: Option<P>,
 }
 
-impl<'a, H, P, S: Reach<P>> Reach<Participant<'a, H, P>> for Watching<'a, H, S> {
+impl<'a, H, P, S: Reach<P>> Reach<CheckedPlayer<'a, H, P>> for CheckReach<'a, H, S> {
     ghost is_reached = { λ w at address p. (is_some p.watched ≡ (at.role == w.role)) × IfSome p.watched (S.is_reached w.reach.now at address) };
 
     fn player(
@@ -154,13 +156,13 @@ impl<'a, H, P, S: Reach<P>> Reach<Participant<'a, H, P>> for Watching<'a, H, S> 
         alloc: Global,
         at: RolePlace<'_>,
         address: &PlayerAddress<'_>,
-    ) -> Result<Participant<'a, H, P>, AllocError> {
+    ) -> Result<CheckedPlayer<'a, H, P>, AllocError> {
         let watched = if at.role == self.role {
             Some(self.reach.player(alloc, at, address)?)
         } else {
             None
         };
-        Ok(Participant {
+        Ok(CheckedPlayer {
             rt: self.rt,
             alloc,
             pace: Pace::new(self.signal),
@@ -170,7 +172,7 @@ impl<'a, H, P, S: Reach<P>> Reach<Participant<'a, H, P>> for Watching<'a, H, S> 
     }
 }
 
-impl<H, S: TellsShortages> TellsShortages for Watching<'_, H, S> {
+impl<H, S: ReportsShortages> ReportsShortages for CheckReach<'_, H, S> {
     ghost is_clear = { λ w place. S.is_clear w.reach.now place };
 
     fn shortage(&self, place: usize) -> Option<Shortage> {
@@ -178,23 +180,26 @@ impl<H, S: TellsShortages> TellsShortages for Watching<'_, H, S> {
     }
 }
 
-impl<H: Clock + Wait, P: Explains> Participant<'_, H, P> {
+impl<H: Clock + Wait, P: Explains> CheckedPlayer<'_, H, P> {
     /// Notes that a message is handed over now. Returns the present time, if the clock can be read.
     fn begin(&mut self) -> Option<Instant>
-        ensures begun { self.new.pace.messages ≡ min (2 ^ 64 - 1) (self.old.pace.messages + 1) }
+        ensures begun { self.new.pace ≡ record self.old.pace { messages = min (2 ^ 64 - 1) (self.old.pace.messages + 1) } }
         ensures watched { self.new.watched ≡ self.old.watched }
     {
         self.pace.begin();
         Instant::now(self.rt).ok()
     }
 
-    /// Notes the answer to a message that was handed over at the time `began`. Keeps the exchange, if the player is watched.
-    fn end(&mut self, message: &SharedText<'_>, answer: &Answer, began: Option<Instant>)
+    /// Notes that a message is over that was handed over at the time `began`. Keeps the exchange, if the player is watched and there is an
+    /// answer: when out of memory there is none.
+    fn end(&mut self, message: &SharedText<'_>, answer: Option<&Answer>, began: Option<Instant>)
+        ensures rest { as_nanos self.new.pace.rest ≡ 100_000_000 }
         ensures ended { IsFalse self.new.pace.has_rested }
+        ensures others { (self.new.pace.messages ≡ self.old.pace.messages) × (self.new.pace.has_left ≡ self.old.pace.has_left) }
         ensures watched { self.new.watched ≡ self.old.watched }
     {
         self.pace.end();
-        if let Some(player) = &self.watched {
+        if let (Some(player), Some(answer)) = (&self.watched, answer) {
             let took = time_since(self.rt, began);
             let exchange = exchange_of(self.alloc, message, answer, player.why(), took);
             self.exchanges.lock(self.rt).keep(exchange);
@@ -202,18 +207,21 @@ impl<H: Clock + Wait, P: Explains> Participant<'_, H, P> {
     }
 }
 
-impl<H: Clock + Wait, P: Player + Explains> Player for Participant<'_, H, P> {
+impl<H: Clock + Wait, P: Player + Explains> Player for CheckedPlayer<'_, H, P> {
     ghost use Rattle.player_check.specs.Checks.{watched_handed};
 
     ghost handed = { λ p. watched_handed H P.handed p };
 
-    fn ask(&mut self, seconds: u32, body: &[u8]) -> Answer {
+    fn ask(&mut self, seconds: u32, body: &[u8]) -> Answer
+        ensures handed { MayKeep (option_and_then P.handed self.old.watched) (option_and_then P.handed self.new.watched) (record { seconds = seconds; body = body.now; answer = result } ∷ []) }
+        ensures pace { HasAnswered self.old.pace self.new.pace }
+    {
         let began = self.begin();
         let answer = match &mut self.watched {
             Some(player) => player.ask(seconds, body),
             None => Answer::Silent,
         };
-        self.end(&SharedText::lent(self.alloc, body), &answer, began);
+        self.end(&SharedText::lent(self.alloc, body), Some(&answer), began);
         answer
     }
 
@@ -222,22 +230,31 @@ impl<H: Clock + Wait, P: Player + Explains> Player for Participant<'_, H, P> {
         alloc: Global,
         seconds: u32,
         message: &SharedText<'_>,
-    ) -> Result<Answer, AllocError> {
+    ) -> Result<Answer, AllocError>
+        ensures told { IfOk result (λ answer. MayKeep (option_and_then P.handed self.old.watched) (option_and_then P.handed self.new.watched) (record { seconds = seconds; body = message.now; answer = answer } ∷ [])) }
+        ensures nothing { OnErr result (option_and_then P.handed self.new.watched ≡ option_and_then P.handed self.old.watched) }
+        ensures pace { HasAnswered self.old.pace self.new.pace }
+    {
         let began = self.begin();
         let asked = match &mut self.watched {
             Some(player) => player.ask_shared(alloc, seconds, message),
             None => Ok(Answer::Silent),
         };
-        let answer = asked?;
-        self.end(message, &answer, began);
-        Ok(answer)
+        self.end(message, asked.as_ref().ok(), began);
+        asked
     }
 
-    fn rest(&mut self) {
+    fn rest(&mut self)
+        ensures pace { HasRested self.old.pace self.new.pace }
+        ensures watched { self.new.watched ≡ self.old.watched }
+    {
         self.pace.rest(self.rt);
     }
 
-    fn leave(&mut self) {
+    fn leave(&mut self)
+        ensures left { IsTrue self.new.pace.has_left }
+        ensures watched { self.new.watched ≡ self.old.watched }
+    {
         self.pace.leave();
     }
 }

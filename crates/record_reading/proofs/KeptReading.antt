@@ -1,6 +1,7 @@
 -- A value that is read and kept, by its first token, and lists that grow by an item.
 use Rattle.std.proofs.Common.{◌≡◌, ℕ, zero, suc, ◌-◌, ◌<◌, Bool, true, false, ◌&&◌, Option, Some, None, List, [], ◌∷◌, ◌++◌, length, nat_lt, refl, sym, ap, ◌∙◌, arith, inl, inr, Result, lt-ltb}
 use Rattle.std.specs.Prelude.{IfErr, IsErrAnd, if◌then◌else◌, option_map}
+use Rattle.std.specs.Bool.{then_some}
 use Rattle.std.proofs.lemmas.Result.{err_from_is_err_and}
 use Rattle.json.specs.Token.{Token}
 use Rattle.json.specs.Json.{parse_map, items, members, value}
@@ -80,17 +81,17 @@ kept_object (suc n) ms = refl
 some_lists : (n : ℕ) → nat_lt 0 (suc n) ≡ true
 some_lists n = lt-ltb 0 (suc n) (omega arith)
 
-some_if : (b : Bool) (v : Value) (d : Data) → view v ≡ d → option_map view (if b then Some v else None) ≡ (if b then Some d else None)
-some_if true v d is = ap Some is
-some_if false v d is = refl
+pub some_if : {A B : Type 0} (b : Bool) (x : A) (y : B) (f : A → B) → f x ≡ y → option_map f (then_some b x) ≡ (if b then Some y else None)
+some_if true x y f is = ap Some is
+some_if false x y f is = refl
 
-pub kept_number : (n : ℕ) (v : Value) (x : Num) (o : Option Value) → view v ≡ number x → o ≡ (if nat_lt 0 n then Some v else None) → option_map view o ≡ kept_of n (number x)
-kept_number zero v x o seen is = ap (option_map view) is ∙ some_if false v (number x) seen
-kept_number (suc n) v x o seen is = ap (option_map view) (is ∙ ap (λ b. if b then Some v else None) (some_lists n)) ∙ some_if true v (number x) seen
+pub kept_number : (n : ℕ) (v : Value) (x : Num) (o : Option Value) → view v ≡ number x → o ≡ then_some (nat_lt 0 n) v → option_map view o ≡ kept_of n (number x)
+kept_number zero v x o seen is = ap (option_map view) is ∙ some_if false v (number x) view seen
+kept_number (suc n) v x o seen is = ap (option_map view) (is ∙ ap (λ b. then_some b v) (some_lists n)) ∙ some_if true v (number x) view seen
 
-pub kept_null : (n : ℕ) (v : Value) (o : Option Value) → view v ≡ null → o ≡ (if nat_lt 0 n then Some v else None) → option_map view o ≡ kept_of n null
-kept_null zero v o seen is = ap (option_map view) is ∙ some_if false v null seen
-kept_null (suc n) v o seen is = ap (option_map view) (is ∙ ap (λ b. if b then Some v else None) (some_lists n)) ∙ some_if true v null seen
+pub kept_null : (n : ℕ) (v : Value) (o : Option Value) → view v ≡ null → o ≡ then_some (nat_lt 0 n) v → option_map view o ≡ kept_of n null
+kept_null zero v o seen is = ap (option_map view) is ∙ some_if false v null view seen
+kept_null (suc n) v o seen is = ap (option_map view) (is ∙ ap (λ b. then_some b v) (some_lists n)) ∙ some_if true v null view seen
 
 pub kept_array : (n : ℕ) (ds es : List Data) → Some es ≡ kept_list n ds → Some (array (items_of es)) ≡ kept_of n (array (items_of ds))
 kept_array zero ds es is = absurd cc

@@ -12,11 +12,12 @@ use Rattle.match_book.specs.declared.answer.Mark.{Mark}
 use Rattle.match_book.specs.declared.answer.Mark.TheVariants.{Clear, TimeOut, ConnectionError}
 use Rattle.match_book.specs.declared.phase.Cause.{Cause}
 use Rattle.match_book.specs.declared.phase.Cause.TheVariants.{Asked, NoLegal, NoGoal, TooLong, AllRetired}
+use Rattle.desk_calls.specs.Phases.{phase_text}
 use Rattle.desk_calls.specs.declared.phase.Phase.{Phase}
 use Rattle.desk_calls.specs.declared.phase.Phase.TheVariants.{Starting, Playing, Stopping, Finished, Aborting, Aborted}
 use Rattle.record_reading.specs.LawfulRecord.{IsJson, IsRecordOf, HasWrongLength, IsMisshapen, HoldsOnePartsAtMost, LawfulPartsHaveShape, RefusedIsUnlawful}
 use Rattle.record_reading.specs.RecordParts.{parts_in, NamesRole}
-use Rattle.record_reading.specs.RecordTree.{row_of, key_tree, Holds, HasShape, cause_tree, cause_text, phase_text, phase_tree, mark_tree, marks_tree, version_tree, whole_tree}
+use Rattle.record_reading.specs.RecordTree.{row_of, key_tree, Holds, HasShape, cause_tree, cause_text, phase_tree, mark_tree, marks_tree, version_tree, whole_tree}
 use Rattle.record_reading.specs.declared.record_parts.Key.{Key}
 use Rattle.record_reading.specs.declared.record_parts.Key.TheVariants.{Cause as AtCause, EndMarks, Errors, GoalValues, MatchId, Moves, Phase as AtPhase, PlayClock, Players, Roles, StartClock, StartMarks, States, Strikes, Version as AtVersion}
 use Rattle.record_reading.specs.declared.record_parts.RecordParts.{RecordParts}

@@ -10,11 +10,11 @@ use Rattle.game_core.specs.Play.{Rules}
 use Rattle.match_book.specs.Marks.{mark_text}
 use Rattle.match_book.specs.MatchValue.{MatchValue}
 use Rattle.desk_calls.specs.Names.{is_name, is_clock, is_strikes}
+use Rattle.desk_calls.specs.Phases.{phase_text}
 use Rattle.match_book.specs.declared.answer.Mark.{Mark}
 use Rattle.match_book.specs.declared.phase.Cause.{Cause}
 use Rattle.match_book.specs.declared.phase.Cause.TheVariants.{Asked, NoLegal, NoGoal, TooLong, AllRetired}
 use Rattle.desk_calls.specs.declared.phase.Phase.{Phase}
-use Rattle.desk_calls.specs.declared.phase.Phase.TheVariants.{Starting, Playing, Stopping, Finished, Aborting, Aborted}
 use Rattle.record_reading.specs.RecordParts.{parts_of, each_role, NamesRole, AreErrors, AreGoals, AreMoves, ArePlayers}
 use Rattle.record_reading.specs.declared.record_parts.Key.{Key}
 use Rattle.record_reading.specs.declared.record_parts.Key.TheVariants.{Cause as AtCause, EndMarks, Errors, GoalValues, MatchId, Moves, Phase as AtPhase, PlayClock, Players, Roles, StartClock, StartMarks, States, Strikes, Version as AtVersion}
@@ -42,14 +42,6 @@ goal_values_tree goals = list_tree (map whole_tree goals)
 abbrev pub text_or_null : Option (List ℕ) → Data
 text_or_null None = null
 text_or_null (Some text) = string text
-
-abbrev pub phase_text : Phase → List ℕ
-phase_text Starting = codes "starting"
-phase_text Playing = codes "playing"
-phase_text Stopping = codes "stopping"
-phase_text Finished = codes "finished"
-phase_text Aborting = codes "aborting"
-phase_text Aborted = codes "aborted"
 
 abbrev pub phase_tree : Phase → Data
 phase_tree at = string (phase_text at)

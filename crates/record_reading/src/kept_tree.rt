@@ -1,7 +1,7 @@
 //! The tree of a record's text, without the values that no key of a record can hold.
 //!
 //! A list or an object takes many times the memory of its text, so such a value is read to its end and not kept.
-ghost use Rattle.std.specs.Prelude.{◌≡◌, ◌<◌, ◌≤◌, ◌∷◌, ◌⊎◌, IfErr, IfOk, List, OnOk, None, Some, [], if◌then◌else◌, length, map, option_map};
+ghost use Rattle.std.specs.Prelude.{◌≡◌, ◌<◌, ◌≤◌, ◌∷◌, ◌⊎◌, IfErr, IfOk, List, OnOk, None, Some, length, map, option_map};
 ghost use Rattle.json.specs.Json.{items, members, read_key, value};
 ghost use Rattle.json.specs.Reads.{token_of};
 ghost use Rattle.serde_json.specs.Data.{Data, Members, no_members};
@@ -34,24 +34,6 @@ fn next_key<'a>(reader: &mut Reader<'a>) -> Result<Option<&'a str>, VerifyFault>
     match reader.next_key() {
         Ok(key) => Ok(key),
         Err(_) => Err(VerifyFault::NotJson),
-    }
-}
-
-/// The value, where one is kept.
-fn kept_if(is_kept: bool, value: Value) -> Option<Value>
-    ensures { result ≡ (if is_kept then Some value else None) }
-{
-    if is_kept { Some(value) } else { None }
-}
-
-/// The items of a list that has none yet, where they are kept.
-fn no_items(alloc: Global, are_kept: bool) -> Option<Vec<Value>>
-    ensures { option_map (λ v. map view v.items) result ≡ (if are_kept then Some [] else None) }
-{
-    if are_kept {
-        Some(Vec::new(alloc))
-    } else {
-        None
     }
 }
 
@@ -88,10 +70,10 @@ fn value_of(
     match token {
         Token::String(text) => Ok(Some(Value::String(String::from_str(alloc, text)?))),
         Token::Number(text) => match number_in(text) {
-            Some(number) => Ok(kept_if(lists > 0, Value::Number(number))),
+            Some(number) => Ok((lists > 0).then_some(Value::Number(number))),
             None => Err(VerifyFault::NotJson),
         },
-        Token::Null => Ok(kept_if(lists > 0, Value::Null)),
+        Token::Null => Ok((lists > 0).then_some(Value::Null)),
         Token::Bool(_) => Ok(None),
         Token::EndObject | Token::EndArray | Token::Key(_) | Token::Bad => Err(
             VerifyFault::NotJson,
@@ -131,7 +113,7 @@ fn items_of(
     ensures err { IfErr result (IsRefused (converted of_items (items (value depth) (length reader.old) reader.old))) }
 {
     let below = lists.saturating_sub(1);
-    let mut kept = no_items(alloc, lists > 0);
+    let mut kept = (lists > 0).then_some(Vec::new(alloc));
     'items: while !reader.take_end_array() {
         let token = reader.next().ok_or(VerifyFault::NotJson)?;
         let item = value_of(alloc, token, reader, below, depth)?;

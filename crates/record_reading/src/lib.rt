@@ -17,7 +17,7 @@ mod record_parts;
 mod record_words;
 mod verify_fault;
 
+pub use desk_calls::phase_text;
 pub use reading::read_record;
 pub use record_parts::{Goals, Key, Marks, RecordParts, TextLists, Version};
-pub use record_words::phase_text;
 pub use verify_fault::VerifyFault;

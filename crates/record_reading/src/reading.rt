@@ -163,7 +163,13 @@ fn errors_in(
 fn are_wide(turns: &[Texts], roles: usize) -> bool
     ensures { IsTrue result ↔ All (λ texts. length texts ≡ roles) turns.now }
 {
-    turns.iter().all(|turn| turn.as_slice().len() == roles)
+    for turn in turns {
+        let texts = turn.as_slice();
+        if texts.len() != roles {
+            return false;
+        }
+    }
+    true
 }
 
 fn are_moves(turns: &[Texts], roles: usize) -> bool

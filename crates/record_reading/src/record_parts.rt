@@ -8,7 +8,7 @@ use std::alloc::Global;
 use std::marker::Model;
 
 /// The keys of a record, in their order.
-#[derive(Clone, Copy, Debug, PartialEq, Eq)]
+#[derive(Clone, Copy, PartialEq, Eq)]
 pub enum Key {
     Cause,
     EndMarks,
@@ -108,15 +108,6 @@ impl Model for TextLists {
 }
 
 impl TextLists {
-    /// None yet.
-    fn new(alloc: Global) -> TextLists
-        ensures { length result ≡ 0 }
-    {
-        TextLists {
-            items: Vec::new(alloc),
-        }
-    }
-
     /// The number of lists.
     pub fn count(&self) -> usize
         ensures { result ≡ length self.now }
@@ -149,15 +140,6 @@ impl Model for Marks {
 }
 
 impl Marks {
-    /// None yet.
-    fn new(alloc: Global) -> Marks
-        ensures { length result ≡ 0 }
-    {
-        Marks {
-            items: Vec::new(alloc),
-        }
-    }
-
     pub fn as_slice(&self) -> &[Option<Mark>]
         ensures { result.now ≡ self.now }
     {
@@ -180,15 +162,6 @@ impl Model for Goals {
 }
 
 impl Goals {
-    /// None yet.
-    fn new(alloc: Global) -> Goals
-        ensures { length result ≡ 0 }
-    {
-        Goals {
-            items: Vec::new(alloc),
-        }
-    }
-
     pub fn as_slice(&self) -> &[u8]
         ensures { result.now ≡ self.now }
     {
@@ -221,13 +194,21 @@ impl RecordParts {
     pub fn new(alloc: Global) -> RecordParts {
         RecordParts {
             cause: None,
-            end_marks: Marks::new(alloc),
-            errors: TextLists::new(alloc),
-            goals: Goals::new(alloc),
+            end_marks: Marks {
+                items: Vec::new(alloc),
+            },
+            errors: TextLists {
+                items: Vec::new(alloc),
+            },
+            goals: Goals {
+                items: Vec::new(alloc),
+            },
             id: Text {
                 bytes: Vec::new(alloc),
             },
-            moves: TextLists::new(alloc),
+            moves: TextLists {
+                items: Vec::new(alloc),
+            },
             phase: Phase::Starting,
             play: 0,
             players: Texts {
@@ -237,8 +218,12 @@ impl RecordParts {
                 items: Vec::new(alloc),
             },
             start: 0,
-            start_marks: Marks::new(alloc),
-            states: TextLists::new(alloc),
+            start_marks: Marks {
+                items: Vec::new(alloc),
+            },
+            states: TextLists {
+                items: Vec::new(alloc),
+            },
             strikes: 0,
             version: Version::First,
         }

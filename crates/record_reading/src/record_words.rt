@@ -2,13 +2,14 @@
 ghost use Rattle.std.specs.Prelude.{◌≡◌, ◌≢◌, ◌^◌, ◌<◌, ◌++◌, IfSome, List, MatchOption, Some, ℕ};
 ghost use Rattle.std.specs.Fmt.{decimal};
 ghost use Rattle.record_reading.specs.Internal.JsonValues.{data_in};
+ghost use Rattle.desk_calls.specs.Phases.{phase_text};
 ghost use Rattle.match_book.specs.Marks.{mark_text};
 ghost use Rattle.record_reading.specs.RecordParts.{NamesRole};
-ghost use Rattle.record_reading.specs.RecordTree.{cause_text, cause_tree, mark_tree, phase_text, phase_tree};
+ghost use Rattle.record_reading.specs.RecordTree.{cause_text, cause_tree, mark_tree, phase_tree};
 ghost use Rattle.record_reading.specs.Internal.Shown.{AnyShape, Shows};
 
 use crate::json_values::{bytes_in, is_null};
-use desk_calls::Phase;
+use desk_calls::{Phase, phase_text};
 use game_core::laws::numerals_read_back;
 use game_core::numeral::plain_number;
 use match_book::{Cause, Mark};
@@ -45,20 +46,6 @@ pub fn mark_in(found: Option<&Value>) -> Option<Option<Mark>>
     }
     let mark = mark_of(bytes_in(found)?)?;
     Some(Some(mark))
-}
-
-/// The phase's word in replies and records.
-pub fn phase_text(phase: Phase) -> &'static [u8]
-    ensures { result.now ≡ phase_text phase }
-{
-    match phase {
-        Phase::Starting => b"starting",
-        Phase::Playing => b"playing",
-        Phase::Stopping => b"stopping",
-        Phase::Finished => b"finished",
-        Phase::Aborting => b"aborting",
-        Phase::Aborted => b"aborted",
-    }
 }
 
 fn phase_of(text: &[u8]) -> Option<Phase>

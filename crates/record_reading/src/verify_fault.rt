@@ -9,7 +9,7 @@ use std::fmt;
 
 /// Why a text is no lawful record of the game: the first test that fails. The shape of the whole text is tested
 /// first, then the turns in order, then the goals and the end. Turns and roles are numbered from 0.
-#[derive(Clone, Copy, Debug, PartialEq, Eq)]
+#[derive(Clone, Copy, PartialEq, Eq)]
 pub enum VerifyFault {
     /// The text is not JSON.
     NotJson,
@@ -53,6 +53,13 @@ impl fmt::Display for VerifyFault {
             VerifyFault::WrongEnd => f.write_str("end"),
             VerifyFault::Memory => f.write_str("want of memory"),
         }
+    }
+}
+
+/// The same words.
+impl fmt::Debug for VerifyFault {
+    fn fmt<W: fmt::Write>(&self, f: &mut fmt::Formatter<W>) -> fmt::Result {
+        fmt::Display::fmt(self, f)
     }
 }
 

@@ -1,5 +1,5 @@
 -- Calls at which a worker stops, as events.
-use Rattle.std.proofs.Common.{◌≡◌, ◌⊎◌, inl, inr, List, [], ◌∷◌, ◌++◌, Option, Some, refl, ap, sym, ◌∙◌}
+use Rattle.std.proofs.Common.{◌≡◌, ◌⊎◌, inl, inr, List, [], ◌∷◌, ◌++◌, Option, Some, refl, ap, ◌∙◌}
 use Rattle.call_history.specs.Told.{told_with}
 use Rattle.call_history.specs.declared.wire.AskFault.{AskFault}
 use Rattle.desk_calls.specs.declared.due.Due.{Due}
@@ -10,17 +10,17 @@ use Rattle.desk_calls.specs.declared.call.Reply.TheVariants.{Opened, Due as IsDu
 use Rattle.role_workers.specs.declared.attend_fault.AttendFault.{AttendFault}
 use Rattle.role_workers.specs.declared.attend_fault.AttendFault.TheVariants.{Stalled}
 use Rattle.role_workers.specs.Handing.{Handed}
-use Rattle.role_workers.specs.Events.{Event, makes, takes, Telling, telling, telling_with}
+use Rattle.role_workers.specs.Events.{Event, makes, takes, Telling, telling, Tells}
 use Rattle.role_workers.specs.AttendFaults.{attend_fault, next_fault}
 use Rattle.role_workers.specs.Attending.{CallStops, not_made, without_reply, at_reply, StopsAmid, at_the_last, at_a_call, for_memory}
-use Rattle.role_workers.proofs.Tellings.{told_with-nil, same_telling, told_after}
+use Rattle.role_workers.proofs.Tellings.{told_with-nil, keeps-nil, told_after}
 
 -- the events that happened when a worker stopped amid these events, with some reply as the last one
 pub record StopsIn (whole : Reply → List Event) (fault_at : Reply → Option AttendFault) (fault : AttendFault) (before after : Telling) : Type 0 where
   pub reply : Reply
   pub events : List Event
   pub stops : StopsAmid (whole reply) (fault_at reply) fault events
-  pub told : after ≡ telling_with before events
+  pub told : Tells before after events
 
 -- the events of a call that comes after these
 abbrev pub then_calls : List Event → Call → Reply → List Event
@@ -28,39 +28,44 @@ then_calls front call reply = front ++ makes call ∷ takes reply ∷ []
 
 -- what is shown after a call that went out without a reply, and after one with its reply
 told_call : (call : Call) (cs cs' : Option (List Call)) (rs rs' : Option (List Reply)) (ms : Option (List Handed))
-    → cs' ≡ told_with cs (call ∷ []) → rs' ≡ rs → telling cs' rs' ms ≡ telling_with (telling cs rs ms) (makes call ∷ [])
-told_call call cs cs' rs rs' ms c r = same_telling _ _ _ _ _ _ c (r ∙ sym (told_with-nil rs)) (sym (told_with-nil ms))
+    → cs' ≡ told_with cs (call ∷ []) → rs' ≡ rs → Tells (telling cs rs ms) (telling cs' rs' ms) (makes call ∷ [])
+told_call call cs cs' rs rs' ms c r = record { calls = c; replies = r ∙ told_with-nil rs; messages = keeps-nil ms }
 
 pub told_reply : (call : Call) (reply : Reply) (cs cs' : Option (List Call)) (rs rs' : Option (List Reply)) (ms : Option (List Handed))
-    → cs' ≡ told_with cs (call ∷ []) → rs' ≡ told_with rs (reply ∷ []) → telling cs' rs' ms ≡ telling_with (telling cs rs ms) (makes call ∷ takes reply ∷ [])
-told_reply call reply cs cs' rs rs' ms c r = same_telling _ _ _ _ _ _ c r (sym (told_with-nil ms))
+    → cs' ≡ told_with cs (call ∷ []) → rs' ≡ told_with rs (reply ∷ []) → Tells (telling cs rs ms) (telling cs' rs' ms) (makes call ∷ takes reply ∷ [])
+told_reply call reply cs cs' rs rs' ms c r = record { calls = c; replies = r; messages = keeps-nil ms }
+
+-- what is shown if no call went out
+told_no_call : (cs cs' : Option (List Call)) (rs rs' : Option (List Reply)) (ms : Option (List Handed)) (before : Telling) (events : List Event)
+    → Tells before (telling cs rs ms) events → cs' ≡ cs → rs' ≡ rs → Tells before (telling cs' rs' ms) events
+told_no_call cs cs' rs rs' ms before events so_far c r = record { calls = c ∙ so_far.calls; replies = r ∙ so_far.replies; messages = so_far.messages }
 
 pub stops_in_call : (call : Call) (fault_at : Reply → Option AttendFault) (fault : AttendFault) (cs cs' : Option (List Call)) (rs rs' : Option (List Reply)) (ms : Option (List Handed)) (front : List Event) (before : Telling)
-    → telling cs rs ms ≡ telling_with before front → CallStops call fault_at fault cs cs' rs rs'
+    → Tells before (telling cs rs ms) front → CallStops call fault_at fault cs cs' rs rs'
     → StopsIn (then_calls front call) fault_at fault before (telling cs' rs' ms)
 stops_in_call call fault_at fault cs cs' rs rs' ms front before so_far (not_made is same none) = record {
   reply = Taken;
   events = front;
   stops = for_memory (makes call) (takes Taken ∷ []) is refl;
-  told = same_telling _ _ _ _ _ _ same none refl ∙ so_far;
+  told = told_no_call cs cs' rs rs' ms before front so_far same none;
 }
 stops_in_call call fault_at fault cs cs' rs rs' ms front before so_far (without_reply cause is (inl same) none) = record {
   reply = Taken;
   events = front;
   stops = at_a_call cause front call Taken [] is refl (inl refl);
-  told = same_telling _ _ _ _ _ _ same none refl ∙ so_far;
+  told = told_no_call cs cs' rs rs' ms before front so_far same none;
 }
 stops_in_call call fault_at fault cs cs' rs rs' ms front before so_far (without_reply cause is (inr one) none) = record {
   reply = Taken;
   events = front ++ makes call ∷ [];
   stops = at_a_call cause front call Taken [] is refl (inr refl);
-  told = told_after before (telling cs rs ms) _ front (makes call ∷ []) so_far (told_call call cs cs' rs rs' ms one none);
+  told = told_after before (telling cs rs ms) (telling cs' rs' ms) front (makes call ∷ []) so_far (told_call call cs cs' rs rs' ms one none);
 }
 stops_in_call call fault_at fault cs cs' rs rs' ms front before so_far (at_reply reply is c r) = record {
   reply = reply;
   events = front ++ makes call ∷ takes reply ∷ [];
   stops = at_the_last is refl;
-  told = told_after before (telling cs rs ms) _ front (makes call ∷ takes reply ∷ []) so_far (told_reply call reply cs cs' rs rs' ms c r);
+  told = told_after before (telling cs rs ms) (telling cs' rs' ms) front (makes call ∷ takes reply ∷ []) so_far (told_reply call reply cs cs' rs rs' ms c r);
 }
 
 -- a reply to `Next` that neither says what is due nor refuses

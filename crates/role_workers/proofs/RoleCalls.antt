@@ -10,7 +10,7 @@ use Rattle.desk_calls.specs.declared.call.Reply.{Reply}
 use Rattle.match_messages.specs.declared.brief.Brief.{Brief}
 use Rattle.role_workers.specs.declared.attend_fault.AttendFault.{AttendFault}
 use Rattle.role_workers.specs.Handing.{Handed}
-use Rattle.role_workers.specs.Events.{Event, makes, takes, call_in, reply_in, Telling, telling, telling_with}
+use Rattle.role_workers.specs.Events.{Event, makes, takes, call_in, reply_in, telling, Tells}
 use Rattle.role_workers.specs.Steps.{answer_call, Step, rests, hands_over, finds_the_end, finds_no_due, events_of, fault_after}
 use Rattle.role_workers.specs.Attending.{events_of_all, StopsAmid, at_the_last, at_a_call, for_memory, StopsAfter, out_of_tries, in_a_step}
 use Rattle.role_workers.specs.RoleCalls.{IsRoleCall}
@@ -70,12 +70,12 @@ module _ (brief : Brief) (role : ℕ) where
   after_calls tries steps fault events (in_a_step within step stops) = amid_calls step (fault_after step) fault events stops
 
   told_calls : (cs : List Call) (rs rs' : Option (List Reply)) (ms ms' : Option (List Handed)) (events : List Event)
-      → telling (Some cs) rs' ms' ≡ telling_with (telling (Some []) rs ms) events → cs ≡ filter_map call_in events
-  told_calls cs rs rs' ms ms' events told = ap (λ (t : Telling). unwrap_or t.calls []) told
+      → Tells (telling (Some []) rs ms) (telling (Some cs) rs' ms') events → cs ≡ filter_map call_in events
+  told_calls cs rs rs' ms ms' events told = ap (λ o. unwrap_or o []) told.calls
 
   pub told_replies : (cs cs' : Option (List Call)) (rs : List Reply) (ms ms' : Option (List Handed)) (events : List Event)
-      → telling cs' (Some rs) ms' ≡ telling_with (telling cs (Some []) ms) events → rs ≡ filter_map reply_in events
-  told_replies cs cs' rs ms ms' events told = ap (λ (t : Telling). unwrap_or t.replies []) told
+      → Tells (telling cs (Some []) ms) (telling cs' (Some rs) ms') events → rs ≡ filter_map reply_in events
+  told_replies cs cs' rs ms ms' events told = ap (λ o. unwrap_or o []) told.replies
 
   -- a worker makes only calls of its role
   pub role_calls : (tries : ℕ) (cs : List Call) (rs rs' : Option (List Reply)) (ms ms' : Option (List Handed)) (end : Result ℕ AttendFault)

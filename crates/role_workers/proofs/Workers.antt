@@ -1,5 +1,5 @@
 -- A worker's steps, one after another.
-use Rattle.std.proofs.Common.{◌≡◌, ℕ, ◌+◌, ◌<◌, true, is_none, unwrap_or, List, [], ◌∷◌, ◌++◌, length, All, Option, None, inl, inr, refl, ap, sym, ◌∙◌, append_assoc, append-nil, length-append, arith}
+use Rattle.std.proofs.Common.{◌≡◌, ℕ, ◌+◌, ◌<◌, true, is_none, List, [], ◌∷◌, ◌++◌, length, All, Option, None, inl, inr, refl, ap, sym, subst, ◌∙◌, append_assoc, append-nil, length-append, arith}
 use Rattle.std.specs.List.{filter_map}
 use Rattle.call_history.specs.Told.{told_with}
 use Rattle.std.proofs.lemmas.List.Concat.{flat_map-append}
@@ -17,11 +17,11 @@ use Rattle.match_messages.specs.declared.brief.Brief.{Brief}
 use Rattle.role_workers.specs.declared.attend_fault.AttendFault.{AttendFault}
 use Rattle.role_workers.specs.declared.attend_fault.AttendFault.TheVariants.{Stalled}
 use Rattle.role_workers.specs.Handing.{Handed}
-use Rattle.role_workers.specs.Events.{Event, makes, takes, message_in, Telling, telling, telling_with}
+use Rattle.role_workers.specs.Events.{Event, makes, takes, message_in, Telling, telling, Tells}
 use Rattle.role_workers.specs.AttendFaults.{next_fault, answer_fault}
 use Rattle.role_workers.specs.Steps.{asking, handing_over, Step, rests, hands_over, finds_the_end, finds_no_due, events_of, goes_on, fault_after}
 use Rattle.role_workers.specs.Attending.{events_of_all, Attends, StopsAmid, at_the_last, at_a_call, for_memory, out_of_tries, in_a_step, StopsEarly, CallStops, MessagesAreCounted}
-use Rattle.role_workers.proofs.Tellings.{telling_with-nil, told_after}
+use Rattle.role_workers.proofs.Tellings.{tells-nil, told_after, kept_all}
 use Rattle.role_workers.proofs.CallStops.{stops_in_call, told_reply}
 
 -- the worker still goes on after this many tries, and has handed this many messages over
@@ -29,27 +29,26 @@ pub record Goes (brief : Brief) (role : ℕ) (tried : ℕ) (before now : Telling
   pub steps : List Step
   pub go_on : All (λ step. goes_on step ≡ true) steps
   pub tries : length steps ≡ tried
-  pub told : now ≡ telling_with before (events_of_all brief role steps)
+  pub told : Tells before now (events_of_all brief role steps)
   pub count : messages ≡ length (filter_map message_in (events_of_all brief role steps))
 
 pub goes-start : (brief : Brief) (role : ℕ) (before : Telling) → Goes brief role 0 before before 0
-goes-start brief role before = record { steps = []; go_on = grind (arith, common_steps); tries = refl; told = sym (telling_with-nil before); count = refl }
+goes-start brief role before = record { steps = []; go_on = grind (arith, common_steps); tries = refl; told = tells-nil before; count = refl }
 
 pub events_of_all-push : (brief : Brief) (role : ℕ) (steps : List Step) (last : Step) → events_of_all brief role (steps ++ last ∷ []) ≡ events_of_all brief role steps ++ events_of brief role last
 events_of_all-push brief role steps last =
     flat_map-append (events_of brief role) steps (last ∷ []) ∙ ap (λ events. events_of_all brief role steps ++ events) (append-nil (events_of brief role last))
 
 -- one more step is shown
-told_step : (brief : Brief) (role : ℕ) (before now next : Telling) (steps : List Step) (last : Step) → now ≡ telling_with before (events_of_all brief role steps) → next ≡ telling_with now (events_of brief role last)
-    → next ≡ telling_with before (events_of_all brief role (steps ++ last ∷ []))
+told_step : (brief : Brief) (role : ℕ) (before now next : Telling) (steps : List Step) (last : Step) → Tells before now (events_of_all brief role steps) → Tells now next (events_of brief role last)
+    → Tells before next (events_of_all brief role (steps ++ last ∷ []))
 told_step brief role before now next steps last told more =
-    told_after before now next (events_of_all brief role steps) (events_of brief role last) told more
-    ∙ sym (ap (telling_with before) (events_of_all-push brief role steps last))
+    subst (Tells before next) (sym (events_of_all-push brief role steps last)) (told_after before now next (events_of_all brief role steps) (events_of brief role last) told more)
 
 messages_in-append : (xs ys : List Event) → length (filter_map message_in (xs ++ ys)) ≡ length (filter_map message_in xs) + length (filter_map message_in ys)
 messages_in-append xs ys = ap length (filter_map-append message_in xs ys) ∙ length-append (filter_map message_in xs) (filter_map message_in ys)
 
-goes-more : (brief : Brief) (role tried : ℕ) (before now next : Telling) (messages more : ℕ) (last : Step) → Goes brief role tried before now messages → goes_on last ≡ true → next ≡ telling_with now (events_of brief role last)
+goes-more : (brief : Brief) (role tried : ℕ) (before now next : Telling) (messages more : ℕ) (last : Step) → Goes brief role tried before now messages → goes_on last ≡ true → Tells now next (events_of brief role last)
     → more ≡ messages + length (filter_map message_in (events_of brief role last)) → Goes brief role (tried + 1) before next more
 goes-more brief role tried before now next messages more last goes on told count = record {
   steps = goes.steps ++ last ∷ [];
@@ -63,7 +62,7 @@ goes-more brief role tried before now next messages more last goes on told count
 
 -- what is shown once the worker has asked what is due
 told_due : (brief : Brief) (role : ℕ) (due due' : Due) (cs cs' : Option (List Call)) (rs rs' : Option (List Reply)) (ms : Option (List Handed))
-    → due ≡ due' → cs' ≡ told_with cs (Next brief.id role ∷ []) → rs' ≡ told_with rs (IsDue due ∷ []) → telling cs' rs' ms ≡ telling_with (telling cs rs ms) (asking brief role (IsDue due'))
+    → due ≡ due' → cs' ≡ told_with cs (Next brief.id role ∷ []) → rs' ≡ told_with rs (IsDue due ∷ []) → Tells (telling cs rs ms) (telling cs' rs' ms) (asking brief role (IsDue due'))
 told_due brief role due due' cs cs' rs rs' ms is c r = told_reply (Next brief.id role) (IsDue due') cs cs' rs rs' ms c (r ∙ ap (λ x. told_with rs (IsDue x ∷ [])) is)
 
 -- the player rested
@@ -72,12 +71,12 @@ pub goes-rests : (brief : Brief) (role tried round : ℕ) (due : Due) (before : 
     → Goes brief role (tried + 1) before (telling cs' rs' ms') messages
 goes-rests brief role tried round due before cs cs' rs rs' ms ms' messages goes is c r m =
     goes-more brief role tried before (telling cs rs ms) (telling cs' rs' ms') messages messages (rests round) goes refl
-    (ap (λ x. telling cs' rs' x) m ∙ told_due brief role due (Hold round) cs cs' rs rs' ms is c r) (omega arith)
+    (subst (λ x. Tells (telling cs rs ms) (telling cs' rs' x) (asking brief role (IsDue (Hold round)))) (sym m) (told_due brief role due (Hold round) cs cs' rs rs' ms is c r)) (omega arith)
 
 -- a message was handed over
 pub goes-hands_over : (brief : Brief) (role tried round : ℕ) (owed : Owed) (due : Due) (before : Telling) (cs cs' : Option (List Call)) (rs rs' : Option (List Reply)) (ms : Option (List Handed)) (next : Telling) (messages : ℕ)
     → Goes brief role tried before (telling cs rs ms) messages → due ≡ Owe round owed → cs' ≡ told_with cs (Next brief.id role ∷ []) → rs' ≡ told_with rs (IsDue due ∷ [])
-    → ((answer : Answer) × (reply : Reply) × (answer_fault reply ≡ None) × (next ≡ telling_with (telling cs' rs' ms) (handing_over brief role round owed answer reply)))
+    → ((answer : Answer) × (reply : Reply) × (answer_fault reply ≡ None) × Tells (telling cs' rs' ms) next (handing_over brief role round owed answer reply))
     → Goes brief role (tried + 1) before next (messages + 1)
 goes-hands_over brief role tried round owed due before cs cs' rs rs' ms next messages goes is c r (answer, reply, on, told) =
     goes-more brief role tried before (telling cs rs ms) next messages (messages + 1) (hands_over round owed answer reply) goes (ap is_none on)
@@ -99,7 +98,7 @@ attends-over brief role tried tries due before cs cs' rs rs' ms messages goes wi
 
 -- the worker stops in a step
 pub stops-in : (brief : Brief) (role tried tries : ℕ) (before now next : Telling) (messages : ℕ) (step : Step) (fault : AttendFault) (events : List Event) → Goes brief role tried before now messages → tried < tries
-    → StopsAmid (events_of brief role step) (fault_after step) fault events → next ≡ telling_with now events → StopsEarly brief role tries before next fault
+    → StopsAmid (events_of brief role step) (fault_after step) fault events → Tells now next events → StopsEarly brief role tries before next fault
 stops-in brief role tried tries before now next messages step fault events goes within stops told = record {
   steps = goes.steps;
   go_on = goes.go_on;
@@ -114,7 +113,7 @@ stops-out_of_tries brief role tried tries before now messages goes used = record
   steps = goes.steps;
   go_on = goes.go_on;
   events = [];
-  told = goes.told ∙ sym (ap (telling_with before) (append-nil (events_of_all brief role goes.steps)));
+  told = subst (Tells before now) (sym (append-nil (events_of_all brief role goes.steps))) goes.told;
   why = out_of_tries (goes.tries ∙ used) refl refl;
 }
 
@@ -131,14 +130,14 @@ stops_behind front whole last_fault fault events (for_memory next others is part
 pub stops-asking : (brief : Brief) (role tried tries : ℕ) (before : Telling) (cs cs' : Option (List Call)) (rs rs' : Option (List Reply)) (ms : Option (List Handed)) (messages : ℕ) (fault : AttendFault)
     → Goes brief role tried before (telling cs rs ms) messages → tried < tries → CallStops (Next brief.id role) next_fault fault cs cs' rs rs' → StopsEarly brief role tries before (telling cs' rs' ms) fault
 stops-asking brief role tried tries before cs cs' rs rs' ms messages fault goes within stops =
-    let s = stops_in_call (Next brief.id role) next_fault fault cs cs' rs rs' ms [] (telling cs rs ms) (sym (telling_with-nil (telling cs rs ms))) stops in
+    let s = stops_in_call (Next brief.id role) next_fault fault cs cs' rs rs' ms [] (telling cs rs ms) (tells-nil (telling cs rs ms)) stops in
     stops-in brief role tried tries before (telling cs rs ms) (telling cs' rs' ms) messages (finds_no_due s.reply) fault s.events goes within s.stops s.told
 
 -- the worker stops as it hands a message over
 pub stops-handing : (brief : Brief) (role tried tries round : ℕ) (owed : Owed) (due : Due) (before : Telling) (cs cs' : Option (List Call)) (rs rs' : Option (List Reply)) (ms : Option (List Handed)) (next : Telling) (messages : ℕ) (fault : AttendFault)
     → Goes brief role tried before (telling cs rs ms) messages → tried < tries → due ≡ Owe round owed → cs' ≡ told_with cs (Next brief.id role ∷ []) → rs' ≡ told_with rs (IsDue due ∷ [])
     → ((answer : Answer) × (reply : Reply) × (events : List Event) × StopsAmid (handing_over brief role round owed answer reply) (answer_fault reply) fault events
-    × (next ≡ telling_with (telling cs' rs' ms) events))
+    × Tells (telling cs' rs' ms) next events)
     → StopsEarly brief role tries before next fault
 stops-handing brief role tried tries round owed due before cs cs' rs rs' ms next messages fault goes within is c r (answer, reply, events, stops, told) =
     let asked = asking brief role (IsDue (Owe round owed)) in
@@ -146,13 +145,12 @@ stops-handing brief role tried tries round owed due before cs cs' rs rs' ms next
     (stops_behind asked (handing_over brief role round owed answer reply) (answer_fault reply) fault events stops)
     (told_after (telling cs rs ms) (telling cs' rs' ms) next asked events (told_due brief role due (Owe round owed) cs cs' rs rs' ms is c r) told)
 
--- a player that shows its messages has as many more as were counted
+-- a player that still shows its messages has as many more as were counted
 pub messages_told : MessagesAreCounted
 messages_told brief role tries before after messages old new attends shown_before shown =
     let events = events_of_all brief role attends.steps in
     let last = events_of brief role finds_the_end in
     let whole = events_of_all brief role (attends.steps ++ finds_the_end ∷ []) in
-    let told : new ≡ old ++ filter_map message_in whole =
-    sym (ap (λ ms. unwrap_or ms []) shown) ∙ ap (λ (t : Telling). unwrap_or t.messages []) attends.told ∙ ap (λ ms. unwrap_or (told_with ms (filter_map message_in whole)) []) shown_before in
+    let told = kept_all before.messages after.messages old new (filter_map message_in whole) shown_before shown attends.told.messages in
     let all = ap (λ es. length (filter_map message_in es)) (events_of_all-push brief role attends.steps finds_the_end) in
     omega (arith, ap length told, length-append old (filter_map message_in whole), all, messages_in-append events last, attends.count)

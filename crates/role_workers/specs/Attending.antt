@@ -9,7 +9,7 @@ use Rattle.match_messages.specs.declared.brief.Brief.{Brief}
 use Rattle.role_workers.specs.declared.attend_fault.AttendFault.{AttendFault}
 use Rattle.role_workers.specs.declared.attend_fault.AttendFault.TheVariants.{Stalled, Memory}
 use Rattle.role_workers.specs.Handing.{Handed}
-use Rattle.role_workers.specs.Events.{Event, makes, takes, message_in, Telling, telling_with}
+use Rattle.role_workers.specs.Events.{Event, makes, takes, message_in, Telling, Tells}
 use Rattle.role_workers.specs.AttendFaults.{attend_fault}
 use Rattle.role_workers.specs.Steps.{Step, finds_the_end, events_of, goes_on, fault_after}
 
@@ -23,7 +23,7 @@ pub record Attends (brief : Brief) (role tries : ℕ) (before after : Telling) (
   pub steps : List Step
   pub go_on : All (λ step. goes_on step ≡ true) steps
   pub within : length steps < tries
-  pub told : after ≡ telling_with before (events_of_all brief role (steps ++ finds_the_end ∷ []))
+  pub told : Tells before after (events_of_all brief role (steps ++ finds_the_end ∷ []))
   pub count : messages ≡ length (filter_map message_in (events_of_all brief role steps))
 
 -- what a player that shows its messages shows: as many more as were counted
@@ -55,7 +55,7 @@ pub record StopsEarly (brief : Brief) (role tries : ℕ) (before after : Telling
   pub steps : List Step
   pub go_on : All (λ step. goes_on step ≡ true) steps
   pub events : List Event
-  pub told : after ≡ telling_with before (events_of_all brief role steps ++ events)
+  pub told : Tells before after (events_of_all brief role steps ++ events)
   pub why : StopsAfter brief role tries steps fault events
 
 -- A call stopped the worker with this fault. Either there is no memory for the call; or no reply came, and the call went out or did

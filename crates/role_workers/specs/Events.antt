@@ -1,10 +1,10 @@
 -- The events between a worker, its wire and its player, and what a wire and a player show of them.
-use Rattle.std.specs.Prelude.{List, Option, Some, None}
+use Rattle.std.specs.Prelude.{◌≡◌, List, Option, Some, None}
 use Rattle.std.specs.List.{filter_map}
 use Rattle.call_history.specs.Told.{told_with}
 use Rattle.desk_calls.specs.declared.call.Call.{Call}
 use Rattle.desk_calls.specs.declared.call.Reply.{Reply}
-use Rattle.role_workers.specs.Handing.{Handed}
+use Rattle.role_workers.specs.Handing.{Handed, MayKeep}
 
 -- the worker makes a call over the wire, takes a reply, or hands a message to the player, who answers it
 pub data Event : Type 0 where
@@ -37,10 +37,9 @@ pub record Telling : Type 0 where
 abbrev pub telling : Option (List Call) → Option (List Reply) → Option (List Handed) → Telling
 telling calls replies messages = record { calls = calls; replies = replies; messages = messages }
 
--- what they show after these events
-abbrev pub telling_with : Telling → List Event → Telling
-telling_with t events = record {
-  calls = told_with t.calls (filter_map call_in events);
-  replies = told_with t.replies (filter_map reply_in events);
-  messages = told_with t.messages (filter_map message_in events);
-}
+-- From `before` to `after` these events were shown: the calls that went out, the replies that came, and the messages that were handed
+-- over, unless the player shows none any more.
+pub record Tells (before after : Telling) (events : List Event) : Type 0 where
+  pub calls : after.calls ≡ told_with before.calls (filter_map call_in events)
+  pub replies : after.replies ≡ told_with before.replies (filter_map reply_in events)
+  pub messages : MayKeep before.messages after.messages (filter_map message_in events)

@@ -1,5 +1,6 @@
 -- Messages that are handed to a player.
-use Rattle.std.specs.Prelude.{ℕ, List}
+use Rattle.std.specs.Prelude.{◌≡◌, ℕ, List, Option, None, ◌⊎◌}
+use Rattle.call_history.specs.Told.{told_with}
 use Rattle.desk_calls.specs.declared.due.Owed.{Owed}
 use Rattle.desk_calls.specs.declared.due.Owed.TheVariants.{Start, Play, Stop, Abort}
 use Rattle.desk_calls.specs.declared.answer.Answer.{Answer}
@@ -10,6 +11,11 @@ pub record Handed : Type 0 where
   pub seconds : ℕ
   pub body : List ℕ
   pub answer : Answer
+
+-- From `before` to `after` a player was handed these messages. It shows them behind those that it showed before; or it shows none any
+-- more, as one that had no memory to keep them.
+abbrev pub MayKeep : Option (List Handed) → Option (List Handed) → List Handed → Type 0
+MayKeep before after messages = (after ≡ told_with before messages) ⊎ (after ≡ None)
 
 -- the seconds that a player has for a message: the start clock for START, the play clock for any other
 abbrev pub seconds_for : Brief → Owed → ℕ

@@ -1,5 +1,5 @@
 -- Laws of the definitions.
-use Rattle.std.specs.Prelude.{◌≡◌, ℕ, List, [], ◌∷◌, ◌++◌, All, length, Option, Some, Result, Ok, IsOk}
+use Rattle.std.specs.Prelude.{◌≡◌, ℕ, List, [], ◌∷◌, ◌++◌, All, length, map, Option, Some, Result, Ok, IsOk}
 use Rattle.std.specs.List.{filter_map}
 use Rattle.desk_calls.specs.declared.due.Due.TheVariants.{Over}
 use Rattle.desk_calls.specs.declared.call.Call.{Call}
@@ -7,10 +7,11 @@ use Rattle.desk_calls.specs.declared.call.Reply.{Reply}
 use Rattle.desk_calls.specs.declared.call.Reply.TheVariants.{Due}
 use Rattle.match_messages.specs.declared.brief.Brief.{Brief}
 use Rattle.role_workers.specs.declared.attend_fault.AttendFault.{AttendFault}
-use Rattle.role_workers.specs.Handing.{Handed}
+use Rattle.match_messages.specs.MessageText.{message_text}
+use Rattle.role_workers.specs.Handing.{Handed, MayKeep, seconds_for}
 use Rattle.role_workers.specs.Events.{telling}
 use Rattle.role_workers.specs.Attendances.{HasEnded}
-use Rattle.role_workers.specs.RoleCalls.{IsRoleCall, due_round}
+use Rattle.role_workers.specs.RoleCalls.{IsRoleCall, owed_of}
 
 -- a worker makes only calls of its role
 abbrev pub CallsAreOfTheRole : Type 0
@@ -22,8 +23,21 @@ abbrev pub CallsHaveReplies : Type 0
 CallsHaveReplies = (brief : Brief) (role tries : ℕ) (calls : List Call) (replies : List Reply) (handed handed' : Option (List Handed)) (end : Result ℕ AttendFault) → IsOk end
     → HasEnded brief role tries (telling (Some []) (Some []) handed) (telling (Some calls) (Some replies) handed') end → length replies ≡ length calls
 
--- a worker that found the end after this many messages took as many replies that owe one, and then one that the match is over
-abbrev pub OwedAreCounted : Type 0
-OwedAreCounted = (brief : Brief) (role tries messages : ℕ) (calls calls' : Option (List Call)) (replies : List Reply) (handed handed' : Option (List Handed))
-    → HasEnded brief role tries (telling calls (Some []) handed) (telling calls' (Some replies) handed') (Ok messages)
-    → (front : List Reply) × (replies ≡ front ++ Due Over ∷ []) × (length (filter_map due_round front) ≡ messages)
+-- The messages that a worker handed over until it found the end, when these replies came.
+pub record AreHandedOver (brief : Brief) (role count : ℕ) (replies : List Reply) (handed handed' : Option (List Handed)) : Type 0 where
+  -- the last reply is that the match is over
+  pub front : List Reply
+  pub last : replies ≡ front ++ Due Over ∷ []
+  -- the messages that the other replies owe, and no more
+  pub messages : List Handed
+  pub count_is : length messages ≡ count
+  pub seconds_are : map (λ m. m.seconds) messages ≡ map (seconds_for brief) (filter_map owed_of front)
+  pub bodies_are : map (λ m. m.body) messages ≡ map (message_text brief role) (filter_map owed_of front)
+  -- its player shows them, unless it shows none any more
+  pub kept : MayKeep handed handed' messages
+
+-- a worker that found the end handed over each message that a reply owed, once and in their order
+abbrev pub OwedAreHandedOver : Type 0
+OwedAreHandedOver = (brief : Brief) (role tries count : ℕ) (calls calls' : Option (List Call)) (replies : List Reply) (handed handed' : Option (List Handed))
+    → HasEnded brief role tries (telling calls (Some []) handed) (telling calls' (Some replies) handed') (Ok count)
+    → AreHandedOver brief role count replies handed handed'

@@ -1,5 +1,6 @@
 -- The calls of a worker, and what their replies owe.
 use Rattle.std.specs.Prelude.{◌≡◌, ℕ, List, Option, Some, None}
+use Rattle.desk_calls.specs.declared.due.Owed.{Owed}
 use Rattle.desk_calls.specs.declared.due.Due.TheVariants.{Owe}
 use Rattle.desk_calls.specs.declared.call.Call.{Call}
 use Rattle.desk_calls.specs.declared.call.Call.TheVariants.{Next, Submit, Miss}
@@ -13,7 +14,12 @@ IsRoleCall id role (Submit match answering round text) = (match ≡ id) × (answ
 IsRoleCall id role (Miss match answering round broken) = (match ≡ id) × (answering ≡ role)
 IsRoleCall id role _ = ⊥
 
--- the round of the message that is due, if one is
+-- the message that is due, if one is
+abbrev pub owed_of : Reply → Option Owed
+owed_of (Due (Owe round owed)) = Some owed
+owed_of _ = None
+
+-- its round
 abbrev pub due_round : Reply → Option ℕ
 due_round (Due (Owe round owed)) = Some round
 due_round _ = None

@@ -9,7 +9,7 @@ use crate::holder::DeskHolder;
 use crate::player::Player;
 use crate::seats::{Attendance, attend_all, seat_players};
 use crate::served_wire::ServedWire;
-use crate::shared_desk::{Naming, SharedDesk};
+use crate::shared_desk::{DeskBrand, SharedDesk};
 use call_history::laws::{lines_stay, new_lines_are_lines};
 use call_history::{LineEnd, Object, RingDesk, RingLine};
 use desk_calls::{Call, Reply};
@@ -43,7 +43,7 @@ fn wires_over<'a, O, N>(
 ) -> Result<Vec<ServedWire<'a, O, N>>, AllocError>
 where
     O: Object<Call = Call, Reply = Reply> + Drop,
-    N: Naming<O>,
+    N: DeskBrand<O>,
     ensures { IfOk result (λ wires. map (λ w. w.line) wires.items ≡ lines.items) }
 {
     let mut wires = Vec::with_capacity(alloc, lines.len())?;
@@ -62,7 +62,7 @@ pub fn attend_match<N, O, P, R>(
     plan: AttendancePlan<'_, P>,
 ) -> Result<AttendedMatch<O, P>, AllocError>
 where
-    N: Naming<O> + Send + Sync,
+    N: DeskBrand<O> + Send + Sync,
     O: Object<Call = Call, Reply = Reply> + Drop + Send,
     P: Player + Drop + Send,
     R: Threads + Wait + Sync,

@@ -6,7 +6,7 @@ ghost use Rattle.desk_calls.specs.declared.call.Reply.{Reply};
 ghost use Rattle.desk_calls.specs.declared.call.Call.TheVariants.{Next};
 ghost use Rattle.desk_calls.specs.declared.call.Reply.TheVariants.{Due as IsDue};
 ghost use Rattle.role_workers.specs.Handing.{seconds_for};
-ghost use Rattle.role_workers.specs.Events.{Event, telling, telling_with};
+ghost use Rattle.role_workers.specs.Events.{Event, telling, Tells};
 ghost use Rattle.role_workers.specs.AttendFaults.{next_fault, answer_fault};
 ghost use Rattle.role_workers.specs.Steps.{answer_call, handing_over};
 ghost use Rattle.role_workers.specs.Attending.{StopsAmid, CallStops};
@@ -132,13 +132,13 @@ fn hand_over<W: Wire<Call = Call, Reply = Reply>, P: Player>(
     requires { role < length brief.now.roles }
     ensures line { W.same_line wire.old wire.new }
     ensures told { OnOk result ((answer : Answer) × (reply : Reply) × (answer_fault reply ≡ None)
-        × (telling (W.calls wire.new) (W.replies wire.new) (P.handed player.new)
-        ≡ telling_with (telling (W.calls wire.old) (W.replies wire.old) (P.handed player.old))
-        (handing_over brief.now role round owed answer reply))) }
+        × Tells (telling (W.calls wire.old) (W.replies wire.old) (P.handed player.old))
+        (telling (W.calls wire.new) (W.replies wire.new) (P.handed player.new))
+        (handing_over brief.now role round owed answer reply)) }
     ensures fault { IfErr result (λ fault. (answer : Answer) × (reply : Reply) × (events : List Event)
         × StopsAmid (handing_over brief.now role round owed answer reply) (answer_fault reply) fault events
-        × (telling (W.calls wire.new) (W.replies wire.new) (P.handed player.new)
-        ≡ telling_with (telling (W.calls wire.old) (W.replies wire.old) (P.handed player.old)) events)) }
+        × Tells (telling (W.calls wire.old) (W.replies wire.old) (P.handed player.old))
+        (telling (W.calls wire.new) (W.replies wire.new) (P.handed player.new)) events) }
 {
     let message = shared_message(alloc, brief, role, &owed)?;
     let answer = player.ask_shared(alloc, seconds_for(brief, &owed), &message)?;

@@ -5,7 +5,7 @@ ghost use Rattle.role_workers.specs.RoleLines.{IsFinishedOf, AreFinishedOf};
 use crate::attend_fault::AttendFault;
 use crate::seat::Attended;
 use crate::served_wire::ServedWire;
-use crate::shared_desk::Naming;
+use crate::shared_desk::DeskBrand;
 use call_history::{LineEnd, Object, RingLine};
 use desk_calls::{Call, Reply};
 use std::alloc::AllocError;
@@ -40,7 +40,7 @@ pub fn finish_all<O, N, P>(
 ) -> Result<Finished<O, P>, AllocError>
 where
     O: Object<Call = Call, Reply = Reply> + Drop,
-    N: Naming<O>,
+    N: DeskBrand<O>,
     P: Drop,
     requires no_lines { room.lines.items ≡ [] }
     requires no_ends { room.ends.items ≡ [] }

@@ -1,6 +1,6 @@
 //! Laws of the definitions.
 ghost use Rattle.role_workers.specs.Attending.{MessagesAreCounted};
-ghost use Rattle.role_workers.specs.Laws.{CallsAreOfTheRole, CallsHaveReplies, OwedAreCounted};
+ghost use Rattle.role_workers.specs.Laws.{CallsAreOfTheRole, CallsHaveReplies, OwedAreHandedOver};
 
 /// If attending a role found the end of the match, a player that shows its messages shows as many more as were counted.
 pub fn messages_are_counted()
@@ -17,7 +17,8 @@ pub fn calls_have_replies()
     ensures { CallsHaveReplies }
 {}
 
-/// A worker that found the end after so many messages took as many replies that owe one, and last the reply that the match is over.
-pub fn owed_are_counted()
-    ensures { OwedAreCounted }
+/// A worker that found the end handed over each message that a reply owed, once and in their order, and last took the reply that the
+/// match is over.
+pub fn owed_are_handed_over()
+    ensures { OwedAreHandedOver }
 {}

@@ -23,4 +23,4 @@ pub use attending::{attend, attend_shared};
 pub use finishing::ROOM;
 pub use holder::{DeskHolder, ask_own};
 pub use player::Player;
-pub use shared_desk::Naming;
+pub use shared_desk::DeskBrand;

@@ -10,7 +10,7 @@ use crate::attend_fault::AttendFault;
 use crate::attending::{answer_call, attend_shared};
 use crate::player::Player;
 use crate::seat::{Attended, Seat};
-use crate::shared_desk::{Naming, SharedDesk};
+use crate::shared_desk::{DeskBrand, SharedDesk};
 use call_history::{Bell, Object, Wire};
 use desk_calls::{Answer, Call, Due, Reply};
 use match_messages::SharedBrief;
@@ -240,7 +240,7 @@ fn end_seats<O, N, W, P, R>(
 ) -> Result<(), AttendFault>
 where
     O: Object<Call = Call, Reply = Reply> + Drop,
-    N: Naming<O>,
+    N: DeskBrand<O>,
     W: Wire<Call = Call, Reply = Reply> + Drop,
     P: Player + Drop,
     R: Threads + Wait,
@@ -273,7 +273,7 @@ pub fn attend_all<O, N, W, P, R>(
 ) -> Result<Attendance<P, W>, AllocError>
 where
     O: Object<Call = Call, Reply = Reply> + Drop,
-    N: Naming<O>,
+    N: DeskBrand<O>,
     W: Wire<Call = Call, Reply = Reply> + Drop + Send,
     P: Player + Drop + Send,
     R: Threads + Wait + Sync,

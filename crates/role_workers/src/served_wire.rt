@@ -3,8 +3,8 @@ ghost use Rattle.std.specs.Prelude.{◌≡◌, ◌⊎◌, ◌∷◌, ◌++◌, [
 ghost use Rattle.call_history.specs.Told.{told_with};
 ghost use Rattle.call_history.specs.RingLines.{posted_calls, taken_replies, SameLine};
 
-use crate::shared_desk::{Naming, SharedDesk};
-use call_history::{AskFault, Object, RingLine, Wire, let_a_moment_pass};
+use crate::shared_desk::{DeskBrand, SharedDesk};
+use call_history::{AskFault, Object, RingLine, Wire, back_off};
 use desk_calls::{Call, Reply};
 
 /// A wire gives up after this many looks for a reply.
@@ -12,13 +12,13 @@ const TURNS: u64 = 1_000_000_000;
 
 /// A line of a desk that any thread can serve. It has at most one call under way, so that its ring has room for the next.
 #[derive(Drop)]
-pub struct ServedWire<'a, O: Object<Call = Call, Reply = Reply>, N: Naming<O>> {
+pub struct ServedWire<'a, O: Object<Call = Call, Reply = Reply>, N: DeskBrand<O>> {
     line: RingLine<O>,
     desk: &'a SharedDesk<O, N>,
     has_stalled: bool,
 }
 
-impl<'a, O: Object<Call = Call, Reply = Reply>, N: Naming<O>> ServedWire<'a, O, N> {
+impl<'a, O: Object<Call = Call, Reply = Reply>, N: DeskBrand<O>> ServedWire<'a, O, N> {
     /// A wire that makes the line's calls on its desk.
     pub fn new(line: RingLine<O>, desk: &'a SharedDesk<O, N>) -> ServedWire<'a, O, N>
         ensures line { result.line ≡ line }
@@ -39,7 +39,7 @@ impl<'a, O: Object<Call = Call, Reply = Reply>, N: Naming<O>> ServedWire<'a, O, 
     }
 }
 
-impl<'a, O: Object<Call = Call, Reply = Reply>, N: Naming<O>> Wire for ServedWire<'a, O, N> {
+impl<'a, O: Object<Call = Call, Reply = Reply>, N: DeskBrand<O>> Wire for ServedWire<'a, O, N> {
     ghost use Rattle.std.proofs.Common.{rules};
 
     type Call = Call;
@@ -93,7 +93,7 @@ impl<'a, O: Object<Call = Call, Reply = Reply>, N: Naming<O>> Wire for ServedWir
 
 /// Takes the reply that the line waits for. While it is not there, the thread serves rounds, or lets moments pass in which another
 /// thread does. It gives up after `TURNS` looks, or once the desk has stopped.
-fn take_served<O: Object<Call = Call, Reply = Reply>, N: Naming<O>>(
+fn take_served<O: Object<Call = Call, Reply = Reply>, N: DeskBrand<O>>(
     line: &mut RingLine<O>,
     desk: &SharedDesk<O, N>,
 ) -> Option<Reply>
@@ -112,7 +112,7 @@ fn take_served<O: Object<Call = Call, Reply = Reply>, N: Naming<O>>(
             return None;
         }
         if !desk.serve() {
-            let_a_moment_pass(tried);
+            back_off(tried);
         }
     }
     None

@@ -23,11 +23,11 @@ const LONGEST_SLEEP: u64 = 1_000;
 const MAX_SHORT_ROUNDS: u64 = 10_000;
 
 /// The desk that is put under a lock. Each match picks it, since a contract can't name what lies under a lock.
-pub trait Naming<O> {
+pub trait DeskBrand<O> {
     ghost desk: { Option (RingDeskValue O Call Reply) };
 }
 
-impl<O> Naming<O> for Brand {
+impl<O> DeskBrand<O> for Brand {
     ghost use Rattle.std.specs.Prelude.{None};
 
     ghost desk = { None };
@@ -35,7 +35,7 @@ impl<O> Naming<O> for Brand {
 
 /// The picked desk, after some rounds.
 #[derive(Drop)]
-struct NamedDesk<O: Object<Call = Call, Reply = Reply>, N: Naming<O>> {
+struct NamedDesk<O: Object<Call = Call, Reply = Reply>, N: DeskBrand<O>> {
     desk: RingDesk<O>,
     /// How many more rounds in a row may have no memory for a call.
     rounds_left: u64,
@@ -43,7 +43,7 @@ struct NamedDesk<O: Object<Call = Call, Reply = Reply>, N: Naming<O>> {
     ghost same: { ForSome N.desk (λ first. IsDeskAfter O.opening first desk) },
 }
 
-impl<O: Object<Call = Call, Reply = Reply>, N: Naming<O>> NamedDesk<O, N> {
+impl<O: Object<Call = Call, Reply = Reply>, N: DeskBrand<O>> NamedDesk<O, N> {
     /// Serves a round, and counts it. No line before the one at which it stops is left out.
     fn round(&mut self) -> Result<u64, DeskFault>
         ensures visits { MatchResult result
@@ -83,14 +83,14 @@ fn rounds_left(before: u64, served: &Result<u64, DeskFault>) -> u64
 
 /// A desk over rings that any thread can serve.
 #[derive(Drop)]
-pub struct SharedDesk<O: Object<Call = Call, Reply = Reply>, N: Naming<O>> {
+pub struct SharedDesk<O: Object<Call = Call, Reply = Reply>, N: DeskBrand<O>> {
     locked: Mutex<NamedDesk<O, N>>,
     bell: Bell,
     /// Whether the desk was stopped for want of memory.
     is_short: AtomicBool,
 }
 
-impl<O: Object<Call = Call, Reply = Reply>, N: Naming<O>> SharedDesk<O, N> {
+impl<O: Object<Call = Call, Reply = Reply>, N: DeskBrand<O>> SharedDesk<O, N> {
     /// Puts the picked desk under a lock.
     pub fn new(desk: RingDesk<O>) -> SharedDesk<O, N>
         requires { N.desk ≡ Some desk }

@@ -1,19 +1,13 @@
 -- How large a description may be.
 use Rattle.std.specs.Prelude.{ℕ, Bool, true, false, ◌&&◌, nat_le, bytes_eq, List, [], ◌∷◌, ◌++◌, length}
+use Rattle.game_core.specs.Limits.{max_sentences, max_atomic_sentences}
+use Rattle.game_core.specs.declared.limits.Limits.{Limits}
 use Rattle.game_core.specs.Play.{max_roles}
 use Rattle.rule_sentences.specs.declared.sentence.Atomic.{Atomic}
 use Rattle.rule_sentences.specs.declared.sentence.Atomic.TheVariants.{Derived as IsDerived, InState as IsInState, Does as IsDoes}
 use Rattle.numbered_rules.specs.Literals.{Holds, InState, Does, Distinct, Not, Or, End, More}
 use Rattle.rule_sentences.specs.Sentences.{TextLiteral, TextLiterals}
 use Rattle.rule_sentences.specs.Descriptions.{Description, same_derived, each_once, heads, moves_in, role_names}
-
--- the limit of sentences in a description
-abbrev pub max_sentences : ℕ
-max_sentences = 8192
-
--- the limit of distinct atomic sentences
-abbrev pub max_atomic_sentences : ℕ
-max_atomic_sentences = 16384
 
 -- the limit of distinct moves in `legal` heads of one role
 abbrev pub max_moves : ℕ
@@ -48,10 +42,10 @@ abbrev pub have_few_moves : List (List ℕ) → Description → Bool
 have_few_moves [] d = true
 have_few_moves (n ∷ ns) d = nat_le (length (moves_in n (heads d))) max_moves && have_few_moves ns d
 
--- the size is within the limits, for a description with this number of sentences
-abbrev pub is_small : ℕ → Description → Bool
-is_small sentences d =
-    nat_le sentences max_sentences
-    && nat_le (length (each_once same_atomic (atomics d))) max_atomic_sentences
+-- the size is within these limits, for a description with this number of sentences
+abbrev pub is_small : Limits → ℕ → Description → Bool
+is_small limits sentences d =
+    nat_le sentences (max_sentences limits)
+    && nat_le (length (each_once same_atomic (atomics d))) (max_atomic_sentences limits)
     && nat_le (length (role_names d)) max_roles
     && have_few_moves (role_names d) d

@@ -25,8 +25,8 @@ pub enum LoadFault {
     /// Two `role` facts name the same role.
     #[error("two role facts have the same name")]
     RoleTwice,
-    /// More than 8,192 sentences, 16,384 distinct atomic sentences, 16 roles, or 4,096 distinct
-    /// moves in `legal` heads of one role.
+    /// More sentences or distinct atomic sentences than the limits allow, more than 16 roles, or more
+    /// than 4,096 distinct moves in `legal` heads of one role.
     #[error("the description is too large")]
     TooLarge,
     /// A derived atom depends on itself.

@@ -1,18 +1,14 @@
 //! How large a description may be.
 ghost use Rattle.std.specs.Prelude.{◌≡◌, ◌-◌, ◌∷◌, IfOk, OnOk, length, nat_le};
+ghost use Rattle.game_core.specs.Limits.{max_atomic_sentences};
 ghost use Rattle.rule_sentences.specs.SentenceViews.{view, views, rules_of};
 ghost use Rattle.rule_sentences.specs.Descriptions.{with_new, with_all_new, each_once};
-ghost use Rattle.rule_sentences.specs.Sizes.{same_atomic, atomics_in, all_atomics_in, atomics, max_atomic_sentences};
+ghost use Rattle.rule_sentences.specs.Sizes.{same_atomic, atomics_in, all_atomics_in, atomics};
 
 use crate::sentence::{Atomic, Derived, Literal, Rule};
+use game_core::Limits;
 use indexmap::IndexSet;
 use std::alloc::{AllocError, Global};
-
-/// The limit of sentences in a description.
-pub const MAX_SENTENCES: usize = 8192;
-
-/// The limit of distinct atomic sentences in a description.
-pub const MAX_ATOMIC_SENTENCES: usize = 16384;
 
 /// The limit of distinct moves in the `legal` heads of one role.
 pub const MAX_MOVES: usize = 4096;
@@ -98,25 +94,29 @@ fn room_beside_all(literals: &Vec<Literal>, room: usize) -> usize
     left
 }
 
-/// Whether the rules name at most `MAX_ATOMIC_SENTENCES` atomic sentences, each counted as often as it stands there.
-fn name_few_atomic_sentences(rules: &[Rule]) -> bool
-    ensures { result ≡ nat_le (length (atomics (rules_of rules.now))) max_atomic_sentences }
+/// Whether the rules name at most as many atomic sentences as the limits allow, each counted as often as it stands there.
+fn name_few_atomic_sentences(rules: &[Rule], limits: Limits) -> bool
+    ensures { result ≡ nat_le (length (atomics (rules_of rules.now))) (max_atomic_sentences limits) }
 {
-    let mut left = MAX_ATOMIC_SENTENCES + 1;
+    let mut left = limits.atomic_sentences() + 1;
     for rule in rules {
         left = room_beside_all(&rule.body, left.saturating_sub(1));
     }
     left > 0
 }
 
-/// Whether the rules have at most `MAX_ATOMIC_SENTENCES` distinct atomic sentences. If they name no more at all, this takes no set;
-/// otherwise the distinct ones are counted.
-pub fn have_few_atomic_sentences(alloc: Global, rules: &[Rule]) -> Result<bool, AllocError>
-    ensures { IfOk result (λ b. b ≡ nat_le (length (each_once same_atomic (atomics (rules_of rules.now)))) max_atomic_sentences) }
+/// Whether the rules have at most as many distinct atomic sentences as the limits allow. If they name no more at all, this takes no
+/// set; otherwise the distinct ones are counted.
+pub fn have_few_atomic_sentences(
+    alloc: Global,
+    rules: &[Rule],
+    limits: Limits,
+) -> Result<bool, AllocError>
+    ensures { IfOk result (λ b. b ≡ nat_le (length (each_once same_atomic (atomics (rules_of rules.now)))) (max_atomic_sentences limits)) }
 {
-    if name_few_atomic_sentences(rules) {
+    if name_few_atomic_sentences(rules, limits) {
         return Ok(true);
     }
     let count = count_atomic_sentences(alloc, rules)?;
-    Ok(count <= MAX_ATOMIC_SENTENCES)
+    Ok(count <= limits.atomic_sentences())
 }

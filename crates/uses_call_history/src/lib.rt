@@ -6,7 +6,7 @@ ghost use Rattle.call_history.specs.History.{IsReplay};
 ghost use Rattle.call_history.specs.Parts.{part, calls_of};
 ghost use Rattle.call_history.specs.RingLines.{posted_calls, SameLine, SamePorts};
 
-use call_history::laws::{desks_stay, lines_stay};
+use call_history::laws::{desks_stay, ends_stand_in_order};
 use call_history::{
     CallFault, Closed, LockDesk, LockLine, MAX_ENTRIES, Object, RingDesk, RingLine, open_lock,
     open_rings,
@@ -48,11 +48,11 @@ pub fn made_over_rings<O: Object + Drop>(
 ) -> Option<Closed<O>>
     requires { O.opening object ≡ object }
     ensures replay { IfSome result (λ c. IsReplay O.reply O.after O.opening c.object c.history.items) }
-    ensures first { IfSome result (λ c. calls_of (part 0 c.history.items) ≡ first.items) }
-    ensures second { IfSome result (λ c. calls_of (part 1 c.history.items) ≡ second.items) }
-    ensures counted { IfSome result (λ c. length c.history.items ≡ length first.items + length second.items) }
+    ensures calls { IfSome result (λ c. (calls_of (part 0 c.history.items) ≡ first.items)
+        × (calls_of (part 1 c.history.items) ≡ second.items)
+        × (length c.history.items ≡ length first.items + length second.items)) }
 {
-    lines_stay::<O>();
+    ends_stand_in_order::<O>();
     desks_stay::<O>();
     let Ok((mut desk, mut lines)) = open_rings(alloc, object, MAX_ENTRIES, 2, 1) else {
         return None;
@@ -70,7 +70,10 @@ pub fn made_over_rings<O: Object + Drop>(
     };
     ends.push_reserved(one.finish());
     ends.push_reserved(other.finish());
-    desk.close(ends).ok()
+    match desk.close(ends) {
+        Ok(closed) => Some(closed),
+        Err(_) => None,
+    }
 }
 
 /// Makes the calls over a line behind a lock, one after another.

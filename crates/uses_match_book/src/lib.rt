@@ -8,7 +8,9 @@ ghost use Rattle.match_book.specs.Phase.{stage, is_live, round};
 ghost use Rattle.uses_match_book.specs.Endings.{EndsWith};
 
 use game_core::Game;
-use match_book::laws::{recorded_moves_are_legal, stages_are_settled, taken_for_the_round};
+use match_book::laws::{
+    matches_are_lawful, recorded_moves_are_legal, stages_are_settled, taken_for_the_round,
+};
 use match_book::{LentAnswer, Match};
 use std::alloc::{AllocError, Global};
 
@@ -29,8 +31,7 @@ pub fn final_goal<G: Game>(game: &G, held: &Match<G>, role: usize) -> Option<u8>
 {
     recorded_moves_are_legal::<G>();
     stages_are_settled::<G>();
-    // This reader says that the match is lawful.
-    let _state = held.state();
+    matches_are_lawful(held);
     held.goal_of(role)
 }
 

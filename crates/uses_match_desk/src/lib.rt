@@ -10,7 +10,7 @@ ghost use Rattle.uses_match_desk.specs.Endings.{CanEndWith};
 
 use call_history::{Closed, LockDesk, LockLine, Object};
 use game_core::{Countdown, Game};
-use match_book::laws::{recorded_moves_are_legal, stages_are_settled};
+use match_book::laws::{matches_are_lawful, recorded_moves_are_legal, stages_are_settled};
 use match_desk::{Call, Manager, Reply, close_desk};
 use std::alloc::{AllocError, Global};
 use std::sync::ledger::Ledger;
@@ -53,8 +53,7 @@ pub fn goal_after(
     let Some(held) = manager.find(id) else {
         return Ok(None);
     };
-    // This reader says that the match is lawful.
-    let _state = held.state();
+    matches_are_lawful(held);
     Ok(held.goal_of(role))
 }
 

@@ -8,6 +8,7 @@ ghost use Rattle.record_reading.specs.RecordParts.{parts_of};
 
 use game_core::{Game, Text};
 use match_book::Match;
+use match_book::laws::matches_are_lawful;
 use match_record::{VerifyFault, record_json};
 use record_check::verify;
 use record_reading::laws::{
@@ -43,8 +44,7 @@ pub fn told_in_record<G: Game>(
     record_tree_holds_parts(game);
     lawful_parts_have_shape(game);
     holds_one_parts_at_most(game);
-    // This reader says that the match is lawful.
-    let _state = held.state();
+    matches_are_lawful(held);
     let record = record_json(alloc, game, held)?;
     match read_record(alloc, game, record.as_slice()) {
         Ok(parts) => Ok(parts),

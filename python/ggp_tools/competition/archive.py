@@ -53,7 +53,7 @@ checks all that follows. By hand, in this folder:
     ggp_competition table                                                 the schedule follows from competition.toml, the table from the records
 
 The rules are ground descriptions; games has the descriptions that they were made from, whose sums when the plan was made are in
-rules/DESCRIPTIONS.sha256. Where rules/GAME.told is there, the players of that game were told this in place of rules/GAME.kif. The
+rules/DESCRIPTIONS.sha256. Where rules/GAME.players is there, the players of that game were told this in place of rules/GAME.kif. The
 version of the referee with which this was published is in VERSION. Where GAPS.tsv is there, it has the matches of the schedule that
 have no record. Where again.tsv is there, it has the matches that were played again, with the reasons: the earlier records do not count.
 Where earlier is there, the competition grew: earlier/N.toml is competition.toml as it was when N matches were planned.
@@ -179,9 +179,9 @@ def with_sums(contents, sums):
 
 
 def add(archive, name, data):
-    it = tarfile.TarInfo(name)
-    it.size, it.mode = len(data), 0o644
-    archive.addfile(it, io.BytesIO(data))
+    member = tarfile.TarInfo(name)
+    member.size, member.mode = len(data), 0o644
+    archive.addfile(member, io.BytesIO(data))
 
 
 def unpacked(path, room):
@@ -355,7 +355,7 @@ def looked_at(path, referee):
             if folder.name != plan.competition.name:
                 return [f"its folder is {folder.name}, and the name of the competition {plan.competition.name}"], ""
             results, faults = faults_of_matches(plan, referee)
-            faults += [fault.replace(f"{folder}/", "") for fault in faults_of_descriptions(plan, lambda it: folder / f"games/{it.name}.kif")]
+            faults += [fault.replace(f"{folder}/", "") for fault in faults_of_descriptions(plan, lambda game: folder / f"games/{game.name}.kif")]
             if faults:
                 return faults, ""
             held, faults = held_matches(plan, results, folder)

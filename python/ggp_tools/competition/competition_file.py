@@ -30,7 +30,9 @@ ABSENT = ("leave", "play")
 # What the standings are ordered by.
 ORDERS = BY_GOALS, BY_POINTS = "goals", "points"
 # What START carries: the rules that the referee plays, or the description that they were made from.
-TOLD = ("ground", "variables")
+PLAYER_RULES = ("ground", "variables")
+# Keys that had another name before version 0.2.0, by that name.
+RENAMED = {"told": "player_rules"}
 ROOT_KEYS = ("name", "start", "play", "strikes", "tries", "wait", "info", "absent", "forfeit", "order", "hosts", "form", "games", "players")
 
 
@@ -51,7 +53,7 @@ class Mistaken(Exception):
         self.mistakes = mistakes
 
 
-def told(path: object, mistakes: Iterable[Mistake]) -> str:
+def mistake_lines(path: object, mistakes: Iterable[Mistake]) -> str:
     """Returns the mistakes of a file, a line for each."""
     return "\n".join(f"{path}:{mistake.line}: {mistake.key + ': ' if mistake.key else ''}{mistake.words}" for mistake in mistakes)
 
@@ -60,7 +62,7 @@ def told(path: object, mistakes: Iterable[Mistake]) -> str:
 class Game:
     """A game that is played: its name, the file of its description, its clocks in seconds, and which rules its players get, with the line
     that says so; the file of the description with variables, where it stands beside ground rules (else empty); the seconds in which it is
-    instantiated; and whether it is planned though its random matches are aborted."""
+    instantiated; whether it is planned though its random matches are aborted; and whether its rules may be large."""
 
     name: str
     file: str
@@ -68,14 +70,15 @@ class Game:
     seconds: int
     start: int
     play: int
-    told: str
-    told_line: int
+    player_rules: str
+    player_rules_line: int
     line: int
     aborts: bool = False
+    large: bool = False
 
     def tells_variables(self) -> bool:
         """Returns whether players get the description with variables."""
-        return self.told == TOLD[1]
+        return self.player_rules == PLAYER_RULES[1]
 
 
 @dataclass(frozen=True)
@@ -158,7 +161,7 @@ class Section:
     def refuse_others(self, keys: Iterable[str]) -> None:
         for key in self.table:
             if key not in keys:
-                self.mistake(key, f"no such key; there are {', '.join(keys)}")
+                self.mistake(key, f"this key is now {RENAMED[key]}" if RENAMED.get(key) in keys else f"no such key; there are {', '.join(keys)}")
 
     def value(self, key: str, kind: type, words: str, default: Any) -> Any:
         """Returns the value of the key, or the default where it is missing or of another kind."""
@@ -246,14 +249,14 @@ def refuse_twice(sections: list[Section], key: str) -> None:
 def games_of(root: Section, clocks: list[int]) -> list[Game]:
     found, sections = [], root.sections("games")
     for section in sections:
-        section.refuse_others(("name", "file", "described", "seconds", "start", "play", "told", "aborts"))
+        section.refuse_others(("name", "file", "described", "seconds", "start", "play", "player_rules", "aborts", "large"))
         name = section.name("name", NAME, 40, FIRST)
         start, play = (section.number(key, 1, MOST_SECONDS, clock) for key, clock in zip(("start", "play"), clocks))
         described = section.path_of_file("described") if "described" in section.table else ""
         seconds = section.number("seconds", 1, MOST_INSTANTIATING, INSTANTIATING)
-        told = section.word("told", TOLD, TOLD[0])
-        lines, aborts = (section.line("told"), section.first), section.flag("aborts")
-        found.append(Game(name, section.path_of_file("file"), described, seconds, start, play, told, *lines, aborts))
+        player_rules = section.word("player_rules", PLAYER_RULES, PLAYER_RULES[0])
+        lines, aborts = (section.line("player_rules"), section.first), section.flag("aborts")
+        found.append(Game(name, section.path_of_file("file"), described, seconds, start, play, player_rules, *lines, aborts, section.flag("large")))
     refuse_twice(sections, "name")
     return found
 

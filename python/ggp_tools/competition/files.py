@@ -9,6 +9,8 @@ import stat
 from typing import BinaryIO
 
 UNFINISHED = ".unfinished-"
+# The file of an open match's room that names the players who are sent ABORT where no referee plays the match any more.
+PLAYERS = "players"
 # In so many bytes at its end a log has when its match ended.
 END_OF_LOG = 4_096
 
@@ -42,6 +44,21 @@ def held(path):
         os.close(found)
 
 
+def lock_place(folder: str | pathlib.Path) -> str:
+    """Returns how /proc/locks names a folder: by its device and its number. The device is that of its mount, since some file systems tell
+    another one of their files."""
+    opened = os.open(folder, os.O_PATH | os.O_CLOEXEC)
+    try:
+        mount = pathlib.Path(f"/proc/self/fdinfo/{opened}").read_text("ascii").partition("mnt_id:")[2].split()[0]
+        found = os.fstat(opened)
+    finally:
+        os.close(opened)
+    mounts = (line.split() for line in pathlib.Path("/proc/self/mountinfo").read_bytes().decode("ascii", "replace").splitlines())
+    device = next((line[2] for line in mounts if line[0] == mount), f"{os.major(found.st_dev)}:{os.minor(found.st_dev)}")
+    major, minor = map(int, device.split(":"))
+    return f"{major:02x}:{minor:02x}:{found.st_ino}"
+
+
 def sync(folder):
     """Has the names in a folder on the disk."""
     found = os.open(folder, os.O_RDONLY)
@@ -59,11 +76,11 @@ def written_whole(path, is_lasting=True):
     # Two runs may write the same file, each under a name of its own.
     other = path.with_name(f"{UNFINISHED}{os.getpid()}-{path.name}")
     try:
-        with open(other, "wb") as it:
-            yield it
-            it.flush()
+        with open(other, "wb") as file:
+            yield file
+            file.flush()
             if is_lasting:
-                os.fsync(it.fileno())
+                os.fsync(file.fileno())
         os.replace(other, path)
     except BaseException as why:
         with contextlib.suppress(OSError):
@@ -78,8 +95,8 @@ def written_whole(path, is_lasting=True):
 
 def write_whole(path, data, is_lasting=True):
     """Writes a file whole or not at all."""
-    with written_whole(path, is_lasting) as it:
-        it.write(data)
+    with written_whole(path, is_lasting) as file:
+        file.write(data)
 
 
 def is_being_written(path):
@@ -122,13 +139,13 @@ class Folder:
     def rules_of(self, game):
         return self.rules / f"{game}.kif"
 
-    def told_of(self, game):
+    def player_rules_of(self, game):
         """The file of what players are told of the rules. All rules end in .kif, so those of no game have this name."""
-        return self.rules / f"{game}.told"
+        return self.rules / f"{game}.players"
 
     def rule_files(self, game):
         """The files that `plan` writes of a game of competition.toml: its rules, and what players are told in their place."""
-        return [self.rules_of(game.name), *([self.told_of(game.name)] if game.tells_variables() else [])]
+        return [self.rules_of(game.name), *([self.player_rules_of(game.name)] if game.tells_variables() else [])]
 
     def rule_sums(self):
         return self.rules / "SHA256SUMS"
@@ -142,7 +159,7 @@ class Folder:
         return self.path / game.file
 
     def description_sums(self):
-        """The file of the sums of the descriptions that `plan` made the rules from. All rules end in .kif or .told."""
+        """The file of the sums of the descriptions that `plan` made the rules from. All rules end in .kif or .players."""
         return self.rules / "DESCRIPTIONS.sha256"
 
     def record(self, match):

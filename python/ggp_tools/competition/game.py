@@ -7,7 +7,7 @@ import shutil
 import sys
 from collections import Counter
 
-from ggp_tools.descriptions.loading import MOST_BYTES, SECONDS, NoDescription, Stopped, has_variables, load_description, sentence_starts
+from ggp_tools.descriptions.loading import SECONDS, NoDescription, Stopped, has_variables, load_description, most_bytes, sentence_starts
 from ggp_tools.competition.files import Refused
 from ggp_tools.descriptions.random_matches import RandomMatches, counted
 from ggp_tools.referee import Unchecked
@@ -55,6 +55,7 @@ def add_game(commands):
     """Adds the command `game` to those of the command line, and returns it."""
     command = commands.add_parser("game", help=HELP, description=f"{HELP[0].upper()}{HELP[1:]}.", epilog=STATUS)
     command.add_argument("file", metavar="FILE", help="the description, with or without variables")
+    command.add_argument("--large", action="store_true", help="take it by the limits for large games, as `large = true` of a game does")
     command.add_argument("--matches", type=matches, default=20, metavar="N", help="play N random matches (20)")
     command.add_argument("--seed", type=seed, default=1, metavar="S", help="the seed of the first match; each further one has the next (1)")
     text = "the seconds in which a description with variables is instantiated (60)"
@@ -64,26 +65,26 @@ def add_game(commands):
     return command
 
 
-def read_description(path):
+def read_description(path, most):
     try:
         if path.exists() and not path.is_file():
             raise Refused(f"{path} is no plain file")
-        with open(path, "rb") as it:
-            return it.read(MOST_BYTES + 1)
+        with open(path, "rb") as file:
+            return file.read(most + 1)
     except OSError as why:
         raise Refused(f"{path} can't be read: {why.strerror}") from None
 
 
 def run_game(asked, referee):
     """Tells what there is to tell of a description, and returns the status."""
-    path, reporter = pathlib.Path(asked.file), Reporter()
-    text, why = read_description(path), None
+    path, reporter, referee = pathlib.Path(asked.file), Reporter(), referee.taking(asked.large)
+    text, why = read_description(path, most_bytes(asked.large)), None
     try:
         status = int(report_game(reporter, asked, referee, path, text))
-    except Unchecked as it:
-        status, why = 3, it
-    except OSError as it:
-        status, why = 3, f"{it.filename or 'a temporary file'}: {it.strerror}"
+    except Unchecked as unchecked:
+        status, why = 3, unchecked
+    except OSError as error:
+        status, why = 3, f"{error.filename or 'a temporary file'}: {error.strerror}"
     finally:
         reporter.clear()
     if why:
@@ -95,7 +96,7 @@ def run_game(asked, referee):
 
 def load(path, text, referee, limit):
     """Returns the rules of a description. Where it has to be instantiated, and that came to no verdict, this is no fault of its own."""
-    if len(text) <= MOST_BYTES and has_variables(text) and not shutil.which("gringo"):
+    if len(text) <= most_bytes(referee.is_large) and has_variables(text) and not shutil.which("gringo"):
         raise Unchecked(f"{path} can't be instantiated: the grounder gringo is not installed")
     try:
         return load_description(path, referee, False, limit)
@@ -118,12 +119,12 @@ def report_game(reporter, asked, referee, path, text):
     except NoDescription as why:
         for line in str(why).splitlines():
             reporter.line(f"{path} is not accepted: {line}")
-        report_suspicions(reporter, text, None, asked.seconds)
+        report_suspicions(reporter, asked, text, None)
         return True
     reporter.line(f"{path} is accepted: {said_of_rules(text, rules)}")
     for note in rules.notes:
         reporter.line(f"its ground rules: {note}")
-    report_suspicions(reporter, text, rules.text, asked.seconds)
+    report_suspicions(reporter, asked, text, rules.text)
     return bool(asked.matches) and report_matches(reporter, asked, referee, rules)
 
 
@@ -133,9 +134,9 @@ def said_of_rules(text, rules):
     return f"{counted(count, 'sentence')}{became}; roles {' '.join(rules.roles)}"
 
 
-def report_suspicions(reporter, text, ground, seconds):
+def report_suspicions(reporter, asked, text, ground):
     reporter.draw("what is suspicious")
-    found = suspicions(text, ground, seconds) if len(text) <= MOST_BYTES else Suspicions([], NOT_ALL)
+    found = suspicions(text, ground, asked.seconds) if len(text) <= most_bytes(asked.large) else Suspicions([], NOT_ALL)
     for line in found.lines:
         reporter.line(f"suspicious: {line}")
     if found.cut:

@@ -52,6 +52,13 @@ def shape(competition: Competition) -> tuple[object, ...]:
     return competition.name, form.kind, form.rounds, form.one, [line.text.split() for line in form.lines], games, names
 
 
+def refuse_unchanged(history: History, competition: Competition) -> None:
+    """Refuses a file of the history after which nothing else was asked for, so that no other file has replaced it."""
+    for (until, before), (_, after) in itertools.pairwise((*history.earlier, (None, competition))):
+        if shape(before) == shape(after):
+            raise Misfit(f"earlier/{until}.toml asks for the same matches as the file after it, so it was not replaced; take it away")
+
+
 def refuse_changes(before: Competition, after: Competition) -> None:
     """Refuses what can't change any more once matches were played, by its name."""
     said = [("name", before.name, after.name), ("form.kind", before.form.kind, after.form.kind), ("strikes", before.strikes, after.strikes)]

@@ -4,7 +4,7 @@ matches that were planned when the next one replaced it, and `again.tsv` the mat
 import re
 from pathlib import Path
 
-from ggp_tools.competition.competition_file import Competition, Mistaken, read_competition, told
+from ggp_tools.competition.competition_file import Competition, Mistaken, read_competition, mistake_lines
 from ggp_tools.competition.files import UNFINISHED, Folder, Refused
 from ggp_tools.competition.growth import Again, History
 
@@ -36,7 +36,7 @@ def competition_of_file(path: Path, text: bytes) -> Competition:
     try:
         return read_competition(text)
     except Mistaken as why:
-        raise Refused(told(path, why.mistakes)) from None
+        raise Refused(mistake_lines(path, why.mistakes)) from None
 
 
 def earlier_files(folder: Folder) -> list[Path]:

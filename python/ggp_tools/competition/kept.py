@@ -119,7 +119,7 @@ def match_bytes(match: Match) -> bytes:
 
 def judged(plan, referee: Referee, game: str, records: Sequence[bytes], accounts: Sequence[bytes]) -> list[str | None]:
     """Returns for each record and its account why they are wrong, none where they are right."""
-    rules = plan.folder.rules_of(game)
+    rules, referee = plan.folder.rules_of(game), plan.judge(referee, game)
     verdicts = referee.verdicts(rules, records)
     lawful = [at for at, verdict in enumerate(verdicts) if verdict == "lawful"]
     replays = dict(zip(lawful, referee.replays(rules, [accounts[at] for at in lawful], [records[at] for at in lawful])))

@@ -10,78 +10,28 @@ import time
 from collections import Counter, deque
 from collections.abc import Iterator
 from dataclasses import dataclass, field
-from typing import BinaryIO
 
-from ggp_tools.competition.files import opened_file
+from ggp_tools.competition.files import PLAYERS, lock_place
 from ggp_tools.competition.log_lines import LogLine, log_line
+from ggp_tools.competition.logged_moves import error_of, moves_of, was_replaced
 from ggp_tools.competition.plan import Plan
+from ggp_tools.competition.replaced import MOST_OF_MATCH, Replaced, moments_of_turns, newest
 from ggp_tools.competition.results import Result, fault_of_record, result_of
 from ggp_tools.competition.retiring import Retiring
 from ggp_tools.competition.schedule import Match
-from ggp_tools.competition.timed_lines import MOST_OF_LINE, TIMED
+from ggp_tools.competition.tail import Tail
+from ggp_tools.kif import Expression, spelled
 from ggp_tools.records.show import LONGEST_RECORD, NoRecord, read_record
 
-# At a time so much of a log is read, so that one of many matches holds up no other.
-MOST_READ = 1 << 20
 # All records are looked for at once for at most so small a part of the time; a match that was open is looked for by itself.
 SHARE = 10
-# So many of the last replaced moves are listed, and of one match so many.
-MOST_REPLACED, MOST_OF_MATCH = 20, 3
-
-
-class Tail:
-    """A file that grows. It is read on from where it was; where it was replaced or cut, from its beginning."""
-
-    def __init__(self, path: str) -> None:
-        self.path, self.place, self.rest, self.number, self.changed, self.began = path, 0, b"", None, 0.0, b""
-
-    def lines(self) -> tuple[list[str], bool]:
-        """Returns the lines that were added, and whether they are those of another file than before. A file that can't be read has none."""
-        try:
-            with opened_file(self.path) as file:
-                return self.lines_of(file)
-        except OSError:
-            return [], False
-
-    def has_changed(self) -> bool:
-        """Returns whether the file is another one, or longer or shorter, than when it was read."""
-        try:
-            found = os.stat(self.path)
-        except OSError:
-            return False
-        self.changed = self.changed or found.st_mtime
-        return found.st_ino != self.number or found.st_size != self.place
-
-    def lines_of(self, file: BinaryIO) -> tuple[list[str], bool]:
-        found = os.fstat(file.fileno())
-        # By the time of its first line a file is known that was cut, and has grown past where it was read.
-        timed = TIMED.match(file.readline(MOST_OF_LINE))
-        began = timed[0] if timed else b""
-        is_same = found.st_ino == self.number and found.st_size >= self.place and began.startswith(self.began)
-        is_other = self.number is not None and not is_same
-        if is_other:
-            self.place, self.rest = 0, b""
-        self.number, self.changed, self.began = found.st_ino, found.st_mtime, began
-        file.seek(self.place)
-        data = file.read(MOST_READ)
-        self.place += len(data)
-        *whole, self.rest = (self.rest + data).split(b"\n")
-        # What has no end is no line of the referee.
-        self.rest = self.rest[-MOST_READ:]
-        return [line.decode("ascii", "replace") for line in whole], is_other
-
-
-@dataclass(frozen=True)
-class Replaced:
-    """A move that was replaced, or an answer that did not come: of an open match it is not known yet what was played in its place. The
-    later one has the greater number."""
-
-    match: Match
-    player: str
-    turn: int
-    error: str
-    move: str
-    number: int = 0
+# Files that are written anew in their places are looked for at most once in so many seconds.
+LOOK_AGAIN = 2.0
+# A match whose room names its players alone: they are sent ABORT for a run that was ended.
+WAITING = "waiting"
+FAULT = "these pages have a fault, so what they show of it may be wrong: {!r}"
+# The last moment that a page can show.
+LAST_MOMENT = 253_402_300_799.0
 
 
 @dataclass
@@ -115,6 +65,10 @@ class Seen:
         self.number = 0.0
         self.retiring = Retiring(self.roles, self.strikes)
         self.last: dict[int, LogLine] = {}
+        # When the answers of the turn that was asked for last were there.
+        self.moments: dict[int, float] = {}
+        # The first line that was passed over, since it is damaged.
+        self.damaged = ""
         self.missed: dict[int, int] = {}
         self.replaced: deque[Replaced] = deque(maxlen=MOST_OF_MATCH)
         self.replaced_count = 0
@@ -132,7 +86,8 @@ class Seen:
         if not self.retiring.turn and not self.have_all_answered():
             return [role for role in everyone if role not in self.started], self.unsure - self.started
         found, unsure = self.retiring.left()
-        return found or everyone, unsure
+        others = self.retiring.perhaps_next()
+        return sorted({*found, *others}) or everyone, unsure | others
 
     def is_ending(self) -> bool:
         """Returns whether STOP or ABORT are what is answered: to the first of them, or since all roles are retired."""
@@ -148,17 +103,24 @@ class Seen:
         number = math.inf if line.kind in ("STOP", "ABORT") else line.number
         is_first, self.number = number > self.number, max(number, self.number)
         self.last[line.role] = line
-        if line.is_no_answer():
+        if line.is_no_answer() and not line.is_shortage():
             self.missed[line.role] = self.missed.get(line.role, 0) + 1
         if line.kind == "PLAY":
-            self.take_play(line)
+            self.take_play(line, moment)
         elif number == math.inf:
+            # ABORT tells of no turn that it was played.
+            if line.kind == "STOP" and not self.ended:
+                self.note_turn(line)
             self.ended.add(line.role)
         # Where others have yet to answer they were asked when this one was; else all are asked now.
         if self.have_all_answered():
-            self.since = moment
+            self.set_since(moment)
         elif is_first:
-            self.since = moment - line.milliseconds / 1_000
+            self.set_since(moment - line.milliseconds / 1_000)
+
+    def set_since(self, moment: float) -> None:
+        """Notes since when the match is as it is. A file may have any time."""
+        self.since = min(max(moment, 0.0), LAST_MOMENT)
 
     def have_all_answered(self) -> bool:
         """Returns whether each role that was asked has answered."""
@@ -173,12 +135,34 @@ class Seen:
             self.forget()
         self.started.add(role)
 
-    def take_play(self, line: LogLine) -> None:
+    def take_play(self, line: LogLine, moment: float) -> None:
+        if line.turn() > self.retiring.turn:
+            self.note_turn(line)
+            self.moments = {}
         self.retiring.take(line)
-        if line.is_no_answer():
-            player = self.match.players[line.role]
-            self.replaced.append(Replaced(self.match, player, line.turn(), line.answer, "", next(self.numbers)))
-            self.replaced_count += 1
+        self.moments[line.role] = moment
+        if is_known_at_once(line):
+            self.note(line.role, line.turn(), error_of(line), None)
+
+    def note_turn(self, line: LogLine) -> None:
+        """Notes what was replaced in the turn that was asked for last: a line of the next message tells the moves that were played."""
+        turn = self.retiring.turn
+        moves = moves_of(line.message, self.roles) if line.turn() <= turn + 1 else None
+        for role in range(self.roles if turn else 0):
+            answer, played = self.retiring.answers.get(role), moves[role] if moves else None
+            if answer is None:
+                # Of who may be retired, and was not asked, a line is not missing.
+                is_retired = self.retiring.is_enough(self.retiring.rows[role][1])
+                self.note(role, turn, "RT", played) if is_retired else None
+            elif not is_known_at_once(answer) and was_replaced(answer, played):
+                # After a shortage of the referee there would be no next message: it was the player's own word.
+                self.note(role, turn, f"IL {answer.answer}", played)
+
+    def note(self, role: int, turn: int, error: str, played: Expression | None) -> None:
+        moment = self.moments.get(role, max(self.moments.values(), default=0.0))
+        move = "" if played is None else spelled(played)
+        self.replaced.append(Replaced(self.match, self.match.players[role], turn, error, move, moment, next(self.numbers)))
+        self.replaced_count += 1
 
     def look_at_stage(self) -> None:
         """Looks how far the match is, where files have come into its room."""
@@ -187,7 +171,8 @@ class Seen:
             return
         self.room_changed, stage = changed, stage_of(self.room)
         if stage != self.stage:
-            self.stage, self.version, self.since = stage, self.version + 1, changed / 1e9
+            self.stage, self.version = stage, self.version + 1
+            self.set_since(changed / 1e9)
 
     def look(self) -> None:
         """Reads what has come."""
@@ -196,27 +181,42 @@ class Seen:
         if is_other:
             self.forget()
         if not self.last and self.tail.changed and self.stage == "playing":
-            self.since = self.tail.changed
+            self.set_since(self.tail.changed)
         found = [line for line in map(log_line, texts) if line]
         for line in found:
-            self.take(line, line.moment() or self.tail.changed)
+            if line.is_damaged():
+                self.damaged = self.damaged or f"of its log a line is passed over, which has no time that can be: {line.time}"
+            else:
+                self.take(line, line.moment() or self.tail.changed)
         self.version += bool(found) or is_other
 
 
+def is_known_at_once(line: LogLine) -> bool:
+    """Returns whether an answer tells that the move was replaced, whatever was played."""
+    return not line.is_shortage() and was_replaced(line, None) is True
+
+
 def stage_of(room: str) -> str:
-    """Returns what happens to a match, by the files that its processes write."""
+    """Returns what happens to a match, by the files that its processes write. It waits where only the players of a run before are named."""
     if os.path.exists(f"{room}/verified"):
         return "checking"
-    return "playing" if os.path.exists(f"{room}/played") else "asking"
+    if os.path.exists(f"{room}/played"):
+        return "playing"
+    return WAITING if os.path.exists(f"{room}/{PLAYERS}") and not os.path.exists(f"{room}/info-0") else "asking"
+
+
+def identity(found: os.stat_result) -> tuple[int, int, int]:
+    """Returns what is another where a file was replaced or written anew."""
+    return found.st_ino, found.st_size, found.st_mtime_ns
 
 
 def is_held(folder: pathlib.Path) -> bool:
     """Returns whether a run holds the folder, without trying to hold it."""
     try:
-        number, locks = os.stat(folder).st_ino, pathlib.Path("/proc/locks").read_text("ascii")
+        place, locks = lock_place(folder), pathlib.Path("/proc/locks").read_text("ascii")
     except (OSError, UnicodeDecodeError):
         return False
-    return any(f":{number} " in line and "FLOCK" in line and " WRITE " in line for line in locks.splitlines())
+    return any(f" {place} " in line and "FLOCK" in line and " WRITE " in line for line in locks.splitlines())
 
 
 class Reader:
@@ -228,12 +228,16 @@ class Reader:
         self.open: dict[str, Seen] = {}
         self.results: dict[str, Result] = {}
         self.faults: dict[str, str] = {}
+        # What each record was when it was read.
+        self.identities: dict[str, tuple[int, int, int]] = {}
+        # What went wrong with an open match.
+        self.troubles: dict[str, str] = {}
         # The last replaced moves of matches that are over, and of these matches how many there were.
-        self.replaced: deque[Replaced] = deque(maxlen=MOST_REPLACED)
+        self.replaced: list[Replaced] = []
         self.replaced_counts: dict[str, int] = {}
         self.numbers = itertools.count()
         self.version, self.results_version, self.is_held = 0, 0, False
-        self.next, self.records_time = 0.0, None
+        self.next, self.next_again, self.records_time = 0.0, 0.0, None
 
     def look(self) -> None:
         """Reads what has come since the last look."""
@@ -253,83 +257,133 @@ class Reader:
         except OSError:
             names = set()
         gone = [name for name in self.open if name not in names or name in self.results]
+        for name in sorted(names - self.open.keys() - self.results.keys(), key=self.place.__getitem__):
+            if stage_of(f"{folder}/{name}") != WAITING:
+                self.faults.pop(name, None)
+                tail = Tail(f"{folder}/{name}/played.said")
+                self.open[name] = Seen(self.known[name], f"{folder}/{name}", tail, len(self.known[name].players), strikes, self.numbers)
+        changed = sum(self.look_at_room(name, seen) for name, seen in self.open.items() if name not in gone)
+        gone += [name for name, seen in self.open.items() if seen.stage == WAITING and name not in gone]
         for name in gone:
             del self.open[name]
-        for name in sorted(names - self.open.keys() - self.results.keys(), key=self.place.__getitem__):
-            match = self.known[name]
-            self.faults.pop(name, None)
-            tail = Tail(f"{folder}/{name}/played.said")
-            self.open[name] = Seen(match, f"{folder}/{name}", tail, len(match.players), strikes, self.numbers)
-        changed = len(gone)
-        for name, seen in self.open.items():
-            before = seen.version
-            with contextlib.suppress(OSError):
-                seen.look()
-            changed += seen.version - before
-        self.version += changed
+            self.troubles.pop(name, None)
+        self.version += changed + len(gone)
         return gone
 
+    def look_at_room(self, name: str, seen: Seen) -> int:
+        """Reads what has come of an open match. Returns how much has changed; a fault of these pages is told, and stops no other match."""
+        before, trouble = seen.version, ""
+        try:
+            seen.look()
+        except OSError:
+            pass
+        except Exception as why:
+            trouble = FAULT.format(why)
+        trouble = trouble or seen.damaged
+        is_other = trouble != self.troubles.get(name, "")
+        self.troubles[name] = trouble
+        return seen.version - before + is_other
+
+    def troubles_of_matches(self) -> list[str]:
+        """Returns what went wrong with open matches."""
+        return [f"{name}: {trouble}" for name, trouble in self.troubles.items() if trouble]
+
     def look_at_records(self) -> None:
-        """Looks for records of matches that were not seen open, where the folder of the records has changed."""
+        """Looks for records that have come, have gone or are other ones: where the folder of the records has changed, and now and then."""
         began = time.monotonic()
         try:
             changed = os.stat(self.plan.folder.records).st_mtime_ns
         except OSError:
             changed = None
-        if changed == self.records_time or began < self.next:
+        if began < self.next or changed == self.records_time and began < self.next_again:
             return
         # A record that comes while the folder is read changes it again.
         self.records_time = changed
-        names = set(os.listdir(self.plan.folder.records)) if changed is not None else set()
-        there = {name.removesuffix(".json") for name in names if name.endswith(".json")}
+        there = self.records_there() if changed is not None else {}
         for name in [name for name in self.results if name not in there]:
-            del self.results[name]
-            self.results_version += 1
+            self.forget(name)
         self.faults = {name: why for name, why in self.faults.items() if name in there}
-        for name in self.known:
-            if name in there and name not in self.results and name not in self.faults:
+        for name, found in there.items():
+            if self.identities.get(name) != found:
                 self.look_at_record(name)
         ended = time.monotonic()
         self.next = ended + SHARE * (ended - began)
+        self.next_again = max(self.next, ended + LOOK_AGAIN)
+
+    def records_there(self) -> dict[str, tuple[int, int, int]]:
+        """Returns the records of matches of the schedule, in its order."""
+        found = {}
+        with os.scandir(self.plan.folder.records) as entries:
+            for entry in entries:
+                name = entry.name.removesuffix(".json")
+                if name in self.known and name != entry.name:
+                    with contextlib.suppress(OSError):
+                        found[name] = identity(entry.stat())
+        return {name: found[name] for name in sorted(found, key=self.place.__getitem__)}
+
+    def forget(self, name: str) -> None:
+        """Has a match have no result any more."""
+        self.identities.pop(name, None)
+        if self.results.pop(name, None):
+            self.results_version += 1
 
     def look_at_record(self, name: str) -> None:
-        """Reads the record of a match, if it is there."""
+        """Reads the record of a match, if it is there. A fault of these pages is told, and stops no other match."""
+        try:
+            self.take_record(name)
+        except Exception as why:
+            self.refuse(name, NoRecord(FAULT.format(why)))
+
+    def take_record(self, name: str) -> None:
         match = self.known[name]
         try:
+            found = self.plan.folder.record(name).stat()
             # Of a longer file so much is enough to refuse it.
             record = read_record(self.plan.folder.read_record(name, LONGEST_RECORD + 2))
         except FileNotFoundError:
             return
         except (OSError, NoRecord) as why:
             self.refuse(name, why)
+            self.identities[name] = identity(found)
             return
+        self.forget(name)
+        # One that was replaced since then is another one at the next look.
+        self.identities[name] = identity(found)
         if fault := fault_of_record(record, match, self.plan.competition.strikes):
             self.faults[name] = fault
             return
+        self.faults.pop(name, None)
         self.results[name] = result_of(record, match, self.plan.competition.forfeit)
         self.results_version += 1
-        self.note_replaced(match, record)
+        self.note_replaced(match, record, found.st_mtime)
 
     def refuse(self, name: str, why: OSError | NoRecord) -> None:
         """Has a record not count, since it can't be read."""
         # The path of the folder is nothing for visitors.
         self.faults[name] = f"it can't be read: {why.strerror}" if isinstance(why, OSError) else str(why)
-        self.results.pop(name, None)
+        self.forget(name)
 
-    def note_replaced(self, match: Match, record: dict) -> None:
+    def note_replaced(self, match: Match, record: dict, written: float) -> None:
         """Keeps the last replaced moves of a match that is over."""
-        self.replaced = deque((one for one in self.replaced if one.match.id != match.id), maxlen=MOST_REPLACED)
         found = [(turn, role, error) for turn, errors in enumerate(record["errors"], 1) for role, error in enumerate(errors) if error]
         self.replaced_counts[match.id] = len(found)
-        for turn, role, error in found[-MOST_OF_MATCH:]:
-            move = record["moves"][turn - 1][role]
-            self.replaced.append(Replaced(match, match.players[role], turn, error, move, next(self.numbers)))
+        kept = [one for one in self.replaced if one.match.id != match.id]
+        if last := found[-MOST_OF_MATCH:]:
+            try:
+                log = self.plan.folder.read_log(match.id)
+            except OSError:
+                log = b""
+            moments = moments_of_turns(log, {turn for turn, _, _ in last}, written)
+            for turn, role, error in last:
+                move = record["moves"][turn - 1][role]
+                kept.append(Replaced(match, match.players[role], turn, error, move, moments[turn], next(self.numbers)))
+        self.replaced = newest(kept)
 
     def last_replaced(self) -> list[tuple[Replaced, int]]:
         """Returns the last replaced moves, the newest first, each with the number of those before it in its match that are not among them."""
         over = (one for one in self.replaced if one.match.id in self.results)
         found = [*over, *(one for seen in self.open.values() for one in seen.replaced)]
-        found = sorted(found, key=lambda one: one.number)[-MOST_REPLACED:]
+        found = newest(found)
         counts = self.replaced_counts | {name: seen.replaced_count for name, seen in self.open.items()}
         left = {name: counts[name] - count for name, count in Counter(one.match.id for one in found).items()}
         return [(one, left.pop(one.match.id, 0)) for one in found][::-1]

@@ -3,10 +3,13 @@
 import datetime
 import html
 
-from ggp_tools.competition.live import MOST_OF_MATCH, MOST_REPLACED, Reader, Replaced, Seen
+from ggp_tools.competition.competition_file import Competition
+from ggp_tools.competition.live import Reader, Seen
 from ggp_tools.competition.live_board import LiveBoard, Turn
 from ggp_tools.competition.page_parts import Items, PageParts, Part, link, row, rows_part, table
 from ggp_tools.competition.player_pages import player_link, reason_of
+from ggp_tools.competition.replaced import MOST_OF_MATCH, MOST_REPLACED, Replaced
+from ggp_tools.competition.round_pages import round_text
 from ggp_tools.competition.schedule import Match
 from ggp_tools.records.show import board_page, board_places, boards_of, ground_of, shown, words_of
 
@@ -15,12 +18,13 @@ BOARDS, QUEUE = 12, 20
 # Of what no board shows so many terms are listed.
 MOST_TERMS = 60
 LIVE_STYLE = """
-.boards { display: flex; flex-wrap: wrap; gap: 1rem 2rem; align-items: flex-start; } .boards > div { max-width: 100%; --cell: 1.7rem; }
-.boards .board i { font-size: .6rem; } .boards .board i.glyph { font-size: 1rem; } .board { margin: .2rem 1rem .2rem 0; }
+.boards { display: flex; flex-wrap: wrap; gap: 1rem 1.5rem; align-items: flex-start; } .boards > div { width: min-content; min-width: 14rem; max-width: 100%; overflow-wrap: anywhere; --cell: 1.7rem; }
+.boards .board i { font-size: .6rem; } .boards .board i.glyph { font-size: 1rem; } .board { margin: .2rem 0; }
 .terms { font: .8rem ui-monospace, "DejaVu Sans Mono", monospace; color: var(--dim); max-width: 30rem; overflow-wrap: anywhere; }
 #lost { position: sticky; top: 0; background: var(--band); padding: .3rem .6rem; }
 """
 STAGES = {"asking": "its players are asked whether they are free", "checking": "its record is being checked"}
+ALL_ANSWERED = "all have answered"
 OPEN_HEADS = ["match", "game", "players", "turn", "awaited", "for", "no answer"]
 OPEN_LEFT = {0, 1, 2, 4, 6}
 
@@ -36,15 +40,28 @@ def awaited_text(seen: Seen, up: str) -> str:
     if seen.stage in STAGES:
         return STAGES[seen.stage]
     found, unsure = seen.awaited()
-    doubt = " (if it is not retired)" if seen.turn() else " (if it has not answered)"
-    players = ", ".join(f"{player_link(seen.match.players[role], up)}{doubt if role in unsure else ''}" for role in found)
+    doubts = {role: " (if it is not retired)" if seen.turn() else " (if it has not answered)" for role in unsure}
+    doubts |= {role: " (for the next turn, if the others are retired)" for role in unsure if seen.retiring.missing() and role in seen.retiring.answers}
+    players = ", ".join(f"{player_link(seen.match.players[role], up)}{doubts.get(role, '')}" for role in found)
     if seen.is_ending():
-        return f"{players}: the end" if found else "all have answered"
+        return f"{players}: the end" if found else ALL_ANSWERED
     return f"{players}: {f'turn {seen.turn()}' if seen.turn() else 'START'}"
+
+
+def status_text(seen: Seen, up: str) -> str:
+    """Returns how far an open match is, and since when."""
+    text = awaited_text(seen, up)
+    is_of_players = seen.stage not in STAGES and text != ALL_ANSWERED
+    return f"{'awaited: ' * is_of_players}{text} ({since_text(seen.since)})"
 
 
 def missed_text(seen: Seen) -> str:
     return ", ".join(f"{html.escape(seen.match.players[role])} {count}" for role, count in sorted(seen.missed.items()))
+
+
+def seats_text(match: Match, roles: tuple[str, ...], up: str) -> str:
+    """Returns who plays, each with its role."""
+    return ", ".join(f"{player_link(player, up)} ({shown(role)})" for player, role in zip(match.players, roles))
 
 
 def open_row(seen: Seen) -> tuple[str, str]:
@@ -72,26 +89,31 @@ def board_html(board: LiveBoard) -> str:
     terms = [term for term in states[-1] if not (words_of(term) and (words_of(term)[0], len(words_of(term))) in on_boards)]
     more = f" and {len(terms) - MOST_TERMS:,} more" if len(terms) > MOST_TERMS else ""
     said = f'<p class="terms">{shown("  ".join(terms[:MOST_TERMS]))}{more}</p>' if terms else ""
-    trouble = f'<p class="odd">{html.escape(board.trouble)}</p>' if board.trouble else ""
-    return "".join(drawn) + said + trouble
+    notes = "".join(f'<p class="odd">{html.escape(text)}</p>' for text in (board.doubt(), board.trouble) if text)
+    return "".join(drawn) + said + notes
 
 
-def board_item(seen: Seen, state: str, turn: int) -> tuple[str, str]:
+def board_item(seen: Seen, state: str, turn: int, roles: tuple[str, ...]) -> tuple[str, str]:
     """Returns the board of an open match on the first page."""
     match, name = seen.match, f"board-{seen.match.id}"
     head = f"<h3>{link(f'matches/{match.id}.html', match.id)} {link(f'games/{match.game}.html', match.game)}</h3>"
-    players = ", ".join(player_link(player, "") for player in match.players)
-    said = f'<div class="dim">{players}; after turn {turn}</div>' if turn else f'<div class="dim">{players}; before turn 1</div>'
-    return name, f'<div id="{name}">{head}{said}{state}</div>'
+    players = f"<div>{seats_text(match, roles, '')}</div>"
+    now = f'<div class="dim">{f"after turn {turn}" if turn else "before turn 1"}; {status_text(seen, "")}</div>'
+    return name, f'<div id="{name}">{head}{players}{now}{state}</div>'
 
 
-def now_part(reader: Reader, waiting: int, trouble: str) -> Part:
+def trouble_part(trouble: str) -> Part:
+    """Returns what each page says at its head where the plan can't be read as it is now."""
+    return Part("trouble", f'<p class="odd">{html.escape(trouble)}</p>' if trouble else "")
+
+
+def now_part(reader: Reader, waiting: int) -> Part:
     """Returns how many matches are open, and whether they are played at all."""
     run = "" if reader.is_held else " No run is at work in the folder, so what is open goes on with the next <code>play</code>."
     count = len(reader.open)
     said = f"<p>{count} {'match is' if count == 1 else 'matches are'} open, {waiting} {'waits' if waiting == 1 else 'wait'}.{run}</p>"
     faults = [f"{name} does not count: {why}" for name, why in list(reader.faults.items())[:QUEUE]]
-    lines = [f'<p class="odd">{html.escape(line)}</p>' for line in [*faults, *[trouble] * bool(trouble)]]
+    lines = [f'<p class="odd">{html.escape(line)}</p>' for line in [*faults, *reader.troubles_of_matches()[:QUEUE]]]
     return Part("now", f"<h2>Now</h2>{said}{''.join(lines)}")
 
 
@@ -99,14 +121,14 @@ def replaced_part(replaced: list[tuple[Replaced, int]]) -> Part:
     """Returns the last moves that were replaced, the newest first, each with the number of those before it in its match that are not
     listed."""
     if not replaced:
-        return Part("replaced", "<h2>Replaced moves</h2><p>No move was replaced.</p>")
+        return Part("replaced", "<h2>Replaced moves</h2><p>No move is known to be replaced.</p>")
     rows = [["match", "player", "turn", "why", "what came", "played in its place"]]
-    for its, before in replaced:
-        what = its.error.partition(" ")[2]
-        links = link(f"matches/{its.match.id}.html", its.match.id), player_link(its.player, "")
-        turn = f'{its.turn}<br><span class="dim">{before:,} more before</span>' if before else str(its.turn)
-        texts = f"<code>{shown(what)}</code>" if what else "", f"<code>{shown(its.move)}</code>" if its.move else ""
-        rows.append([*links, turn, f'<span class="odd">{html.escape(reason_of(its.error))}</span>', *texts])
+    for entry, before in replaced:
+        what = entry.error.partition(" ")[2]
+        links = link(f"matches/{entry.match.id}.html", entry.match.id), player_link(entry.player, "")
+        turn = f'{entry.turn}<br><span class="dim">{before:,} more before</span>' if before else str(entry.turn)
+        texts = f"<code>{shown(what)}</code>" if what else "", f"<code>{shown(entry.move)}</code>" if entry.move else ""
+        rows.append([*links, turn, f'<span class="odd">{html.escape(reason_of(entry.error))}</span>', *texts])
     said = f'<p class="dim">The last {MOST_REPLACED}, and of a match the last {MOST_OF_MATCH}.</p>'
     return Part("replaced", f"<h2>Replaced moves</h2>{said}{table(rows, {0, 1, 3, 4, 5}, {4, 5})}")
 
@@ -121,11 +143,11 @@ def queue_part(waiting: list[Match]) -> Part:
     return Part("queue", f"<h2>Waiting matches</h2><p>Each begins once its players are free.</p>{table(rows, {0, 1, 2})}{more}")
 
 
-def live_parts(reader: Reader, boards: list[tuple[str, str]], rows: list[tuple[str, str]], trouble: str) -> PageParts:
+def live_parts(reader: Reader, boards: list[tuple[str, str]], rows: list[tuple[str, str]]) -> PageParts:
     """Returns what the first page says of the matches that are not over."""
     waiting = reader.waiting()
     return [
-        now_part(reader, len(waiting), trouble),
+        now_part(reader, len(waiting)),
         Items("boards", '<div class="boards" id="boards">', tuple(boards), "</div>"),
         rows_part("open", "<h2>Open matches</h2>", OPEN_HEADS, OPEN_LEFT, rows, "No match is open."),
         replaced_part(reader.last_replaced()),
@@ -136,18 +158,18 @@ def live_parts(reader: Reader, boards: list[tuple[str, str]], rows: list[tuple[s
 # ---- the page of a match that is open
 
 
-def match_head(match: Match, competition: str) -> Part:
-    way = f"<p>{link('../index.html', competition)} / {link(f'../games/{match.game}.html', match.game)}</p>"
-    players = ", ".join(player_link(player, "../") for player in match.players)
+def match_head(match: Match, competition: Competition, roles: tuple[str, ...]) -> Part:
+    way = f"<p>{link('../index.html', competition.name)} / {link(f'../games/{match.game}.html', match.game)}</p>"
     clocks = f'<p class="dim">Clocks: {match.start} s for START, {match.play} s for every other message.</p>'
-    return Part("head", f"{way}<h1>Match {html.escape(match.id)}: {players}</h1>{clocks}")
+    return Part("head", f"{way}<h1>Match {html.escape(match.id)}: {seats_text(match, roles, '../')}</h1>{round_text(competition, match)}{clocks}")
 
 
 def turn_row(turn: Turn) -> tuple[str, str]:
     """Returns the row of a turn: the moves, and why one was replaced."""
-    texts = [
-        f"<code>{shown(move)}</code>" + (f' <span class="odd">{shown(error)}</span>' if error else "") for move, error in zip(turn.moves, turn.errors)
-    ]
+    texts = []
+    for move, error, is_open in zip(turn.moves, turn.errors, turn.doubts):
+        doubt = ' <span class="dim">(its own, or in the place of its answer)</span>' if is_open else ""
+        texts.append(f"<code>{shown(move)}</code>{doubt}" + (f' <span class="odd">{shown(error)}</span>' if error else ""))
     return row(f"turn-{turn.number}", [str(turn.number), *texts], set(range(1, 1 + len(texts))))
 
 
@@ -162,7 +184,7 @@ def answers_part(seen: Seen) -> Part:
 
 def open_match_parts(seen: Seen, state: str, turn: int, turns: tuple[Turn, ...], head: Part, roles: tuple[str, ...]) -> PageParts:
     """Returns the page of a match that is open, of which the state after a turn is shown."""
-    now = Part("now", f"<p>It is open. Awaited: {awaited_text(seen, '../')} ({since_text(seen.since)}).</p>")
+    now = Part("now", f"<p>It is open; {status_text(seen, '../')}.</p>")
     title = f"State {turn}, after turn {turn}" if turn else "State 0, before turn 1"
     heads, left = ["turn", *(html.escape(role) for role in roles)], set(range(1, 1 + len(roles)))
     return [
@@ -174,7 +196,7 @@ def open_match_parts(seen: Seen, state: str, turn: int, turns: tuple[Turn, ...],
     ]
 
 
-def waiting_match_parts(match: Match, why: str, competition: str) -> PageParts:
+def waiting_match_parts(why: str, head: Part) -> PageParts:
     """Returns the page of a match that is neither open nor over."""
     said = f"Its record does not count: {why}" if why else "It has not begun."
-    return [match_head(match, competition), Part("now", f"<p>{html.escape(said)}</p>")]
+    return [head, Part("now", f"<p>{html.escape(said)}</p>")]

@@ -1,6 +1,8 @@
 """The live pages of a competition, as they are at this moment: each is made when somebody looks at it, and again where its data changed."""
 
+import contextlib
 import re
+import sys
 import threading
 import time
 from collections import OrderedDict, deque
@@ -9,7 +11,7 @@ from dataclasses import dataclass, field
 
 from ggp_tools.competition import live_pages
 from ggp_tools.competition.files import Folder, Refused
-from ggp_tools.competition.live import Reader, Seen, Tail
+from ggp_tools.competition.live import Reader, Seen
 from ggp_tools.competition.live_board import LiveBoard, Turn
 from ggp_tools.competition.page_changes import changes, event_text
 from ggp_tools.competition.page_parts import PageParts
@@ -19,6 +21,7 @@ from ggp_tools.competition.player_pages import page_name, standing_of, standing_
 from ggp_tools.competition.results import Result
 from ggp_tools.competition.table import Table, tables_of
 from ggp_tools.competition.table_text import in_order
+from ggp_tools.competition.tail import Tail
 from ggp_tools.ground_games import Game
 from ggp_tools.kif import expressions
 from ggp_tools.records.show import NoRecord
@@ -29,6 +32,8 @@ SHARE, FOLLOW = 10, 0.25
 # A page that nobody looks at any more is kept for a while, and of all pages so many at most; of a page so many changes.
 IDLE, MOST_PAGES, MOST_EVENTS = 30.0, 200, 60
 NAME = "[A-Za-z0-9_.-]+"
+# What stands before the name of a file that is named by its whole path.
+WHOLE_PATH = re.compile(r"(?<![\w./-])/(?:[^\s/]+/)*(?=[^\s/])")
 PATH = re.compile(rf"/(?:(index|matches(?:-[1-9][0-9]{{0,5}})?)|(matches|games)/({NAME})|players/player-({NAME}))\.html")
 
 
@@ -37,11 +42,22 @@ def plan_stamp(folder: Folder) -> tuple:
     found = []
     for file in (folder.competition, folder.schedule, folder.rule_sums()):
         try:
-            it = file.stat()
-            found.append((it.st_ino, it.st_mtime_ns, it.st_size))
+            status = file.stat()
+            found.append((status.st_ino, status.st_mtime_ns, status.st_size))
         except OSError:
             found.append(None)
     return tuple(found)
+
+
+def reason_for_visitors(folder: Folder, why: Exception) -> str:
+    """Returns why a plan can't be read, without a path of this computer: of a file only its name in the folder."""
+    if isinstance(why, OSError):
+        words = f"{why.filename or 'a file'}: {why.strerror}"
+    else:
+        words = str(why.words) if isinstance(why, Refused) else "the program can't be asked for its rules"
+    for place in (folder.path, folder.path.absolute()):
+        words = re.sub(rf"(?<![\w./-]){re.escape(str(place))}/", "", words)
+    return WHOLE_PATH.sub("", words)
 
 
 @dataclass(frozen=True)
@@ -86,7 +102,7 @@ class LiveSite:
 
     def begin(self, plan: Plan, stamp: tuple) -> None:
         """Begins with a plan, and with the stamp that its files had before they were read: what was written since then is read again."""
-        self.plan, self.reader, self.site, self.trouble = plan, Reader(plan), Site(plan), ""
+        self.plan, self.reader, self.site, self.trouble, self.fault = plan, Reader(plan), Site(plan), "", ""
         self.plan_stamp = stamp
         self.names = {player.name for player in plan.competition.players}
         self.games: dict[str, Game] = {}
@@ -113,8 +129,31 @@ class LiveSite:
         with self.changed:
             self.followed |= followed
             self.drop_idle_pages()
-            if any([self.renew(path, found) for path, found in self.pages.items() if found.viewers]):
-                self.changed.notify_all()
+            self.renew_pages()
+            if self.fault:
+                self.reader.version, self.fault = self.reader.version + 1, ""
+                self.renew_pages()
+
+    def fail(self, why: Exception) -> None:
+        """Says on the pages that a look has failed. The next look may do better; what is there already stays as it is."""
+        with self.changed:
+            self.fault = f"these pages have a fault, and may be behind: {why!r}"
+            self.reader.version += 1
+            with contextlib.suppress(Exception):
+                self.renew_pages()
+
+    def renew_pages(self) -> None:
+        """Tells those who look at a page of which something has changed. One that can't be made holds up no other."""
+        faults = []
+        for path, found in self.pages.items():
+            try:
+                if found.viewers and self.renew(path, found):
+                    self.changed.notify_all()
+            except Exception as why:
+                found.stamp = ()
+                faults.append(why)
+        if faults:
+            raise faults[0]
 
     def look_at_plan(self) -> None:
         """Begins anew where the competition was planned anew."""
@@ -124,8 +163,11 @@ class LiveSite:
         try:
             plan = self.read_plan()
         except (Refused, NoReferee, Unchecked, OSError) as why:
-            self.plan_stamp, self.trouble = stamp, f"the plan has changed, and can't be read: {why}"
-            self.reader.version += 1
+            self.plan_stamp = stamp
+            # Whoever serves is told all of it.
+            print(f"ggp_competition: the plan has changed, and can't be read: {why}", file=sys.stderr)
+            said = reason_for_visitors(self.plan.folder, why)
+            self.trouble = f"The plan has changed, and can't be read, so what stands here is of the plan before: {said}"
             return
         self.token = f"{time.time_ns():x}"
         for found in self.pages.values():
@@ -197,6 +239,11 @@ class LiveSite:
 
     def stamp(self, path: str) -> tuple | None:
         """Returns what a page is made of: none where there is no such page. Where this is the same the page is the same."""
+        own = self.own_stamp(path)
+        return None if own is None else (*own, self.trouble or self.fault)
+
+    def own_stamp(self, path: str) -> tuple | None:
+        """Returns what a page is made of beside what each of them has."""
         found = PATH.fullmatch(path)
         if not found:
             return None
@@ -204,7 +251,7 @@ class LiveSite:
             return self.reader.version, self.tables_version, tuple(followed.version for followed in self.followed.values())
         if found[1]:
             return (self.tables_version,) if found[1] in pages_of_all(self.results) else None
-        own = tuple(result.match.id for result in self.own.get(path, []))
+        own = tuple(self.own.get(path, ()))
         if found[4]:
             return (own, self.standing.get(found[4])) if found[4] in self.names else None
         if found[2] == "games":
@@ -220,11 +267,16 @@ class LiveSite:
 
     def make(self, path: str) -> tuple[str, PageParts]:
         """Returns the title and the parts of a page that is there."""
-        found, competition = PATH.fullmatch(path), self.plan.competition.name
+        title, parts = self.made(path)
+        return title, [live_pages.trouble_part(self.trouble or self.fault), *parts]
+
+    def made(self, path: str) -> tuple[str, PageParts]:
+        """Returns the title of a page, and the parts that are its own."""
+        found = PATH.fullmatch(path)
         if found[1] == "index":
-            first, *rest = self.site.first_parts(self.tables, self.results)
-            live = live_pages.live_parts(self.reader, self.board_items(), self.open_rows(), self.trouble)
-            return titled(self.plan, ""), [first, *live[:3], *rest, *live[3:]]
+            head, rounds, standings, *rest = self.site.first_parts(self.tables, self.results)
+            now, boards, *more = live_pages.live_parts(self.reader, self.board_items(), self.open_rows())
+            return titled(self.plan, ""), [head, now, boards, rounds, standings, more[0], *rest, *more[1:]]
         if found[1]:
             return titled(self.plan, "all matches"), self.site.all_matches(self.results, found[1])
         if found[4]:
@@ -234,16 +286,18 @@ class LiveSite:
             table = next(table for table in self.tables[1:] if table.game == found[3])
             return titled(self.plan, found[3]), self.site.game_parts(table, self.own.get(path, []))
         match, seen = self.reader.known[found[3]], self.reader.open.get(found[3])
+        roles = self.plan.roles(match.game)
+        head = live_pages.match_head(match, self.plan.competition, roles)
         if not seen:
-            return titled(self.plan, match.id), live_pages.waiting_match_parts(match, self.reader.faults.get(match.id, ""), competition)
+            return titled(self.plan, match.id), live_pages.waiting_match_parts(self.reader.faults.get(match.id, ""), head)
         followed = self.followed.get(match.id, Followed(0, "", 0, ()))
-        heads = live_pages.match_head(match, competition), self.plan.roles(match.game)
-        return titled(self.plan, match.id), live_pages.open_match_parts(seen, followed.state, followed.turn, followed.turns, *heads)
+        return titled(self.plan, match.id), live_pages.open_match_parts(seen, followed.state, followed.turn, followed.turns, head, roles)
 
     def board_items(self) -> list[tuple[str, str]]:
         shown = [seen for seen in self.reader.open_ones()[: live_pages.BOARDS] if seen.match.id in self.followed and seen.stage != "asking"]
         states = [self.followed[seen.match.id] for seen in shown]
-        return [live_pages.board_item(seen, followed.state, followed.turn) for seen, followed in zip(shown, states)]
+        roles = [self.plan.roles(seen.match.game) for seen in shown]
+        return [live_pages.board_item(seen, followed.state, followed.turn, own) for seen, followed, own in zip(shown, states, roles)]
 
     def open_rows(self) -> list[tuple[str, str]]:
         """Returns the rows of the open matches. A row is made again only where its match has changed."""

@@ -2,6 +2,7 @@
 
 import re
 from collections.abc import Iterator, Sequence
+from typing import NamedTuple
 
 from ggp_tools.competition.kept import MOST_OF_ACCOUNT, read_at_most
 from ggp_tools.competition.log_lines import MORE, SHOWN
@@ -14,37 +15,55 @@ LINE = re.compile(r"(?:\S+ )?(\S+) role (\d{1,9}) (\S+) message (\d{1,9}) (.*), 
 OWED = re.compile(r"\d+\tnext \S+ (\d+)\towe \d+ (\w+) ?(.*)")
 CAME = re.compile(r"\d+\t(submit|miss) \S+ (\d+) \d+ ?(.*)\ttaken")
 ESCAPED = re.compile(r"\\x[0-9a-f]{2}")
-# No answer, with the reason.
-MISSED = {"silent": r"TO( \(.*\))?", "broken": r"CE( \(.*\))?"}
+# No answer, with the reason, behind a message that is known whole, or by its beginning alone.
+WORDS = {"silent": "TO", "broken": "CE"}
+MISSED = {(kind, is_begun): re.compile(rf"{'.*' * is_begun}: {word}( \(.*\))?") for kind, word in WORDS.items() for is_begun in (False, True)}
+
+
+class Exchange(NamedTuple):
+    """What a log says of a message and of what came back; of START only the beginning is known, since no account says the rules."""
+
+    message: str
+    is_begun: bool
+    answer: str
+    is_missed: bool
+
+    def is_said(self, text: str) -> bool:
+        if not text.startswith(self.message):
+            return False
+        rest = text[len(self.message) :]
+        if self.is_missed:
+            return MISSED[self.answer, self.is_begun].fullmatch(rest) is not None
+        return rest.endswith(f": {self.answer}") if self.is_begun else rest == f": {self.answer}"
 
 
 def shown(text: str) -> str:
-    """Returns the form of a text as a log shows it."""
-    return re.escape(text[:SHOWN] + MORE * (len(text) > SHOWN))
+    """Returns a text as a log shows it."""
+    return text[:SHOWN] + MORE * (len(text) > SHOWN)
 
 
 def unescaped(text: str) -> str:
     """Returns a text of an account with a question mark for each byte that a log does not show; it shows the backslash."""
-    return ESCAPED.sub(lambda it: "\\" if it[0] == r"\x5c" else "?", text)
+    return ESCAPED.sub(lambda escape: "\\" if escape[0] == r"\x5c" else "?", text)
 
 
-def message_form(match: Match, kind: str, joint: str) -> str:
-    """Returns the form of a message. Of START it is left open what the rules are: no account says it."""
-    if kind == "start":
-        return rf"\(START {re.escape(match.id)} .*"
-    return shown(f"({kind.upper()} {match.id}{' ' * bool(joint)}{unescaped(joint)})")
+def exchange(match: Match, owed: tuple[str, str], kind: str, answer: str) -> Exchange:
+    """Returns what a log says of a message that was owed, and of what came back."""
+    word, joint = owed
+    message = f"(START {match.id} " if word == "start" else shown(f"({word.upper()} {match.id}{' ' * bool(joint)}{unescaped(joint)})")
+    is_missed = kind != "submit"
+    return Exchange(message, word == "start", answer if is_missed else shown(unescaped(answer)), is_missed)
 
 
-def exchanges(match: Match, account: bytes) -> list[list[str]]:
-    """Returns for each role the forms of what a log says of its messages and the answers, in order."""
-    found: list[list[str]] = [[] for _ in match.players]
-    owed = [""] * len(match.players)
+def exchanges(match: Match, account: bytes) -> list[list[Exchange]]:
+    """Returns for each role what a log says of its messages and the answers, in order."""
+    found: list[list[Exchange]] = [[] for _ in match.players]
+    owed = [("", "")] * len(match.players)
     for line in account.decode("ascii", "replace").split("\n"):
-        if it := OWED.fullmatch(line):
-            owed[int(it[1])] = message_form(match, it[2], it[3])
-        elif it := CAME.fullmatch(line):
-            answer = shown(unescaped(it[3])) if it[1] == "submit" else MISSED[it[3]]
-            found[int(it[2])].append(f"{owed[int(it[2])]}: {answer}")
+        if message := OWED.fullmatch(line):
+            owed[int(message[1])] = message[2], message[3]
+        elif answer := CAME.fullmatch(line):
+            found[int(answer[2])].append(exchange(match, owed[int(answer[2])], answer[1], answer[3]))
     return found
 
 
@@ -54,19 +73,19 @@ def fault_of_log(match: Match, log: bytes, account: bytes) -> str | None:
     for number, line in enumerate(log.decode("ascii", "replace").splitlines(), 1):
         if line.startswith("began "):
             last, fault = [0] * len(match.players), None
-        it = LINE.fullmatch(line)
-        if it and not fault and not follows(match, it, asked, last):
+        said = LINE.fullmatch(line)
+        if said and not fault and not follows(match, said, asked, last):
             fault = f"line {number} of its log is not what its account says"
     return fault
 
 
-def follows(match: Match, line: re.Match[str], asked: Sequence[Sequence[str]], last: list[int]) -> bool:
+def follows(match: Match, line: re.Match[str], asked: Sequence[Sequence[Exchange]], last: list[int]) -> bool:
     """Returns whether a line of a log is what was said; `last` has the numbers of the last messages by roles, and gets this one."""
     role, number = int(line[2]), int(line[4])
     if line[1] != match.id or role >= len(asked) or line[3] != match.players[role] or not last[role] < number <= len(asked[role]):
         return False
     last[role] = number
-    return re.fullmatch(asked[role][number - 1], line[5]) is not None
+    return asked[role][number - 1].is_said(line[5])
 
 
 def faults_of_logs(plan: Plan, results: Sequence[Result]) -> Iterator[str]:

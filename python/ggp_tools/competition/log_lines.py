@@ -13,6 +13,16 @@ SHOWN = 200
 MORE = ".."
 # What stands in the place of an answer that did not come: it has its reason with it. The word alone is what a player has answered.
 NO_ANSWER = re.compile(r"(TO|CE|lost) \(.*\)")
+SHORTAGE = "lost ("
+
+
+def moment_of(time: str) -> float | None:
+    """Returns a time of day in seconds, none where there is no such time since 1970."""
+    try:
+        found = datetime.datetime.fromisoformat(time.replace("Z", "+00:00")).timestamp()
+    except ValueError:
+        return None
+    return found if found >= 0 else None
 
 
 @dataclass(frozen=True)
@@ -31,10 +41,11 @@ class LogLine:
 
     def moment(self) -> float | None:
         """Returns when the answer was there, in seconds, where the log says it."""
-        try:
-            return datetime.datetime.fromisoformat(self.time.replace("Z", "+00:00")).timestamp() if self.time else None
-        except ValueError:
-            return None
+        return moment_of(self.time) if self.time else None
+
+    def is_damaged(self) -> bool:
+        """Returns whether its time is none."""
+        return bool(self.time) and self.moment() is None
 
     def is_of(self, match: Match) -> bool:
         """Returns whether the line is one of a match, of the player that sits in its role."""
@@ -47,6 +58,10 @@ class LogLine:
     def is_no_answer(self) -> bool:
         """Returns whether no answer came. A player that answers with these very words and a reason makes no legal move by them either."""
         return NO_ANSWER.fullmatch(self.answer) is not None
+
+    def is_shortage(self) -> bool:
+        """Returns whether the referee was short of something, or a player has answered so: after a shortage the match is given up."""
+        return self.answer.startswith(SHORTAGE) and self.is_no_answer()
 
 
 def message_end(text: str) -> int:

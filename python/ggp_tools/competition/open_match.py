@@ -1,13 +1,15 @@
 """A match from INFO to its files. It goes on in steps, and returns between them, so that many are played at once."""
 
+import contextlib
 import dataclasses
+import pathlib
 import shutil
 import time
 from collections.abc import Generator
 
 from ggp_tools.competition import described
 from ggp_tools.competition.children import Child, TimedChild
-from ggp_tools.competition.files import write_whole
+from ggp_tools.competition.files import PLAYERS, write_whole
 from ggp_tools.competition.hosts import CONNECTED, LOST, SILENCE, Hosts, remote_words
 from ggp_tools.competition.kept import fault_of_files, keep
 from ggp_tools.competition.plan import Plan
@@ -24,6 +26,14 @@ WHOLE, SOON = 10, 1
 THERE = ("available", "ready", "unknown")
 # The players of a match that was lost with its host are given so many seconds for ABORT.
 ABORT_SECONDS = 5
+
+
+def leave_players(room: pathlib.Path) -> None:
+    """Leaves of the room of a match that is not played any more what names its players, so that nobody takes it for one that is open."""
+    with contextlib.suppress(OSError):
+        for file in room.iterdir():
+            if file.name != PLAYERS:
+                file.unlink()
 
 
 @dataclasses.dataclass
@@ -44,7 +54,8 @@ class OpenMatch:
 
     def __init__(self, shared: Shared, match: Match, host: str | None = None) -> None:
         self.shared, self.match, self.host = shared, match, host
-        self.plan, self.referee, self.seats, self.reporter = shared.plan, shared.referee, shared.seats, shared.reporter
+        self.plan, self.seats, self.reporter = shared.plan, shared.seats, shared.reporter
+        self.referee = self.plan.judge(shared.referee, match.game)
         self.room = self.plan.folder.open / match.id
         self.places = [self.plan.competition.player(player).place() for player in match.players]
         self.stage, self.children, self.seconds = "asking", [], 0.0
@@ -83,11 +94,13 @@ class OpenMatch:
     def close(self):
         """Ends the match, and removes its room unless its players have yet to be freed: it broke off, or did so in a `play` before, and
         has not begun again since."""
-        is_abort_due = self.stage == "asking" and (self.room / "players").exists()
+        is_abort_due = self.stage == "asking" and (self.room / PLAYERS).exists()
         if self.stage == "asking":
             self.leave()
         self.stage = "over"
-        if not self.is_broken and not is_abort_due:
+        if is_abort_due:
+            leave_players(self.room)
+        elif not self.is_broken:
             shutil.rmtree(self.room, ignore_errors=True)
 
     def child(self, words, name, given="/dev/null"):
@@ -152,7 +165,7 @@ class OpenMatch:
         """Plays the match; where its host is lost, again on another one. Returns what the referee wrote, and the log of what it said and
         when; none where it gives no record."""
         competition = self.plan.competition
-        write_whole(self.room / "players", "".join(f"{place}\n" for place in self.places).encode())
+        write_whole(self.room / PLAYERS, "".join(f"{place}\n" for place in self.places).encode())
         self.stage, log = "playing", b""
         for times_left in reversed(range(competition.tries)):
             host = self.host
@@ -172,8 +185,8 @@ class OpenMatch:
     def run(self) -> Generator[None, None, TimedChild]:
         """Has the referee play the match, and returns its process once that is over."""
         competition, match = self.plan.competition, self.match
-        rules, told = self.plan.folder.rules_of(match.game).absolute(), self.plan.told_path(match.game)
-        words = self.referee.run_words(rules, told and told.absolute(), match, competition.strikes, self.places)
+        rules, player_rules = self.plan.folder.rules_of(match.game).absolute(), self.plan.player_rules_path(match.game)
+        words = self.referee.run_words(rules, player_rules and player_rules.absolute(), match, competition.strikes, self.places)
         if self.host:
             while not self.shared.hosts.can_connect(self.host):
                 yield

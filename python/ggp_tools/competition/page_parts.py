@@ -4,13 +4,13 @@ import html
 from dataclasses import dataclass
 
 STYLE = """
-:root { color-scheme: light dark; --ink: #1d2330; --dim: #6b7280; --paper: #fff; --band: #f3f4f6; --line: #d5d9e0; --odd: #9a3412;
+:root { color-scheme: light dark; --ink: #1d2330; --dim: #5f6673; --paper: #fff; --band: #f3f4f6; --line: #d5d9e0; --odd: #9a3412;
   --odd-ink: #9a3412; --new: #d8f0d4; --mark: #2e6be6; }
 @media (prefers-color-scheme: dark) { :root { --ink: #e5e7eb; --dim: #9ca3af; --paper: #14171d; --band: #1f242d; --line: #39404c;
   --odd: #fdba74; --odd-ink: #fdba74; --new: #1f4a2a; --mark: #7aa7ff; } }
 body { font: 15px/1.45 system-ui, sans-serif; color: var(--ink); background: var(--paper); margin: 1.2rem 1.6rem; }
 h1 { font-size: 1.35rem; margin: 0 0 .3rem; } h2 { font-size: 1.05rem; margin: 1.6rem 0 .5rem; } h3 { font-size: .95rem; margin: 0 0 .2rem; }
-p { margin: .2rem 0 .8rem; max-width: 60rem; } .dim { color: var(--dim); } a { color: inherit; } :focus-visible { outline: 2px solid var(--mark); }
+h1, h2, h3, p { overflow-wrap: anywhere; } p { margin: .2rem 0 .8rem; max-width: 60rem; } .dim { color: var(--dim); } a { color: inherit; } :focus-visible { outline: 2px solid var(--mark); }
 .wide { overflow-x: auto; } table { border-collapse: collapse; font-size: .9rem; }
 th { color: var(--dim); font-weight: normal; background: var(--band); } td, th { padding: .2rem .6rem; border-bottom: 1px solid var(--line);
   text-align: right; white-space: nowrap; vertical-align: top; } .left { text-align: left; } .odd { color: var(--odd); }
@@ -20,7 +20,8 @@ pre { font: .85rem/1.4 ui-monospace, "DejaVu Sans Mono", monospace; overflow-x: 
 svg { display: block; max-width: 100%; height: auto; } svg text { fill: var(--dim); font-size: 11px; } svg .name { fill: var(--ink); }
 svg .line { stroke: var(--mark); stroke-width: 2; fill: none; } svg .dot { fill: var(--mark); } svg .axis { stroke: var(--line); }
 svg .faint { fill: var(--mark); opacity: .35; }
-@media (max-width: 40rem) { body { margin: .8rem; } td, th { padding: .2rem .4rem; } .words { min-width: 10rem; } }
+@media (max-width: 40rem) { body { margin: .8rem; } td, th { padding: .2rem .3rem; } td a { white-space: nowrap; }
+  td.left { white-space: normal; min-width: 4.5rem; } td.words { min-width: 10rem; } svg text { font-size: 16px; } }
 """
 POLICY = "default-src 'none'; style-src 'unsafe-inline'; base-uri 'none'; form-action 'none'"
 

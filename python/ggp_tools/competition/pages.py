@@ -23,10 +23,11 @@ from ggp_tools.competition.page_parts import Items, PageParts, Part, link, page,
 from ggp_tools.competition.plan import Plan
 from ggp_tools.competition.player_pages import page_name, player_link, player_parts, standing_of, standing_texts
 from ggp_tools.competition.plots import rating_plot
-from ggp_tools.competition.results import Result, remarks, times_of
+from ggp_tools.competition.results import Result, is_set_back, remarks, times_of
+from ggp_tools.competition.round_pages import count_of_all, round_text, rounds_part, rounds_words
 from ggp_tools.competition.sittings import Sitting, sitting_of_values, sittings_of, values_of
 from ggp_tools.competition.table import Table, tables_of
-from ggp_tools.competition.table_text import FORFEIT, METHOD, count_of_planned, crosstable_rows, notes, standings_rows, without_record
+from ggp_tools.competition.table_text import FORFEIT, METHOD, crosstable_rows, notes, standings_rows, without_record
 from ggp_tools.descriptions.loading import Rules, sum_of
 from ggp_tools.referee import Unchecked
 from ggp_tools.records.show import LONGEST_RECORD, page_of, read_record
@@ -42,8 +43,9 @@ MANY, CHUNK, TOGETHER = 100, 16, 16 << 20
 # Of a match's log so many bytes are read, and so many are said in words.
 MOST_OF_LOG, LOG_WORDS = 16 << 20, "16 MiB"
 
+SET_BACK = "the clock was set back"
 MATCH_HEADS = ["match", "game", "players and goals", "turns", "replaced moves", "begin (UTC)", "seconds"]
-LEFT = {0, 1, 2, 4, 5}
+LEFT, WORDS = {0, 1, 2, 4, 5}, {2}
 
 
 def standings(found: Table, up: str) -> PageParts:
@@ -74,7 +76,7 @@ def seconds_between(times: dict) -> str:
         began, ended = (datetime.datetime.fromisoformat(times[key].replace("Z", "+00:00")) for key in ("begin", "end"))
     except (AttributeError, ValueError):
         return ""
-    return f"{(ended - began).total_seconds():.1f}"
+    return f"{(ended - began).total_seconds():.1f}" if ended >= began and not times["isSetBack"] else SET_BACK
 
 
 def spelt(time: str | None) -> str:
@@ -92,7 +94,7 @@ def match_row(result: Result, times: dict, up: str) -> tuple[str, str]:
     more = "".join(f'<br><span class="odd">{html.escape(remark)}</span>' for remark in remarks(result))
     links = link(f"{up}matches/{match.id}.html", match.id), link(f"{up}games/{match.game}.html", match.game)
     odd = f'<span class="odd">{replaced}</span>' if replaced else ""
-    return row(f"match-{match.id}", [*links, who + cause + more, str(result.turns), odd, spelt(times["begin"]), seconds_between(times)], LEFT)
+    return row(f"match-{match.id}", [*links, who + cause + more, str(result.turns), odd, spelt(times["begin"]), seconds_between(times)], LEFT, WORDS)
 
 
 def matches_part(rows: list[tuple[str, str]], title: str = "Matches") -> Items:
@@ -107,9 +109,9 @@ def pages_of_all(results: list[Result]) -> dict[str, list[Result]]:
 
 def rules_parts(rules: Rules) -> Iterator[str]:
     """Returns the rules of a game, and before them what its players are told in their place, where they are."""
-    if rules.told is not None:
+    if rules.player_rules is not None:
         yield "<h2>Rules for players</h2><p>Players are told these rules, with variables; the referee plays the ground rules below.</p>"
-        yield rules_text(rules.told)
+        yield rules_text(rules.player_rules)
         yield "<h2>Ground rules</h2>"
     else:
         yield "<h2>Rules</h2>"
@@ -158,7 +160,7 @@ class Site:
             *told, sittings = values
             self.told[match.id] = Told(*told[:2], *map(tuple, told[2:]), [sitting_of_values(one, result) for one in sittings], is_cut)
             return data
-        times = times_of(log, len(match.players))
+        times = times_of(log, len(match.players)) | {"isSetBack": is_set_back(log)}
         rows = match_row(result, times, ""), match_row(result, times, "../")
         sittings = sittings_of(result, read_record(data), log, times["end"])
         self.told[match.id] = Told(times["begin"], times["end"], *rows, sittings, is_cut)
@@ -171,7 +173,7 @@ class Site:
         match = result.match
         players = ", ".join(player_link(player, "../") for player in match.players)
         way = f"<p>{link('../index.html', self.plan.competition.name)} / {link(f'../games/{match.game}.html', match.game)} / {players}</p>"
-        way += "".join(f"<p>{html.escape(remark)}</p>" for remark in remarks(result))
+        way += round_text(self.plan.competition, match) + "".join(f"<p>{html.escape(remark)}</p>" for remark in remarks(result))
         return way.encode("ascii")
 
     def match_page(self, result: Result, data: bytes) -> bytes:
@@ -214,14 +216,15 @@ class Site:
         forfeit = f" {FORFEIT}" if plan.competition.forfeit else ""
         lines = [
             f"<h1>{html.escape(plan.competition.name)}</h1>",
-            f"<p>{count} of {count_of_planned(plan)} matches are over.{self.span(results)}{forfeit}</p>",
+            f"<p>{count} of {count_of_all(plan)} matches are over.{rounds_words(plan)}{self.span(results)}{forfeit}</p>",
             f"<p>Games: {games}. In each the standings of that game, and its rules. {link('matches.html', 'All matches')} that are over.</p>",
         ]
         return Part("head", "".join(lines))
 
     def first_parts(self, tables: list[Table], results: list[Result]) -> PageParts:
         method = Part("method", f'<p class="dim">Ratings: {html.escape(METHOD)}.</p>')
-        return [self.head(results), *standings(tables[0], ""), method, *self.gaps(results), self.last_matches(results)]
+        rounds = rounds_part(self.plan, results, MOST_LISTED)
+        return [self.head(results), rounds, *standings(tables[0], ""), method, *self.gaps(results), self.last_matches(results)]
 
     def way_back(self, title: str) -> str:
         return f"<p>{link('../index.html', self.plan.competition.name)}</p><h1>{html.escape(title)}</h1>"
@@ -398,11 +401,11 @@ def drop_all_but_matches(folder: pathlib.Path, results: list[Result]) -> None:
     """Empties the folder of the pages but for the files that may be pages of these matches."""
     wanted = {f"{result.match.id}.html" for result in results}
     places = [folder, *([folder / "matches"] if (folder / "matches").is_dir() and not (folder / "matches").is_symlink() else [])]
-    for it in [it for place in places for it in place.iterdir() if it not in places]:
-        if it.is_dir() and not it.is_symlink():
-            shutil.rmtree(it)
-        elif it.parent == folder or it.name not in wanted or not it.is_file() or it.is_symlink():
-            it.unlink()
+    for found in [found for place in places for found in place.iterdir() if found not in places]:
+        if found.is_dir() and not found.is_symlink():
+            shutil.rmtree(found)
+        elif found.parent == folder or found.name not in wanted or not found.is_file() or found.is_symlink():
+            found.unlink()
 
 
 def made_anew(plan: Plan, results: list[Result], known: Known | None = None) -> None:

@@ -7,9 +7,9 @@ from collections.abc import Callable, Iterator, Mapping
 from dataclasses import dataclass, field, replace
 from pathlib import Path
 
-from ggp_tools.competition.competition_file import Competition, Game, Mistake, Mistaken, told
+from ggp_tools.competition.competition_file import Competition, Game, Mistake, Mistaken, mistake_lines
 from ggp_tools.competition.files import UNFINISHED, Folder, Refused, held, write_whole
-from ggp_tools.competition.growth import Growing, History, Misfit, grown, refuse_changes, shape
+from ggp_tools.competition.growth import Growing, History, Misfit, grown, refuse_changes, refuse_unchanged, shape
 from ggp_tools.competition.history import competition_of_file, history_files, read_history
 from ggp_tools.competition.kept import result_in_file
 from ggp_tools.competition.results import Result
@@ -47,9 +47,13 @@ class Plan:
     def roles(self, game: str) -> tuple[str, ...]:
         return self.rules[game].roles
 
-    def told_path(self, game: str) -> Path | None:
+    def judge(self, referee: Referee, game: str) -> Referee:
+        """Returns the program as it takes the rules of a game: by the usual limits, or those for large games."""
+        return referee.taking(self.rules[game].is_large)
+
+    def player_rules_path(self, game: str) -> Path | None:
         """Returns the file of what the game's players are told of its rules, or none where they are told the rules themselves."""
-        return None if self.rules[game].told is None else self.folder.told_of(game)
+        return None if self.rules[game].player_rules is None else self.folder.player_rules_of(game)
 
 
 def read_file(path: Path) -> bytes:
@@ -90,7 +94,7 @@ def schedule_of(folder: Folder, competition: Competition, rules: Mapping[str, Ru
     try:
         return grown(history, competition, roles, functools.partial(result_in_file, folder, competition), most)
     except Mistaken as why:
-        raise Refused(told(folder.competition, why.mistakes)) from None
+        raise Refused(mistake_lines(folder.competition, why.mistakes)) from None
     except Misfit as why:
         raise Refused(f"{folder.competition}: {why}", PUT_BACK) from None
 
@@ -104,29 +108,29 @@ def loaded_games(folder: Folder, competition: Competition, referee: Referee) -> 
     """Returns the rules of each game by its name. All descriptions that are none are told at once."""
     found, mistakes = {}, []
     for game in competition.games:
-        path = folder.given(game)
+        path, program = folder.given(game), referee.taking(game.large)
         if inside := [file for file in (path, folder.description(game)) if is_in_rules(folder, file)]:
             mistakes.append(Mistake(game.line, "games.file", f"{inside[0]}: a description can't stand in {folder.rules}, where `plan` writes the rules"))
             continue
         try:
             if game.described:
-                rules = load_described(path, folder.description(game), referee, game.tells_variables())
+                rules = load_described(path, folder.description(game), program, game.tells_variables())
             else:
-                rules = load_description(path, referee, game.tells_variables(), game.seconds)
+                rules = load_description(path, program, game.tells_variables(), game.seconds)
             found[game.name] = rules
         except Stopped as why:
             raise Unchecked(f"{path}: {why}; `seconds` of the game gives it more time") from None
         except NoDescription as why:
             mistakes += [Mistake(game.line, "games.file", f"{path}: {line}") for line in str(why).splitlines()]
             continue
-        if game.tells_variables() and rules.told is None:
-            mistakes.append(Mistake(game.told_line, "games.told", f'{path} has no variables: "ground" is wanted'))
+        if game.tells_variables() and rules.player_rules is None:
+            mistakes.append(Mistake(game.player_rules_line, "games.player_rules", f'{path} has no variables: "ground" is wanted'))
         if not game.aborts:
-            why, note = trial(rules.text, referee, game.name)
+            why, note = trial(rules.text, program, game.name)
             mistakes += [Mistake(game.line, "games.file", f"{path}: {why}; with `aborts = true` it is planned all the same")] if why else []
             found[game.name] = replace(rules, notes=(*rules.notes, *([note] if note else [])))
     if mistakes:
-        raise Refused(told(folder.competition, mistakes))
+        raise Refused(mistake_lines(folder.competition, mistakes))
     return found
 
 
@@ -142,7 +146,7 @@ def make_plan(path: str, referee: Referee) -> Plan:
     competition, text = competition_of(folder)
     rules = loaded_games(folder, competition, referee)
     files = {folder.rules_of(name): ground.text for name, ground in rules.items()}
-    files |= {folder.told_of(name): ground.told for name, ground in rules.items() if ground.told is not None}
+    files |= {folder.player_rules_of(name): ground.player_rules for name, ground in rules.items() if ground.player_rules is not None}
     sums = sums_text({file.name: sum_of(data) for file, data in files.items()})
     with held(folder.path):
         # Where it grew, matches were played whose records are elsewhere.
@@ -209,7 +213,7 @@ def write_plan(folder: Folder, wanted: dict[Path, bytes], is_begun: bool) -> Non
     try:
         folder.make(folder.rules, *([folder.earlier] if any(file.parent == folder.earlier for file in wanted) else []))
         # The schedule is last, so that there is none without its rules.
-        for file in sorted(wanted, key=lambda it: it == folder.schedule):
+        for file in sorted(wanted, key=lambda path: path == folder.schedule):
             write_whole(file, wanted[file])
     except OSError as why:
         raise Refused(f"{folder.path} can't be written: {why.filename}: {os.strerror(why.errno)}") from None
@@ -266,7 +270,7 @@ def read_rules(folder: Folder, competition: Competition, referee: Referee) -> di
         if others:
             raise not_planned(others[0])
         try:
-            found[game.name] = rules_of(written[0], files[0], referee, *written[1:])
+            found[game.name] = rules_of(written[0], files[0], referee.taking(game.large), *written[1:])
         except NoDescription as why:
             raise Refused(f"{files[0]} is refused by the referee: {why}") from None
     return found
@@ -281,6 +285,10 @@ def read_plan(path: str, referee: Referee) -> Plan:
     if schedule != schedule_text(found.matches):
         refuse_lost_record(folder, found, schedule)
         raise refused_plan(folder, folder.schedule)
+    try:
+        refuse_unchanged(history, competition)
+    except Misfit as why:
+        raise Refused(f"{folder.path}: {why}") from None
     return Plan(folder, competition, rules, found.matches, text, history, found.rounds.found)
 
 

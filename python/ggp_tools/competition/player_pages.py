@@ -6,6 +6,7 @@ import itertools
 from ggp_tools.competition.page_parts import Part, PageParts, link, table
 from ggp_tools.competition.plots import BARS, goals_plot, times_plot
 from ggp_tools.competition.results import again_words
+from ggp_tools.competition.sittings import MOST_ERRORS as MOST_OF_MATCH
 from ggp_tools.competition.sittings import Fault, Sitting
 from ggp_tools.competition.table import Table
 from ggp_tools.competition.table_text import rating_text
@@ -13,6 +14,7 @@ from ggp_tools.records.show import shown, why_of
 
 # So many errors stand on a page, the newest first.
 MOST_ERRORS = 100
+SAID = f"The last {MOST_ERRORS}, and of a match the last {MOST_OF_MATCH}."
 ERROR_HEADS = ["match", "turn", "error", "the message", "what came back", "played in its place"]
 
 
@@ -55,8 +57,8 @@ def seats_table(sittings: list[Sitting]) -> str:
     for (game, _, role), found in sorted(seats.items()):
         goals = [goal for sitting in found if (goal := sitting.goal()) is not None]
         mean = f"{sum(goals) / len(goals):.2f}" if goals else "none"
-        moves, replaced = (sum(count) for count in zip(*((its.result.turns, its.result.replaced(its.role)) for its in found)))
-        longest = [longest_text([its.start for its in found]), longest_text([its.longest for its in found])]
+        moves, replaced = (sum(count) for count in zip(*((sitting.result.turns, sitting.result.replaced(sitting.role)) for sitting in found)))
+        longest = [longest_text([sitting.start for sitting in found]), longest_text([sitting.longest for sitting in found])]
         rows.append([link(f"../games/{game}.html", game), shown(role), str(len(found)), mean, f"{replaced} of {moves}", *longest])
     return table(rows, {0, 1})
 
@@ -69,7 +71,7 @@ def longest_text(times: list[int | None]) -> str:
 def reason_of(error: str) -> str:
     """Returns what an error means; that of a log may have a reason of its own behind it."""
     if error.startswith("lost "):
-        return "the referee was short of something, so the match gets no record"
+        return "no legal move came, or the referee was short of something: the log does not tell which"
     return why_of(error if error.startswith("IL ") else error.partition(" ")[0])
 
 
@@ -89,7 +91,7 @@ def errors_part(sittings: list[Sitting]) -> str:
     if not count:
         return "<p>No move of it was replaced.</p>"
     more = f'<p class="dim">{count - len(rows):,} more stand in the records of its matches.</p>' if count > len(rows) else ""
-    return table([ERROR_HEADS, *rows], {0, 2, 3, 4, 5}, {2, 3, 4, 5}) + more
+    return f'<p class="dim">{SAID}</p>{table([ERROR_HEADS, *rows], {0, 2, 3, 4, 5}, {2, 3, 4, 5})}{more}'
 
 
 def player_parts(competition: str, player: str, standing: str, sittings: list[Sitting]) -> PageParts:

@@ -13,10 +13,10 @@ from collections.abc import Iterator
 from ggp_tools.competition.aborts import send_aborts
 from ggp_tools.competition.children import UNSAID
 from ggp_tools.competition.competition_file import is_place
-from ggp_tools.competition.files import Refused
+from ggp_tools.competition.files import PLAYERS, Refused
 from ggp_tools.competition.hosts import Hosts
 from ggp_tools.competition.kept import look_at_records, set_aside, strangers
-from ggp_tools.competition.open_match import OpenMatch, Shared
+from ggp_tools.competition.open_match import OpenMatch, Shared, leave_players
 from ggp_tools.competition.plan import plan_next_round, refuse_lost_results, round_words
 from ggp_tools.competition.schedule import Match
 from ggp_tools.competition.time_left import TimeLeft
@@ -193,6 +193,8 @@ def says_full(why, is_on_host):
 def abort_matches(referee, places, folder, reporter, seconds=None):
     """Sends the players of these matches ABORT, within so many seconds where they are given. The room of a match is kept where one does not
     answer, so that it is sent again."""
+    for match in places:
+        leave_players(folder.open / match)
     silent = send_aborts(referee, places, seconds)
     for match, found in places.items():
         reporter.line(f"abort {match}: {', '.join(found)}")
@@ -205,7 +207,7 @@ def abort_matches(referee, places, folder, reporter, seconds=None):
 def places_in(room):
     """Returns the players of a match that was open; none where nothing in its room names them."""
     try:
-        found = (room / "players").read_text("ascii").split()
+        found = (room / PLAYERS).read_text("ascii").split()
     except (OSError, ValueError):
         return []
     return found if all(map(is_place, found)) else []

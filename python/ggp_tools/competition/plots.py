@@ -36,7 +36,7 @@ def rating_plot(lines: list[Line]) -> str:
     rated = [line for line in lines if line.rating and line.rating.rating is not None][:MOST_ROWS]
     if len(rated) < 2:
         return ""
-    ends = [(round(its.rating.rating - its.rating.half), round(its.rating.rating + its.rating.half)) for its in rated]
+    ends = [(round(row.rating.rating - row.rating.half), round(row.rating.rating + row.rating.half)) for row in rated]
     least, most = min(low for low, _ in ends), max(high for _, high in ends)
     across = WIDTH - NAMES - FIGURES
 
@@ -44,13 +44,13 @@ def rating_plot(lines: list[Line]) -> str:
         return NAMES + across * (value - least) / max(1, most - least)
 
     parts = [line([(place(0), 0), (place(0), ROW * len(rated))], "axis")] if least <= 0 <= most else []
-    for at, (its, (low, high)) in enumerate(zip(rated, ends)):
-        middle, rating = ROW * (at + 0.5), round(its.rating.rating)
+    for at, (row, (low, high)) in enumerate(zip(rated, ends)):
+        middle, rating = ROW * (at + 0.5), round(row.rating.rating)
         parts += [
-            text(NAMES - MARGIN, middle + 4, its.player[:20], "end", "name"),
+            text(NAMES - MARGIN, middle + 4, row.player[:20], "end", "name"),
             line([(place(low), middle), (place(high), middle)], "line"),
             f'<circle class="dot" cx="{number(place(rating))}" cy="{number(middle)}" r="4"/>',
-            text(WIDTH, middle + 4, f"{rating} \u00b1 {round(its.rating.half)}", "end"),
+            text(WIDTH, middle + 4, f"{rating} \u00b1 {round(row.rating.half)}", "end"),
         ]
     return svg(ROW * len(rated), "ratings with intervals of 95%", parts)
 

@@ -1,5 +1,6 @@
 """What came of a match, as its record says, and its times, as its log says."""
 
+import itertools
 import json
 import re
 from collections import Counter
@@ -12,6 +13,7 @@ from ggp_tools.moments import MOMENT
 # No number is longer, so that a log of an archive can't be one that Python refuses to read.
 LOG_LINE = re.compile(rf"(?:{MOMENT} )?(\S+) role (\d{{1,9}}) (\S+) message (\d{{1,9}}) \((\w+) .*, (\d{{1,18}}) ms")
 TIME_LINE = re.compile(rf"(began|ended) ({MOMENT})")
+OWN_TIMES = re.compile(rf"(?m)^(?:(?:began|ended) )?({MOMENT})".encode("ascii"))
 HOST_LINE = re.compile(r"(host) (\S+)")
 
 
@@ -64,7 +66,7 @@ class Result:
         lost, roles = self.forfeits(), range(len(self.retirements))
         if not lost:
             return self.goals or (None,) * len(roles)
-        left = max(1, len(roles) - len(lost))
+        left = len(roles) - len(lost)
         return tuple(0 if role in lost else FULL_GOAL // left for role in roles)
 
     def worths(self) -> tuple[int, ...] | None:
@@ -176,11 +178,17 @@ def times_of(log: bytes, roles: int) -> dict[str, object]:
     for line in log.decode("ascii", "replace").splitlines():
         if line.startswith("began "):
             found, messages = {}, [[] for _ in range(roles)]
-        if it := TIME_LINE.fullmatch(line) or HOST_LINE.fullmatch(line):
-            found[it[1]] = it[2]
-        elif (it := LOG_LINE.fullmatch(line)) and int(it[2]) < roles:
-            messages[int(it[2])].append([it[5].lower(), int(it[6])])
+        if said := TIME_LINE.fullmatch(line) or HOST_LINE.fullmatch(line):
+            found[said[1]] = said[2]
+        elif (message := LOG_LINE.fullmatch(line)) and int(message[2]) < roles:
+            messages[int(message[2])].append([message[5].lower(), int(message[6])])
     return {"begin": found.get("began"), "end": found.get("ended"), "host": found.get("host"), "messages": messages}
+
+
+def is_set_back(log: bytes) -> bool:
+    """Returns whether a line of a log has an earlier time than one before it, since the match has begun last."""
+    times = OWN_TIMES.findall(log[max(0, log.rfind(b"\nbegan ")) :])
+    return any(later < earlier for earlier, later in itertools.pairwise(times))
 
 
 def forfeit_keys(result: Result) -> dict[str, object]:

@@ -7,6 +7,23 @@ from ggp_tools.competition.logged_moves import moves_of, was_replaced
 from ggp_tools.kif import Expression
 
 
+# The fewest and the most turns in a row in which the move of a role was replaced.
+Row = tuple[int, int]
+
+
+def after_turn(row: Row, is_replaced: bool | None) -> Row:
+    """Returns a row after one more turn, of which nobody may know whether the move was replaced."""
+    least, most = row
+    if is_replaced is None:
+        return 0, most + 1
+    return (least + 1, most + 1) if is_replaced else (0, 0)
+
+
+def row_of_asked(row: Row, strikes: int) -> Row:
+    """Returns a row of a role that was asked after it: so it is not retired."""
+    return tuple(min(count, strikes - 1) for count in row) if strikes else row
+
+
 class Retiring:
     """The turn that was asked for last, 0 before the first, with its answers. And by roles the fewest and the most turns in a row before it
     in which the move was replaced."""
@@ -14,16 +31,14 @@ class Retiring:
     def __init__(self, roles: int, strikes: int) -> None:
         self.roles, self.strikes, self.turn = roles, strikes, 0
         self.answers: dict[int, LogLine] = {}
-        self.rows = [(0, 0)] * roles
+        self.rows: list[Row] = [(0, 0)] * roles
 
     def take(self, line: LogLine) -> None:
-        """Takes a line of a PLAY. Who is asked is not retired."""
+        """Takes a line of a PLAY."""
         if line.turn() < self.turn:
             return
         if line.turn() > self.turn:
             self.end_turn(line)
-        if self.strikes:
-            self.rows[line.role] = tuple(min(row, self.strikes - 1) for row in self.rows[line.role])
         self.answers[line.role] = line
 
     def end_turn(self, line: LogLine) -> None:
@@ -35,18 +50,15 @@ class Retiring:
             self.rows = [(least if self.is_enough(least) else 0, most + skipped) for least, most in self.rows]
         self.turn, self.answers = line.turn(), {}
 
-    def row_after(self, role: int, played: Expression | None = None) -> tuple[int, int]:
+    def row_after(self, role: int, played: Expression | None = None) -> Row:
         """Returns the fewest and the most turns in a row once the last turn is over, by the move that was played in it."""
-        (least, most), line = self.rows[role], self.answers.get(role)
+        (_, most), line = self.rows[role], self.answers.get(role)
         if not self.turn:
             return 0, 0
         if line is None:
             # Who may be retired, and was not asked, is. Of another one the log lacks the line.
             return (most + 1 if self.is_enough(most) else 0), most + 1
-        is_replaced = was_replaced(line, played)
-        if is_replaced is None:
-            return 0, most + 1
-        return (least + 1, most + 1) if is_replaced else (0, 0)
+        return after_turn(self.rows[role], was_replaced(line, played))
 
     def is_enough(self, row: int) -> bool:
         return 0 < self.strikes <= row
@@ -62,3 +74,11 @@ class Retiring:
         rows = self.rows if missing else [self.row_after(role) for role in range(self.roles)]
         found = missing or [role for role, (least, _) in enumerate(rows) if not self.is_enough(least)]
         return found, {role for role in found if self.is_enough(rows[role][1])}
+
+    def perhaps_next(self) -> set[int]:
+        """Returns the roles that have answered in the last turn and are asked for the next one if all that are missing are retired, as they
+        may be. None are, where one that is missing is not."""
+        missing = self.missing() if self.turn else []
+        if not missing or not all(self.is_enough(self.rows[role][1]) for role in missing):
+            return set()
+        return {role for role in self.answers if not self.is_enough(self.row_after(role)[0])}

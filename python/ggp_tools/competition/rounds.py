@@ -71,6 +71,16 @@ def rounds_of(competition: Competition) -> int:
     return competition.form.rounds if competition.form.kind == SWISS else 0
 
 
+def matches_to_come(competition: Competition, rounds: Sequence[Round]) -> int:
+    """Returns how many matches the rounds have that are not planned yet, with the players that there are now."""
+    if competition.form.kind == KNOCKOUT:
+        # Each meeting has one player leave.
+        left = len(competition.players) - 1 - sum(len(found.pairs) for found in rounds)
+    else:
+        left = (rounds_of(competition) - len(rounds)) * (len(competition.players) // 2)
+    return left * 2 * len(competition.games)
+
+
 def is_by_rounds(competition: Competition) -> bool:
     return competition.form.kind in ROUND_KINDS
 

@@ -44,7 +44,7 @@ def circle_steps(count: int, roles: int, rounds: int) -> Iterator[tuple[int, ...
         steps = [0]
         for _ in range(1, roles):
             free = (step for step in range(1, count) if step not in steps)
-            steps.append(min(free, key=lambda it: (sum(met[(it - other) % count] for other in steps), it)))
+            steps.append(min(free, key=lambda step: (sum(met[(step - other) % count] for other in steps), step)))
             for other in steps[:-1]:
                 met[(steps[-1] - other) % count] += 1
                 met[(other - steps[-1]) % count] += 1

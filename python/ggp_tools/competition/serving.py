@@ -15,7 +15,7 @@ from http import HTTPStatus
 from http.server import BaseHTTPRequestHandler, ThreadingHTTPServer
 
 from ggp_tools.competition.files import Folder, Refused
-from ggp_tools.competition.live_pages import LIVE_STYLE
+from ggp_tools.competition.live_pages import LIVE_STYLE, trouble_part
 from ggp_tools.competition.live_site import PATH, LiveSite, OpenPage, plan_stamp
 from ggp_tools.competition.page_parts import page
 from ggp_tools.competition.plan import read_plan
@@ -100,6 +100,11 @@ def live_page(found: OpenPage, path: str, token: str) -> bytes:
     body = f' data-now="{time.time():.1f}" data-events="{events}"'
     again = f'<noscript><meta http-equiv="refresh" content="{RELOAD}"></noscript>'
     return page(found.title, found.parts, LIVE_STYLE + BOARD_STYLE, script_policy(), body, f"{LOST}{again}<script>{SCRIPT}</script>")
+
+
+def with_head(data: bytes, said: str) -> bytes:
+    """Returns a page with this HTML before all else."""
+    return data.replace(b"<body>", b"<body>\n" + said.encode("ascii", "xmlcharrefreplace"), 1) if said else data
 
 
 class Handler(BaseHTTPRequestHandler):
@@ -255,10 +260,12 @@ class Server(ThreadingHTTPServer):
             result = self.site.reader.results.get(match[3]) if match[2] == "matches" else None
             if not result:
                 return None
+            trouble = trouble_part(self.site.trouble).text
             if path in self.kept and self.kept[path][0] is result:
                 self.kept.move_to_end(path)
-                return self.kept[path][1]
-        return self.keep(path, result)
+                return with_head(self.kept[path][1], trouble)
+        data = self.keep(path, result)
+        return data and with_head(data, trouble)
 
     def keep(self, path: str, result: Result) -> bytes | None:
         """Returns the page of a match that is over, and keeps it for a while; none where its record is there no more."""
@@ -311,7 +318,7 @@ class Server(ThreadingHTTPServer):
             try:
                 self.site.look()
             except Exception as why:
-                # The next look may do better; what is there already stays as it is.
+                self.site.fail(why)
                 if repr(why) != told:
                     told = repr(why)
                     print(f"ggp_competition: the folder could not be looked at: {told}", file=sys.stderr)

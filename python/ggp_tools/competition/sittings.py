@@ -7,7 +7,7 @@ from ggp_tools.competition.log_lines import LogLine, log_line
 from ggp_tools.competition.plots import BARS, bar_of
 from ggp_tools.competition.results import Result
 
-# Of a player's errors in one match so many are shown, the first ones.
+# Of a player's errors in one match so many are shown, the last ones.
 MOST_ERRORS = 10
 
 
@@ -39,9 +39,6 @@ class Sitting:
         """Returns the goal that counts, none where there is none, or where another match was ordered in the place of this one."""
         return None if self.result.match.again else self.result.counted()[self.role]
 
-    def more_faults(self) -> int:
-        return self.result.replaced(self.role) - len(self.faults)
-
 
 def times_of_role(lines: list[LogLine]) -> tuple[tuple[int, ...], int | None, int | None]:
     """Returns how many PLAY of a role took how long, how long its START took, and its longest PLAY."""
@@ -56,8 +53,8 @@ def times_of_role(lines: list[LogLine]) -> tuple[tuple[int, ...], int | None, in
 
 
 def faults_of_role(record: dict, role: int, lines: list[LogLine]) -> tuple[Fault, ...]:
-    """Returns the first errors of a role."""
-    turns = [turn for turn, errors in enumerate(record["errors"], 1) if errors[role]][:MOST_ERRORS]
+    """Returns the last errors of a role."""
+    turns = [turn for turn, errors in enumerate(record["errors"], 1) if errors[role]][-MOST_ERRORS:]
     asked = {line.turn(): line for line in lines if line.kind == "PLAY"} if turns else {}
     found = []
     for turn in turns:

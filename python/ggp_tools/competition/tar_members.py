@@ -71,10 +71,10 @@ def path_in(records: bytes) -> str | None:
     while records:
         length = LENGTH.match(records)
         record = records[: int(length[0])] if length else records
-        it = RECORD.fullmatch(record)
-        if not length or len(record) != int(length[0]) or not it or it[1] in found:
+        pair = RECORD.fullmatch(record)
+        if not length or len(record) != int(length[0]) or not pair or pair[1] in found:
             raise NoTar("an extended header says what is not taken, or is damaged")
-        found[it[1]], records = it[2], records[len(record) :]
+        found[pair[1]], records = pair[2], records[len(record) :]
     path = found.get(b"path")
     return None if path is None else path.decode("ascii", "backslashreplace")
 

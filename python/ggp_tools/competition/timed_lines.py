@@ -12,7 +12,7 @@ from typing import IO
 
 from ggp_tools.moments import MOMENT, moment
 
-TIMED = re.compile(rf"{MOMENT} ".encode("ascii"))
+TIMED = re.compile(rf"^{MOMENT} ".encode("ascii"))
 # Who plays a match on a host has a byte at least every BEAT seconds, as long as this process lives and is reached.
 BEAT = 2
 # Of one line no more is kept in memory.
@@ -21,7 +21,7 @@ MOST_OF_LINE = 1 << 16
 
 def untimed(data: bytes) -> bytes:
     """Returns lines without their times."""
-    return b"".join(TIMED.sub(b"", line, count=1) for line in data.splitlines(keepends=True))
+    return b"".join(TIMED.sub(b"", line) for line in data.splitlines(keepends=True))
 
 
 class TimedLines:

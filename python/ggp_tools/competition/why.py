@@ -13,6 +13,12 @@ from ggp_tools.moments import MOMENT
 
 TIMED = re.compile(rf"({MOMENT}) (.*)")
 MESSAGE = re.compile(r"\S+ role (\d{1,9}) \S+ message (\d{1,9}) (.*), (\d{1,18}) ms")
+# How the lines of `play` about a match begin, where players, games and matches may have the same names; and that of its round.
+NOTED = (
+    "(?:begin|end|no record|back|absent|info|abort|no answer to abort|lost|refused|aside|missing) {match}[ :]"
+    r"|stopped \S+ is not played on, since {match} |round {round} of "
+)
+SET_BACK = "the clock was set back: the line before has {before}"
 MARKS = {
     "TO": "no whole answer within {seconds} s",
     "CE": "no connection, or no whole reply",
@@ -28,6 +34,49 @@ class Event:
     time: str
     role: int | None
     words: str
+    # Whether it is a line of the log of what `play` notes too.
+    is_stage: bool = False
+
+
+def marked(events: list[Event], before: str = "") -> list[Event]:
+    """Returns what one file says, and before what has an earlier time than what was before it that the clock was set back."""
+    found = []
+    for event in events:
+        if event.time and event.time < before:
+            found.append(Event(event.time, None, SET_BACK.format(before=before)))
+        found.append(event)
+        before = event.time or before
+    return found
+
+
+def parts_at(events: list[Event], word: str) -> list[list[Event]]:
+    """Returns events in parts, of which each but the first begins with an event whose words begin so."""
+    parts: list[list[Event]] = [[]]
+    for event in events:
+        if event.words.startswith(word):
+            parts.append([])
+        parts[-1].append(event)
+    return parts
+
+
+def in_order(notes: list[Event], log: list[Event], match_id: str) -> list[Event]:
+    """Returns what was noted and what was logged, each in the order of its lines, since a clock may be set. What a log has from one beginning
+    of the match to the next follows the note of this beginning. Of beginnings before the last ones the log has nothing."""
+    before, *begun = parts_at(notes, f"begin {match_id} ")
+    if not begun:
+        return marked([*notes, *log])
+    early, *later = parts_at(log, "began ")
+    # Only the log of a match that is over says when it began.
+    runs = [early, *later] if early else later
+    lacking = len(begun) - len(runs)
+    runs = [[] for _ in range(lacking)] + runs if lacking >= 0 else [sum(runs[: 1 - lacking], []), *runs[1 - lacking :]]
+    found = marked(before)
+    for part, run in zip(begun, runs):
+        last = found[-1].time if found else ""
+        # The note of a beginning may be later than the first line of the log.
+        found += marked(part[:1], last) + marked(run)
+        found += marked(part[1:], found[-1].time)
+    return [event for event in found if not event.is_stage]
 
 
 def parts_of(said: str) -> tuple[str, str]:
@@ -55,11 +104,11 @@ class Told:
         """Gives what `play` has noted of the match, with the player of an INFO or an ABORT."""
         if not self.folder.journal.is_file():
             return
-        word = re.compile(rf"(?<![\w.-]){re.escape(self.match.id)}(?![\w-]|\.\w)")
+        own = re.compile(NOTED.format(match=re.escape(self.match.id), round=self.match.round))
         with open(self.folder.journal, encoding="ascii", errors="replace") as file:
             for line in file:
                 found = TIMED.fullmatch(line.rstrip("\n"))
-                if found and word.search(found[2]):
+                if found and own.match(found[2]):
                     yield Event(found[1], self.role_of(found[2]), found[2])
 
     def role_of(self, words: str) -> int | None:
@@ -74,8 +123,8 @@ class Told:
         file = said if not self.record and said.is_file() else self.folder.log(self.match.id)
         return file.read_bytes().decode("ascii", "replace").splitlines() if file.is_file() else []
 
-    def logged(self, is_noted: bool) -> Iterator[Event]:
-        """Gives what the log says. When a match began and ended is noted too, unless `play` noted nothing then."""
+    def logged(self) -> Iterator[Event]:
+        """Gives what the log says."""
         counts, time = [0] * len(self.roles), ""
         for line in self.log():
             found = TIMED.fullmatch(line)
@@ -84,8 +133,7 @@ class Told:
                 word, _, rest = line.partition(" ")
                 counts = [0] * len(self.roles) if word == "began" else counts
                 time = rest.partition(" ")[0] if word != "host" else time
-                if not is_noted:
-                    yield Event(time, None, line)
+                yield Event(time, None, line, True)
             elif (said := MESSAGE.fullmatch(line)) and int(said[1]) < len(self.roles):
                 role = int(said[1])
                 counts[role] += 1
@@ -154,9 +202,7 @@ class Told:
         strikes = self.plan.competition.strikes
         more = f", retired after {strikes} turns in a row without a move of its own" if strikes else ""
         yield f"{match.id}, {match.game}: {who}; {match.start} s for START, {match.play} s for each other message{more}"
-        is_noted = any(note.words.startswith(f"begin {match.id} ") for note in notes)
-        # Where two things happened in the same moment, what was noted first stays first.
-        events = sorted([*notes, *self.logged(is_noted)], key=lambda event: event.time) if is_noted else [*notes, *self.logged(is_noted)]
+        events = in_order(notes, list(self.logged()), match.id)
         for player in players:
             role = match.players.index(player)
             yield f"\n{player}, {self.roles[role]}:"

@@ -47,12 +47,12 @@ def kept(key: str) -> tuple[bytes, bytes] | None:
     return data[: int(size)], data[int(size) :]
 
 
-def keep(key: str, rules: bytes, told: bytes) -> None:
+def keep(key: str, rules: bytes, player_rules: bytes) -> None:
     """Keeps a result. Where it can't be written it is made again the next time."""
     with contextlib.suppress(OSError, RuntimeError):
         folder().mkdir(parents=True, exist_ok=True)
         with tempfile.NamedTemporaryFile(dir=folder(), delete=False) as file:
-            file.write(b"%d\n" % len(rules) + rules + told)
+            file.write(b"%d\n" % len(rules) + rules + player_rules)
         os.replace(file.name, folder() / key)
         for old in sorted(folder().iterdir(), key=lambda one: one.stat().st_mtime)[:-MOST_KEPT]:
             old.unlink(missing_ok=True)

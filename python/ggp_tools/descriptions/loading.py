@@ -14,13 +14,13 @@ from ggp_tools import kif
 from ggp_tools.descriptions import kept
 from ggp_tools.instantiating.relations import Relations
 from ggp_tools.instantiating.sentences import Rule, all_rules, as_read
-from ggp_tools.instantiating.told import told as told_text
+from ggp_tools.instantiating.for_players import text_for_players as text_for_players
 from ggp_tools.referee import BadRules
 
 # The folder of this package, where a process that instantiates finds it.
 FOLDER = pathlib.Path(__file__).resolve().parents[2]
 INSTANTIATE = [sys.executable, "-B", "-P", "-m", "ggp_tools.instantiating"]
-MOST_BYTES = 1 << 20
+MOST_BYTES, MOST_BYTES_OF_LARGE = 1 << 20, 4 << 20
 SENTENCE = re.compile(r"sentence (\d+), ")
 # So many seconds a description gets to be instantiated, where no others are given.
 SECONDS = 60
@@ -38,15 +38,16 @@ class Stopped(NoDescription):
 @dataclass(frozen=True)
 class Rules:
     """The ground description of a game: its bytes, their sum, and the names of its roles; the bytes of the description with variables
-    that players get, or none if they get the rules themselves; the sum of the file that all of this was made from, where known; and what
-    `ggp-instantiate` has to say of the rules."""
+    that players get, or none if they get the rules themselves; the sum of the file that all of this was made from, where known; what
+    `ggp-instantiate` has to say of the rules; and whether the limits are those for large games."""
 
     text: bytes
     sum: str
     roles: tuple
-    told: bytes | None = None
+    player_rules: bytes | None = None
     description_sum: str | None = None
     notes: tuple = ()
+    is_large: bool = False
 
 
 def sum_of(data: bytes) -> str:
@@ -85,80 +86,87 @@ def why_not(made):
     return "\n".join([*(line.strip() for line in lines[:-1] if line.startswith("  dear: ")), lines[-1]])
 
 
-def instantiated(path, text, tells_variables, seconds):
+def instantiated(path, text, tells_variables, seconds, is_large=False):
     """Returns the ground description that `ggp-instantiate` makes of a file with this text, and the description for players where it is
     asked for."""
-    key = kept.sum_of_work(text, ["--told"] if tells_variables else [])
+    large = ["--large"] if is_large else []
+    key = kept.sum_of_work(text, [*large, *(["--player-rules"] if tells_variables else [])])
     if found := kept.kept(key):
         return found[0], found[1] if tells_variables else None
     with tempfile.TemporaryDirectory() as room:
-        told = pathlib.Path(room) / "told"
-        words = [f"--seconds={seconds}", *(["--told", str(told)] if tells_variables else [])]
+        player_rules = pathlib.Path(room) / "player_rules"
+        words = [f"--seconds={seconds}", *large, *(["--player-rules", str(player_rules)] if tells_variables else [])]
         # A name that begins with a hyphen would be an option.
         environment = {**os.environ, "PYTHONPATH": str(FOLDER)}
         made = subprocess.run([*INSTANTIATE, *words, os.path.abspath(path)], env=environment, capture_output=True)
         if made.returncode:
             raise (Stopped if STOPPED.match(why_not(made).splitlines()[-1]) else NoDescription)(why_not(made))
-        found = made.stdout, told.read_bytes() if tells_variables else None
+        found = made.stdout, player_rules.read_bytes() if tells_variables else None
     kept.keep(key, found[0], found[1] or b"")
     return found
 
 
 def notes_of(ground):
     """Returns what `ggp-instantiate` says at the head of what it made: how it was folded or unrolled, and what is left out."""
-    return tuple(note[2:].decode() for note in itertools.takewhile(lambda it: it.startswith(b"; "), ground.splitlines()))
+    return tuple(note[2:].decode() for note in itertools.takewhile(lambda line: line.startswith(b"; "), ground.splitlines()))
 
 
-def rules_of(text, name, referee, told=None, description_sum=None, notes=()):
+def rules_of(text, name, referee, player_rules=None, description_sum=None, notes=()):
     """Returns the rules that a ground description says, as the referee reads it, with the text that players get. Refuses what the
     referee refuses, in its words."""
     try:
         roles = referee.roles(text, name)
     except BadRules as why:
         raise NoDescription(str(why)) from None
-    return Rules(text, sum_of(text), roles, told, description_sum, notes)
+    return Rules(text, sum_of(text), roles, player_rules, description_sum, notes, referee.is_large)
 
 
-def read_text(path):
+def most_bytes(is_large):
+    """Returns how many bytes a description may have."""
+    return MOST_BYTES_OF_LARGE if is_large else MOST_BYTES
+
+
+def read_text(path, is_large=False):
     """Returns the bytes of a description."""
+    most = most_bytes(is_large)
     try:
-        with open(path, "rb") as it:
-            text = it.read(MOST_BYTES + 1)
+        with open(path, "rb") as file:
+            text = file.read(most + 1)
     except OSError as why:
         raise NoDescription(f"it can't be read: {why.strerror}") from None
-    if len(text) > MOST_BYTES:
-        raise NoDescription(f"it has more than {MOST_BYTES:,} bytes")
+    if len(text) > most:
+        raise NoDescription(f"it has more than {most:,} bytes")
     return text
 
 
 def load_description(path, referee, tells_variables, seconds=SECONDS):
     """Returns the rules of the game that a file describes, with the text that its players get. If the file has no variables that is
     nothing beside the rules, whatever is asked for."""
-    text = read_text(path)
+    text = read_text(path, referee.is_large)
     starts, description_sum = sentence_starts(text), sum_of(text)
     if not has_variables(text):
         return rules_of(text, path, referee, None, description_sum)
     look_at_sentences(text, starts)
-    ground, told = instantiated(path, text, tells_variables, seconds)
+    ground, player_rules = instantiated(path, text, tells_variables, seconds, referee.is_large)
     try:
-        return rules_of(ground, path, referee, told, description_sum, notes_of(ground))
+        return rules_of(ground, path, referee, player_rules, description_sum, notes_of(ground))
     except NoDescription as why:
         raise NoDescription(f"its ground rules, by ggp-instantiate: {why}") from None
 
 
 def load_described(path, described, referee, tells_variables):
     """Returns the rules that a file has, with the text that its players get, by the description with variables that stands beside it."""
-    ground, text = read_text(path), read_text(described)
+    ground, text = read_text(path, referee.is_large), read_text(described)
     if has_variables(ground):
         raise NoDescription("it has variables, and so needs no description beside it")
     sentence_starts(ground)
     look_at_sentences(text, sentence_starts(text))
     if not has_variables(text):
         raise NoDescription(f"{described} has no variables")
-    told = None
+    player_rules = None
     if tells_variables:
         heads = [Rule(0, one[1] if one[0] == "<=" else one, ()) for one in kif.expressions(ground.decode("latin-1"))]
-        told = told_text(list(map(as_read, kif.expressions(text.decode("latin-1")))), heads).encode("ascii")
-        if len(told) > MOST_BYTES:
+        player_rules = text_for_players(list(map(as_read, kif.expressions(text.decode("latin-1")))), heads).encode("ascii")
+        if len(player_rules) > MOST_BYTES:
             raise NoDescription(f"the text for players has more than {MOST_BYTES:,} bytes")
-    return rules_of(ground, path, referee, told, sum_of(text))
+    return rules_of(ground, path, referee, player_rules, sum_of(text))

@@ -155,9 +155,8 @@ class RandomMatches:
         self.reporter.draw("the program's desk")
         script = "".join(f"{line}\n" for _, lines, _ in waiting for line in lines)
         with rules_file(self.rules) as path:
-            words = [self.referee.path, "desk", f"--rules-file={path}"]
             try:
-                said = subprocess.run(words, input=script.encode(), capture_output=True, timeout=self.seconds)
+                said = subprocess.run(self.referee.desk_words(path), input=script.encode(), capture_output=True, timeout=self.seconds)
             except subprocess.TimeoutExpired:
                 self.uncompared += len(waiting)
                 return

@@ -10,7 +10,7 @@ from typing import NamedTuple
 
 from ggp_tools.descriptions.loading import NoDescription, sentence_starts
 from ggp_tools.instantiating.sentences import ARITIES, GAME, SECRET, as_read, must_be_atomic, must_be_literal
-from ggp_tools.instantiating.told import head_of
+from ggp_tools.instantiating.for_players import head_of
 from ggp_tools.kif import TOKEN, Refused, blanked, expressions, place_of, relation, spelled, variables
 
 # The relations that need no rule to ask for them, and those whose first argument is a role.
@@ -436,7 +436,7 @@ def suspicions(text, ground=None, seconds=math.inf):
 def lines_of(description, found):
     """Returns the lines that tell findings, those of one kind in one line, at the place of the first."""
     counts, firsts = Counter(finding.kind for finding in found), {}
-    for finding in sorted(found, key=lambda it: it.part[:2] if it.part else (len(description.starts), ())):
+    for finding in sorted(found, key=lambda finding: finding.part[:2] if finding.part else (len(description.starts), ())):
         firsts.setdefault(finding.kind, finding)
     shown_ones = list(firsts.values())[:MOST_LINES]
     told, lines = description.told_places([finding.part for finding in shown_ones if finding.part]), []

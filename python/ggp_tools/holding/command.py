@@ -1,13 +1,17 @@
 """The command line of `ggp-hold-against`."""
 
 import argparse
-import json
+import os
+import resource
 import signal
 import sys
+from collections.abc import Iterable, Iterator
+from typing import BinaryIO
 
 from .following import Differs, Following
 from .game import Game
 from .reading import NotFollowed
+from .records import read_record
 
 USAGE = "ggp-hold-against [--seconds N] DESCRIPTION [RECORD ..]"
 ABOUT = """Holds records of matches against the description of the game as it was published, with its variables: whether roles, states, moves,
@@ -18,6 +22,8 @@ read. 3: none is known to differ, and one could not be followed: its time was ov
 SECONDS, MOST_SECONDS = 60.0, 1_000_000
 # Rules that ask for one another are looked up by calls in calls.
 MOST_CALLS = 100_000
+# What it may take, as the grounder of `ggp-instantiate` may.
+MEMORY = 2 << 30
 SAME, DIFFERENT, NOT_FOLLOWED = 0, 1, 3
 
 
@@ -42,43 +48,47 @@ def arguments():
     words.add_argument("--seconds", type=seconds, default=SECONDS, metavar="N", help=told)
     words.add_argument("description", metavar="DESCRIPTION", type=argparse.FileType("rb"), help="the description as it was published")
     words.add_argument("records", metavar="RECORD", nargs="*", type=argparse.FileType("rb"), help="a file of records, one a line")
-    return words.parse_args()
-
-
-def read_record(line):
-    try:
-        return json.loads(line)
-    except (ValueError, RecursionError):
-        raise NotFollowed("it is no record: it is no JSON") from None
+    given = words.parse_args()
+    if not given.records and not sys.stdin:
+        words.error("standard input is closed")
+    return given
 
 
 class Holding:
-    """The records of one description, one after another. `game` is none until it is read, or where it can't be followed."""
+    """The records of one description, one after another. `following` is none until the description is read. What it keeps of the game
+    serves all records; where a look at one was broken off, it may be half of it, and is made anew."""
 
     def __init__(self, text):
-        self.text, self.game, self.following = text, None, None
+        self.text, self.following = text, None
 
     def held(self, line):
         """Holds one record against the description. Returns a status and words."""
+        following, self.following = self.following, None
         try:
-            if self.game is None:
-                self.game = Game(self.text)
-            # What was seen of the order of moves is of the description alone, and serves all its records.
-            self.following = self.following or Following(self.game)
-            return SAME, f"the same: {self.following.follow(read_record(line)):,} turns"
+            following = following or Following(Game(self.text))
+            turns = following.follow(read_record(line))
         except Differs as why:
+            self.following = following
             return DIFFERENT, f"differs: {'; '.join(str(why).splitlines())}"
         except Late:
             raise
         except NotFollowed as why:
             return NOT_FOLLOWED, f"not followed: {why}"
+        except MemoryError:
+            return NOT_FOLLOWED, "not followed: it wants more memory than there is"
         except Exception as why:
             # Nothing is said of a game by a fault of this program.
-            place = why.__traceback__
-            while place.tb_next:
-                place = place.tb_next
-            where = f"{place.tb_frame.f_code.co_name}, line {place.tb_lineno}"
-            return NOT_FOLLOWED, f"not followed: a fault of ggp-hold-against, please report it: {type(why).__name__} in {where}: {why}"
+            return NOT_FOLLOWED, f"not followed: a fault of ggp-hold-against, please report it: {type(why).__name__} in {place_of(why)}: {why}"
+        self.following = following
+        return SAME, f"the same: {turns:,} turns"
+
+
+def place_of(why: BaseException) -> str:
+    """Words for where an exception comes from."""
+    place = why.__traceback__
+    while place.tb_next:
+        place = place.tb_next
+    return f"{place.tb_frame.f_code.co_name}, line {place.tb_lineno}"
 
 
 def hold(text, lines, limit):
@@ -92,26 +102,49 @@ def hold(text, lines, limit):
 def within(limit, holding, line):
     """What there is to say of a record; none where the seconds are over before."""
     try:
-        signal.setitimer(signal.ITIMER_REAL, limit)
-        return holding.held(line)
+        try:
+            signal.setitimer(signal.ITIMER_REAL, limit)
+            return holding.held(line)
+        finally:
+            # The seconds may be over here too.
+            signal.setitimer(signal.ITIMER_REAL, 0)
     except Late:
         return None
-    finally:
-        signal.setitimer(signal.ITIMER_REAL, 0)
+
+
+def limit_memory() -> None:
+    """Lets this process have so much memory, or less where it has less."""
+    soft, hard = resource.getrlimit(resource.RLIMIT_AS)
+    most = min([MEMORY, *(limit for limit in (soft, hard) if limit != resource.RLIM_INFINITY)])
+    resource.setrlimit(resource.RLIMIT_AS, (most, hard))
+
+
+def put(words: str) -> None:
+    """Writes a line. A text of a record may have what an encoding lacks."""
+    try:
+        print(words.encode("ascii", "backslashreplace").decode(), flush=True)
+    except OSError as why:
+        # What is left of the line is not written at the end either.
+        os.dup2(os.open(os.devnull, os.O_WRONLY), sys.stdout.fileno())
+        raise OSError(why.errno, why.strerror, "standard output") from None
+
+
+def records_in(files: Iterable[BinaryIO]) -> Iterator[bytes]:
+    """Gives the lines of files that are not empty."""
+    for file in files:
+        yield from (line for line in file if line.strip())
 
 
 def main():
     sys.setrecursionlimit(MOST_CALLS)
-    asked = arguments()
+    asked, found = arguments(), set()
+    limit_memory()
     try:
         text = asked.description.read().decode("latin-1")
-        lines = [line for file in asked.records or [sys.stdin.buffer] for line in file.read().splitlines() if line.strip()]
+        for status, words in hold(text, records_in(asked.records or [sys.stdin.buffer]), asked.seconds):
+            found.add(status)
+            put(words)
     except OSError as why:
         sys.stderr.write(f"ggp-hold-against: {why.filename or 'a file'}: {why.strerror}\n")
         return 2
-    found = set()
-    for status, words in hold(text, lines, asked.seconds):
-        found.add(status)
-        # A text of a record may have what an encoding lacks.
-        print(words.encode("ascii", "backslashreplace").decode(), flush=True)
     return DIFFERENT if DIFFERENT in found else NOT_FOLLOWED if NOT_FOLLOWED in found else SAME

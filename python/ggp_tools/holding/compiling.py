@@ -6,7 +6,7 @@ once. What it has found of a position it keeps. Relations that depend on themsel
 
 from . import positions
 from .planning import is_known, is_test
-from .reading import Asked, Either, NotFollowed, Same, is_variable, spelled, variables, variables_of
+from .reading import Asked, Either, NotFollowed, Same, is_built, is_variable, low, spelled, variables, variables_of
 from .relations import DOES, TRUE
 
 # Python takes twenty blocks in one another.
@@ -39,7 +39,7 @@ class Program:
     def __init__(self, relations, sizes):
         self.relations, self.sizes = relations, sizes
         self.made, self.waiting, self.fixed, self.count = {}, [], [], 0
-        self.space = {"NONE": (), "ONE": (0,), "Whole": positions.Whole, "BUSY": object(), "GoesRound": GoesRound}
+        self.space = {"NONE": (), "ONE": (0,), "Whole": positions.Whole, "BUSY": object(), "GoesRound": GoesRound, "low": low}
 
     def function(self, relation, known):
         """The function of a relation where these of its arguments are known."""
@@ -157,8 +157,14 @@ class Lines:
             return 3 if condition.relation in self.program.relations.rules else 1
         return 2 if isinstance(condition, Either) else 0
 
+    def texts(self, relation: tuple, arguments: list, bound: dict[str, str]) -> list[str]:
+        """The expressions of arguments that are asked for. What a relation asks of itself may grow."""
+        may_grow = relation in self.program.relations.denying
+        found = [(one, term_text(one, bound)) for one in arguments]
+        return [f"low({text})" if may_grow and is_built(one) else text for one, text in found]
+
     def asked(self, relation, arguments, bound):
-        texts = [term_text(one, bound) for one in arguments]
+        texts = self.texts(relation, arguments, bound)
         if relation == TRUE:
             return f"({texts[0]} in D.state)"
         if relation == DOES:
@@ -225,7 +231,7 @@ class Lines:
 
     def loop_over_answers(self, place, relation, arguments, bound):
         known = tuple(at for at, one in enumerate(arguments) if is_known(one, bound))
-        texts = [term_text(arguments[at], bound) for at in known]
+        texts = self.texts(relation, [arguments[at] for at in known], bound)
         relations = self.program.relations
         if relation in relations.circles:
             whole, number = self.whole(relation)
@@ -327,7 +333,8 @@ class Derived:
         return ["D", "W"]
 
     def write(self, lines, place, bound):
-        lines.put(place, f"W.add({self.number}, {tuple_text(term_text(one, bound) for one in self.terms)})")
+        texts = (f"low({term_text(one, bound)})" if is_built(one) else term_text(one, bound) for one in self.terms)
+        lines.put(place, f"W.add({self.number}, {tuple_text(texts)})")
 
 
 class Asking:

@@ -3,12 +3,13 @@
 from typing import NamedTuple
 
 from .reading import NotFollowed, is_variable, spelled, term_of
+from .records import AT_END, ILLEGAL, UNREADABLE, must_be_record
 from .relations import GOAL, INIT, LEGAL, NEXT, TERMINAL
 
 # So many of each kind are told.
 MOST_TOLD = 5
-KEYS = {"roles": list, "states": list, "moves": list, "errors": list, "goalValues": list, "phase": str}
-ILLEGAL, UNREADABLE = "IL ", "IL ?"
+# So much of a text is shown that is no term.
+MOST_SHOWN = 100
 
 
 class Differs(Exception):
@@ -28,8 +29,12 @@ class Following:
         return self.texts[term]
 
     def term(self, text):
+        """Returns the term of a text. Records have each term in its canonical text."""
         if text not in self.terms:
-            self.terms[text] = term_of(text)
+            found = term_of(text)
+            if spelled(found) != text:
+                raise NotFollowed(f"it is no record: {text[:MOST_SHOWN]!r} is no canonical text")
+            self.terms[text] = found
         return self.terms[text]
 
     def follow(self, record):
@@ -129,21 +134,20 @@ class Following:
     def look_at_end(self, record, state):
         if None in record.get("startMarks", ()):
             return
-        position, cause = self.game.position(state), record.get("cause")
-        kind = cause.split()[0] if isinstance(cause, str) and cause else None
-        is_at_end = record["phase"] in ("finished", "stopping") or kind == "nogoal"
+        position, (kind, *at) = self.game.position(state), (record.get("cause") or "none").split()
+        is_at_end = record["phase"] in AT_END or kind == "nogoal"
         is_over = self.game.is_over(position)
         if is_at_end and not is_over:
             raise Differs("the record ends as at the end of the game, and the description has no end there: nothing gives `terminal`")
         if not is_at_end and is_over:
             raise Differs(f"the record goes on, and the match has ended by the description: {self.cited(TERMINAL, (), state)} `terminal`")
         if kind == "nogoal":
-            self.look_at_missing_goal(position, int(cause.split()[1]))
+            self.look_at_missing_goal(position, int(at[0]))
         elif is_at_end:
             for role, value in zip(self.in_order, record["goalValues"]):
                 self.look_at_goal(position, role, value)
-        elif kind in ("nolegal", "allretired", None):
-            self.look_at_legal(position, int(cause.split()[1]) if kind == "nolegal" else None)
+        elif kind != "toolong":
+            self.look_at_legal(position, int(at[0]) if kind == "nolegal" else None)
 
     def look_at_goal(self, position, role, value):
         found = self.game.goals(position, role)
@@ -166,20 +170,6 @@ class Following:
             stuck = "no role" if without is None else self.text(self.in_order[without])
             said = "no role" if at is None else self.text(self.in_order[at])
             raise Differs(f"after the last turn {said} has no legal move in the record, and by the description {stuck}")
-
-
-def must_be_record(record):
-    """Refuses what lacks a part of a record that is followed."""
-    if not isinstance(record, dict):
-        raise NotFollowed("it is no record: one object of JSON is wanted")
-    for key, kind in KEYS.items():
-        if not isinstance(record.get(key), kind):
-            raise NotFollowed(f"it is no record: {key} is missing, or of another kind")
-    turns = len(record["moves"])
-    if len(record["errors"]) != turns or len(record["states"]) != turns + 1:
-        raise NotFollowed("it is no record: moves, errors and states do not fit together")
-    if any(len(one) != len(record["roles"]) for one in (*record["moves"], *record["errors"])):
-        raise NotFollowed("it is no record: a turn has not one move for each role")
 
 
 def fits(pattern, term, values):

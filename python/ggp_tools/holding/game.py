@@ -1,11 +1,13 @@
 """The game of a published description: its first state, and in each state what is legal, what follows, the end and the goals."""
 
+import re
+
 from .compiling import Program
 from .planning import Sizes
 from .reading import NotFollowed, all_rules, sentences_of
 from .relations import GOAL, INIT, LEGAL, NEXT, ROLE, TERMINAL, Relations
 
-MOST_GOAL = 100
+GOAL_NUMBER = re.compile(r"0|[1-9][0-9]?|100")
 
 
 class Game:
@@ -34,7 +36,7 @@ class Game:
     def goals(self, position, role):
         """The goals of a role, without those that are no numbers from 0 to 100."""
         found = self.values(position, role)
-        return sorted({int(one) for one in found if isinstance(one, str) and one.isdecimal() and int(one) <= MOST_GOAL})
+        return sorted({int(one) for one in found if isinstance(one, str) and GOAL_NUMBER.fullmatch(one)})
 
     def sources(self, relation, arguments, state, moves=()):
         """The sentences that derive this in a state, looked up one by one."""

@@ -5,13 +5,17 @@ only where each of its variables is bound by other conditions of the rule.
 """
 
 import itertools
+import math
 import re
 from typing import NamedTuple
 
 TOKEN = re.compile(r"[()]|[^\s();]+|;[^\n]*|\n")
 OWN = {"role": 1, "init": 1, "true": 1, "next": 1, "does": 2, "legal": 2, "goal": 2, "terminal": None}
 CONNECTIVES = "<=", "not", "or", "and", "distinct"
-MOST_WAYS = 4_096
+# So many rules may come of the `or`s of one sentence. Past the first number each `or` that can be is a relation of its own.
+FEW_WAYS, MOST_WAYS = 100, 10_000
+# As many as the referee takes.
+MOST_LEVELS = 64
 
 
 class NotFollowed(Exception):
@@ -65,14 +69,16 @@ def spelled(term):
     return term if isinstance(term, str) else "(" + " ".join(map(spelled, term)) + ")"
 
 
-def sentences_of(text):
-    """The sentences that a text spells, in small letters."""
+def sentences_of(text, most_levels=MOST_LEVELS):
+    """The sentences that a text spells, in small letters. Refuses one with more lists in one another."""
     found, levels, line, begun = [], [[]], 1, 1
     for token in TOKEN.findall(text):
         if token == "\n":
             line += 1
         elif token == "(":
             begun = line if len(levels) == 1 else begun
+            if len(levels) > most_levels:
+                raise NotFollowed(f"line {begun}: more than {most_levels} lists in one another")
             levels.append([])
         elif token == ")":
             if len(levels) == 1:
@@ -90,8 +96,27 @@ def sentences_of(text):
 
 def term_of(text):
     """The term that a text spells, as a move or a term of a state."""
-    (sentence,) = sentences_of(text)
-    return sentence.term
+    found = sentences_of(text)
+    if len(found) != 1:
+        raise NotFollowed("it is no record: a text of it is not one term")
+    return found[0].term
+
+
+def low(term: str | tuple) -> str | tuple:
+    """Returns a term. Refuses one that is larger than any that the referee takes, as rules make them that don't end."""
+    left = [(term, 0)]
+    while left:
+        one, level = left.pop()
+        if isinstance(one, tuple):
+            if level == MOST_LEVELS:
+                raise NotFollowed(f"a term has more than {MOST_LEVELS} lists in one another")
+            left += [(member, level + 1) for member in one]
+    return term
+
+
+def is_built(term: str | tuple) -> bool:
+    """Whether a term is a list that has variables."""
+    return not isinstance(term, str) and bool(variables(term))
 
 
 def is_variable(term):
@@ -155,13 +180,44 @@ def rules_of(sentence):
     term = sentence.term
     is_rule = isinstance(term, tuple) and term[:1] == ("<=",)
     if is_rule and len(term) < 2:
-        raise NotFollowed(f"{sentence.cited()}: a rule without a head")
+        raise NotFollowed("a rule without a head")
+    must_be_terms(term)
     relation, arguments = relation_of(term[1] if is_rule else term)
     literals = [conditions_of(literal) for literal in (term[2:] if is_rule else ())]
     bound = {name for ways in literals if len(ways) == 1 for one in ways[0] if is_binding(one) for name in variables_of(one)}
     tests = [Either(tuple(map(tuple, ways))) for ways in literals if len(ways) > 1 and is_bound(ways, bound)]
     others = [ways for ways in literals if len(ways) == 1 or not is_bound(ways, bound)]
-    return [Rule(sentence.number, relation, arguments, tuple([*body, *tests])) for body in products(others)]
+    others, own = set_apart(sentence.number, others)
+    return [*own, *(Rule(sentence.number, relation, arguments, tuple([*body, *tests])) for body in products(others))]
+
+
+def must_be_terms(term: str | tuple) -> None:
+    """Refuses a list that begins with no name."""
+    if isinstance(term, tuple):
+        if not term or not isinstance(term[0], str):
+            raise NotFollowed(f"{spelled(term)} is no term")
+        for member in term[1:]:
+            must_be_terms(member)
+
+
+def set_apart(number: int, literals: list) -> tuple[list, list[Rule]]:
+    """The same literals with relations of their own for `or`s, where these can hold in many ways, and the rules of these relations."""
+    found, own = [], []
+    is_many = math.prod(map(len, literals)) > FEW_WAYS
+    for place, ways in enumerate(literals):
+        names = tuple({name: None for way in ways for one in way for name in variables_of(one)})
+        if is_many and len(ways) > 1 and all(binds(way, names) for way in ways):
+            # No name has a blank.
+            relation = f"or {number} {place}", len(names)
+            own += [Rule(number, relation, names, tuple(way)) for way in ways]
+            ways = [[Asked(True, relation, names)]]
+        found.append(ways)
+    return found, own
+
+
+def binds(way: list, names: tuple[str, ...]) -> bool:
+    bound = {name for one in way if is_binding(one) for name in variables_of(one)}
+    return bound.issuperset(names)
 
 
 def is_binding(condition):

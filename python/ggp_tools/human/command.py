@@ -4,7 +4,7 @@
 
 It is a player as any other: the referee reaches it at `NAME@HOST:P`, and the person opens http://HOST:P/. START is answered once a page is open.
 The page shows the board, the legal moves, the clock, what the others did and what was replaced. A move is made by a click on its places, or
-from the list. A single legal move is made without asking. Rules may have variables (`--told` of the referee). It listens on 127.0.0.1
+from the list. A single legal move is made without asking. Rules may have variables (`--player-rules` of the referee). It listens on 127.0.0.1
 if not told otherwise: whoever reaches the port can move.
 """
 

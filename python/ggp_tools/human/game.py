@@ -1,8 +1,11 @@
 """What a person sees of a game: its boards, the places that a move names, and what stands where."""
 
+from collections.abc import Iterable, Iterator, Sequence
+
 from ggp_tools.holding.game import Game
-from ggp_tools.holding.reading import spelled
-from ggp_tools.records.show import Board, board_places, boards_of, words_of
+from ggp_tools.holding.reading import is_variable, spelled
+from ggp_tools.records.marks import marks_of
+from ggp_tools.records.show import Board, board_places, boards_of, visible, words_of
 
 State = frozenset
 Place = tuple[int, int]
@@ -53,13 +56,31 @@ class Shown:
         forms = {form for board in boards for form in board.forms}
         rest = [term for term in self.states[-1] if not (words_of(term) and (words_of(term)[0], len(words_of(term))) in forms)]
         return {
-            "boards": [board_value(board, self.states[-1]) for board in boards],
+            "boards": [board_value(board, self.states[-1], self.signs(board)) for board in boards],
             "terms": rest,
             "legal": [{"text": move, "places": [places_of(move, board) for board in boards]} for move in legal],
         }
 
 
-def board_value(board: Board, state: list[str]) -> dict:
-    """Returns a board as the page draws it: its axes, and what stands at each place."""
+    def signs(self, board: Board) -> dict[str, tuple[str, str]]:
+        """Returns the text that a board shows of each label, and its kinds. A label that the rules name looks the same in all states."""
+        heads = (sentence.term[1] if sentence.term[0] == "<=" else sentence.term for sentence in self.game.sentences)
+        terms = (words_of(spelled(head[1])) for head in heads if head[0] in ("init", "next") and len(head) == 2)
+        named = ([word for at, word in enumerate(term) if at in places] for term, places in labelled(terms, board))
+        labels = {" ".join(words) for words in named if not any(map(is_variable, words))}
+        labels |= {label for state in self.states for found in board_places(board, state).values() for label in found}
+        marks = marks_of(map(visible, labels))
+        return {label: (marks[visible(label)].text, " ".join(marks[visible(label)].kinds())) for label in labels}
+
+
+def labelled(terms: Iterable[list[str]], board: Board) -> Iterator[tuple[list[str], Sequence[int]]]:
+    """Gives the terms that a board shows, each with the places of the words of its label."""
+    for term in terms:
+        if term and (term[0], len(term)) in board.forms:
+            yield term, board.forms[term[0], len(term)][1]
+
+
+def board_value(board: Board, state: list[str], signs: dict[str, tuple[str, str]]) -> dict:
+    """Returns a board as the page draws it: its axes, what stands at each place, and what is shown of it."""
     cells = {f"{across},{up}": labels for (across, up), labels in board_places(board, state).items()}
-    return {"across": board.across, "up": board.up, "cells": cells}
+    return {"across": board.across, "up": board.up, "cells": cells, "signs": signs}

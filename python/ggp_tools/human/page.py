@@ -4,13 +4,16 @@ import base64
 import hashlib
 
 STYLE = """
-:root { color-scheme: light dark; --ink: #1d2330; --dim: #6b7280; --paper: #fff; --band: #f3f4f6; --line: #d5d9e0; --here: #dbe8fb; --go: #d8f0d4; }
+:root { color-scheme: light dark; --ink: #1d2330; --dim: #5f6673; --paper: #fff; --band: #f3f4f6; --line: #d5d9e0; --here: #dbe8fb; --go: #d8f0d4; }
 @media (prefers-color-scheme: dark) { :root { --ink: #e5e7eb; --dim: #9ca3af; --paper: #14171d; --band: #1f242d; --line: #39404c; --here: #1e3a63; --go: #1f4a2a; } }
 body { font: 16px/1.45 system-ui, sans-serif; color: var(--ink); background: var(--paper); margin: 1.2rem auto; max-width: 60rem; padding: 0 1rem; }
 h1 { font-size: 1.3rem; margin: 0; } h1, #note, #moves button { overflow-wrap: anywhere; } .dim { color: var(--dim); } #clock { font-variant-numeric: tabular-nums; font-size: 1.6rem; float: right; }
 .board { display: inline-grid; gap: 2px; margin: 1rem 1.5rem 1rem 0; } .board b { color: var(--dim); font-weight: normal; text-align: center; align-self: center; }
 .board button { width: 3.2rem; height: 3.2rem; padding: 0; overflow: hidden; overflow-wrap: anywhere; font: bold .8rem/1.1 ui-monospace, monospace; background: var(--band); color: inherit; border: 1px solid var(--line); }
 .board button.can { background: var(--go); cursor: pointer; } .board button.chosen { background: var(--here); outline: 2px solid; }
+.board span { display: block; } .board span.glyph { font-size: 1.7rem; line-height: 1; font-weight: normal; }
+.board .white { color: #fff; text-shadow: 0 0 1px #000, 0 0 1px #000, 0 0 2px #000; } .board .black { color: #000; text-shadow: 0 0 1px #fff, 0 0 1px #fff, 0 0 2px #fff; }
+.board .red { color: #d92d20; } .board .blue { color: #2e6be6; } .board .green { color: #1f9d4d; } .board .yellow { color: #d99a06; }
 #moves { display: flex; flex-wrap: wrap; gap: .4rem; padding: 0; list-style: none; max-height: 50vh; overflow: auto; }
 #moves button { font: .9rem ui-monospace, monospace; padding: .35rem .6rem; } input { font: inherit; width: 100%; box-sizing: border-box; }
 #terms { font: .85rem ui-monospace, monospace; color: var(--dim); overflow-wrap: anywhere; }
@@ -59,7 +62,8 @@ function drawBoard(board, number) {
     grid.append(element("b", board.up[up - 1]));
     for (let across = 1; across <= board.across.length; across++) {
       const labels = board.cells[`${across},${up}`] || [], place = [across, up];
-      const cell = element("button", labels.join(" "));
+      const cell = element("button", ""), signs = labels.map((label) => board.signs[label]);
+      cell.append(...signs.map(([text, kinds]) => element("span", text, kinds)));
       cell.title = `${board.across[across - 1]} ${board.up[up - 1]}: ${labels.join(", ") || "nothing"}`;
       const can = view.legal.some((move) => fits(move) && move.places[number].some((it) => same(it, place)));
       if (can) cell.classList.add("can");
@@ -98,7 +102,10 @@ events.onmessage = (event) => {
   deadline = view.left === null ? null : Date.now() + 1000 * view.left;
   draw();
 };
-events.onerror = () => { $("note").textContent = "The player does not answer: it has ended, or is being started again."; };
+events.onerror = () => {
+  const end = ["over", "aborted"].includes(view.phase) ? view.note : "";
+  $("note").textContent = `${end} The player does not answer: it has ended, or is being started again.`.trim();
+};
 $("filter").addEventListener("input", draw);
 setInterval(() => { $("clock").textContent = deadline === null ? "" : `${Math.max(0, Math.ceil((deadline - Date.now()) / 1000))} s`; }, 200);
 """

@@ -1,5 +1,6 @@
 """A person's seat in one match at a time: what the referee says to it, and what the person answers."""
 
+import math
 import re
 import threading
 import time
@@ -30,7 +31,8 @@ def read_message(text: str) -> tuple[str, str, tuple]:
         return "info", "", ()
     head = HEAD.match(text)
     try:
-        terms = [sentence.term for sentence in sentences_of(text)]
+        # Rules stand in lists of the message, and are looked at apart from it.
+        terms = [sentence.term for sentence in sentences_of(text, math.inf)]
     except NotFollowed as why:
         raise Unread(str(why)) from None
     if not head or len(terms) != 1:

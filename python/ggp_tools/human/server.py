@@ -11,7 +11,7 @@ from ggp_tools.human.page import PAGE, POLICY
 from ggp_tools.human.seat import Seat, Unread
 
 # A START carries the whole rules.
-MOST_BYTES, MOST_MOVE = 4_194_304, 65_536
+MOST_BYTES, MOST_MOVE = 16_777_216, 65_536
 # A page that is told nothing for so many seconds gets a line that says that the player is still there.
 ALIVE = 10.0
 

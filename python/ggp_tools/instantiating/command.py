@@ -1,6 +1,6 @@
 """Instantiates a game: reads a description with variables, and writes the ground description of the same game, for --rules-file.
 
-    ggp-instantiate [--seconds N] [--folded | --unfolded] [--split] [--told TOLD] [FILE]
+    ggp-instantiate [--seconds N] [--large] [--folded | --unfolded] [--split] [--player-rules FILE] [FILE]
 
 Reads FILE, or standard input. What was done is said on standard error, beside the limits of the program, and where more was done
 than to find the instances a comment at the head says so. N is the seconds for the whole run, above 0 and up to 1,000,000 (60 if not
@@ -8,8 +8,9 @@ given). The work is that of the grounder gringo, which has to be installed, and 
 
 A description that is past the program's limits is folded: fewer and shorter sentences for the same game. With --folded every
 description is, with --unfolded none. One that has many instances, or is past the limits all the same, has its rules split, with --split
-any: parts of them get relations of their own, so that fewer variables stand in one rule. With --told the description with variables is
-written to TOLD for players, one sentence a line, with its `base` and `input`.
+any: parts of them get relations of their own, so that fewer variables stand in one rule. With --large the limits are those that the
+program has with its own --large. With --player-rules the description with variables is written to this FILE for players, one sentence a
+line, with its `base` and `input`.
 
 Each sentence becomes rules without `or`, and each rule tells the grounder which of its instances there can be: those whose
 `true` sentences speak of what some `init` or `next` derives, and whose `does` sentences of what some `legal` derives, whatever
@@ -53,31 +54,32 @@ def put(text):
         raise Refused(f"standard output can't be written: {error.strerror}") from None
 
 
-def write_told(made, file):
+def write_player_rules(made, file):
     """Writes the description with variables, and says how long it is."""
-    text = made.told()
+    text = made.text_for_players()
     if len(text) > MOST["bytes"]:
         raise Refused(f"nothing is written, since the text for players is past the limit: bytes ({len(text):,} of {MOST['bytes']:,})")
     try:
-        with open(file, "w", encoding="ascii") as it:
-            it.write(text)
+        with open(file, "w", encoding="ascii") as stream:
+            stream.write(text)
     except OSError as error:
         raise Refused(f"{file} can't be written: {error.strerror}") from None
     say(f"  for players {len(text):,} bytes with variables in {file}")
 
 
 def arguments():
-    usage = "ggp-instantiate [--seconds N] [--folded | --unfolded] [--split] [--told TOLD] [FILE]"
+    usage = "ggp-instantiate [--seconds N] [--large] [--folded | --unfolded] [--split] [--player-rules FILE] [FILE]"
     words = argparse.ArgumentParser("ggp-instantiate", usage=usage, description=HELP, epilog="More is said in examples/games/general/README.md.")
     told = f"the seconds for the whole run, above 0 and up to {MOST_SECONDS:,} ({SECONDS})"
     words.add_argument("--seconds", type=seconds, default=SECONDS, metavar="N", help=told)
+    words.add_argument("--large", action="store_true", help="keep to the limits of ggp_manager --large in place of the usual ones")
     how = words.add_mutually_exclusive_group()
     told = "fold the description: fewer and shorter sentences for the same game (done where it is past the limits of ggp_manager)"
     how.add_argument("--folded", dest="folding", action="store_const", const=ALWAYS, default=WHERE_NEEDED, help=told)
     how.add_argument("--unfolded", dest="folding", action="store_const", const=NEVER, help="do not fold it")
     told = "split the rules into parts with relations of their own (done where there are many instances)"
     words.add_argument("--split", action="store_true", help=told)
-    words.add_argument("--told", metavar="TOLD", help="write the description with variables to TOLD, for players")
+    words.add_argument("--player-rules", metavar="FILE", help="write the description with variables to this FILE, for players")
     told = "the description with variables (standard input)"
     words.add_argument("file", nargs="?", type=argparse.FileType("rb"), metavar="FILE", help=told)
     given = words.parse_args()
@@ -89,10 +91,10 @@ def arguments():
 def main():
     asked = arguments()
     try:
-        made = Making((asked.file or sys.stdin.buffer).read().decode("latin-1"), asked.seconds, asked.folding, asked.split)
+        made = Making((asked.file or sys.stdin.buffer).read().decode("latin-1"), asked.seconds, asked.folding, asked.split, asked.large)
         text = made.run()
-        if asked.told:
-            write_told(made, asked.told)
+        if asked.player_rules:
+            write_player_rules(made, asked.player_rules)
         put(text)
     except Refused as why:
         sys.exit(f"ggp-instantiate: {why}")

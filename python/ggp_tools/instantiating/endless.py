@@ -21,9 +21,13 @@ def is_endless(rule):
     # The variables of the instance that is derived are other ones than those of the next.
     head = put(head, {name: name + "'" for name in variables(head)})
     for literal in asked:
-        if relation(literal.atom) != key or not fits(literal.atom, head, values):
+        if relation(literal.atom) != key or not all(fits(one, other, values) for one, other in zip(arguments(literal.atom), arguments(head))):
             return False
     return any(isinstance(term, tuple) and name + "'" in variables(term) for name, term in values.items())
+
+
+def arguments(atom):
+    return () if isinstance(atom, str) else atom[1:]
 
 
 def fits(pattern, term, values):
@@ -32,10 +36,4 @@ def fits(pattern, term, values):
         if pattern.startswith("?"):
             return values.setdefault(pattern, term) == term
         return pattern == term
-    if isinstance(term, str) or len(pattern) != len(term):
-        return False
-    return all(fits(one, other, values) for one, other in zip(relationless(pattern, term)[0], relationless(pattern, term)[1]))
-
-
-def relationless(pattern, term):
-    return pattern[1:], term[1:]
+    return isinstance(term, tuple) and len(pattern) == len(term) and all(fits(one, other, values) for one, other in zip(pattern, term))

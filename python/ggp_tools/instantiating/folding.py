@@ -157,7 +157,7 @@ class Folded:
         if len(bodies) == 1:
             return self.formulas.all(bodies[0])
         counts = Counter(formula for body in bodies for formula in body)
-        shared, count = max(counts.items(), key=lambda it: (it[1] * self.formulas.sizes[it[0]] if it[1] > 1 else 0, -it[0]))
+        shared, count = max(counts.items(), key=lambda pair: (pair[1] * self.formulas.sizes[pair[0]] if pair[1] > 1 else 0, -pair[0]))
         if count == 1 or depth > 6:
             return self.formulas.any([self.formulas.all(body) for body in bodies])
         rest = self.factored([body - {shared} for body in bodies if shared in body], depth + 1)
@@ -209,13 +209,13 @@ class Folded:
         """The atomic sentences that stand in formulas."""
         found, seen, open_ones = set(), set(), list(formulas)
         while open_ones:
-            it = open_ones.pop()
-            if it in seen:
+            formula = open_ones.pop()
+            if formula in seen:
                 continue
-            seen.add(it)
-            node = self.formulas.nodes[it]
+            seen.add(formula)
+            node = self.formulas.nodes[formula]
             if node[0] == "atom":
-                found.add(it)
+                found.add(formula)
             else:
                 open_ones += (node[1],) if node[0] == "not" else node[1]
         return found
@@ -292,7 +292,7 @@ class Folded:
         for place, (body, count) in enumerate(counts.items()):
             size = sum(self.formulas.sizes[formula] + 1 for formula in body) - 1
             gains.append(((count - 1) * size - (count + 1) * name_size - 7, -place, body))
-        best = sorted((gain for gain in gains if gain[0] > 0), key=lambda it: it[:2], reverse=True)[: max(most - self.sentences(), 0)]
+        best = sorted((gain for gain in gains if gain[0] > 0), key=lambda gain: gain[:2], reverse=True)[: max(most - self.sentences(), 0)]
         names = {body: self.new_part() for _, _, body in best}
         for head, bodies in self.bodies.items():
             self.rewrite(head, [frozenset([names[body]]) if body in names else body for body in bodies])
@@ -320,7 +320,7 @@ class Folded:
             if count > 1 and nodes[formula][0] in ("or", "not")
         ]
         room = most - self.sentences()
-        chosen = [formula for gain, formula in sorted(gains, key=lambda it: (-it[0], it[1])) if gain > 0][: max(room, 0)]
+        chosen = [formula for gain, formula in sorted(gains, key=lambda pair: (-pair[0], pair[1])) if gain > 0][: max(room, 0)]
         if chosen:
             self.name_parts(sorted(chosen))
 
@@ -389,7 +389,7 @@ def merged(bodies, formulas, origins):
             for literal in body:
                 groups.setdefault(body - {literal}, []).append((body, literal))
         used, new = set(), []
-        for rest, members in sorted(groups.items(), key=lambda it: -len(it[1])):
+        for rest, members in sorted(groups.items(), key=lambda group: -len(group[1])):
             members = [member for member in members if member[0] not in used]
             if rest in known and rest not in used:
                 used.update(body for body, _ in members)

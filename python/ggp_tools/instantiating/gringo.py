@@ -174,7 +174,7 @@ def limit_memory():
 
 def write(stream, text):
     try:
-        with stream as it:
-            it.write(text)
+        with stream as pipe:
+            pipe.write(text)
     except (BrokenPipeError, ValueError):
         pass

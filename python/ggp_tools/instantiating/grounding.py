@@ -54,7 +54,7 @@ def in_order(rules):
     """The rules in the order in which they are written, each once."""
     atoms = {atom for rule in rules for atom in (rule.head, *(literal.atom for literal in rule.body))}
     ranks = {atom: rank for rank, atom in enumerate(sorted(atoms, key=place))}
-    rules = sorted(rules, key=lambda it: (it.sentence, ranks[it.head], [(ranks[one.atom], one.positive) for one in it.body]))
+    rules = sorted(rules, key=lambda rule: (rule.sentence, ranks[rule.head], [(ranks[one.atom], one.positive) for one in rule.body]))
     found = {}
     for one in rules:
         found.setdefault((one.head, one.body), one)

@@ -7,6 +7,8 @@ from ggp_tools.kif import MOST_LEVELS, Refused, levels, relation, spelled
 from .sentences import SECRET, cited
 
 MOST = {"sentences": 8192, "atomic sentences": 16384, "roles": 16, "moves": 4096, "bytes": 1048576, "levels": MOST_LEVELS}
+# What is more with --large.
+MORE_OF_LARGE = {"sentences": 65536, "atomic sentences": 65536, "bytes": 4194304}
 # One word of a command line on Linux, without the byte that ends it.
 MOST_IN_A_WORD = 131071
 GOAL = re.compile(r"0|[1-9][0-9]?|100")
@@ -51,18 +53,23 @@ def atoms_of(expression):
         yield expression
 
 
-def figures(written, size):
+def most_of(is_large):
+    """How much there may be of each thing."""
+    return {**MOST, **MORE_OF_LARGE} if is_large else MOST
+
+
+def figures(written, size, most):
     """What the program sets a limit to: each thing's name, how much of it there is, and how much there may be."""
     heads = dict.fromkeys(sentence[1] if sentence[0] == "<=" else sentence for _, sentence in written)
     moves = Counter(head[1] for head in heads if relation(head) == ("legal", 2))
     roles = [head[1] for head in heads if relation(head) == ("role", 1)]
-    yield "sentences", len(written), MOST["sentences"]
-    yield "atomic sentences", len({atom for _, sentence in written for atom in atoms_of(sentence)}), MOST["atomic sentences"]
-    yield "roles", len(roles), MOST["roles"]
+    yield "sentences", len(written), most["sentences"]
+    yield "atomic sentences", len({atom for _, sentence in written for atom in atoms_of(sentence)}), most["atomic sentences"]
+    yield "roles", len(roles), most["roles"]
     for role in roles:
-        yield f"moves of {spelled(role)}", moves[role], MOST["moves"]
-    yield "bytes", size, MOST["bytes"]
-    yield "lists in one another", max((levels(sentence) for _, sentence in written), default=0), MOST["levels"]
+        yield f"moves of {spelled(role)}", moves[role], most["moves"]
+    yield "bytes", size, most["bytes"]
+    yield "lists in one another", max((levels(sentence) for _, sentence in written), default=0), most["levels"]
 
 
 def costs_of(written, is_bytes):

@@ -6,7 +6,7 @@ import sys
 import time
 from typing import NamedTuple
 
-from . import folding, gringo, grounding, limits, rounds, told
+from . import folding, for_players, gringo, grounding, limits, rounds
 from .endless import endless
 from ggp_tools.kif import Refused, expressions, relation, spelled
 from .forms import forms
@@ -50,24 +50,26 @@ class Written(NamedTuple):
 
 
 class Making:
-    """The making of one ground description."""
+    """The making of one ground description, within the usual limits of the program or those for large games."""
 
-    def __init__(self, text, seconds, folding_wanted, is_split=False):
-        self.text, self.seconds, self.wanted, self.is_split = text, seconds, folding_wanted, is_split
+    def __init__(self, text, seconds, folding_wanted, is_split=False, is_large=False):
+        self.text, self.seconds, self.wanted, self.is_split, self.most = text, seconds, folding_wanted, is_split, limits.most_of(is_large)
         self.sentences, self.lines, self.rules, self.grounder, self.work = [], [], [], None, "reading it"
-        self.notes, self.best, self.hopeless, self.known, self.count = [], None, None, [], 0
+        self.notes, self.best, self.hopeless, self.known, self.count, self.is_unrolled = [], None, None, [], 0, False
 
     def run(self):
         """The ground description, or why there is none, within the seconds."""
         self.began = time.monotonic()
         signal.signal(signal.SIGALRM, late)
         try:
-            signal.setitimer(signal.ITIMER_REAL, self.seconds)
-            return self.made()
+            try:
+                signal.setitimer(signal.ITIMER_REAL, self.seconds)
+                return self.made()
+            finally:
+                # The seconds may be over here too.
+                signal.setitimer(signal.ITIMER_REAL, 0)
         except Late:
             why = f"stopped after {self.seconds:g} s, {self.work}"
-        finally:
-            signal.setitimer(signal.ITIMER_REAL, 0)
         return self.reported(self.best) if self.best else self.refuse(why)
 
     def refuse(self, why):
@@ -97,19 +99,20 @@ class Making:
                     self.refuse(str(why))
                 continue
             except folding.Hopeless as why:
-                self.hopeless = why
+                if why is not self.hopeless:
+                    self.hopeless = folding.Hopeless(self.explained(str(why)))
                 done.append(form.rules)
                 continue
             if not self.best.past():
                 break
             done.append(form.rules)
         if not self.best:
-            self.refuse(f"nothing is written, since this is past the limit, however it is folded: {self.hopeless}")
+            raise Refused(f"nothing is written, since this is past the limit, however it is folded: {self.hopeless}")
         return self.best
 
     def ground_rules_of(self, form):
         """The ground rules of a form, without cycles."""
-        self.notes, self.known = list(form.notes), []
+        self.notes, self.known, self.is_unrolled = list(form.notes), [], False
         found = self.ground(gringo.LogicProgram(form.rules, Relations(form.rules).unsettled()), form.most)
         if self.hopeless and 2 * len(found) > self.count:
             raise self.hopeless
@@ -117,6 +120,7 @@ class Making:
         self.work = "unrolling its cycles"
         found, circles = rounds.unrolled(found)
         if circles:
+            self.is_unrolled = True
             found = grounding.in_order(grounding.needed(found))
             self.note_circles([circle for circle in circles if circle[1] > 1])
             self.know(f"{len(found):,} ground sentences, since {self.notes[-1] if self.notes else 'cycles are unrolled'}")
@@ -126,7 +130,7 @@ class Making:
 
     def note_circles(self, circles):
         if circles:
-            atom, count, last = max(circles, key=lambda it: it[1])
+            atom, count, last = max(circles, key=lambda circle: circle[1])
             largest = f"the largest, of {count:,} sentences with {spelled(atom)}, in {last + 1:,} rounds"
             self.notes.append(f"{len(circles):,} cycles of sentences are unrolled, {largest}")
 
@@ -161,7 +165,8 @@ class Making:
         # What it makes has to be seen to grow: a sentence without instances makes nothing.
         if rule and self.grounder and self.grounder.lists_in(rule) > spelled(self.sentences[rule.sentence]).count("("):
             why = f"the instances do not end: {why}; {self.cited(rule.sentence)}, puts what it makes into itself"
-        if self.grounder and (largest := self.grounder.largest()):
+        # Of what is unrolled the rounds are too many, and not the instances.
+        if self.grounder and not self.is_unrolled and (largest := self.grounder.largest()):
             why += f"; the most instances, {largest[1]:,}, are those of {self.cited(largest[0])}"
         return why
 
@@ -176,7 +181,7 @@ class Making:
         is_past = any(name in FOLDABLE for name, _, _ in found.past())
         if self.wanted == ALWAYS or (self.wanted == WHERE_NEEDED and is_past):
             self.work = "folding it"
-            game = folding.folded(rules, limits.MOST["sentences"], limits.MOST["bytes"], True)
+            game = folding.folded(rules, self.most["sentences"], self.most["bytes"], True)
             folded = list(game.written())
             self.notes.append(f"folded: {len(rules):,} ground sentences of {len(found.text):,} bytes became {len(folded):,}")
             found = self.as_written(folded)._replace(game=game)
@@ -184,7 +189,7 @@ class Making:
 
     def as_written(self, sentences):
         text = text_of(sentences, self.notes)
-        return Written(sentences, text, list(limits.figures(sentences, len(text))), self.notes)
+        return Written(sentences, text, list(limits.figures(sentences, len(text), self.most)), self.notes)
 
     def reported(self, written):
         """Says what was made, beside the limits, and refuses what is past one. Returns its text."""
@@ -195,7 +200,7 @@ class Making:
         wide = max(len(name) for name, _, _ in written.figures)
         for name, count, most in written.figures:
             say(f"  {name:{wide}} {count:>9,} of {most:>9,}" + (": PAST THE LIMIT" if count > most else ""))
-        if limits.MOST_IN_A_WORD < size <= limits.MOST["bytes"]:
+        if limits.MOST_IN_A_WORD < size <= self.most["bytes"]:
             say(f"  one word of a command line holds {limits.MOST_IN_A_WORD:,} bytes on Linux, and this is longer")
         if past := written.past():
             is_bytes = past[0][0] == "bytes"
@@ -206,9 +211,9 @@ class Making:
             raise Refused(f"nothing is written, since this is past the limit: {listed}")
         return written.text
 
-    def told(self):
+    def text_for_players(self):
         """The description with variables, for players."""
-        return told.told(self.sentences, self.ground_rules)
+        return for_players.text_for_players(self.sentences, self.ground_rules)
 
 
 def text_of(written, notes):

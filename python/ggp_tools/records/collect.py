@@ -7,11 +7,11 @@
     ggp-records --rules FOLDER ggp-base [--log LOG ..] [--games URL] DIR PILE ..
 
 A PILE is a file with a record on each line, as `season` and `run` write them; lines of accounts are skipped. FOLDER has the ground rules of
-the games, a file NAME.kif each: a record is of the game with its roles and its first state. `check` writes a line for each record: the
+the games, a file NAME.kif each: a record is of the game with its roles and its first state. With --large the limits of the rules are those for large games. `check` writes a line for each record: the
 file, the line's number, the match, the game and the verdict, with a tab between each two. With --explain lines below one that is not lawful say what
 was expected and what was found. `ggp-base` writes a file for each record that is lawful, as ggp-base has a match, and names the others.
 LOG, a file or a folder of files, has the times of messages, as the folder `logs` of a competition. URL/NAME/ is then the address of the game
-NAME. FILE and DIR must not be there. docs/PROFILE.md has the verdicts in section 9, and the keys for ggp-base in section 8.
+NAME. FILE and DIR must not be there. docs/PROFILE.md has the verdicts in section 9, examples/records/README.md the keys for ggp-base.
 
 The status is 0 if all records are lawful, 1 if not, 2 for wrong use, 3 if the program came to no verdict."""
 
@@ -86,6 +86,7 @@ def arguments(words: list[str]) -> argparse.Namespace:
     reader = argparse.ArgumentParser("ggp-records", description=__doc__, formatter_class=argparse.RawDescriptionHelpFormatter)
     reader.add_argument("--program", metavar="FILE", help="ggp_manager, if it is not beside this program or on the path")
     reader.add_argument("--rules", metavar="FOLDER", required=True, help="the games: a file NAME.kif of ground rules each")
+    reader.add_argument("--large", action="store_true", help="the limits of the rules are those for large games")
     reader.add_argument("--jobs", type=int, default=len(os.sched_getaffinity(0)), metavar="N", help="at most N processes at a time")
     reader.add_argument("--explain", action="store_true", help="`check`: say why a record is not lawful")
     actions = reader.add_subparsers(dest="action", required=True)
@@ -107,7 +108,7 @@ def arguments(words: list[str]) -> argparse.Namespace:
 
 def perform(given: argparse.Namespace) -> int:
     """Does what the words ask for. Returns the status."""
-    referee, pile, count = Referee(find_program(given.program)), Pile(given.piles), Count()
+    referee, pile, count = Referee(find_program(given.program), given.large), Pile(given.piles), Count()
     times = times_of_logs(given.log) if given.action == "ggp-base" else {}
     games, refused = known_games(given.rules, referee)
     for said in refused:

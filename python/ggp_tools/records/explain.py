@@ -16,7 +16,7 @@ from ggp_tools.kif import expressions
 from ggp_tools.records import shapes
 from ggp_tools.records.collection import BATCH, numbered_lines
 from ggp_tools.records.countdown import countdown
-from ggp_tools.referee import rules_file
+from ggp_tools.referee import Referee, rules_file
 
 ABOUT = (
     "Explains why a record is not lawful: what was expected, and what was found. If it is lawful, `lawful` is printed. Otherwise the fault "
@@ -25,7 +25,7 @@ ABOUT = (
     "each line is a record: only those that are not lawful are named, each with the number of its line and its explanation. Lines of accounts are skipped."
 )
 STATUS = "status 0: the record is lawful, or all are. 1: it is not, or one is not. 2: wrong use. 3: there is no verdict."
-LONGEST_RECORD, LONGEST_RULES = 16 << 20, 1 << 20
+LONGEST_RECORD, LONGEST_RULES, LONGEST_OF_LARGE = 16 << 20, 1 << 20, 4 << 20
 MOST_LISTED, MOST_OF_VALUE, MOST_OF_TEXT = 20, 80, 400
 TOO_LONG = "it is longer than 16 MiB"
 # A fault is a tuple: how the program names it, and the lines that explain it.
@@ -188,7 +188,7 @@ class Replay(Match):
 
     def advance(self, moves, errors):
         legal = [{text_of(legal_move): legal_move for legal_move in self.game.legal(self.states[-1], role)} for role in self.game.roles]
-        self.turn([(its[move], error) for its, move, error in zip(legal, moves, errors)])
+        self.turn([(terms[move], error) for terms, move, error in zip(legal, moves, errors)])
         self.runs = [run + 1 if error else 0 for run, error in zip(self.runs, errors)]
         self.most = list(map(max, self.most, self.runs))
 
@@ -233,7 +233,7 @@ class Replay(Match):
         wanted = [self.game.goal(self.states[-1], role) for role in self.game.roles] if has_goals else []
         if found == wanted:
             return None
-        sides = [", ".join(f"{name} {'without exactly one goal' if goal is None else goal}" for name, goal in zip(self.names, its)) or "none" for its in (wanted, found)]
+        sides = [", ".join(f"{name} {'without exactly one goal' if goal is None else goal}" for name, goal in zip(self.names, goals)) or "none" for goals in (wanted, found)]
         why = "has the goals of the last state" if has_goals else "has no goals"
         return ("goals", f"A record of the phase {phase} {why}.", f"expected: {sides[0]}", f"found: {sides[1]}")
 
@@ -248,7 +248,7 @@ class Replay(Match):
         if found in ends:
             return None
         known = {"starting": f"a START mark is missing after {counted(len(self.moves), 'turn')}", "playing": "the match can go on"}.get(phase) or self.why(cause)
-        lines = [", or ".join(end_words(*end, self.names) for end in its) or "other marks or turns: no phase has these" for its in (ends, [found])]
+        lines = [", or ".join(end_words(*end, self.names) for end in group) or "other marks or turns: no phase has these" for group in (ends, [found])]
         said = f"At the end {known}, and {given} of {counted(len(self.names), 'role')} {'has' if given == 1 else 'have'} an end mark."
         return ("end", said, f"expected: {lines[0]}", f"found: {lines[1]}")
 
@@ -261,7 +261,7 @@ def explanation(word: str, game: Game, data: bytes) -> list[str]:
     if word == "json":
         return json_lines(data)
     try:
-        record = json.loads(data, parse_int=lambda it: -0.0 if it == "-0" else int(it))
+        record = json.loads(data, parse_int=lambda digits: -0.0 if digits == "-0" else int(digits))
         names = list(map(text_of, game.roles))
         if word.startswith("shape "):
             return shape_lines(word.split()[1], record, names)
@@ -319,8 +319,8 @@ def unreadable(file: str | int, why: Exception) -> NoVerdict:
 def read(file, most):
     """Returns the bytes of a file, or of standard input, up to one more than the most that the program takes."""
     try:
-        with open(file, "rb", closefd=file != 0) as it:
-            return it.read(most + 1)
+        with open(file, "rb", closefd=file != 0) as stream:
+            return stream.read(most + 1)
     except (OSError, ValueError) as why:
         raise unreadable(file, why) from None
 
@@ -331,9 +331,9 @@ def rules_of(asked_for: argparse.Namespace) -> Iterator[tuple[list[str], Callabl
     if asked_for.countdown is not None:
         yield [f"--countdown={asked_for.countdown}"], functools.cache(lambda: Game(countdown(int(asked_for.countdown))))
         return
-    rules = read(asked_for.rules_file, LONGEST_RULES)
+    rules = read(asked_for.rules_file, LONGEST_OF_LARGE if asked_for.large else LONGEST_RULES)
     with rules_file(rules) as path:
-        yield [f"--rules-file={path}"], functools.cache(lambda: Game(expressions(rules.decode("latin-1"))))
+        yield Referee(asked_for.program, asked_for.large).rules_words(path), functools.cache(lambda: Game(expressions(rules.decode("latin-1"))))
 
 
 def explain_one(asked_for: argparse.Namespace) -> tuple[list[str], int]:
@@ -410,6 +410,7 @@ def parser() -> argparse.ArgumentParser:
     reader.add_argument("program", metavar="PROGRAM", help="the referee, ggp_manager, whose `verify` judges the record")
     reader.add_argument("record", metavar="RECORD", nargs="?", default=0, help="a file with one record, or with --lines with one a line (standard input)")
     reader.add_argument("--lines", action="store_true", help="each line is a record")
+    reader.add_argument("--large", action="store_true", help="the limits of the description are those for large games")
     game = reader.add_mutually_exclusive_group(required=True)
     game.add_argument("--rules-file", metavar="FILE", help="the ground description of the game")
     game.add_argument("--countdown", metavar="N", help="the game is Countdown, from a heap of N")

@@ -1,4 +1,4 @@
-"""Records as ggp-base has its matches: for each a JSON object, in a file of its own. docs/PROFILE.md says in section 8 what becomes of each
+"""Records as ggp-base has its matches: for each a JSON object, in a file of its own. examples/records/README.md says what becomes of each
 key. Times come from logs, where each line has the time of day at which it came."""
 
 import datetime

@@ -124,7 +124,7 @@ def shortened(texts: Iterable[str]) -> dict[str, str]:
     for tail in TAILS:
         cuts = {text: cut(text, tail) for text in long}
         counts = Counter(cuts.values())
-        found = {text: its for text, its in cuts.items() if counts[its] == 1 and its not in taken}
+        found = {text: short for text, short in cuts.items() if counts[short] == 1 and short not in taken}
         shown |= found
         taken |= set(found.values())
         long = [text for text in long if text not in found]

@@ -81,7 +81,7 @@ BOARD_STYLE = """
 """
 
 STYLE = """
-:root { color-scheme: light dark; --ink: #1d2330; --dim: #6b7280; --paper: #fff; --band: #f3f4f6; --line: #d5d9e0;
+:root { color-scheme: light dark; --ink: #1d2330; --dim: #5f6673; --paper: #fff; --band: #f3f4f6; --line: #d5d9e0;
   --new: #d8f0d4; --odd: #ffe2cf; --odd-ink: #9a3412; --here: #dbe8fb; }
 @media (prefers-color-scheme: dark) { :root { --ink: #e5e7eb; --dim: #9ca3af; --paper: #14171d; --band: #1f242d; --line: #39404c;
   --new: #1f4a2a; --odd: #55301a; --odd-ink: #fdba74; --here: #1e3a63; } }
@@ -153,20 +153,20 @@ class NoRecord(Exception):
     """What is wrong with a text that is no record."""
 
 
-def is_text(it):
-    return isinstance(it, str)
+def is_text(value):
+    return isinstance(value, str)
 
 
-def is_whole(it):
-    return isinstance(it, int) and not isinstance(it, bool) and it >= 0
+def is_whole(value):
+    return isinstance(value, int) and not isinstance(value, bool) and value >= 0
 
 
-def is_text_or_null(it):
-    return it is None or is_text(it)
+def is_text_or_null(value):
+    return value is None or is_text(value)
 
 
 def list_of(is_one):
-    return lambda it: isinstance(it, list) and all(map(is_one, it))
+    return lambda value: isinstance(value, list) and all(map(is_one, value))
 
 
 # The keys of a record: whether a value is of the key's kind, and what is said of one that is not.
@@ -565,8 +565,8 @@ def main() -> int:
 def put(page):
     """Writes the page, and returns the status."""
     try:
-        with open(1, "wb", closefd=False) as it:
-            it.write(page)
+        with open(1, "wb", closefd=False) as output:
+            output.write(page)
     except OSError as why:
         say(f"ggp-show-record: standard output can't be written: {why.strerror}")
         return 1

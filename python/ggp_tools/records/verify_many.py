@@ -8,6 +8,9 @@ each, and the verdicts are written in the order of the lines. Nothing is judged 
 and the status are those of one process over all lines, and docs/PROFILE.md says in section 10 what they mean. But verdicts come by the
 piece, reads are not counted, and each process reads the file of the rules, so that file can't be a pipe.
 
+N is at most 1,024, and at most N + 2 pieces with their verdicts are in memory. Faults of its own begin with `ggp-verify-records: `. Wrong
+words have status 2, a PROGRAM that can't be run has 1, and a process that a signal ends has 128 plus the signal's number.
+
 It needs only Python 3.11 or later.
 """
 
@@ -112,11 +115,11 @@ def check(words, piece):
         return Checked(None, fault=piece)
     try:
         verdicts = in_memory("verdicts")
-        with in_memory("said") as it:
-            with subprocess.Popen(words, stdin=subprocess.PIPE, stdout=verdicts, stderr=it) as child:
+        with in_memory("said") as errors:
+            with subprocess.Popen(words, stdin=subprocess.PIPE, stdout=verdicts, stderr=errors) as child:
                 hand_over(piece, child.stdin)
-            it.seek(0)
-            said, status = it.read(), child.returncode
+            errors.seek(0)
+            said, status = errors.read(), child.returncode
     except OSError as error:
         return Checked(None, fault=Fault(own_words(f"{words[0]} can't be run: {error.strerror}")))
     counts = COUNTS.fullmatch(said)

@@ -1,18 +1,21 @@
 -- The parts that the game of a description is made from.
-use Rattle.std.specs.Prelude.{ℕ, ◌≡◌, Bool, true, false, ◌&&◌, nat_le, List, map, length}
+use Rattle.std.specs.Prelude.{ℕ, ◌≡◌, ◌≤◌, Bool, true, false, ◌&&◌, nat_le, List, map, length}
 use Rattle.std.specs.List.{list_all}
 use Rattle.std.specs.List.Sorted.{IsPermutation}
+use Rattle.game_core.specs.Limits.{max_sentences, max_atomic_sentences}
+use Rattle.game_core.specs.declared.limits.Limits.{Limits}
 use Rattle.game_core.specs.Play.{max_roles}
 use Rattle.ground_rules.specs.declared.names.TermKind.TheVariants.{State, Move}
 use Rattle.numbered_rules.specs.Literals.{Rule}
 use Rattle.rule_sentences.specs.Descriptions.{Description, is_among, role_names, heads, each_once}
 use Rattle.ground_rules.specs.Lawfulness.TableTests.{are_in_order}
-use Rattle.rule_sentences.specs.Sizes.{max_sentences, max_atomic_sentences, max_moves, same_atomic, atomics}
+use Rattle.rule_sentences.specs.Sizes.{max_moves, same_atomic, atomics}
 use Rattle.ground_rules.specs.Roles.{RoleTable}
 use Rattle.ground_rules.specs.Internal.Ranked.{AreRankedFrom}
 use Rattle.ground_rules.specs.Internal.SplitRules.{AreSplitOf}
 use Rattle.ground_rules.specs.Internal.Resolved.{NameTable, head_terms, resolved_rules, role_table}
-use Rattle.ground_rules.specs.Loading.{IsSound}
+use Rattle.ground_rules.specs.Acyclic.{IsAcyclic}
+use Rattle.ground_rules.specs.Loading.{HasRoles}
 
 -- the tables are those of the description
 pub record IsTableOf (d : Description) (t : NameTable) : Type 0 where
@@ -24,8 +27,8 @@ pub record IsTableOf (d : Description) (t : NameTable) : Type 0 where
   pub moves : (u : List ℕ) → is_among t.moves u ≡ is_among (head_terms Move d) u
 
 -- the size without the moves
-abbrev pub is_small_so_far : ℕ → Description → Bool
-is_small_so_far n d = nat_le n max_sentences && nat_le (length (each_once same_atomic (atomics d))) max_atomic_sentences && nat_le (length (role_names d)) max_roles
+abbrev pub is_small_so_far : Limits → ℕ → Description → Bool
+is_small_so_far limits n d = nat_le n (max_sentences limits) && nat_le (length (each_once same_atomic (atomics d))) (max_atomic_sentences limits) && nat_le (length (role_names d)) max_roles
 
 abbrev pub have_few_moves_by : List RoleTable → Bool
 have_few_moves_by rs = list_all (λ r. nat_le (length r.legal) max_moves) rs
@@ -41,13 +44,14 @@ pub record IsTestOf (b : Bool) (P : Type 0) : Type 0 where
   pub yes : b ≡ true → P
   pub no : b ≡ false → ¬ P
 
--- a description with this number of sentences, without fault, with its names and what its roles
--- look up
-pub record AreNamesOf (n : ℕ) (d : Description) (t : NameTable) (roles : List RoleTable) : Type 0 where
-  pub sound : IsSound n d
+-- an acyclic description that has roles, at most 16, with its names and what its roles look up
+pub record AreNamesOf (d : Description) (t : NameTable) (roles : List RoleTable) : Type 0 where
+  pub roles' : HasRoles d
+  pub few_roles : length (role_names d) ≤ max_roles
+  pub acyclic : IsAcyclic d
   pub table : IsTableOf d t
   pub tables : roles ≡ map (role_table t) t.roles
 
-pub record AreGameParts (n : ℕ) (d : Description) (t : NameTable) (roles : List RoleTable) (rest turn : List (Rule ℕ ℕ)) : Type 0 where
-  pub names : AreNamesOf n d t roles
+pub record AreGameParts (d : Description) (t : NameTable) (roles : List RoleTable) (rest turn : List (Rule ℕ ℕ)) : Type 0 where
+  pub names : AreNamesOf d t roles
   pub split : AreSplitOf d t rest turn

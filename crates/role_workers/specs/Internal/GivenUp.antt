@@ -7,7 +7,7 @@ use Rattle.desk_calls.specs.declared.call.Call.{Call}
 use Rattle.desk_calls.specs.declared.call.Call.TheVariants.{Abort}
 use Rattle.desk_calls.specs.declared.call.Reply.{Reply}
 use Rattle.match_messages.specs.declared.brief.Brief.{Brief}
-use Rattle.role_workers.specs.Events.{Event, makes, takes, telling, telling_with}
+use Rattle.role_workers.specs.Events.{Event, makes, takes, telling, Tells}
 use Rattle.role_workers.specs.Steps.{answer_call, asking}
 use Rattle.role_workers.specs.RoleCalls.{due_round}
 use Rattle.role_workers.specs.declared.seats.Unattended.{Unattended}
@@ -36,4 +36,4 @@ giving_up it = aborting it ++ answering it.of.brief.now it.of.role (due_round it
 pub record AreGivenUp {W : Type 0} (w : Wire.Ghosts W Call Reply) (roles : List Unattended) (wire wire' : W) : Type 0 where
   pub given : List GivenUp
   pub in_order : map (λ it. it.of) given ≡ roles
-  pub told : telling (w.calls wire') (w.replies wire') None ≡ telling_with (telling (w.calls wire) (w.replies wire) None) (flat_map giving_up given)
+  pub told : Tells (telling (w.calls wire) (w.replies wire) None) (telling (w.calls wire') (w.replies wire') None) (flat_map giving_up given)

@@ -29,5 +29,5 @@ returns g c =
     let game = c.args.game.now in
     let m = c.args.held.now.value in
     let same = c.requires.game in
-    let legal = c.recorded_moves_are_legal.ensures game m (subst (λ x. IsLawfulMatch (rules x) m) same c.state-state.ensures.lawful) in
+    let legal = c.recorded_moves_are_legal.ensures game m (subst (λ x. IsLawfulMatch (rules x) m) same c.matches_are_lawful.ensures) in
     ends_with (rules game) (c.stages_are_settled.ensures.stopping game) m c.args.role c.goal_of.result legal (subst (λ x. c.goal_of.result ≡ goal_of (rules x) m c.args.role) same c.goal_of.ensures)

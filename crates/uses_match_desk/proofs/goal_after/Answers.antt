@@ -50,4 +50,4 @@ goal_of_the_game rules d game id held role goal are_legal stopping only found la
 pub returns : goal.returns
 returns c =
     goal_of_the_game (λ (x : Countdown). countdown x.size) c.loop-call.manager c.args.game.now c.args.id.now c.in-Some.held.now c.args.role c.goal_of.result
-    (c.recorded_moves_are_legal.ensures c.args.game.now) (c.stages_are_settled.ensures.stopping c.args.game.now) (c.loop-call.invariant ∙ c.requires.game) (sym c.in-Some.ensures) c.state-state.ensures.lawful c.goal_of.ensures
+    (c.recorded_moves_are_legal.ensures c.args.game.now) (c.stages_are_settled.ensures.stopping c.args.game.now) (c.loop-call.invariant ∙ c.requires.game) (sym c.in-Some.ensures) c.matches_are_lawful.ensures c.goal_of.ensures

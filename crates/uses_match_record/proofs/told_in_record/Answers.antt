@@ -25,5 +25,5 @@ pub returns-in-Ok : goal.returns-in-Ok
 returns-in-Ok g c =
     let found = c.in-Ok.ensures.ok in
     same_parts (g.G.Game.rules c.args.game.now) c.args.held.now.value c.as_slice.result.now found.0 c.in-Ok.parts
-    c.record_tree_holds_parts.ensures c.lawful_parts_have_shape.ensures c.holds_one_parts_at_most.ensures (subst (λ game. IsLawfulMatch (g.G.Game.rules game) c.args.held.now.value) c.requires.game c.state-state.ensures.lawful) c.requires.setup
+    c.record_tree_holds_parts.ensures c.lawful_parts_have_shape.ensures c.holds_one_parts_at_most.ensures (subst (λ game. IsLawfulMatch (g.G.Game.rules game) c.args.held.now.value) c.requires.game c.matches_are_lawful.ensures) c.requires.setup
     (ap (λ (t : List ℕ). read t) c.as_slice.ensures ∙ c.in_ok-record.ensures.reads_back) found.1 found.2 found.3

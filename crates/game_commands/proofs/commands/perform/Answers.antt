@@ -1,7 +1,14 @@
-use Rattle.std.proofs.Common.{inl, inr, refl}
-use Rattle.std.proofs.lemmas.Result.{IfErr-weaker}
+use Rattle.std.proofs.Common.{rules, [], ◌∙◌, inl, inr, refl}
+use Rattle.std.proofs.KnownBytes.{Consumes-nil}
+use Rattle.std.proofs.lemmas.Result.{IfErr-weaker, err_from_is_err_and}
+use Rattle.game_commands.specs.declared.script_fault.ScriptFault.TheVariants.{Memory}
 use Rattle.game_commands.specs.Verdicts.{verdict_lines}
 use Rattle.game_commands.proofs.commands.perform.Goals as goal
+
+pub returns-in_err-alone-in-Desk-clause-fails : goal.returns-in_err-alone-in-Desk-clause-fails
+returns-in_err-alone-in-Desk-clause-fails g c =
+    let passed = err_from_is_err_and c.from_residual.result c.from_residual.ensures.1 in
+    rw (passed.1, c.in-Desk.is) (inr ([], Consumes-nil _, (Memory, passed.2 ∙ c.in_err-alone-in-Desk.ensures.memory, (search rules, refl, refl))))
 
 pub returns-clause-fails : goal.returns-clause-fails
 returns-clause-fails g c =
@@ -11,7 +18,7 @@ pub returns-in-Ok-clause-fails : goal.returns-in-Ok-clause-fails
 returns-in-Ok-clause-fails g c =
     let checked = c.in-Ok.ensures.verdicts in
     let no_fault = c.in-Ok.ensures.no_fault in
-    rw c.in-VerifyLines.is (IfErr-weaker c.unless_none-in-Ok.result _ _
+    rw c.in-VerifyLines.is (IfErr-weaker c.fail_if_any-in-Ok.result _ _
     (λ fault it. inl (
       c.in-Ok.counts.unlawful,
       it.0,
@@ -29,4 +36,4 @@ returns-in-Ok-clause-fails g c =
         (checked.1, checked.4, refl, checked.6),
       ),
     ))
-    c.unless_none-in-Ok.ensures.some)
+    c.fail_if_any-in-Ok.ensures.some)

@@ -5,3 +5,9 @@ returns-in-Host-clause-performed g c = rw c.in-Host.is c.play.ensures.played
 
 pub returns-in-Host-clause-at_fault : goal.returns-in-Host-clause-at_fault
 returns-in-Host-clause-at_fault g c = rw c.in-Host.is c.play.ensures.at_fault
+
+pub returns-in-Game-clause-performed : goal.returns-in-Game-clause-performed
+returns-in-Game-clause-performed g c = rw c.in-Game.is c.for_game-performed.ensures.answers
+
+pub returns-in-Game-clause-at_fault : goal.returns-in-Game-clause-at_fault
+returns-in-Game-clause-at_fault g c = rw c.in-Game.is c.for_game-performed.ensures.fails

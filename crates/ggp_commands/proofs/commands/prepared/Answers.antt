@@ -2,7 +2,7 @@ use Rattle.std.proofs.Common.{inl, refl}
 use Rattle.std.proofs.lemmas.Result.{err_from_is_err_and}
 use Rattle.ggp_commands.proofs.commands.prepared.Goals as goal
 
-pub returns-in_err-hosting-clause-fault : goal.returns-in_err-hosting-clause-fault
-returns-in_err-hosting-clause-fault g c =
+pub returns-in_err-loaded_game-clause-fault : goal.returns-in_err-loaded_game-clause-fault
+returns-in_err-loaded_game-clause-fault g c =
     let passed = err_from_is_err_and c.from_residual.result c.from_residual.ensures.1 in
-    rw (passed.1, passed.2) (inl (c.in_err-hosting.ensures.fault, refl))
+    rw (passed.1, passed.2) (inl (c.in_err-loaded_game.ensures.fault, refl))

@@ -10,11 +10,11 @@ returns-in_err-write_all-clause-at_fault g c =
     let passed = err_from_is_err_and c.from_residual-in_err-write_all.result c.from_residual-in_err-write_all.ensures.1 in
     let old = g.W.Write.contents c.args.writer.now.stream in
     let new = g.W.Write.contents c.write_all.new.writer.stream in
-    let entrants = c.in_ok-entrants.entrants in
+    let prepared = c.in_ok-prepared.prepared in
     let it = c.in-Ok.ensures.played in
     let same : c.as_slice.result.now ≡ match_text it.0 it.1 c.args.run.now.has_history = search rules in
     let part : AppendsPart old new (match_text it.0 it.1 c.args.run.now.has_history) = subst (AppendsPart old new) same c.in_err-write_all.ensures.prefix in
     rw passed.1 (
     subst (λ fault. WritesRunUpTo (g.S.Reach.is_reached c.args.reach.now) g.P.Player.handed c.args.game c.args.run.now old new fault) (sym passed.2)
-    (it.0, it.1, (entrants.setup, c.in_ok-entrants.ensures.setup, entrants.players.items, c.in_ok-entrants.ensures.reached, it.2), part)
+    (it.0, it.1, (prepared.setup, c.in_ok-prepared.ensures.setup, prepared.players.items, c.in_ok-prepared.ensures.reached, it.2), part)
     )

@@ -4,21 +4,21 @@ use Rattle.rule_sentences.specs.SentenceViews.{rules_of}
 use Rattle.rule_sentences.specs.Descriptions.{role_names}
 use Rattle.ground_rules.proofs.Limits.{too-many-sentences, too-many-atomics, too-many-roles, few-so-far}
 use Rattle.ground_rules.proofs.loading.names_of.Goals as goal
-use Rattle.ground_rules.proofs.loading.names_of.Goals.{then-sentences-gt-MAX_SENTENCES-via-then-sentences-gt-MAX_SENTENCES, then-sentences-gt-MAX_SENTENCES-via-else-sentences-gt-MAX_SENTENCES+then-not-few_atomics, then-sentences-gt-MAX_SENTENCES-via-else-sentences-gt-MAX_SENTENCES+else-not-few_atomics+then-len-gt-MAX_ROLES}
+use Rattle.ground_rules.proofs.loading.names_of.Goals.{then-sentences-via-then-sentences, then-sentences-via-else-sentences+then-not-few_atomics, then-sentences-via-else-sentences+else-not-few_atomics+then-len-gt-MAX_ROLES}
 
 pub returns-in_err-roles-clause-fault : goal.returns-in_err-roles-clause-fault
-returns-in_err-roles-clause-fault c = let p = err_from_is_err_and c.from_residual.result c.from_residual.ensures.1 in rw (p.1, p.2) (c.in_err-roles.ensures.fault c.args.sentences)
+returns-in_err-roles-clause-fault c = let p = err_from_is_err_and c.from_residual.result c.from_residual.ensures.1 in rw (p.1, p.2) (c.in_err-roles.ensures.fault c.args.limits c.args.sentences)
 
-pub returns-then-sentences-gt-MAX_SENTENCES-clause-fault : goal.returns-then-sentences-gt-MAX_SENTENCES-clause-fault
-returns-then-sentences-gt-MAX_SENTENCES-clause-fault c =
+pub returns-then-sentences-clause-fault : goal.returns-then-sentences-clause-fault
+returns-then-sentences-clause-fault c =
     let d = rules_of c.args.rules.now in (
       record { some' = c.in_ok-roles.ensures.some; differ = c.in_ok-roles.ensures.differ },
-      elim c.then-sentences-gt-MAX_SENTENCES.branch [
-        | then-sentences-gt-MAX_SENTENCES-via-then-sentences-gt-MAX_SENTENCES w ↦ too-many-sentences c.args.sentences d w.if-sentences-gt-MAX_SENTENCES.true
-        | then-sentences-gt-MAX_SENTENCES-via-else-sentences-gt-MAX_SENTENCES+then-not-few_atomics w ↦ too-many-atomics c.args.sentences d (sym c.in_ok-few_atomics.ensures ∙ w.if-not-few_atomics.true)
-        | then-sentences-gt-MAX_SENTENCES-via-else-sentences-gt-MAX_SENTENCES+else-not-few_atomics+then-len-gt-MAX_ROLES w ↦
+      elim c.then-sentences.branch [
+        | then-sentences-via-then-sentences w ↦ too-many-sentences c.args.limits c.args.sentences d (omega (arith, c.sentences.ensures, w.if-sentences.true))
+        | then-sentences-via-else-sentences+then-not-few_atomics w ↦ too-many-atomics c.args.limits c.args.sentences d (sym c.in_ok-few_atomics.ensures ∙ w.if-not-few_atomics.true)
+        | then-sentences-via-else-sentences+else-not-few_atomics+then-len-gt-MAX_ROLES w ↦
             let size : w.len.result ≡ length (role_names d) = w.len.ensures.len ∙ ap length c.in_ok-roles.ensures.names in
-            too-many-roles c.args.sentences w.len.result d size w.if-len-gt-MAX_ROLES.true
+            too-many-roles c.args.limits c.args.sentences w.len.result d size w.if-len-gt-MAX_ROLES.true
       ],
     )
 
@@ -32,4 +32,4 @@ pub returns-clause-small : goal.returns-clause-small
 returns-clause-small c =
     let d = rules_of c.args.rules.now in
     let size : c.len.result ≡ length (role_names d) = c.len.ensures.len ∙ ap length c.in_ok-roles.ensures.names in
-    few-so-far c.args.sentences c.len.result d (omega (arith, c.if-sentences-gt-MAX_SENTENCES.false)) (sym c.in_ok-few_atomics.ensures ∙ c.if-not-few_atomics.false) size (omega (arith, c.if-len-gt-MAX_ROLES.false))
+    few-so-far c.args.limits c.args.sentences c.len.result d (omega (arith, c.sentences.ensures, c.if-sentences.false)) (sym c.in_ok-few_atomics.ensures ∙ c.if-not-few_atomics.false) size (omega (arith, c.if-len-gt-MAX_ROLES.false))

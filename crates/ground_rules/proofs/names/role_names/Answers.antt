@@ -17,7 +17,7 @@ returns-then-not-branch-clause-fault c =
     let here : name_in (get_or rules i item).head ≡ n ∷ [] = ap (λ r. name_in r.head) (sym c.rule-item.is) ∙ sym c.role_name.ensures ∙ ap (λ o. option_to_list (option_copied o)) c.in-Some.is in
     let all = name-between seen (role_names (rules_of rules)) (role_names (rules_of (drop (i + 1) rules))) _ n here (names-at seen (role_names (rules_of rules)) rules i item c.loop-rule-test.true c.loop-rule.invariant.names) in
     let found = found-by (list_any (bytes_eq n) seen) c.in_ok-add_text.field-0 c.in_ok-add_text.ensures.new c.if-not-branch.true in
-    λ _. (some-name seen n (role_names (rules_of (drop (i + 1) rules))) (role_names (rules_of rules)) all, ap are_different (sym all) ∙ repeated seen (role_names (rules_of (drop (i + 1) rules))) n found)
+    λ _ _. (some-name seen n (role_names (rules_of (drop (i + 1) rules))) (role_names (rules_of rules)) all, ap are_different (sym all) ∙ repeated seen (role_names (rules_of (drop (i + 1) rules))) n found)
 
 pub loop-rule-preserved : goal.loop-rule-preserved
 loop-rule-preserved c =

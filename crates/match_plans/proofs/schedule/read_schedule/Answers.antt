@@ -7,7 +7,7 @@ use Rattle.std.proofs.lemmas.Iterator.Splits.{YieldsList-from_slice_split}
 use Rattle.std.proofs.lemmas.List.{length_push, map_push}
 use Rattle.std.proofs.lemmas.List.Elements.{All-push}
 use Rattle.game_core.specs.Bytes.{line_feed}
-use Rattle.match_plans.specs.Schedules.{IsBadLine, IsFaultOf, IsPlanned, cut_lines, line_words, match_words, misplaced, tells_nothing, word_fault}
+use Rattle.match_plans.specs.Schedules.{IsBadLine, IsFaultOf, IsPlanned, cut_lines, line_words, match_words, misplaced, is_blank_or_comment, word_fault}
 use Rattle.match_plans.specs.declared.plan.MatchPlan.{MatchPlan}
 use Rattle.match_plans.specs.declared.schedule_fault.LineFault.{LineFault}
 use Rattle.match_plans.specs.declared.schedule_fault.LineFault.TheVariants.{TooMany}
@@ -59,7 +59,7 @@ pub returns-in-Err-clause-bad : goal.returns-in-Err-clause-bad
 returns-in-Err-clause-bad c =
     let words = map (λ (w : Bor (List ℕ)). w.now) c.in_ok-words.words.items in
     let fault : word_fault words ≡ Some c.in-Err.fault = search rules in
-    let tells : tells_nothing words ≡ false = search rules in
+    let tells : is_blank_or_comment words ≡ false = search rules in
     inr (first-bad (goal.at.returns-in-Err-clause-bad c).In_ok-words c.in-Err.fault (tells, inl fault))
 
 pub returns-in-Some-2-clause-bad : goal.returns-in-Some-2-clause-bad
@@ -71,7 +71,7 @@ returns-in-Some-2-clause-bad c =
     let some : Some c.in-Some-2.fault ≡ misplaced c.args.roles before plan.id.now (vec_len plan.players) = search rules in
     let here : IsPlanned c.args.strikes words plan = search rules in
     let good : word_fault words ≡ None = search rules in
-    let tells : tells_nothing words ≡ false = search rules in
+    let tells : is_blank_or_comment words ≡ false = search rules in
     inr (first-bad (goal.at.returns-in-Some-2-clause-bad c).In_ok-words c.in-Some-2.fault
     (tells, inr (plan, good, here, inl (ap (λ (them : List (List ℕ)). misplaced c.args.roles them plan.id.now (vec_len plan.players)) (sym was.ids) ∙ sym some))))
 
@@ -84,7 +84,7 @@ returns-then-len-ge-MAX_SCHEDULED-clause-bad c =
     let none : None ≡ misplaced c.args.roles before plan.id.now (vec_len plan.players) = search rules in
     let here : IsPlanned c.args.strikes words plan = search rules in
     let good : word_fault words ≡ None = search rules in
-    let tells : tells_nothing words ≡ false = search rules in
+    let tells : is_blank_or_comment words ≡ false = search rules in
     let full : length c.loop-line.plans.items ≡ 65536 = omega (arith, was.within) in
     inr (first-bad (goal.at.returns-then-len-ge-MAX_SCHEDULED-clause-bad c).In_ok-words TooMany
     (tells, inr (plan, good, here, inr (ap (λ (them : List (List ℕ)). misplaced c.args.roles them plan.id.now (vec_len plan.players)) (sym was.ids) ∙ sym none, refl, full))))

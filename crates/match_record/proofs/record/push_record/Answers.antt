@@ -25,7 +25,7 @@ pub returns-clause-reads_back : goal.returns-clause-reads_back
 returns-clause-reads_back g c =
     let rules = g.G.Game.rules c.args.game.now in
     let m = c.args.held.now.value in
-    let lawful = subst (λ game. IsLawfulMatch (g.G.Game.rules game) m) c.requires.game c.state-state.ensures.lawful in
+    let lawful = subst (λ game. IsLawfulMatch (g.G.Game.rules game) m) c.requires.game c.matches_are_lawful.ensures in
     on_ok_weaker c.write_record-written.result
     (λ added. (text_is_json rules c.lawful_parts_have_shape.ensures m c.new-writer.result c.write_record-written.new.out lawful c.requires.setup c.new-writer.ensures.tokens added c.into_inner.ensures.reads_back c.into_inner.ensures.utf8).is_read)
     c.write_record-written.ensures.written
@@ -34,7 +34,7 @@ pub returns-clause-lawful : goal.returns-clause-lawful
 returns-clause-lawful g c =
     let rules = g.G.Game.rules c.args.game.now in
     let m = c.args.held.now.value in
-    let lawful = subst (λ game. IsLawfulMatch (g.G.Game.rules game) m) c.requires.game c.state-state.ensures.lawful in
+    let lawful = subst (λ game. IsLawfulMatch (g.G.Game.rules game) m) c.requires.game c.matches_are_lawful.ensures in
     on_ok_weaker c.write_record-written.result
     (λ added. c.records_are_lawful.ensures (record_text rules m) m lawful c.requires.setup
     (text_is_json rules c.lawful_parts_have_shape.ensures m c.new-writer.result c.write_record-written.new.out lawful c.requires.setup c.new-writer.ensures.tokens added c.into_inner.ensures.reads_back c.into_inner.ensures.utf8))

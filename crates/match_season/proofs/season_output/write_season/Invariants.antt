@@ -9,6 +9,6 @@ invariant-loop g l = record {
   places : vec_len l.waiting ≡ l.count;
   placed : ArePlaced (λ over. over.place) l.waiting.items;
   settled : l.order ≡ OfSchedule → l.written.is_settled.items ≡ settled_on l.initial.written.is_settled.items 0 l.next;
-  written : WritesMore g.N.Naming.is_output (λ places. l.order ≡ OfSchedule → Rises 0 places l.next) l.initial.written l.written (g.W.Write.contents l.initial.writer.stream) (g.W.Write.contents l.writer.stream);
+  written : WritesMore g.N.OutputBrand.is_output (λ places. l.order ≡ OfSchedule → Rises 0 places l.next) l.initial.written l.written (g.W.Write.contents l.initial.writer.stream) (g.W.Write.contents l.writer.stream);
   faults : l.writer.faults ≡ l.initial.writer.faults;
 }

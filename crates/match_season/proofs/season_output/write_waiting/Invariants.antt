@@ -10,6 +10,6 @@ invariant-loop-place g l = record {
   over : AllWithin (λ it. is_some it ≡ true) l.initial.waiting l.next l.place;
   placed : ArePlaced (λ over. over.place) l.initial.waiting → ArePlaced (λ over. over.place) l.waiting;
   settled : ArePlaced (λ over. over.place) l.initial.waiting → l.written.is_settled.items ≡ settled_on l.initial.written.is_settled.items l.next (l.place - l.next);
-  written : WritesMore g.N.Naming.is_output (λ places. ArePlaced (λ over. over.place) l.initial.waiting → Rises l.next places (l.next + (l.place - l.next))) l.initial.written l.written (g.W.Write.contents l.initial.writer.stream) (g.W.Write.contents l.writer.stream);
+  written : WritesMore g.N.OutputBrand.is_output (λ places. ArePlaced (λ over. over.place) l.initial.waiting → Rises l.next places (l.next + (l.place - l.next))) l.initial.written l.written (g.W.Write.contents l.initial.writer.stream) (g.W.Write.contents l.writer.stream);
   faults : l.writer.faults ≡ l.initial.writer.faults;
 }

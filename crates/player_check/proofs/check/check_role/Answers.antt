@@ -10,10 +10,10 @@ returns-clause-told g c =
           (record {
             made = c.in_ok-match_plan.match_plan;
             planned = planned-for _ _ _ _ _ _ _ (c.as_str.ensures.value ∙ c.in_ok-id.ensures.ok) c.roles.ensures c.in_ok-match_plan.ensures;
-            setup = c.in_ok-entrants.entrants.setup;
-            is_setup = c.in_ok-entrants.ensures.setup;
-            participants = c.in_ok-entrants.entrants.players.items;
-            reached = c.in_ok-entrants.ensures.reached;
+            setup = c.in_ok-prepared.prepared.setup;
+            is_setup = c.in_ok-prepared.ensures.setup;
+            participants = c.in_ok-prepared.prepared.players.items;
+            reached = c.in_ok-prepared.ensures.reached;
             played = c.in_ok-turns.ensures.played;
           })
           rows.1 c.in_ok-push_rows.ensures.bad,

@@ -8,7 +8,7 @@ use Rattle.serde_json.specs.View.{view, number_view, items_of}
 use Rattle.serde_json.specs.declared.value.Value.{String, Number, Null, the_lemmas}
 use Rattle.serde_json.proofs.Views.{view-Array}
 use Rattle.record_reading.proofs.JsonTurns.{item_read, item_refused, items_over, member_read, member_refused, key_refused, members_over}
-use Rattle.std.specs.Prelude.{option_map}
+use Rattle.std.specs.Prelude.{nat_lt, option_map}
 use Rattle.record_reading.specs.Internal.KeptTree.{with_one}
 use Rattle.record_reading.specs.declared.verify_fault.VerifyFault.TheVariants.{NotJson}
 use Rattle.record_reading.proofs.KeptReading as lemma
@@ -33,7 +33,7 @@ value_of-returns-in-Some-clause-ok t c =
     let seen : view (Number c.in-Some.number) ≡ number x = search (rules, the_lemmas) in (
       number x,
       ap (λ k. converted of_json (value c.args.depth (token_of k ∷ c.args.reader.now))) c.in-Number.is ∙ lemma.number_read c.args.depth s x c.args.reader.now (sym c.in-Some.ensures),
-      lemma.kept_number c.args.lists (Number c.in-Some.number) x c.kept_if.result seen c.kept_if.ensures,
+      lemma.kept_number c.args.lists (Number c.in-Some.number) x c.then_some.result seen c.then_some.ensures,
     )
 
 pub value_of-returns-in-None-clause-err : goal.value_of-returns-in-None-clause-err
@@ -46,7 +46,7 @@ value_of-returns-in-Null-clause-ok t c =
     let seen : view Null ≡ null = search (rules, the_lemmas) in (
       null,
       ap (λ k. converted of_json (value c.args.depth (token_of k ∷ c.args.reader.now))) c.in-Null.is ∙ lemma.null_read c.args.depth c.args.reader.now,
-      lemma.kept_null c.args.lists Null c.kept_if-in-Null.result seen c.kept_if-in-Null.ensures,
+      lemma.kept_null c.args.lists Null c.then_some-in-Null.result seen c.then_some-in-Null.ensures,
     )
 
 pub value_of-returns-in-Bool-clause-ok : goal.value_of-returns-in-Bool-clause-ok
@@ -115,7 +115,7 @@ value_of-returns-in_ok-pass_members-in-BeginObject-clause-ok t c =
 pub items_of-items-init : goal.items_of-items-init
 items_of-items-init t c =
     let all = converted of_items (items (value c.args.depth) (length c.args.reader.now) c.args.reader.now) in
-    (length c.args.reader.now, [], omega arith, lemma.nothing_before all, omega arith, c.no_items-kept.ensures ∙ lemma.none_kept c.args.lists)
+    (length c.args.reader.now, [], omega arith, lemma.nothing_before all, omega arith, ap (option_map (λ v. map view v.items)) c.then_some-kept.ensures ∙ lemma.some_if (nat_lt 0 c.args.lists) c.new.result [] (λ v. map view v.items) (ap (map view) c.new.ensures.items) ∙ lemma.none_kept c.args.lists)
 
 pub items_of-returns-in_err-token-clause-err : goal.items_of-returns-in_err-token-clause-err
 items_of-returns-in_err-token-clause-err t c =

@@ -1,6 +1,6 @@
 use Rattle.std.proofs.Common.{arith}
 use Rattle.std.proofs.lemmas.Result.{err_from_is_err_and}
-use Rattle.role_workers.proofs.Workers.{goes-rests, goes-hands_over, attends-over, stops-asking, stops-handing, stops-out_of_tries}
+use Rattle.role_workers.proofs.Workers.{goes-start, goes-rests, goes-hands_over, attends-over, stops-asking, stops-handing, stops-out_of_tries}
 use Rattle.role_workers.proofs.attending.attend_shared.Goals as goal
 use Rattle.role_workers.proofs.attending.attend_shared.Goals.{in-Owe+in_ok-hand_over-in-Owe, in-Hold}
 
@@ -33,6 +33,9 @@ returns g c = record {
   line = c.loop.invariant.line;
   ended = stops-out_of_tries c.args.brief.now c.args.role c.loop.counter c.args.tries _ _ _ c.loop.invariant.goes (omega arith);
 }
+
+pub loop-init : goal.loop-init
+loop-init g c = record { line = g.met.W.Wire.same_line_refl c.args.wire.now; goes = goes-start c.args.brief.now c.args.role _; few = omega arith }
 
 pub loop-preserved : goal.loop-preserved
 loop-preserved g c =

@@ -1,4 +1,4 @@
-use Rattle.std.proofs.Common.{◌∙◌, ap, refl, map, length}
+use Rattle.std.proofs.Common.{◌∙◌, ap, refl, map}
 use Rattle.kif_text.specs.View.{view as expression}
 use Rattle.ground_rules.specs.Lawfulness.TableTests.{are_in_order}
 use Rattle.ground_rules.specs.declared.tables.StateHead.TheVariants.{Init as InitHead, Next as NextHead}
@@ -10,22 +10,21 @@ use Rattle.ground_rules.proofs.vocabulary.Vocabulary.new.Goals as goal
 pub invariant_of-result : goal.invariant_of-result
 invariant_of-result c =
     let xs = map expression c.args.description.items in
-    let n = length xs in
     let d = description_of xs in
     let t = table_of c.args.names in
     let roles = c.args.roles.items in
     let p = c.requires in
     record {
       few_atoms = c.len-atoms.ensures.small;
-      some_role = some-role n d t roles p;
-      few_roles = few-roles n d t roles p;
-      tables = tables-pass n xs t roles c.in_ok-moves.moves.items p c.in_ok-moves.ensures;
-      names_differ = names-pass n d t roles p;
-      names_spelled = names-read n xs t roles p;
+      some_role = some-role d t roles p;
+      few_roles = few-roles d t roles p;
+      tables = tables-pass xs t roles c.in_ok-moves.moves.items p c.in_ok-moves.ensures;
+      names_differ = names-pass d t roles p;
+      names_spelled = names-read xs t roles p;
       states_ordered = ap are_in_order c.in_ok-states.ensures ∙ p.table.states_ordered;
-      states_spelled = states-read n xs t roles c.in_ok-states.states.items p c.in_ok-states.ensures;
+      states_spelled = states-read xs t roles c.in_ok-states.states.items p c.in_ok-states.ensures;
       moves_ordered = ap are_in_order c.in_ok-moves.ensures ∙ p.table.moves_ordered;
-      moves_spelled = moves-read n xs t roles c.in_ok-moves.moves.items p c.in_ok-moves.ensures;
+      moves_spelled = moves-read xs t roles c.in_ok-moves.moves.items p c.in_ok-moves.ensures;
     }
 
 pub returns : goal.returns

@@ -1,5 +1,5 @@
--- A player on the network shows no messages, so only one thing is to be proved of them: nothing stays nothing.
-use Rattle.std.proofs.Common.{Result, Ok, Err, IfOk, OnErr, refl}
+-- A player on the network shows no messages, before and after.
+use Rattle.std.proofs.Common.{Result, Ok, Err, IfOk, OnErr, inr, refl}
 use Rattle.network_players.proofs.socket_player.SocketPlayerPlayer.TheImpl.Goals as goal
 
 if_ok : {T E : Type 0} (Q : T → Type 0) (r : Result T E) → ((x : T) → Q x) → IfOk r Q
@@ -11,4 +11,7 @@ on_err (Ok x) p = tt
 on_err (Err e) p = p
 
 pub ask_shared-tells : goal.ask_shared-tells
-ask_shared-tells g c = record { told = if_ok _ c.result (λ _. refl); nothing = on_err c.result refl }
+ask_shared-tells g c = record { told = if_ok _ c.result (λ _. inr refl); nothing = on_err c.result refl }
+
+pub ask-tells : goal.ask-tells
+ask-tells g c = inr refl

@@ -1,0 +1,209 @@
+//! Explains in words what is wrong with a text that describes no game, and where.
+
+use crate::links::{Way, sentences_of_way};
+use crate::members::{FaultyPart, Part, faulty_part, rules_in};
+use crate::places::sentence_start;
+use crate::shared_faults::{Excess, excess_of, second_role};
+use crate::spots::{Spot, Words};
+use described_games::DescriptionFault;
+use game_core::Limits;
+use rule_sentences::LoadFault;
+use rule_sentences::sentence::Rule;
+use std::alloc::{AllocError, Global};
+
+/// The limit of the sentences that are shown for a fault that several have together.
+const MAX_SHOWN: usize = 4;
+
+/// The byte at which the sentence of this number begins.
+fn start_of(text: &[u8], number: usize) -> usize {
+    sentence_start(text, number).unwrap_or(0)
+}
+
+/// Appends to `out` a fault that these sentences have together. Of many sentences the last are left out.
+fn push_together(
+    text: &[u8],
+    words: &'static str,
+    numbers: &[usize],
+    out: &mut String,
+) -> Result<(), AllocError> {
+    let mut words = Words::Plain(words);
+    for number in numbers.iter().take(MAX_SHOWN) {
+        if let Words::Same = words {
+            out.push_str("; ")?;
+        }
+        let start = start_of(text, *number);
+        Spot {
+            at: start,
+            words,
+            start,
+        }
+        .push(text, out)?;
+        words = Words::Same;
+    }
+    if numbers.len() > MAX_SHOWN {
+        let more = numbers.len() - MAX_SHOWN;
+        write!(out, "; and {more} more")?;
+    }
+    Ok(())
+}
+
+/// The words about a part that does not have its form, if its first word names no form.
+fn form_words(part: Part) -> &'static str {
+    match part {
+        Part::Fact | Part::Rule => "neither a fact nor a rule",
+        Part::Head => "a head that is no atomic sentence",
+        Part::Condition => "a condition that is no literal",
+    }
+}
+
+/// The words about a part with an atomic sentence at a place where it may not stand.
+fn place_words(part: Part) -> &'static str {
+    match part {
+        Part::Fact | Part::Head => "true or does as a head, but they are for conditions",
+        Part::Condition => "init or next as a condition, but they are for heads",
+        Part::Rule => "a role with conditions, but it has to be a fact",
+    }
+}
+
+/// The words about a part with this fault.
+fn words_of(folded: &[u8], faulty: FaultyPart, fault: LoadFault) -> Words {
+    match (fault, faulty.form(folded)) {
+        (LoadFault::Misplaced(_), _) => Words::Plain(place_words(faulty.part)),
+        (_, Some(form)) => Words::NoForm(form),
+        (_, None) => Words::Plain(form_words(faulty.part)),
+    }
+}
+
+/// The words about a fault that sentences have together, and these sentences' numbers.
+fn shared_fault(
+    alloc: Global,
+    rules: &[Rule],
+    fault: LoadFault,
+) -> Result<(&'static str, Vec<usize>), AllocError> {
+    match fault {
+        LoadFault::RoleTwice => Ok(("a role that is named twice", second_role(alloc, rules)?)),
+        LoadFault::Cyclic => Ok((
+            "an atom that depends on itself",
+            sentences_of_way(alloc, rules, Way::Cycle)?,
+        )),
+        _ => {
+            let way = sentences_of_way(alloc, rules, Way::ToMoves)?;
+            if !way.is_empty() {
+                return Ok(("legal, goal or terminal that depends on does", way));
+            }
+            let way = sentences_of_way(alloc, rules, Way::ToState)?;
+            Ok(("init that depends on true or does", way))
+        }
+    }
+}
+
+/// Appends to `out` a fault of the description as a whole.
+fn push_whole(
+    alloc: Global,
+    limits: Limits,
+    text: &[u8],
+    rules: &[Rule],
+    fault: LoadFault,
+    out: &mut String,
+) -> Result<(), AllocError> {
+    match fault {
+        LoadFault::NoRole => out.push_str("no (role NAME), but a game has one at least"),
+        LoadFault::TooLarge => {
+            let Excess { count, limit, of } = excess_of(alloc, limits, rules)?;
+            write!(out, "{count} {of}, but {limit} are the limit")
+        }
+        _ => {
+            let (words, numbers) = shared_fault(alloc, rules, fault)?;
+            push_together(text, words, &numbers, out)
+        }
+    }
+}
+
+/// The spot of the part that has this fault, in the sentence of this number. The fault is one that names a first sentence.
+fn part_spot(
+    alloc: Global,
+    folded: &[u8],
+    number: usize,
+    fault: LoadFault,
+) -> Result<Spot, DescriptionFault> {
+    let start = start_of(folded, number);
+    let faulty = faulty_part(alloc, folded, start, fault)?;
+    Ok(Spot {
+        at: faulty.at,
+        words: words_of(folded, faulty, fault),
+        start,
+    })
+}
+
+/// Appends to `out` a fault of the sentences.
+fn push_unfit(
+    alloc: Global,
+    limits: Limits,
+    text: &[u8],
+    fault: LoadFault,
+    out: &mut String,
+) -> Result<(), DescriptionFault> {
+    let folded = text.to_ascii_lowercase(alloc)?;
+    let spot = match fault {
+        LoadFault::Variable(number) => Spot::variable(text, start_of(text, number)),
+        LoadFault::BadForm(number) => part_spot(alloc, &folded, number, LoadFault::BadForm(0))?,
+        LoadFault::Misplaced(number) => {
+            part_spot(alloc, &folded, number, LoadFault::Misplaced(0))?
+        }
+        _ => {
+            let rules = rules_in(alloc, &folded)?;
+            return Ok(push_whole(alloc, limits, text, &rules, fault, out)?);
+        }
+    };
+    Ok(spot.push(text, out)?)
+}
+
+/// Appends to `out` what is wrong with a text that has this fault, with the place of the fault if it has one.
+fn push_fault(
+    alloc: Global,
+    limits: Limits,
+    text: &[u8],
+    fault: DescriptionFault,
+    out: &mut String,
+) -> Result<(), DescriptionFault> {
+    match fault {
+        DescriptionFault::Unread(fault) => match Spot::of(text, fault) {
+            Some(spot) => spot.push(text, out)?,
+            None => write!(out, "{fault}")?,
+        },
+        DescriptionFault::Unfit(fault) => push_unfit(alloc, limits, text, fault, out)?,
+        DescriptionFault::Memory => out.push_str("out of memory")?,
+    }
+    Ok(())
+}
+
+/// What helps against the fault of a text, in words, if something does. A text without a list may be the name of a file, but an empty
+/// one can't be.
+fn remedy(text: &[u8], fault: DescriptionFault) -> Option<&'static str> {
+    match fault {
+        DescriptionFault::Unfit(LoadFault::NoRole) if !text.is_empty() && !text.contains(&b'(') => {
+            Some("--rules takes the rules themselves, and --rules-file the name of their file")
+        }
+        DescriptionFault::Unfit(LoadFault::Variable(_)) => {
+            Some("ggp-instantiate makes ground rules of rules with variables")
+        }
+        _ => None,
+    }
+}
+
+/// Appends to `out` what is wrong with a text that describes no game within these limits and has this fault, as a line of standard error,
+/// after one that says what helps against it. The error means that memory was refused.
+pub fn push_description(
+    alloc: Global,
+    limits: Limits,
+    text: &[u8],
+    fault: DescriptionFault,
+    out: &mut String,
+) -> Result<(), DescriptionFault> {
+    if let Some(remedy) = remedy(text, fault) {
+        write!(out, "ggp_manager: {remedy}\n")?;
+    }
+    out.push_str("ggp_manager: ")?;
+    push_fault(alloc, limits, text, fault, out)?;
+    Ok(out.push('\n')?)
+}

@@ -1,0 +1,25 @@
+//! The lines of standard error that explain the fault of an input, before the fault's own line.
+//!
+//! Each function appends its lines to a text: `push_description` those about a description that describes no game,
+//! `push_first_bad_line` about a script, `push_bad_entry` about an account, `push_several_lines` about a text that is no record, and
+//! `push_skipped_lines` about lines that were skipped. No proof rests on them.
+//!
+//! Free functions take the allocator first.
+#![tactic(auto)]
+
+mod bad_entries;
+mod bad_lines;
+mod excerpts;
+mod explaining;
+mod links;
+mod members;
+mod places;
+mod records;
+mod scan;
+mod shared_faults;
+mod spots;
+
+pub use bad_entries::push_bad_entry;
+pub use bad_lines::push_first_bad_line;
+pub use explaining::push_description;
+pub use records::{push_several_lines, push_skipped_lines};

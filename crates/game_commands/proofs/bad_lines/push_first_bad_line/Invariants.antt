@@ -1,5 +1,0 @@
-use Rattle.std.proofs.Common.{length}
-use Rattle.game_commands.proofs.bad_lines.push_first_bad_line.Given as goal
-
-abbrev pub decreases-loop-rest : goal.decreases-loop-rest
-decreases-loop-rest l = length l.rest

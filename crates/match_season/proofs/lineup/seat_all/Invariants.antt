@@ -1,6 +1,0 @@
-use Rattle.std.proofs.Common.{take}
-use Rattle.match_season.specs.Lineups.{SitDown}
-use Rattle.match_season.proofs.lineup.seat_all.Given as goal
-
-abbrev pub invariant-loop-player : goal.invariant-loop-player
-invariant-loop-player l = SitDown l.initial.sitting l.sitting (take l.player-index l.players)

@@ -1,0 +1,252 @@
+//! The waiting matches of a season, and in how many running matches each player sits.
+ghost use Rattle.std.specs.Prelude.{◌≡◌, ◌≤◌, ◌<◌, ◌+◌, ◌-◌, ◌^◌, ◌↔◌, ℕ, [], true, All, IfNone, IfOk, IfSome, IsTrue, OnErr, OnOk, Some, get_or, length, min, slice_get, slice_set, take};
+ghost use Rattle.std.specs.List.{AllZip};
+ghost use Rattle.std.specs.VecDeque.{deque_capacity, deque_len};
+ghost use Rattle.match_season.specs.Queues.{AllWait, AreNumbersOf, Begins, IsBusy, Lengthens, ListsOnce, SitDown, StandUp, are_free, number_of, turn_of, with_match};
+
+use indexmap::IndexSet;
+use match_plans::{MatchPlan, PlayerAddress, SeasonForm};
+use std::alloc::{AllocError, AllocFailed, Global};
+use std::collections::VecDeque;
+
+/// A match of a season: its place in the schedule, and the numbers of its players' addresses, each once.
+#[derive(Drop)]
+pub struct WaitingMatch {
+    pub place: usize,
+    players: Vec<usize>,
+}
+
+/// The waiting matches of a season in the schedule's order, and the players of the running ones.
+#[derive(Drop)]
+pub struct MatchQueue {
+    waiting: VecDeque<WaitingMatch>,
+    /// The number of running matches of each player.
+    sitting: Vec<usize>,
+    /// The limit of running matches of a player.
+    concurrent: usize,
+}
+
+/// Lists the number, unless it is listed.
+fn list_once(numbers: &mut Vec<usize>, number: usize) -> Result<(), AllocError>
+    ensures { OnOk result (ListsOnce numbers.old.items numbers.new.items number) }
+{
+    if numbers.contains(&number) {
+        return Ok(());
+    }
+    numbers.push(number)?;
+    Ok(())
+}
+
+/// The address of a player, by which it gets its number.
+fn address<'a>(player: &PlayerAddress<'a>) -> (&'a str, u16)
+    ensures { result ≡ (player.now.host, player.now.port) }
+{
+    (player.host, player.port)
+}
+
+/// The number of a player. An address without a number gets the next one.
+fn number_of<'a>(
+    addresses: &mut IndexSet<(&'a str, u16)>,
+    player: &PlayerAddress<'a>,
+) -> Result<usize, AllocError>
+    ensures number { IfOk result (λ number. number ≡ number_of addresses.new.keys player.now) }
+    ensures listed { IfOk result (λ number. number < length addresses.new.keys) }
+    ensures kept { OnOk result (Lengthens addresses.old.keys addresses.new.keys) }
+{
+    let (number, _) = addresses.insert_full(address(player))?;
+    Ok(number)
+}
+
+/// The numbers of a match's players, each once.
+fn numbers<'a>(
+    alloc: Global,
+    addresses: &mut IndexSet<(&'a str, u16)>,
+    players: &[PlayerAddress<'a>],
+) -> Result<Vec<usize>, AllocError>
+    ensures numbers { IfOk result (λ numbers. AreNumbersOf addresses.new.keys players.now numbers.items) }
+    ensures kept { OnOk result (Lengthens addresses.old.keys addresses.new.keys) }
+{
+    let mut numbers = Vec::with_capacity(alloc, players.len())?;
+    for player in players {
+        let number = number_of(addresses, player)?;
+        list_once(&mut numbers, number)?;
+    }
+    Ok(numbers)
+}
+
+/// The number of running matches of this player.
+fn sits_in(sitting: &[usize], player: usize) -> usize
+    ensures { result ≡ get_or sitting.now player 0 }
+{
+    match sitting.get(player) {
+        Some(count) => *count,
+        None => 0,
+    }
+}
+
+/// Whether each of these players sits in fewer matches than it may.
+fn are_free(sitting: &[usize], concurrent: usize, players: &[usize]) -> bool
+    ensures { result ≡ are_free sitting.now concurrent players.now }
+{
+    players
+        .iter()
+        .all(|&player| sits_in(sitting, player) < concurrent)
+}
+
+/// Counts one more running match of a player.
+fn seat(sitting: &mut [usize], player: usize)
+    ensures { sitting.new ≡ slice_set sitting.old player (min (get_or sitting.old player 0 + 1) (2 ^ 64 - 1)) }
+{
+    if player < sitting.len() {
+        sitting[player] = sitting[player].saturating_add(1);
+    }
+}
+
+/// Counts one running match of a player less.
+fn unseat(sitting: &mut [usize], player: usize)
+    ensures { sitting.new ≡ slice_set sitting.old player (get_or sitting.old player 0 - 1) }
+{
+    if player < sitting.len() {
+        sitting[player] = sitting[player].saturating_sub(1);
+    }
+}
+
+/// Counts one more running match of each of these players.
+fn seat_all(sitting: &mut [usize], players: &[usize])
+    ensures { SitDown sitting.old sitting.new players.now }
+{
+    for player in players {
+        seat(sitting, *player);
+    }
+}
+
+/// Counts one running match of each of these players less.
+fn unseat_all(sitting: &mut [usize], players: &[usize])
+    ensures { StandUp sitting.old sitting.new players.now }
+{
+    for player in players {
+        unseat(sitting, *player);
+    }
+}
+
+/// The matches of a schedule, in its order, each with the numbers of its players' addresses.
+fn waiting_matches<'a>(
+    alloc: Global,
+    addresses: &mut IndexSet<(&'a str, u16)>,
+    plans: &[MatchPlan<'a>],
+) -> Result<VecDeque<WaitingMatch>, AllocError>
+    ensures in_order { IfOk result (λ waiting. (place : ℕ) (d : WaitingMatch) → place < length plans.now → (get_or waiting.items place d).place ≡ place) }
+    ensures numbered { IfOk result (λ waiting. AllZip (λ plan waiting_match. AreNumbersOf addresses.new.keys plan.players.items waiting_match.players.items) plans.now waiting.items) }
+{
+    let mut waiting = VecDeque::with_capacity(alloc, plans.len())?;
+    for (place, plan) in plans.iter().enumerate() {
+        let players = numbers(alloc, addresses, &plan.players)?;
+        waiting.push_back(WaitingMatch { place, players })?;
+    }
+    Ok(waiting)
+}
+
+impl MatchQueue {
+    /// The queue at the beginning: all matches wait, and nobody sits.
+    pub fn of(
+        alloc: Global,
+        plans: &[MatchPlan<'_>],
+        form: SeasonForm,
+    ) -> Result<MatchQueue, AllocError>
+        ensures wait { IfOk result (λ queue. AllWait queue plans.now) }
+        ensures concurrent { IfOk result (λ queue. queue.concurrent ≡ form.concurrent) }
+    {
+        let mut addresses = IndexSet::new(alloc);
+        let waiting = waiting_matches(alloc, &mut addresses, plans)?;
+        Ok(MatchQueue {
+            waiting,
+            sitting: vec![in alloc; 0; addresses.len()]?,
+            concurrent: form.concurrent,
+        })
+    }
+
+    /// Whether all players of this match are free.
+    fn can_begin(&self, waiting_match: &WaitingMatch) -> bool
+        ensures { result ≡ are_free self.now.sitting.items self.now.concurrent waiting_match.now.players.items }
+    {
+        are_free(&self.sitting, self.concurrent, &waiting_match.players)
+    }
+
+    /// The index, among the waiting matches, of the first one with free players.
+    fn first_free(&self) -> Option<usize>
+        ensures some { IfSome result (λ at. (first : WaitingMatch) × (slice_get self.now.waiting.items at ≡ Some first)
+            × (are_free self.now.sitting.items self.now.concurrent first.players.items ≡ true)
+            × All (IsBusy self.now) (take at self.now.waiting.items)) }
+        ensures none { IfNone result (All (IsBusy self.now) self.now.waiting.items) }
+    {
+        self.waiting
+            .iter()
+            .position(|waiting_match| self.can_begin(waiting_match))
+    }
+
+    /// Whether matches wait, and none of them can begin.
+    pub fn has_to_wait(&self) -> bool
+        ensures { IsTrue result ↔ ((0 < deque_len self.now.waiting) × All (IsBusy self.now) self.now.waiting.items) }
+    {
+        if self.waiting.is_empty() {
+            return false;
+        }
+        self.first_free().is_none()
+    }
+
+    /// Whether no match waits.
+    pub fn is_empty(&self) -> bool
+        ensures { IsTrue result ↔ (deque_len self.now.waiting ≡ 0) }
+    {
+        self.waiting.is_empty()
+    }
+
+    /// Takes the first waiting match with free players, and seats them. `None` if there is no such match.
+    pub fn take(&mut self) -> Option<WaitingMatch>
+        ensures some { IfSome result (Begins self.old self.new) }
+        ensures none { IfNone result (All (IsBusy self.old) self.old.waiting.items × (self.new ≡ self.old)) }
+    {
+        let at = self.first_free()?;
+        let waiting_match = self.waiting.remove(at)?;
+        seat_all(&mut self.sitting, &waiting_match.players);
+        Some(waiting_match)
+    }
+
+    /// Frees the players of a match that is over, or that was not begun.
+    pub fn leave(&mut self, waiting_match: &WaitingMatch)
+        ensures stand { StandUp self.old.sitting.items self.new.sitting.items waiting_match.now.players.items }
+        ensures same { (self.new.waiting ≡ self.old.waiting) × (self.new.concurrent ≡ self.old.concurrent) }
+    {
+        unseat_all(&mut self.sitting, &waiting_match.players);
+    }
+
+    /// The number of waiting matches before the match at this place.
+    fn place_of(&self, place: usize) -> usize
+        ensures turn { result ≡ turn_of self.now.waiting.items place }
+        ensures within { result ≤ deque_len self.now.waiting }
+    {
+        self.waiting
+            .iter()
+            .position(|waiting_match| place < waiting_match.place)
+            .unwrap_or(self.waiting.len())
+    }
+
+    /// Lets a match wait again, in the schedule's order.
+    pub fn put_back(&mut self, waiting_match: WaitingMatch) -> Result<(), AllocFailed<WaitingMatch>>
+        ensures waits { OnOk result (self.new.waiting.items ≡ with_match self.old.waiting.items waiting_match) }
+        ensures refused { OnErr result (self.new.waiting.items ≡ self.old.waiting.items) }
+        ensures full { OnErr result (deque_capacity self.old.waiting ≤ deque_len self.old.waiting) }
+        ensures same { (self.new.sitting ≡ self.old.sitting) × (self.new.concurrent ≡ self.old.concurrent) }
+    {
+        let at = self.place_of(waiting_match.place);
+        self.waiting.insert(at, waiting_match)
+    }
+
+    /// Removes all waiting matches.
+    pub fn clear(&mut self)
+        ensures none_waits { self.new.waiting.items ≡ [] }
+        ensures same { (self.new.sitting ≡ self.old.sitting) × (self.new.concurrent ≡ self.old.concurrent) }
+    {
+        self.waiting.clear();
+    }
+}

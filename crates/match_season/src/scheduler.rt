@@ -1,0 +1,161 @@
+//! The waiting matches of a season and its threads, as these share them.
+ghost use Rattle.std.specs.Prelude.{◌≡◌, ◌+◌, ◌-◌, ◌^◌, [], false, true, All, IfNone, IfSome, min};
+ghost use Rattle.match_season.specs.Queues.{Begins, IsBusy, StandUp};
+ghost use Rattle.match_season.specs.Scheduling.{Ends};
+
+use crate::queue::{MatchQueue, WaitingMatch};
+use std::sync::atomic::AtomicU64;
+use std::sync::{Condvar, Mutex, Wait};
+use std::time::Duration;
+
+/// For how many milliseconds the only thread rests. By then the system has taken back what other threads held that have ended.
+const REST: u64 = 500;
+
+/// What a thread does once its match is over.
+#[derive(Clone, Copy)]
+pub enum AfterMatch {
+    /// It sends the result, and begins another match.
+    Report,
+    /// It has rested, and begins another match. Its own one waits again.
+    Retry,
+    /// It ends, so one match less is played at once. Its own one waits again.
+    EndThread,
+}
+
+/// The waiting matches and the number of threads.
+#[derive(Drop)]
+struct SchedulerState {
+    queue: MatchQueue,
+    threads: usize,
+    /// Whether the only thread rests or has rested after a shortage, and no match has ended without one since.
+    has_rested: bool,
+    /// Whether no further match begins.
+    is_closed: bool,
+}
+
+impl SchedulerState {
+    /// The state at the beginning: there is no thread yet.
+    fn of(queue: MatchQueue) -> SchedulerState
+        ensures queue { result.queue ≡ queue }
+        ensures none_yet { (result.threads ≡ 0) × (result.has_rested ≡ false) }
+        ensures open { result.is_closed ≡ false }
+    {
+        SchedulerState {
+            queue,
+            threads: 0,
+            has_rested: false,
+            is_closed: false,
+        }
+    }
+
+    /// Counts one more thread. A rest of the only one before says nothing any more.
+    fn enter(&mut self)
+        ensures { self.new ≡ record self.old { threads = min (self.old.threads + 1) (2 ^ 64 - 1); has_rested = false } }
+    {
+        self.threads = self.threads.saturating_add(1);
+        self.has_rested = false;
+    }
+
+    /// Begins a match if one may begin, and otherwise counts one thread less.
+    fn begin(&mut self) -> Option<WaitingMatch>
+        ensures first { IfSome result (Begins self.old.queue self.new.queue) }
+        ensures same { IfSome result (λ waiting_match. self.new ≡ record self.old { queue = self.new.queue }) }
+        ensures none { IfNone result (All (IsBusy self.old.queue) self.old.queue.waiting.items) }
+        ensures ends { IfNone result (self.new ≡ record self.old { threads = self.old.threads - 1 }) }
+    {
+        let begun = self.queue.take();
+        if begun.is_none() {
+            self.threads = self.threads.saturating_sub(1);
+        }
+        begun
+    }
+
+    /// Ends a match. One without a thread or without memory waits again, unless the only thread has rested or no further match begins.
+    fn end(&mut self, waiting_match: WaitingMatch, is_short: bool) -> AfterMatch
+        ensures stand { StandUp self.old.queue.sitting.items self.new.queue.sitting.items waiting_match.players.items }
+        ensures same { self.new.is_closed ≡ self.old.is_closed }
+        ensures next { Ends self.old self.new waiting_match is_short result }
+    {
+        self.queue.leave(&waiting_match);
+        self.has_rested = self.has_rested && is_short;
+        if !is_short || self.is_closed || self.threads <= 1 && self.has_rested {
+            return AfterMatch::Report;
+        }
+        if self.queue.put_back(waiting_match).is_err() {
+            return AfterMatch::Report;
+        }
+        if self.threads > 1 {
+            self.threads = self.threads.saturating_sub(1);
+            AfterMatch::EndThread
+        } else {
+            self.has_rested = true;
+            AfterMatch::Retry
+        }
+    }
+
+    /// Removes all waiting matches, and lets none wait again.
+    fn close(&mut self)
+        ensures none_waits { self.new.queue.waiting.items ≡ [] }
+        ensures closed { self.new.is_closed ≡ true }
+        ensures same { (self.new.threads ≡ self.old.threads) × (self.new.has_rested ≡ self.old.has_rested) × (self.new.queue.sitting ≡ self.old.queue.sitting) }
+    {
+        self.queue.clear();
+        self.is_closed = true;
+    }
+}
+
+/// Where the threads of a season begin and end their matches.
+#[derive(Drop)]
+pub struct Scheduler {
+    state: Mutex<SchedulerState>,
+    changed: Condvar,
+    /// What a thread sleeps on that rests: nobody wakes it.
+    rest: AtomicU64,
+}
+
+impl Scheduler {
+    /// The scheduler at the beginning, without threads.
+    pub fn of(queue: MatchQueue) -> Scheduler {
+        Scheduler {
+            state: Mutex::new(SchedulerState::of(queue)),
+            changed: Condvar::new(),
+            rest: AtomicU64::new(0),
+        }
+    }
+
+    /// Adds a thread.
+    pub fn enter<R: Wait>(&self, rt: &R) {
+        self.state.lock(rt).enter();
+    }
+
+    /// Begins the first waiting match with free players, as soon as there is one. `None` means that no match waits; then the thread ends.
+    pub fn begin<R: Wait>(&self, rt: &R) -> Option<WaitingMatch> {
+        let mut state = self
+            .changed
+            .wait_while(rt, self.state.lock(rt), |state| state.queue.has_to_wait());
+        let begun = state.begin();
+        // Another match may be able to begin as well. If none waits, all threads go on.
+        if state.queue.is_empty() {
+            self.changed.notify_all();
+        } else {
+            self.changed.notify_one();
+        }
+        begun
+    }
+
+    /// Ends a match. `is_short` says that there was no thread or no memory for it. A thread that waits may begin one now.
+    pub fn end<R: Wait>(&self, rt: &R, waiting_match: WaitingMatch, is_short: bool) -> AfterMatch {
+        let next = self.state.lock(rt).end(waiting_match, is_short);
+        self.changed.notify_one();
+        if matches!(next, AfterMatch::Retry) {
+            self.rest.park_timeout(rt, 0, Duration::from_millis(REST));
+        }
+        next
+    }
+
+    /// Lets no further match begin.
+    pub fn close<R: Wait>(&self, rt: &R) {
+        self.state.lock(rt).close();
+        self.changed.notify_all();
+    }
+}

@@ -1,0 +1,2 @@
+pub mod RockPaperScissors
+pub mod LawfulGame

@@ -1,0 +1,2 @@
+pub mod KeptMessages
+pub mod KeptMatches

@@ -1,0 +1,166 @@
+"""The reader of published descriptions, beside one that tries all values of all variables: games by dice, with relations that depend on the
+state, on moves and on themselves, denials, and `or`s in one another."""
+
+import itertools
+import random
+import unittest
+
+from ggp_tools.holding.game import Game
+from ggp_tools.kif import expressions, put, spelled, variables
+
+TERMS = ["a", "b", "c", ("f", "a"), ("f", "b")]
+STATE = [*(("at", one, other) for one in TERMS[:3] for other in TERMS), *(("on", one) for one in TERMS), "flag", "a", ("f", "b")]
+MOVES = [("m", one, other) for one in TERMS for other in TERMS[:2]] + ["noop", "b", ("f", "a")]
+ROLES = ["r", "s"]
+NAMES = ["?x", "?y", "?z"]
+
+
+class Dice:
+    """Makes a description. Relations stand in layers: each asks for those below it, and now and then for itself."""
+
+    def __init__(self, seed):
+        self.dice, self.layers = random.Random(seed), []
+        self.text = " ".join([
+            "(role r) (role s)", *(f"(d {spelled(one)})" for one in TERMS),
+            *(f"(e {spelled(one)} {spelled(other)})" for one, other in self.dice.sample(list(itertools.product(TERMS, TERMS)), 9)),
+            *(f"(init {spelled(term)})" for term in self.dice.sample(STATE, 6)),
+            *(self.layer(f"p{number}", self.dice.randrange(3)) for number in range(5)), *self.own(),
+        ])
+
+    def argument(self):
+        dice = self.dice.random()
+        return self.dice.choice(NAMES) if dice < 0.7 else spelled(self.dice.choice(TERMS)) if dice < 0.9 else f"(f {self.dice.choice(NAMES)})"
+
+    def atom(self, name, count):
+        return f"({name} {' '.join(self.argument() for _ in range(count))})" if count else name
+
+    def asked(self, is_moving):
+        """Returns an atom that a body may ask for."""
+        match self.dice.randrange(7):
+            case 0 | 1:
+                return self.atom("e", 2)
+            case 2:
+                return f"(true {self.atom('at', 2)})"
+            case 3:
+                return f"(true {self.dice.choice([self.atom('on', 1), 'flag', self.dice.choice(NAMES)])})"
+            case 4 if is_moving:
+                return f"(does {self.dice.choice(ROLES)} {self.dice.choice([self.atom('m', 2), 'noop', self.dice.choice(NAMES)])})"
+            case _ if self.layers:
+                return self.atom(*self.dice.choice(self.layers))
+        return self.atom("d", 1)
+
+    def literal(self, is_moving, depth=2):
+        dice = self.dice.random()
+        if dice < 0.12:
+            return f"(distinct {self.argument()} {self.argument()})"
+        if dice < 0.3:
+            return f"(not {self.literal(is_moving, depth - 1) if depth and self.dice.random() < 0.3 else self.asked(is_moving)})"
+        if dice < 0.5 and depth:
+            parts = [self.literal(is_moving, depth - 1) for _ in range(self.dice.randrange(1, 4))]
+            return f"({self.dice.choice(('or', 'and'))} {' '.join(parts)})"
+        return self.asked(is_moving)
+
+    def rule(self, head, is_moving=False, more=()):
+        """Returns a rule. A sure condition binds each variable."""
+        body = [*more, *(self.literal(is_moving) for _ in range(self.dice.randrange(1, 4)))]
+        bound = [f"(d {name})" for name in variables(expressions(f"{head} {' '.join(body)}"))]
+        self.dice.shuffle(body := [*body, *bound])
+        return f"(<= {head} {' '.join(body)})"
+
+    def layer(self, name, count):
+        found = [self.rule(self.atom(name, count)) for _ in range(self.dice.randrange(1, 4))]
+        if count and self.dice.random() < 0.6:
+            found += [self.rule(self.atom(name, count), more=[self.atom(name, count)])]
+        found += [self.atom(name, count).replace("?x", "a").replace("?y", "b").replace("?z", "c")] * (self.dice.random() < 0.3)
+        self.layers.append((name, count))
+        return " ".join(found)
+
+    def own(self):
+        """Gives the rules of the game's own relations."""
+        for role in ROLES:
+            for move in ("noop", self.atom("m", 2), "?x"):
+                yield self.rule(f"(legal {role} {move})")
+            yield self.rule(f"(goal {role} 100)")
+            yield self.rule(f"(goal {role} {self.dice.randrange(60)})")
+        yield self.rule("terminal")
+        for term in (self.atom("at", 2), self.atom("on", 1), "flag", "?x"):
+            yield self.rule(f"(next {term})", is_moving=True)
+
+
+class Tried:
+    """What is true by a description, found by trying all values of the variables of each rule, layer by layer."""
+
+    def __init__(self, text):
+        self.sentences = expressions(text)
+        self.facts = {one for one in self.sentences if one[0] != "<="}
+        self.rules = [(number, one[1], one[2:]) for number, one in enumerate(self.sentences) if one[0] == "<="]
+
+    def holds(self, literal, true):
+        match literal:
+            case ("not", inner):
+                return not self.holds(inner, true)
+            case ("or", *inners):
+                return any(self.holds(inner, true) for inner in inners)
+            case ("and", *inners):
+                return all(self.holds(inner, true) for inner in inners)
+            case ("distinct", one, other):
+                return one != other
+        return literal in true
+
+    def derived(self, rule, true):
+        """Returns what a rule gives."""
+        _, head, body = rule
+        names = variables((head, *body))
+        found = set()
+        for values in itertools.product(TERMS, repeat=len(names)):
+            by = dict(zip(names, values))
+            if all(self.holds(put(literal, by), true) for literal in body):
+                found.add(put(head, by))
+        return found
+
+    def true(self, state, joint):
+        """Returns what is true in a state with these moves, and for each sentence what it gives."""
+        true = self.facts | {("true", term) for term in state} | {("does", role, move) for role, move in joint.items()}
+        by_layer = itertools.groupby(self.rules, key=lambda rule: rule[1] if isinstance(rule[1], str) else rule[1][0])
+        for _, rules in by_layer:
+            layer = list(rules)
+            while new := set().union(*(self.derived(rule, true) for rule in layer)) - true:
+                true |= new
+        return true
+
+
+class ByDice(unittest.TestCase):
+    def look(self, seed):
+        made = Dice(seed)
+        game, tried = Game(made.text), Tried(made.text)
+        dice = random.Random(seed)
+        self.assertEqual((game.roles, game.initial), (ROLES, {one[1] for one in tried.facts if one[0] == "init"}))
+        for state in (game.initial, frozenset(dice.sample(STATE, 9)), frozenset(dice.sample(STATE, 3))):
+            joint = {role: dice.choice(MOVES) for role in ROLES}
+            true = tried.true(state, joint)
+            position = game.position(state, tuple(joint.values()))
+            self.assertEqual(game.is_over(position), "terminal" in true)
+            for role in ROLES:
+                legal = {one[2] for one in true if one[0] == "legal" and one[1] == role}
+                self.assertEqual(set(game.moves(position, role)), legal)
+                self.assertEqual([move for move in MOVES if game.is_legal(position, role, move)], [move for move in MOVES if move in legal])
+                self.assertEqual(game.goals(position, role), sorted({int(one[2]) for one in true if one[0] == "goal" and one[1] == role}))
+            following = list(game.following(position))
+            self.assertEqual((set(following), len(following)), ({one[1] for one in true if one[0] == "next"}, len(set(following))))
+            self.look_at_sources(game, tried, state, joint, true, dice)
+        return made
+
+    def look_at_sources(self, game, tried, state, joint, true, dice):
+        """Compares which sentences give something."""
+        for atom in dice.sample(sorted((one for one in true if one[0] in ("next", "legal")), key=repr), min(3, len([one for one in true if one[0] in ("next", "legal")]))):
+            giving = [rule[0] for rule in tried.rules if atom in tried.derived(rule, true)]
+            self.assertEqual(game.sources((atom[0], len(atom) - 1), atom[1:], state, tuple(joint.values())), giving)
+
+    def test_what_is_true_in_a_state(self):
+        for seed in range(16):
+            with self.subTest(seed):
+                self.look(seed)
+
+
+if __name__ == "__main__":
+    unittest.main()

@@ -1,0 +1,179 @@
+"""Formulas over ground sentences: whatever is made of them says the same in each state and with each move of each role, and their sizes are
+those of their text."""
+
+import itertools
+import random
+import unittest
+
+from ggp_tools.instantiating.formulas import FALSE, TRUE, Formulas
+from ggp_tools.kif import levels, spelled
+
+STATE = [("true", term) for term in ("a", "b", ("c", "d"))]
+MOVES = {role: [("does", role, f"{role}{number}") for number in range(count)] for role, count in (("r", 4), ("s", 2), ("t", 1))}
+# Each state with each joint move.
+WORLDS = [
+    frozenset(itertools.compress(STATE, chosen)) | frozenset(joint)
+    for chosen in itertools.product((0, 1), repeat=len(STATE)) for joint in itertools.product(*MOVES.values())
+]
+
+
+def holds(expression, world):
+    match expression:
+        case ("true",) | ("not", ("false",)):
+            return True
+        case ("false",):
+            return False
+        case ("not", inner):
+            return not holds(inner, world)
+        case ("or", *inners):
+            return any(holds(inner, world) for inner in inners)
+    return expression in world
+
+
+class OfFormulas(unittest.TestCase):
+    def setUp(self):
+        self.formulas = Formulas()
+        self.formulas.set_moves(MOVES)
+        self.atoms = [self.formulas.atom(atom) for atom in (*STATE, *itertools.chain(*MOVES.values()))]
+
+    def worlds(self, number):
+        """Returns the worlds in which a formula holds, as their places."""
+        if number in (TRUE, FALSE):
+            return frozenset(range(len(WORLDS))) if number == TRUE else frozenset()
+        expression = self.formulas.expression(number)
+        return frozenset(at for at, world in enumerate(WORLDS) if holds(expression, world))
+
+    def made(self, dice, depth=3):
+        """Returns a formula made by dice."""
+        if not depth or dice.random() < 0.3:
+            return dice.choice(self.atoms)
+        numbers = [self.made(dice, depth - 1) for _ in range(dice.randrange(1, 5))]
+        return dice.choice((self.formulas.any, self.formulas.all, lambda found: self.formulas.no(found[0])))(numbers)
+
+    def some(self, count=300):
+        dice = random.Random(7)
+        return [self.made(dice) for _ in range(count)], dice
+
+    def test_any_all_and_none(self):
+        found, dice = self.some()
+        for _ in range(500):
+            numbers = dice.sample(found, dice.randrange(1, 4))
+            ways = [self.worlds(number) for number in numbers]
+            self.assertEqual(self.worlds(self.formulas.any(numbers)), frozenset().union(*ways))
+            self.assertEqual(self.worlds(self.formulas.all(numbers)), ways[0].intersection(*ways))
+            self.assertEqual(self.worlds(self.formulas.no(numbers[0])), frozenset(range(len(WORLDS))) - ways[0])
+
+    def test_of_nothing(self):
+        self.assertEqual((self.formulas.any([]), self.formulas.all([])), (FALSE, TRUE))
+        self.assertEqual((self.formulas.no(TRUE), self.formulas.no(FALSE)), (FALSE, TRUE))
+        one = self.atoms[0]
+        self.assertEqual((self.formulas.any([one, TRUE]), self.formulas.any([FALSE, one]), self.formulas.any([one, self.formulas.no(one)])), (TRUE, one, TRUE))
+        self.assertEqual((self.formulas.all([one, FALSE]), self.formulas.all([TRUE, one]), self.formulas.all([one, self.formulas.no(one)])), (FALSE, one, FALSE))
+
+    def test_each_formula_is_there_once_and_its_size_is_that_of_its_text(self):
+        found, _ = self.some()
+        texts = {}
+        for number in range(2, len(self.formulas.nodes)):
+            expression = self.formulas.expression(number)
+            self.assertEqual((self.formulas.sizes[number], self.formulas.depths[number]), (len(spelled(expression)), levels(expression)), expression)
+            self.assertNotIn(expression, texts)
+            texts[expression] = number
+        self.assertGreater(len(set(found)), 100)
+
+    def test_all_moves_of_a_role_together_are_true(self):
+        for role, moves in MOVES.items():
+            numbers = [self.formulas.atom(move) for move in moves]
+            self.assertEqual((self.formulas.any(numbers), self.formulas.any([*numbers, self.atoms[0]])), (TRUE, TRUE), role)
+            if len(moves) > 1:
+                self.assertNotEqual(self.formulas.any(numbers[1:]), TRUE)
+        mixed = [self.formulas.atom(moves[0]) for moves in (MOVES["r"], MOVES["s"])]
+        self.assertEqual(self.formulas.expression(self.formulas.any(mixed)), ("or", MOVES["r"][0], MOVES["s"][0]))
+
+    def test_what_speaks_of_one_role_s_moves_alone_allows_some(self):
+        first, second, third, fourth = (self.formulas.atom(move) for move in MOVES["r"])
+        other = self.formulas.atom(MOVES["s"][0])
+        allowed, no, any_of = self.formulas.allowed, self.formulas.no, self.formulas.any
+        self.assertEqual(allowed(first), ("r", {first}))
+        self.assertEqual(allowed(any_of([first, third])), ("r", {first, third}))
+        self.assertEqual(allowed(no(any_of([first, third]))), ("r", {second, fourth}))
+        self.assertEqual([allowed(number) for number in (self.atoms[0], no(self.atoms[0]), any_of([first, other]), any_of([first, self.atoms[0]]))], [None] * 4)
+
+    def test_a_body_says_the_same_as_its_parts_together(self):
+        found, dice = self.some()
+        impossible = 0
+        for _ in range(500):
+            numbers = dice.sample(found, dice.randrange(1, 4))
+            ways = [self.worlds(number) for number in numbers]
+            body = self.formulas.body(numbers)
+            if body is None:
+                impossible += 1
+                self.assertEqual(ways[0].intersection(*ways), frozenset())
+                continue
+            self.assertNotIn(TRUE, body)
+            self.assertEqual(frozenset(range(len(WORLDS))).intersection(*map(self.worlds, body)), ways[0].intersection(*ways))
+            roles = [allowed[0] for allowed in map(self.formulas.allowed, body) if allowed]
+            self.assertEqual(len(roles), len(set(roles)), "of one role's moves there is one")
+        self.assertGreater(impossible, 10)
+
+    def test_what_two_parts_leave_of_a_role_s_moves(self):
+        first, second, third, fourth = (self.formulas.atom(move) for move in MOVES["r"])
+        self.assertEqual(self.formulas.body([self.formulas.any([first, second]), self.formulas.any([second, third])]), {second})
+        self.assertIsNone(self.formulas.body([first, second]))
+        self.assertEqual(self.formulas.body([self.formulas.no(first), self.formulas.no(second)]), {self.formulas.any([third, fourth])})
+        self.assertEqual(self.formulas.body([TRUE, self.formulas.atom(MOVES["t"][0])]), frozenset())
+        self.assertIsNone(self.formulas.body([self.atoms[0], self.formulas.no(self.atoms[0])]))
+        self.assertIsNone(self.formulas.body([FALSE, first]))
+
+    def test_the_shortest_says_the_same_and_is_no_longer(self):
+        found, _ = self.some()
+        for number in found:
+            if number in (TRUE, FALSE):
+                continue
+            short = self.formulas.shortest(number)
+            self.assertEqual(self.worlds(short), self.worlds(number))
+
+    def test_most_of_a_role_s_moves_are_told_by_the_few_others(self):
+        first, second, third, fourth = (self.formulas.atom(move) for move in MOVES["r"])
+        most = self.formulas.any([first, second, third])
+        self.assertEqual(self.formulas.expression(self.formulas.shortest(most)), ("not", MOVES["r"][3]))
+        self.assertEqual(self.formulas.expression(self.formulas.shortest(self.formulas.no(most))), MOVES["r"][3])
+        # Two of four are shorter as they are.
+        half = self.formulas.any([first, second])
+        self.assertEqual(self.formulas.expression(self.formulas.shortest(half)), ("or", *MOVES["r"][:2]))
+        beside = self.formulas.any([most, self.atoms[0]])
+        self.assertEqual(self.formulas.expression(self.formulas.shortest(beside)), ("or", STATE[0], ("not", MOVES["r"][3])))
+        self.assertEqual(self.formulas.shortest(self.atoms[0]), self.atoms[0])
+
+    def test_others_in_the_place_of_atoms(self):
+        found, dice = self.some()
+        by = {self.atoms[0]: self.formulas.all(self.atoms[1:3]), self.atoms[1]: FALSE, self.formulas.atom(MOVES["r"][0]): TRUE}
+
+        def with_others(expression, world):
+            places = {STATE[0]: holds(STATE[1], world) and holds(STATE[2], world), STATE[1]: False, MOVES["r"][0]: True}
+            match expression:
+                case ("not", inner):
+                    return not with_others(inner, world)
+                case ("or", *inners):
+                    return any(with_others(inner, world) for inner in inners)
+            return places.get(expression, expression in world)
+
+        known = {}
+        for number in found:
+            if number not in (TRUE, FALSE):
+                wanted = {at for at, world in enumerate(WORLDS) if with_others(self.formulas.expression(number), world)}
+                self.assertEqual(self.worlds(self.formulas.replaced(number, by, known)), wanted)
+                self.assertEqual(known[number], self.formulas.replaced(number, {}, known))
+
+    def test_a_renamed_formula_stands_as_it_does(self):
+        one, other, third = self.atoms[:3]
+        formula = self.formulas.no(self.formulas.any([one, self.formulas.no(self.formulas.any([other, third]))]))
+        known = {one: third, other: self.atoms[3]}
+        first, second = STATE[2], MOVES["r"][0]
+        self.assertEqual(self.formulas.expression(self.formulas.renamed(formula, known)), ("not", ("or", first, ("not", ("or", second, first)))))
+        self.assertEqual(self.formulas.renamed(third, known), third)
+        # Where two become one, it stands alone.
+        self.assertEqual(self.formulas.renamed(self.formulas.any([one, other]), {one: third, other: third}), third)
+
+
+if __name__ == "__main__":
+    unittest.main()

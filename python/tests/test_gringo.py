@@ -1,0 +1,197 @@
+"""The program that the grounder gets, and what is read of what it finds. Where it is run it is a stand-in, or the grounder itself where that is
+installed, beside a plain way to find all instances."""
+
+import itertools
+import os
+import pathlib
+import random
+import resource
+import shutil
+import tempfile
+import unittest
+from unittest import mock
+
+from ggp_tools.instantiating import gringo
+from ggp_tools.instantiating.gringo import Grounder, LogicProgram, TooMany, level_count, limit_memory, term_list, term_text
+from ggp_tools.instantiating.relations import Relations
+from ggp_tools.instantiating.sentences import all_rules
+from ggp_tools.kif import Refused, expressions, levels, put, relation, spelled, variables
+
+
+def program_of(text):
+    rules = all_rules(expressions(text))
+    return LogicProgram(rules, Relations(rules).unsettled())
+
+
+def made(dice, depth=4):
+    if depth and dice.random() < 0.5:
+        return tuple([dice.choice("fg"), *(made(dice, depth - 1) for _ in range(dice.randrange(3)))])
+    return dice.choice(("a", "b1", 'q"', "back\\slash", "a(b", "x)y", "'", ",", "\\", '\\"'))
+
+
+class Terms(unittest.TestCase):
+    def test_a_term_is_read_as_it_is_written(self):
+        dice = random.Random(6)
+        for _ in range(500):
+            terms = [made(dice) for _ in range(dice.randrange(1, 4))]
+            self.assertEqual(term_list(",".join(term_text(term, {}) for term in terms)), terms)
+
+    def test_how_terms_are_written(self):
+        for term, text in (("a", '"a"'), ('q"', '"q\\""'), ("b\\", '"b\\\\"'), (("f", "a"), '("f","a")'), (("f",), '("f",)'), ("?x", "V3"), (("f", ("g", "?x")), '("f",("g",V3))')):
+            self.assertEqual(term_text(term, {"?x": "V3"}), text)
+        self.assertEqual(term_list(""), [])
+
+    def test_how_deep_a_line_is(self):
+        dice = random.Random(8)
+        for _ in range(300):
+            term = made(dice)
+            self.assertEqual(level_count(f"p0({term_text(term, {})}).\n"), 1 + (levels(term) if isinstance(term, tuple) else 0), term)
+        self.assertEqual([level_count(line) for line in ("p0.", "p0(()())", "(()", 'p("(((")', "((a)(b))(((")], [0, 2, 2, 1, 3])
+
+
+class Programs(unittest.TestCase):
+    def test_a_settled_relation_is_derived_as_it_stands(self):
+        found = program_of('(role r) (d a) (d (f b)) (<= (e ?x) (d ?x) (not (d (f ?x))) (distinct ?x a))')
+        self.assertEqual(found.text.splitlines(), [
+            'i0.', 'p0("r") :- i0.', 'p1("a").', 'p1(("f","b")).', 'p2(V0) :- p1(V0), not p1(("f",V0)), V0 != "a".',
+            "p3(T) :- p4(T).", "p3(T) :- p5(T).", "p6(R,M) :- p0(R), p7(R,M).",
+        ])
+        self.assertEqual((found.sources, len(found.kept)), ({"i0": 0, "p1": 1, "p2": 3}, 1))
+
+    def test_of_what_is_not_settled_only_what_can_be_true_is_derived(self):
+        found = program_of("(d a) (<= (t ?x) (true (c ?x)) (not (true (e ?x))) (d ?x) (not (d b))) (<= (next (c ?x)) (t ?x) (does r ?y))")
+        self.assertEqual(found.text.splitlines()[:5], [
+            'p0("a").', 'i0(V0) :- p1(("c",V0)), p0(V0), not p0("b").', "p2(V0) :- i0(V0).", 'i1(V0,V1) :- p2(V0), p3("r",V1).', 'p4(("c",V0)) :- i1(V0,V1).',
+        ])
+        rule, needed = found.kept[0]
+        self.assertEqual((rule.sentence, rule.head, [(literal.positive, literal.atom) for literal in rule.body], list(needed)),
+                         (1, ("t", "?x"), [(True, ("true", ("c", "?x"))), (False, ("true", ("e", "?x")))], ["?x"]))
+
+    def test_ways_that_differ_in_what_is_settled_have_their_instances_together(self):
+        found = program_of("(<= (legal r ?x) (true ?x) (or (d ?x) (e ?x)))")
+        self.assertEqual(found.text.splitlines()[:3], ["i0(V0) :- p0(V0), p1(V0).", 'p2("r",V0) :- i0(V0).', "i0(V0) :- p0(V0), p3(V0)."])
+        self.assertEqual((len(found.kept), found.sources), (1, {"i0": 0}))
+
+    def test_the_sentence_to_look_at_is_the_first_that_asks_for_something(self):
+        self.assertEqual(program_of("(n a) (n b) (<= (n ?x) (m ?x)) (<= (n ?x) (k ?x)) (m c) (m d)").sources, {"p0": 2, "p1": 4})
+
+    def test_two_terms_that_are_the_same(self):
+        self.assertIn('p1(V0) :- p0(V0), V0 = "a".', program_of("(<= (n ?x) (m ?x) (not (distinct ?x a)))").text)
+
+
+class Read(unittest.TestCase):
+    def setUp(self):
+        self.grounder = Grounder(program_of("(n a) (<= (n ?x) (m ?x)) (m c) (<= (legal r ?x) (n ?x)) (<= (next ?x) (true ?x))"), 3)
+
+    def test_instances_and_what_is_counted(self):
+        lines = ['p0("a").\n', 'p0(("f",("g","c"))).\n', 'p1("c").\n', 'i0("a").\n', "i1.\n", 'i0("a",("f","b")).\n']
+        self.assertEqual(list(self.grounder.read(lines)), [(0, ["a"]), (1, []), (0, ["a", ("f", "b")])])
+        self.assertEqual(self.grounder.counts, {"p0": 2, "p1": 1, "i0": 2, "i1": 1})
+        self.assertEqual(self.grounder.lists, {"p0": 3, "p1": 1, "i0": 2, "i1": 0})
+        rules = all_rules(expressions("(n a) (m a) (other a)"))
+        self.assertEqual([self.grounder.lists_in(rule) for rule in rules], [3, 1, 0])
+
+    def test_so_many_instances_are_taken(self):
+        lines = ["i0.\n"] * 3
+        self.assertEqual(len(list(self.grounder.read(lines))), 3)
+        with self.assertRaises(TooMany) as why:
+            list(self.grounder.read(["p0.\n", *lines, "i0.\n"]))
+        self.assertEqual((str(why.exception), gringo.MOST_INSTANCES), ("there are more than 3 instances", 1_000_000))
+
+    def test_a_line_that_was_not_ended_is_no_instance(self):
+        self.assertEqual(list(self.grounder.read(["i0.\n", 'i0("a"'])), [(0, [])])
+
+    def test_terms_of_64_lists_are_taken_and_none_of_65(self):
+        def line(count, name="p0"):
+            return f"{name}({'(' * count}{')' * count}).\n"
+
+        self.assertEqual(list(self.grounder.read([line(64), line(64, "i0"), 'p0("' + "(" * 99 + '").\n', "p0(" + "()," * 99 + "()).\n"]))[0][0], 0)
+        for name in ("p0", "i0"):
+            with self.assertRaises(Refused) as why:
+                list(self.grounder.read([line(65, name)]))
+            self.assertEqual(str(why.exception), "a term has more than 64 lists in one another")
+
+    def test_the_sentence_that_makes_the_most(self):
+        self.assertIsNone(self.grounder.largest())
+        list(self.grounder.read(["p9.\n"] * 9 + ['p1("c").\n'] * 2 + ["i0.\n"] * 3))
+        self.assertEqual(self.grounder.largest(), (3, 3))
+        list(self.grounder.read(['p0("c").\n'] * 4))
+        self.assertEqual(self.grounder.largest(), (1, 4))
+
+
+class Runs(unittest.TestCase):
+    def setUp(self):
+        self.folder = pathlib.Path(self.enterContext(tempfile.TemporaryDirectory()))
+
+    def instances(self, script):
+        """Returns what is read of a grounder that does so, with the path of a shell behind it."""
+        file = self.folder / "gringo"
+        file.write_text(f"#!/bin/sh\n{script}\n")
+        file.chmod(0o755)
+        with mock.patch.dict(os.environ, {"PATH": f"{self.folder}:{os.environ['PATH']}"}):
+            return Grounder(program_of("(role r) (d a)")).instances()
+
+    def test_what_the_grounder_gets_and_gives(self):
+        self.assertEqual(self.instances(f'echo "$@" > {self.folder}/words; cat > {self.folder}/given; echo "i0."'), [(0, [])])
+        self.assertEqual(((self.folder / "words").read_text(), (self.folder / "given").read_text()), ("--text --warn=none\n", program_of("(role r) (d a)").text))
+
+    def test_one_that_reads_nothing(self):
+        self.assertEqual(self.instances('exec < /dev/null; echo "i0."'), [(0, [])])
+
+    def test_one_that_fails(self):
+        for script, words in (
+            ("cat > /dev/null; echo 'a  b' >&2; echo c >&2; exit 65", "gringo refuses it: a b c"), ("cat > /dev/null; echo std::bad_alloc >&2; exit 33", "gringo took 2 GiB"),
+            ("kill -9 $$", "gringo took 2 GiB"), (f"cat > /dev/null; echo {'x' * 400} >&2; exit 1", f"gringo refuses it: {'x' * 300}"), ("cat > /dev/null; echo bad_alloc >&2", "gringo took 2 GiB"),
+        ):
+            with self.assertRaises(Refused) as why:
+                self.instances(script)
+            self.assertEqual(str(why.exception), words)
+
+    def test_one_that_is_not_there(self):
+        with mock.patch.dict(os.environ, {"PATH": str(self.folder)}), self.assertRaises(Refused) as why:
+            Grounder(program_of("(d a)")).instances()
+        self.assertEqual(str(why.exception), "gringo is not installed")
+
+    def test_it_may_take_so_much_memory(self):
+        with mock.patch.object(resource, "setrlimit") as limited:
+            limit_memory()
+        self.assertEqual(limited.call_args.args, (resource.RLIMIT_AS, (2 << 30, 2 << 30)))
+
+    @unittest.skipUnless(shutil.which("gringo"), "gringo is not installed")
+    def test_instances_are_those_that_a_plain_way_finds(self):
+        text = """(role r) (role s) (d a) (d b) (d (f a)) (e a b) (e b (f a)) (<= (w ?x ?y) (e ?x ?y)) (<= (w ?x ?z) (w ?x ?y) (e ?y ?z)) (init (c a))
+        (<= (legal ?r (m ?x)) (role ?r) (w ?x ?y) (not (e ?x b))) (<= (legal ?r noop) (role ?r) (distinct ?r s)) (<= (t ?x) (true (c ?x)) (not (true (c ?y))) (d ?y))
+        (<= (next (c ?y)) (t ?x) (e ?x ?y) (does r (m ?z))) (<= terminal (t (f ?x)))"""
+        rules = all_rules(expressions(text))
+        program = program_of(text)
+        true, terms = set(), ["a", "b", ("f", "a"), "r", "s", "noop", ("m", "a"), ("m", "b")]
+
+        def holds(literal, values):
+            atom = put(literal.atom, values)
+            if literal.same:
+                return (atom[0] == atom[1]) == literal.positive
+            if literal.positive:
+                return atom in true or atom[0] == "true" and {("init", atom[1]), ("next", atom[1])} & true or atom[0] == "does" and ("legal", *atom[1:]) in true
+            # A denial of what is not settled may hold.
+            return relation(atom) in program.unsettled or atom not in true
+
+        def ways(rule):
+            names = list(variables((rule.head, *(literal.atom for literal in rule.body))))
+            found = (dict(zip(names, values)) for values in itertools.product(terms, repeat=len(names)))
+            return [values for values in found if all(holds(literal, values) for literal in rule.body)]
+
+        before = -1
+        while len(true) > before:
+            before = len(true)
+            # What is denied and settled stands before what denies it.
+            for rule in rules:
+                true |= {put(rule.head, values) for values in ways(rule)}
+        wanted = {(number, tuple(values[name] for name in needed)) for number, (kept, needed) in enumerate(program.kept) for rule in rules if rule.sentence == kept.sentence for values in ways(rule)}
+        found = Grounder(program).instances()
+        self.assertEqual(({(number, tuple(listed)) for number, listed in found}, len(found)), (wanted, len(set(wanted))))
+        self.assertGreater(len(wanted), 8)
+        self.assertEqual(spelled(program.kept[0][0].head), "(role r)")
+
+
+if __name__ == "__main__":
+    unittest.main()

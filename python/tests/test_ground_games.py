@@ -1,0 +1,129 @@
+"""The interpreter of ground descriptions, in a game whose every state is written down here, and the phases of its matches."""
+
+import unittest
+
+from ggp_tools import ground_games
+from ggp_tools.ground_games import Game, Match, texts_of
+from ggp_tools.kif import expressions
+
+# Each role shows a side once. Red goes on from 2 as well, but blue has no move there.
+SHOW = """
+(role red) (role blue)
+(init 1) (init (side none))
+(<= (legal red head) (true 1)) (<= (legal red tail) (true 1)) (<= (legal blue tail) (true 1)) (<= (legal blue head) (true 1))
+(<= (legal red wait) (true 2))
+(<= same (does red head) (does blue head)) (<= same (does red tail) (does blue tail))
+(<= (next 3) same)
+(<= (next (side head)) (does red head))
+(<= (next 2) (not same) (true 1) (or (does red head) (does red none)))
+(<= (next 4) (true 1) (not same) (does red tail))
+(<= terminal (true 3)) (<= terminal (true 4) (distinct a b)) (<= terminal (true 2) (distinct a a))
+(<= (goal red 100) (true 3)) (<= (goal red 0) (true 2)) (<= (goal red 50) (true 4)) (<= (goal red 60) (true 4))
+(<= (goal blue 0) (true 3)) (goal blue 7)
+(<= (goal blue 7) (true 4))
+"""
+
+
+def game():
+    return Game(expressions(SHOW))
+
+
+class Rules(unittest.TestCase):
+    def test_roles_and_the_first_state(self):
+        self.assertEqual((game().roles, game().initial()), (["red", "blue"], {"1", ("side", "none")}))
+        self.assertEqual(texts_of(game().initial()), ["(side none)", "1"])
+
+    def test_moves_are_legal_in_the_order_of_the_description(self):
+        found, first = game(), game().initial()
+        self.assertEqual([found.legal(first, role) for role in ("red", "blue", "green")], [["head", "tail"], ["tail", "head"], []])
+        self.assertEqual([found.legal(frozenset({"2"}), role) for role in ("red", "blue")], [["wait"], []])
+
+    def test_the_next_state_follows_from_the_state_and_the_moves(self):
+        found, first = game(), game().initial()
+        for moves, state in ((("head", "head"), {"3", ("side", "head")}), (("head", "tail"), {"2", ("side", "head")}), (("tail", "head"), {"4"}), (("tail", "tail"), {"3"})):
+            self.assertEqual(found.next(first, dict(zip(("red", "blue"), moves))), state)
+
+    def test_the_end_and_the_goals(self):
+        found = game()
+        for term, is_over, goals in (("1", False, (None, 7)), ("2", False, (0, 7)), ("3", True, (100, None)), ("4", True, (None, 7))):
+            state = frozenset({term})
+            self.assertEqual((found.terminal(state), (found.goal(state, "red"), found.goal(state, "blue"))), (is_over, goals), term)
+
+    def test_each_state_is_asked_for_itself(self):
+        found = game()
+        one, two = frozenset({"3"}), frozenset({"1"})
+        self.assertEqual([found.terminal(state) for state in (one, two, one, frozenset({"1"}))], [True, False, True, False])
+
+    def test_a_chain_of_rules_may_be_long(self):
+        count = 300
+        chain = "".join(f"(<= (p {at}) (p {at + 1}))" for at in range(count)) + f"(p {count}) (<= terminal (p 0))"
+        self.assertTrue(Game(expressions(chain)).terminal(frozenset()))
+
+
+class Matches(unittest.TestCase):
+    def setUp(self):
+        self.match = Match(game(), "m", 10, 5, ["ann", "bob"])
+
+    def start(self):
+        self.match.marks["start"] = {0: "", 1: "TO"}
+
+    def play(self, *moves, errors=("", "")):
+        self.match.turn(list(zip(moves, errors)))
+
+    def end(self, *roles):
+        self.match.marks["end"].update(dict.fromkeys(roles, ""))
+
+    def test_a_match_wants_a_player_for_each_role(self):
+        for players in ([], ["ann"], ["ann", "bob", "cid"]):
+            with self.assertRaises(ValueError) as why:
+                Match(game(), "m", 1, 1, players)
+            self.assertEqual(str(why.exception), f"{len(players)} players for 2 roles")
+
+    def test_phases_of_a_match_that_is_played_to_its_end(self):
+        self.assertEqual(self.match.phase(), ("starting", None))
+        self.match.marks["start"][1] = ""
+        self.assertEqual(self.match.phase(), ("starting", None))
+        self.start()
+        self.assertEqual(self.match.phase(), ("playing", None))
+
+    def test_without_a_goal_the_match_is_given_up_once_all_know(self):
+        self.start()
+        self.play("head", "head")
+        self.assertEqual(self.match.phase(), ("aborting", "nogoal 1"))
+        self.end(0)
+        self.assertEqual(self.match.phase(), ("aborting", "nogoal 1"))
+        self.end(1)
+        self.assertEqual(self.match.phase(), ("aborted", "nogoal 1"))
+        self.assertEqual(self.match.record()["goalValues"], [])
+
+    def test_without_a_legal_move_too(self):
+        self.start()
+        self.play("head", "tail")
+        self.assertEqual(self.match.phase(), ("aborting", "nolegal 1"))
+
+    def test_and_after_the_most_turns(self):
+        self.assertEqual(ground_games.MOST_TURNS, 10_000)
+        rules = "(role red) (init 1) (<= (next 1) (true 1)) (legal red on)"
+        match = Match(Game(expressions(rules)), "m", 1, 1, ["ann"])
+        match.marks["start"][0] = ""
+        for count in range(1, 10_001):
+            match.turn([("on", "")])
+            if count >= 9_999:
+                self.assertEqual(match.phase(), ("playing", None) if count < 10_000 else ("aborting", "toolong"))
+
+    def test_the_record_of_a_match_that_is_over(self):
+        rules = SHOW.replace("(<= (goal blue 0) (true 3))", "")
+        self.match = Match(Game(expressions(rules)), "m", 10, 5, ["ann", "bob"])
+        self.start()
+        self.play("head", "head", errors=("", "IL ?"))
+        self.assertEqual((self.match.phase(), self.match.record()["goalValues"], self.match.record()["endMarks"]), (("stopping", None), [100, 7], [None, None]))
+        self.end(0, 1)
+        self.assertEqual(self.match.record(), {
+            "cause": None, "endMarks": ["", ""], "errors": [["", "IL ?"]], "goalValues": [100, 7], "matchId": "m", "moves": [["head", "head"]],
+            "phase": "finished", "playClock": 5, "players": ["ann", "bob"], "roles": ["red", "blue"], "startClock": 10, "startMarks": ["", "TO"],
+            "states": [["(side none)", "1"], ["(side head)", "3"]], "strikes": 0, "version": 2,
+        })
+
+
+if __name__ == "__main__":
+    unittest.main()

@@ -1,0 +1,185 @@
+"""What is made of the instances of rules, what depends on what, what players are told, and the parts into which rules are split."""
+
+import itertools
+import random
+import unittest
+
+from ggp_tools.instantiating.grounding import ground, in_order, needed, possible, sentence_of, shortened
+from ggp_tools.instantiating.relations import Relations
+from ggp_tools.instantiating.sentences import Literal, Rule, all_rules
+from ggp_tools.instantiating.splitting import FEW_VARIABLES, MOST_LITERALS, split
+from ggp_tools.instantiating.for_players import text_for_players
+from ggp_tools.kif import Refused, expressions, put, spelled, variables
+
+
+def rules(text):
+    return all_rules(expressions(text))
+
+
+def texts(found):
+    """Returns rules as texts."""
+    return [spelled(sentence_of(rule)) for rule in found]
+
+
+class Grounding(unittest.TestCase):
+    def test_instances_have_values_for_variables_and_no_denials_of_what_is_never_true(self):
+        rule, = rules("(<= (p ?x) (q ?x ?y) (not (r ?y)) (not (s ?x)))")
+        fact = Rule(3, ("s", "b"), ())
+        found = ground({0: (rule, ["?x", "?y"]), 1: (fact, [])}, [(0, ("a", "c")), (0, ("b", ("f", "c"))), (1, ())])
+        self.assertEqual(texts(found), ["(<= (p a) (q a c))", "(<= (p b) (q b (f c)) (not (s b)))", "(s b)"])
+        self.assertEqual([one.sentence for one in found], [0, 0, 3])
+
+    def test_what_can_be_true_in_some_state_and_with_some_moves(self):
+        found = possible(rules("(role r) (init a) (<= (next b) p) (legal r m) (legal s n) (<= p (true a)) (role q)"))
+        self.assertEqual(found - {("role", "r"), ("init", "a"), ("next", "b"), ("legal", "r", "m"), ("legal", "s", "n"), "p", ("role", "q")},
+                         {("true", "a"), ("true", "b"), ("does", "r", "m")})
+
+    def test_a_literal_stands_once(self):
+        one, no = Literal(True, "p"), Literal(False, "q")
+        self.assertEqual(shortened((one, no, one, no), {"q"}), (one, no))
+        self.assertEqual(shortened((one, no), {"p"}), (one,))
+
+    def test_what_the_game_does_not_ask_for_is_left_out(self):
+        found = needed(rules("(role r) (<= terminal p) (<= p (not q)) q (<= x y) y (<= (next a) z) (<= (base a) x) (<= q w)"))
+        self.assertEqual(texts(found), ["(role r)", "(<= terminal p)", "(<= p (not q))", "q", "(<= (next a) z)", "(<= q w)"])
+
+    def test_rules_stand_in_the_order_of_their_sentences_and_of_what_they_say_each_once(self):
+        p, no_p, q = Literal(True, ("p", "2")), Literal(False, ("p", "2")), Literal(True, ("p", "10"))
+        wanted = [Rule(0, ("h", "9"), ()), Rule(1, ("h", "2"), (no_p,)), Rule(1, ("h", "2"), (p,)), Rule(1, ("h", "2"), (q,)), Rule(1, ("h", "10"), ())]
+        for order in itertools.islice(itertools.permutations(wanted), 0, 120, 7):
+            self.assertEqual(in_order([*order, Rule(2, ("h", "2"), (p,))]), wanted)
+
+    def test_a_rule_as_a_sentence(self):
+        self.assertEqual(texts([Rule(0, "p", ()), Rule(0, "p", (Literal(True, "q"), Literal(False, ("r", "a"))))]), ["p", "(<= p q (not (r a)))"])
+
+
+class Dependence(unittest.TestCase):
+    def test_what_depends_on_what(self):
+        found = Relations(rules("(<= p q (not (r a))) (<= q (s a b)) (<= (t ?x) (u ?x) (distinct ?x a))"))
+        self.assertEqual(found.below, {("p", None): {("q", None), ("r", 1), ("s", 2)}, ("q", None): {("s", 2)}, ("t", 1): {("u", 1)}})
+        self.assertEqual((found.reached([("p", None)]), found.reached([("s", 2)])), (found.below["p", None], set()))
+
+    def test_what_the_grounder_can_not_settle(self):
+        found = Relations(rules("(<= p (true a)) (<= q p) (<= m (does r x)) (<= n (not o)) (<= o n) (<= w v) (<= k (not l)) l (<= z (not n))"))
+        self.assertEqual(found.unsettled(), {("true", 1), ("does", 2), ("p", None), ("q", None), ("m", None), ("n", None), ("o", None), ("z", None)})
+
+    def test_what_bears_on_the_game(self):
+        found = Relations(rules("(<= terminal p) (<= p (not (q a))) (<= (base a) x) (<= (legal r m) (true a))")).bearing()
+        self.assertEqual(found, {("role", 1), ("init", 1), ("next", 1), ("legal", 2), ("goal", 2), ("terminal", None), ("true", 1), ("does", 2), ("p", None), ("q", 1)})
+
+    def test_what_the_program_refuses(self):
+        heads = {"legal": "(legal r m)", "goal": "(goal r 1)", "terminal": "terminal", "init": "(init a)", "role": "(role r)", "next": "(next a)", "p": "p"}
+        asked = {"true": "(true a)", "does": "(does r m)"}
+        wrong = {("legal", "does"), ("goal", "does"), ("terminal", "does"), ("init", "does"), ("init", "true"), ("role", "does"), ("role", "true")}
+        for (name, head), (other, body) in itertools.product(heads.items(), asked.items()):
+            for text in (f"(<= {head} {body})", f"(<= {head} (not x)) (<= x {body})"):
+                if (name, other) in wrong:
+                    with self.assertRaises(Refused) as why:
+                        Relations(rules(text)).refuse_dependence()
+                    self.assertEqual(str(why.exception), f"{name} depends on {other}")
+                else:
+                    Relations(rules(text)).refuse_dependence()
+
+
+class Told(unittest.TestCase):
+    GROUND = "(role x) (role o) (init a) (<= (next a) p) (next b) (legal x m) (legal o (n 1)) (legal x m)"
+
+    def told(self, text, ground=GROUND):
+        return text_for_players(expressions(text), rules(ground)).splitlines()
+
+    def test_roles_stand_first_as_facts_and_facts_of_base_and_input_last(self):
+        self.assertEqual(self.told("(<= (role ?x) (player ?x)) (init a) (role z)"), [
+            "(role x)", "(role o)", "(init a)", "(base a)", "(base b)", "(input x m)", "(input o (n 1))",
+        ])
+
+    def test_where_a_sentence_speaks_of_them_no_facts_are_added(self):
+        self.assertEqual(self.told("(base c)"), ["(role x)", "(role o)", "(base c)", "(input x m)", "(input o (n 1))"])
+        self.assertEqual(self.told("(<= p (or q (not (input x m))))"), ["(role x)", "(role o)", "(<= p (or q (not (input x m))))", "(base a)", "(base b)"])
+        self.assertEqual(self.told("(<= p (and (base a) (input x m)))"), ["(role x)", "(role o)", "(<= p (base a) (input x m))"])
+        self.assertEqual(len(self.told("(base a b) (input x)")), 2 + 2 + 4)
+
+    def test_and_is_no_word_of_gdl(self):
+        for text, wanted in (
+            ("(<= p (and q (and r s)) t)", ["(<= p q r s t)"]), ("(<= p (or q r) t)", ["(<= p (or q r) t)"]),
+            ("(<= p (or (and q r) s) t)", ["(<= p q r t)", "(<= p s t)"]), ("(<= p (not (and q (distinct ?x a))))", ["(<= p (not q))", "(<= p (not (distinct ?x a)))"]),
+            ("(<= p (or (and q (distinct a b)) r) (or s t))", ["(<= p q (distinct a b) (or s t))", "(<= p r (or s t))"]),
+            ("(<= p (not (or q (and r s))))", ["(<= p (not q) (not r))", "(<= p (not q) (not s))"]),
+        ):
+            self.assertEqual(self.told(f"(base a) (input a b) {text}")[4:], wanted, text)
+
+
+class Splitting(unittest.TestCase):
+    """What a rule gives stays as it is, and no rule has more variables than before."""
+
+    FACTS = {("e", one, other) for one, other in zip("abcdeabc", "bcdeabda")}
+
+    def heads(self, found):
+        """Returns what follows by rules, by trying all values of their variables, from below."""
+        true = set(self.FACTS)
+        while True:
+            new = set()
+            for rule in found:
+                names = variables((rule.head, *(literal.atom for literal in rule.body)))
+                for values in itertools.product("abcde", repeat=len(names)):
+                    by = dict(zip(names, values))
+                    if all(self.is_so(literal, by, true) for literal in rule.body):
+                        new.add(put(rule.head, by))
+            if new <= true:
+                return true
+            true |= new
+
+    def is_so(self, literal, by, true):
+        atom = put(literal.atom, by)
+        return ((atom[0] == atom[1]) if literal.same else atom in true) == literal.positive
+
+    def test_a_chain_is_split_where_it_says_the_same_with_fewer_variables(self):
+        before = rules("(<= (p ?a ?d) (e ?a ?b) (e ?b ?c) (e ?c ?d))")
+        after = split(before)
+        self.assertEqual(max(len(variables((rule.head, *(one.atom for one in rule.body)))) for rule in after), 3)
+        self.assertEqual({head for head in self.heads(after) if head[0] in "pe"}, self.heads(before))
+
+    def test_parts_that_say_the_same_have_one_relation(self):
+        after = split(rules("(<= (p ?a) (e ?a ?b) (e ?b ?c)) (<= (q ?x) (e ?x ?y) (e ?y ?z))"))
+        names = {head[0] for head in (rule.head for rule in after)}
+        self.assertEqual(names, {"p", "q", "split1"})
+        self.assertEqual(len(after), 3)
+
+    def test_a_part_that_shares_nothing_is_an_atom(self):
+        after = split(rules("(<= (p ?a) (e ?a a) (e ?b ?c))"))
+        self.assertEqual([rule.head for rule in after], ["split1", ("p", "?a")])
+
+    def test_what_stays_as_it_is(self):
+        self.assertEqual((FEW_VARIABLES, MOST_LITERALS), (3, 13))
+        for text in (
+            "(<= (p ?a ?b) (e ?a ?b) (e ?b a))", "(<= (p ?a ?b ?c) (e ?a ?b) (e ?b ?c) (e ?a ?c))", "(<= (p ?a ?c) (e ?a ?b) (p ?b ?d) (e ?d ?c))",
+            "(<= (p ?a) (e ?a ?b) (not (e ?b ?c)) (e ?a ?c))", "(p a b)",
+        ):
+            self.assertEqual(split(rules(text)), rules(text), text)
+
+    def test_bodies_of_up_to_13_literals_are_split(self):
+        for count, is_split in ((13, True), (14, False)):
+            chain = " ".join(f"(e ?x{at} ?x{at + 1})" for at in range(count))
+            found = rules(f"(<= (p ?x0) {chain})")
+            self.assertEqual(split(found) != found, is_split)
+
+    def test_names_that_the_description_has_are_not_taken(self):
+        after = split(rules("(<= (p ?a) (e ?a a) (e ?b ?c)) (split1 a) (<= (q ?a) (split-2 ?a))"))
+        self.assertEqual(after[0].head, "split--1")
+
+    def test_rules_by_dice(self):
+        dice = random.Random(3)
+        splits = 0
+        for _ in range(60):
+            body = [f"(e {dice.choice(('?a', '?b', '?c', '?d', 'a'))} {dice.choice(('?a', '?b', '?c', '?d'))})" for _ in range(dice.randrange(2, 5))]
+            bound = variables(expressions(" ".join(body)))
+            head = " ".join(dice.sample(bound, dice.randrange(min(3, len(bound) + 1))))
+            more = f"(not (e {dice.choice(bound)} {dice.choice(bound)}))" if dice.random() < 0.5 else f"(distinct {dice.choice(bound)} {dice.choice(bound)})"
+            before = rules(f"(<= (p {head}) {' '.join(body)} {more})")
+            after = split(before)
+            splits += after != before
+            self.assertEqual({one for one in self.heads(after) if one[0] in "pe"}, self.heads(before), before)
+        self.assertGreater(splits, 5)
+
+
+if __name__ == "__main__":
+    unittest.main()

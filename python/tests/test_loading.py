@@ -1,0 +1,150 @@
+"""How descriptions are read, and what is said of those that are none."""
+
+import hashlib
+import os
+import pathlib
+import subprocess
+import tempfile
+import unittest
+from unittest import mock
+
+from ggp_tools.descriptions import loading
+from ggp_tools.descriptions.loading import NoDescription, Stopped, load_described, load_description, notes_of, read_text
+from ggp_tools.referee import BadRules
+
+GROUND = b"; a comment\n(role x) (init a) (legal x m) (<= (next a) (true a)) (goal x 1)\n"
+OPEN = b"(role x) (init a) (legal x m) (<= (next ?t) (true ?t)) (goal x 1)\n"
+
+
+class Takes:
+    """A referee that takes each text, or refuses it."""
+
+    def __init__(self, why=None, is_large=False):
+        self.why, self.asked, self.is_large = why, [], is_large
+
+    def roles(self, text, name):
+        self.asked.append((text, name))
+        if self.why:
+            raise BadRules(self.why)
+        return ("x",)
+
+
+class Loading(unittest.TestCase):
+    def setUp(self):
+        self.folder = pathlib.Path(self.enterContext(tempfile.TemporaryDirectory()))
+        self.enterContext(mock.patch.dict(os.environ, {"XDG_CACHE_HOME": str(self.folder / "cache")}))
+        self.path, self.beside = self.folder / "-game.kif", self.folder / "beside.kif"
+        self.runs, self.made = [], (GROUND, b"", 0)
+
+    def load(self, text, told=False, referee=None, seconds=60):
+        self.path.write_bytes(text)
+        return load_description(self.path, referee or Takes(), told, seconds)
+
+    def described(self, ground, text, told=False):
+        self.path.write_bytes(ground)
+        self.beside.write_bytes(text)
+        return load_described(self.path, self.beside, Takes(), told)
+
+    def instead(self):
+        """Has `ggp-instantiate` make what is laid down."""
+        def run(words, **more):
+            self.runs.append(words)
+            out, said, status = self.made
+            for at, word in enumerate(words):
+                if word == "--player-rules":
+                    pathlib.Path(words[at + 1]).write_bytes(b"(told ?x)\n")
+            return subprocess.CompletedProcess(words, status, out, said)
+
+        return mock.patch("ggp_tools.descriptions.loading.subprocess.run", run)
+
+    def assert_refused(self, words, ask, *asked, kind=NoDescription):
+        with self.assertRaises(NoDescription) as why:
+            ask(*asked)
+        self.assertEqual((str(why.exception), type(why.exception)), (words, kind))
+
+    def test_ground_rules_are_taken_as_they_are(self):
+        referee = Takes()
+        found, total = self.load(GROUND, True, referee), hashlib.sha256(GROUND).hexdigest()
+        self.assertEqual((found.text, found.sum, found.roles, found.player_rules, found.description_sum, found.notes), (GROUND, total, ("x",), None, total, ()))
+        self.assertEqual(referee.asked, [(GROUND, self.path)])
+        self.assert_refused("line 1, column 1: bad", self.load, GROUND, False, Takes("line 1, column 1: bad"))
+
+    def test_a_description_with_variables_is_instantiated_once(self):
+        self.made = (b"; folded\n; and more\n" + GROUND[12:] + b"; no note\n", b"", 0)
+        with self.instead():
+            found = [self.load(OPEN, seconds=7) for _ in range(2)]
+            self.assertEqual((found[0].text, found[0].notes, found[1].notes), (found[1].text, ("folded", "and more"), ("folded", "and more")))
+            self.assertEqual((found[1].text, found[1].sum), (self.made[0], hashlib.sha256(self.made[0]).hexdigest()))
+            self.assertEqual((found[1].description_sum, found[1].player_rules), (hashlib.sha256(OPEN).hexdigest(), None))
+            self.assertEqual([words[len(loading.INSTANTIATE) :] for words in self.runs], [["--seconds=7", str(self.path)]])
+            self.assertEqual([self.load(OPEN, True).player_rules for _ in range(2)], [b"(told ?x)\n"] * 2)
+            self.assertEqual((len(self.runs), self.runs[1][len(loading.INSTANTIATE) :][:2]), (2, ["--seconds=60", "--player-rules"]))
+            # By the limits for large games it may be another one.
+            found = [self.load(OPEN, referee=Takes(is_large=True)).is_large for _ in range(2)]
+            self.assertEqual((found, [words[len(loading.INSTANTIATE) :] for words in self.runs[2:]]), ([True] * 2, [["--seconds=60", "--large", str(self.path)]]))
+
+    def test_why_nothing_was_made(self):
+        for said, status, words, kind in (
+            (b"ggp-instantiate: too large\n", 1, "ggp-instantiate: too large", NoDescription), (b"", 3, "ggp-instantiate ended with status 3", NoDescription),
+            (b"a line\n  dear: sentence 1\n  dear: sentence 2\nggp-instantiate: past a limit\n", 1, "dear: sentence 1\ndear: sentence 2\nggp-instantiate: past a limit", NoDescription),
+            (b"so far:\n  dear: x\nggp-instantiate: stopped after 60 s\n", 1, "dear: x\nggp-instantiate: stopped after 60 s", Stopped),
+        ):
+            self.made = (b"", said, status)
+            with self.instead():
+                self.assert_refused(words, self.load, OPEN, kind=kind)
+
+    def test_what_the_referee_refuses_of_rules_that_were_made(self):
+        with self.instead():
+            self.assert_refused("its ground rules, by ggp-instantiate: line 2, column 1: bad", self.load, OPEN, False, Takes("line 2, column 1: bad"))
+
+    def test_texts_that_are_no_descriptions(self):
+        for text, words in (
+            (b"", "line 1, column 1: there is no sentence"), (b" ; (\n", "line 1, column 1: there is no sentence"), (b"(role x)\n (a", "line 2, column 2: a list that is not closed"),
+            (b"(role x)\n\xe9", "line 2, column 1: a byte that is no character of KIF: '\xe9'"), (b"(role x)\n (<= p (not (q ?x)))", None), (b"(role x)\n\n  (<= (legal x ?m) (does x ?m))", "legal depends on does"),
+        ):
+            if words is None:
+                words = "line 2, column 2: sentence 1, (<= p (not (q ?x))): ?x is unsafe: no sentence of the body that is not negated has it"
+            self.assert_refused(words, self.load, text)
+
+    def test_a_file_is_read_up_to_its_limit(self):
+        self.path.write_bytes(b"x" * (1 << 20))
+        self.assertEqual(len(read_text(self.path)), 1_048_576)
+        self.path.write_bytes(b"x" * ((1 << 20) + 1))
+        self.assert_refused("it has more than 1,048,576 bytes", read_text, self.path)
+        self.assertEqual(len(read_text(self.path, True)), 1_048_577)
+        self.path.write_bytes(b"x" * ((4 << 20) + 1))
+        self.assert_refused("it has more than 4,194,304 bytes", read_text, self.path, True)
+        self.assert_refused("it can't be read: No such file or directory", read_text, self.folder / "none")
+        self.assert_refused("it can't be read: Is a directory", read_text, self.folder)
+
+    def test_variables_are_words_that_begin_with_a_question_mark(self):
+        for text, has in ((b"(p ?x)", True), (b"(p x?)", False), (b"; ?x\n(p a)", False), (b"(p a?b)", False), (b"?", True)):
+            self.assertEqual(loading.has_variables(text), has, text)
+
+    def test_notes_stand_at_the_head_alone(self):
+        self.assertEqual((notes_of(b"; a\n; b\n(role x)\n; c\n"), notes_of(b"(role x)\n; c\n"), notes_of(b";a\n")), (("a", "b"), (), ()))
+
+    def test_ground_rules_with_a_description_beside_them(self):
+        found = self.described(GROUND, OPEN)
+        self.assertEqual((found.text, found.player_rules, found.description_sum, found.notes), (GROUND, None, hashlib.sha256(OPEN).hexdigest(), ()))
+        told = self.described(GROUND, OPEN, True).player_rules
+        self.assertEqual(told.splitlines(), [b"(role x)", b"(init a)", b"(legal x m)", b"(<= (next ?t) (true ?t))", b"(goal x 1)", b"(base a)", b"(input x m)"])
+
+    def test_which_two_files_do_not_fit(self):
+        self.assert_refused("it has variables, and so needs no description beside it", self.described, OPEN, OPEN)
+        self.assert_refused(f"{self.beside} has no variables", self.described, GROUND, GROUND)
+        self.assert_refused("line 1, column 1: there is no sentence", self.described, b"", OPEN)
+        self.assert_refused("line 1, column 1: there is no sentence", self.described, GROUND, b"")
+        self.assert_refused("legal depends on does", self.described, GROUND, b"(<= (legal x ?m) (does x ?m))")
+
+    def test_the_text_for_players_has_a_limit_too(self):
+        size = len(self.described(GROUND, OPEN, True).player_rules)
+        self.assertGreater(size, len(GROUND))
+        with mock.patch.object(loading, "MOST_BYTES", size):
+            self.described(GROUND, OPEN, True)
+        with mock.patch.object(loading, "MOST_BYTES", size - 1):
+            self.assert_refused(f"the text for players has more than {size - 1} bytes", self.described, GROUND, OPEN, True)
+
+
+if __name__ == "__main__":
+    unittest.main()

@@ -1,0 +1,126 @@
+"""What is written of a game, what is said of it, and what is past a limit."""
+
+import contextlib
+import io
+import unittest
+from unittest import mock
+
+from ggp_tools.instantiating import limits, making
+from ggp_tools.instantiating.making import ALWAYS, NEVER, WHERE_NEEDED, Making, Written, text_of
+from ggp_tools.kif import Refused, expressions
+
+GAME = """(role r) (role s) (init (c 1)) (succ 1 2) (succ 2 3)
+(<= (legal ?p (m ?x)) (role ?p) (succ ?x ?y)) (<= (next (c ?y)) (true (c ?x)) (succ ?x ?y) (does r (m ?x)))
+(<= terminal (true (c 3))) (<= (goal ?p 50) (role ?p)) (<= (goal ?p 101) (role ?p) (true (c 3)))
+(<= (unasked ?x) (succ ?x ?y))"""
+
+
+def made(text, wanted=WHERE_NEEDED, seconds=60, is_split=False, is_large=False):
+    """Returns what is made, or why it is refused, and what is said."""
+    lines = []
+    with mock.patch.object(making, "say", lines.append):
+        try:
+            found = Making(text, seconds, wanted, is_split, is_large).run()
+        except Refused as why:
+            found = why
+    return found, "".join(f"{line}\n" for line in lines)
+
+
+class Figures(unittest.TestCase):
+    def written(self, *figures):
+        return Written([], "", [("some", count, most) for count, most in figures], [])
+
+    def test_what_is_past_its_limit_and_what_is_far_past_it(self):
+        self.assertEqual(self.written((10, 10), (11, 10), (0, 0)).past(), [("some", 11, 10)])
+        self.assertEqual([self.written(figure).is_far_past() for figure in ((10, 10), (11, 10), (40, 10), (41, 10))], [False, False, False, True])
+
+    def test_notes_stand_before_the_sentences(self):
+        self.assertEqual(text_of([(0, ("role", "r")), (3, "terminal")], ["one", "two"]), "; one\n; two\n(role r)\nterminal\n")
+
+    def test_the_figures_of_what_is_written(self):
+        sentences = expressions("(role r) (role s) (legal r a) (legal r (b (c d))) (<= (legal s a) (true x)) (<= (next x) (or (true x) (not (true y))) (does r a)) terminal")
+        for is_large, most_of_them in ((False, (8_192, 16_384, 1_048_576)), (True, (65_536, 65_536, 4_194_304))):
+            found = {name: (count, most) for name, count, most in limits.figures(list(enumerate(sentences)), 123, limits.most_of(is_large))}
+            self.assertEqual(found, {
+                "sentences": (7, most_of_them[0]), "atomic sentences": (10, most_of_them[1]), "roles": (2, 16), "moves of r": (2, 4_096), "moves of s": (1, 4_096),
+                "bytes": (123, most_of_them[2]), "lists in one another": (4, 64),
+            })
+
+
+class Made(unittest.TestCase):
+    def test_what_is_written_and_said(self):
+        found, said = made(GAME)
+        self.assertEqual(found.splitlines(), [
+            "; goals past 100 are left out (2): where one would hold at the end, its role keeps the other goal that holds there, and if none does the match has no goals",
+            "(role r)", "(role s)", "(init (c 1))", "(legal r (m 1))", "(legal r (m 2))", "(legal s (m 1))", "(legal s (m 2))",
+            "(<= (next (c 2)) (true (c 1)) (does r (m 1)))", "(<= (next (c 3)) (true (c 2)) (does r (m 2)))", "(<= terminal (true (c 3)))", "(goal r 50)", "(goal s 50)",
+        ])
+        self.assertRegex(said, r"^ggp-instantiate: 11 sentences gave 12 ground ones, in \d+\.\d\d s\n  goals past 100 are left out")
+        self.assertIn("\n  sentences                   12 of     8,192\n", said)
+        self.assertNotIn("PAST", said)
+
+    def test_it_is_folded_where_that_is_wanted_or_needed(self):
+        for wanted, limit, is_folded in ((ALWAYS, 8_192, True), (WHERE_NEEDED, 8_192, False), (WHERE_NEEDED, 12, False), (NEVER, 8_192, False)):
+            with mock.patch.dict(limits.MOST, {"sentences": limit}):
+                found, _ = made(GAME, wanted)
+            self.assertEqual("; folded: 12 ground sentences" in str(found), is_folded, (wanted, limit))
+        with mock.patch.dict(limits.MOST, {"sentences": 11}):
+            found, _ = made(GAME)
+        self.assertTrue(str(found).startswith("nothing is written, since this is past the limit, however it is folded: sentences (at least "), found)
+
+    def test_what_is_past_the_usual_limits_alone_is_written_where_large_games_are_taken(self):
+        with mock.patch.dict(limits.MOST, {"sentences": 11}):
+            found, said = made(GAME, is_large=True)
+        self.assertEqual(found, made(GAME)[0])
+        self.assertIn("\n  sentences                   12 of    65,536\n", said)
+
+    def test_what_is_past_a_limit_is_not_written(self):
+        with mock.patch.dict(limits.MOST, {"roles": 1, "moves": 2}):
+            found, said = made(GAME, NEVER)
+        self.assertIsInstance(found, Refused)
+        self.assertTrue(str(found).startswith("nothing is written, since this is past the limit: roles (2 of 1)"), found)
+        self.assertIn("2 of         1: PAST THE LIMIT\n", said)
+        self.assertEqual(said.count("  dear: sentence "), 3)
+
+    def test_what_costs_most_is_named_first(self):
+        with mock.patch.dict(limits.MOST, {"sentences": 3}):
+            found, said = made(GAME, NEVER)
+        self.assertEqual(str(found), "nothing is written, since this is past the limit: sentences (12 of 3)")
+        dear = [line for line in said.splitlines() if "dear" in line]
+        self.assertEqual(dear[0], "  dear: sentence 5, line 2: (<= (legal ?p (m ?x)) (role ?p) (succ ?x ?y)): 4 ground sentences")
+        with mock.patch.dict(limits.MOST, {"bytes": 3}):
+            found, said = made(GAME, NEVER)
+        self.assertRegex(str(found), r"^nothing is written, since this is past the limit: bytes \(\d+ of 3\)$")
+        self.assertRegex(said, r"  dear: sentence 6, line 2: .*: 92 bytes\n")
+
+    def test_one_word_of_a_command_line(self):
+        for most, is_said in ((10, True), (100_000, False)):
+            with mock.patch.object(limits, "MOST_IN_A_WORD", most):
+                self.assertEqual(f"one word of a command line holds {most:,} bytes on Linux" in made(GAME)[1], is_said)
+
+    def test_cycles_are_unrolled_and_told(self):
+        steps = "(step a b) (step b a) (step b c) (step c b)"
+        game = f"(role r) {steps} (init (at a)) (init (at b)) (<= (reach ?x) (true (at ?x))) (<= (reach ?y) (reach ?x) (step ?x ?y) (true (on ?y))) (<= (legal r ?x) (reach ?x)) (<= (next (at ?x)) (does r ?x)) (<= (next (on ?x)) (does r ?x)) (goal r 1)"
+        found, said = made(game)
+        self.assertRegex(found, r"^; 1 cycles of sentences are unrolled, the largest, of 2 sentences with \(reach a\), in 2 rounds\n")
+        self.assertIn("1 cycles of sentences are unrolled", said)
+
+    def test_refusals_have_the_sentence(self):
+        for text, words in (
+            ("(role r) (<= (legal r m) (does r m))", "legal depends on does"), ("(legal r m)", "there is no role"),
+            ("(role r)\n(<= (goal r ?x) (n ?x)) (n big)", "(goal r big) can be derived, and its goal is no number from 0 to 100: sentence 1, line 2: (<= (goal r ?x) (n ?x))"),
+            ("(role r)\n(<= (role ?x) (not (p ?x)) (q ?x)) (q s) (<= (p s) (not (role s)))", None),
+        ):
+            found, _ = made(text)
+            self.assertIsInstance(found, Refused, text)
+            if words:
+                self.assertEqual(str(found).partition(";")[0], words)
+
+    def test_without_standard_error_nothing_is_said_elsewhere(self):
+        with mock.patch("sys.stderr", None), contextlib.redirect_stdout(io.StringIO()) as out:
+            making.say("x")
+        self.assertEqual(out.getvalue(), "")
+
+
+if __name__ == "__main__":
+    unittest.main()

@@ -1,0 +1,339 @@
+"""The second reader of published descriptions: sentences with their lines, the rules that they come to, what is looked up first, and records
+that are followed."""
+
+import itertools
+import random
+import unittest
+
+from ggp_tools.holding.following import Differs, Following, fits, must_be_record, place_of
+from ggp_tools.holding.game import Game
+from ggp_tools.holding.planning import Sizes, is_known, is_test
+from ggp_tools.holding.positions import Index, Position, Whole, index_of
+from ggp_tools.holding.reading import (
+    Asked, Either, NotFollowed, Rule, Same, Sentence, all_rules, conditions_of, is_built, is_variable, low, products, relation_of, sentences_of, term_of, variables,
+    variables_of,
+)
+from ggp_tools.holding.relations import Relations, grouped
+
+
+def rules(text):
+    return all_rules(sentences_of(text))
+
+
+class Sentences(unittest.TestCase):
+    def test_each_has_its_number_and_the_line_in_which_it_begins(self):
+        self.assertEqual(sentences_of("(A b)\n ; (c\n\n(d\n (e)) F\n"), [Sentence(0, 1, ("a", "b")), Sentence(1, 4, ("d", ("e",))), Sentence(2, 5, "f")])
+        self.assertEqual((sentences_of(""), sentences_of("a;b\n;c"), sentences_of("()")), ([], [Sentence(0, 1, "a")], [Sentence(0, 1, ())]))
+
+    def test_what_is_no_kif_has_its_line(self):
+        for text, words in (("a\n)", "line 2: a `)` with no open list"), ("a\n(b\n(c)\n", "line 2: a list that is not closed"), ("(a) (b", "line 1: a list that is not closed"), ("(a (b", "line 1: a list that is not closed")):
+            with self.assertRaises(NotFollowed) as why:
+                sentences_of(text)
+            self.assertEqual(str(why.exception), words)
+
+    def test_a_sentence_is_cited_up_to_160_characters(self):
+        self.assertEqual(Sentence(3, 7, ("p", "a" * 156)).cited(), f"sentence 3, line 7: (p {'a' * 156})")
+        self.assertEqual(Sentence(3, 7, ("p", "a" * 157)).cited(), f"sentence 3, line 7: (p {'a' * 157}..")
+
+    def test_terms_and_variables(self):
+        self.assertEqual((term_of("(Mark 1 (a b))"), term_of("x")), (("mark", "1", ("a", "b")), "x"))
+        self.assertEqual([is_variable(term) for term in ("?x", "x?", ("?x",), "?")], [True, False, False, True])
+        self.assertEqual((list(variables(("p", "?y", ("f", "?x", "?y")))), list(variables("?x")), list(variables("x"))), (["?y", "?x"], ["?x"], []))
+        self.assertEqual(list(variables_of(Either(((Asked(True, ("p", 1), ("?a",)),), (Same(False, ("?b", "?a")),))))), ["?a", "?b"])
+
+    def test_a_list_begins_with_a_name(self):
+        for text, words in (
+            ("((p) a)", "((p) a) is no term"), ("(p ())", "() is no term"), ("(p a ((b)))", "((b)) is no term"), ("(p (f a) (g (h ())))", "() is no term"),
+            ("(<= (p a) (q ((b))))", "((b)) is no term"), ("(<= p (q () b))", "() is no term"), ("()", "() is no term"),
+        ):
+            with self.assertRaises(NotFollowed) as why:
+                rules(text)
+            self.assertEqual(str(why.exception), f"sentence 0, line 1: {text}: {words}")
+        self.assertEqual(len(rules("p (p a) (p (f a) b) (<= p (q (f (g a))))")), 4)
+
+    def test_a_text_is_one_term(self):
+        for text in ("", "a b", "(a) b", " ; a"):
+            with self.assertRaises(NotFollowed) as why:
+                term_of(text)
+            self.assertEqual(str(why.exception), "it is no record: a text of it is not one term")
+
+    def test_a_rule_may_have_no_condition(self):
+        self.assertEqual(rules("(<= (p a)) (<= q)"), [Rule(0, ("p", 1), ("a",), ()), Rule(1, ("q", None), (), ())])
+
+    def test_relations(self):
+        for atom, wanted in ((("p", "a"), (("p", 1), ("a",))), ("p", (("p", None), ())), (("terminal",), (("terminal", None), ())), ("terminal", (("terminal", None), ())), (("p",), (("p", 0), ()))):
+            self.assertEqual(relation_of(atom), wanted)
+        for atom in ("?x", ("?p", "a"), (("p",), "a"), ("<=", "a"), ("not", "a"), ("or", "a"), "and", "distinct", ("role", "a", "b"), ("goal", "a"), "role", ("terminal", "a"), ("does", "a")):
+            with self.assertRaises(NotFollowed):
+                relation_of(atom)
+
+
+def nested(levels):
+    """Returns a term of so many lists in one another."""
+    term = "a"
+    for _ in range(levels):
+        term = ("f", term)
+    return term
+
+
+class Levels(unittest.TestCase):
+    """64 lists in one another are taken, as the referee takes them, and 65 are refused."""
+
+    def assert_refused(self, words, ask, *asked):
+        with self.assertRaises(NotFollowed) as why:
+            ask(*asked)
+        self.assertEqual(str(why.exception), words)
+
+    def test_lists_in_one_another_in_a_text(self):
+        self.assertEqual(sentences_of("a\n" + "(f " * 64 + "a" + ")" * 64)[1], Sentence(1, 2, nested(64)))
+        self.assertEqual(term_of("(f " * 64 + "a" + ")" * 64), nested(64))
+        self.assert_refused("line 2: more than 64 lists in one another", sentences_of, "a\n(f\n" + "(f " * 64 + "a" + ")" * 65)
+        self.assert_refused("line 1: more than 64 lists in one another", term_of, "(f " * 65 + "a" + ")" * 65)
+        self.assertEqual(len(sentences_of(("(f " * 64 + "a" + ")" * 64) * 2)), 2)
+
+    def test_another_number_of_lists(self):
+        self.assertEqual(sentences_of("((a))", 2)[0].term, (("a",),))
+        self.assert_refused("line 1: more than 2 lists in one another", sentences_of, "(((a)))", 2)
+
+    def test_lists_in_one_another_in_a_term_that_rules_make(self):
+        for term in ("a", nested(1), nested(64), ("f", "a", nested(63), "b")):
+            self.assertIs(low(term), term)
+        for term in (nested(65), ("f", nested(64), "a"), ("f", "a", nested(64)), nested(200)):
+            self.assert_refused("a term has more than 64 lists in one another", low, term)
+
+    def test_a_list_that_has_variables_is_built(self):
+        self.assertEqual([is_built(term) for term in ("?x", "a", ("f", "a"), ("f", ("g", "?x")))], [False, False, False, True])
+
+    def test_a_description_and_a_record_of_64_lists_are_followed(self):
+        deep, deeper = ("(f " * count + "s" + ")" * count for count in (63, 64))
+        text = f"(role r) (legal r m) (init {deep}) (<= (next (f ?x)) (true ?x)) (<= terminal (true t)) (goal r 1)"
+        record = {"roles": ["r"], "states": [[deep], [deeper]], "moves": [["m"]], "errors": [[""]], "goalValues": [], "phase": "playing", "cause": None}
+        self.assertEqual(Following(Game(text)).follow(record), 1)
+        with self.assertRaises(NotFollowed):
+            Game(text.replace(deep, deeper))
+
+
+class Conditions(unittest.TestCase):
+    P, Q = Asked(True, ("p", None), ()), Asked(True, ("q", None), ())
+    NO_P, NO_Q = P._replace(positive=False), Q._replace(positive=False)
+
+    def test_ways_of_literals(self):
+        p, q = self.P, self.Q
+        for literal, wanted in (
+            ("p", [[p]]), (("not", "p"), [[self.NO_P]]), (("not", ("not", "p")), [[p]]), (("and", "p", "q"), [[p, q]]), (("or", "p", "q"), [[p], [q]]),
+            (("not", ("and", "p", "q")), [[self.NO_P], [self.NO_Q]]), (("not", ("or", "p", "q")), [[self.NO_P, self.NO_Q]]),
+            (("distinct", "a", "?x"), [[Same(False, ("a", "?x"))]]), (("not", ("distinct", "a", "?x")), [[Same(True, ("a", "?x"))]]), (("or",), []), (("and",), [[]]),
+        ):
+            self.assertEqual(conditions_of(literal), wanted, literal)
+
+    def test_each_way_of_one_goes_with_each_of_the_others(self):
+        self.assertEqual(products([[[1], [2]], [[3, 4]]]), [[1, 3, 4], [2, 3, 4]])
+
+    def test_ten_thousand_ways_are_taken_and_no_more(self):
+        ten = [[str(at)] for at in range(10)]
+        self.assertEqual(products([ten] * 4), list(map(list, itertools.product("0123456789", repeat=4))))
+        self.assertEqual((products([]), products([[["a"]], []])), ([[]], []))
+        for many in ([ten, ten, ten, [["x"]] * 11], [[["x"]] * 73, [["x"]] * 137], [[["x"]] * 10_001]):
+            with self.assertRaises(NotFollowed) as why:
+                products(many)
+            self.assertEqual(str(why.exception), "its `or`s can hold in more than 10,000 ways")
+
+    def test_up_to_a_hundred_ways_are_rules_and_of_more_each_or_is_a_relation(self):
+        def sentence(*counts):
+            return f"(<= (h ?a ?b) {' '.join('(or ' + ' '.join(f'(q{at} ?{name})' for at in range(count)) + ')' for name, count in zip('ab', counts))})"
+
+        few = rules(sentence(10, 10))
+        self.assertEqual((len(few), {rule.relation for rule in few}, {len(rule.body) for rule in few}), (100, {("h", 2)}, {2}))
+        self.assertEqual(len(rules(sentence(101, 1))), 102)
+        many = rules(f"a {sentence(10, 11)}")
+        self.assertEqual({relation: sum(rule.relation == relation for rule in many) for relation in [("h", 2), ("or 1 0", 1), ("or 1 1", 1)]}, {("h", 2): 1, ("or 1 0", 1): 10, ("or 1 1", 1): 11})
+        self.assertEqual(len(many), 23)
+        whole, = (rule for rule in many if rule.relation == ("h", 2))
+        self.assertEqual(whole, Rule(1, ("h", 2), ("?a", "?b"), (Asked(True, ("or 1 0", 1), ("?a",)), Asked(True, ("or 1 1", 1), ("?b",)))))
+        self.assertIn(Rule(1, ("or 1 1", 1), ("?b",), (Asked(True, ("q10", 1), ("?b",)),)), many)
+
+    def test_an_or_of_which_one_way_binds_less_is_no_relation(self):
+        part = " ".join(f"(p{at} ?x)" for at in range(51))
+        found = rules(f"(<= (h ?x) (or {part}) (or (q ?x) (r a)))")
+        self.assertEqual([rule.body for rule in found if rule.relation == ("h", 1)], [
+            (Asked(True, ("or 0 0", 1), ("?x",)), Asked(True, ("q", 1), ("?x",))), (Asked(True, ("or 0 0", 1), ("?x",)), Asked(True, ("r", 1), ("a",))),
+        ])
+        self.assertEqual({rule.relation for rule in found}, {("h", 1), ("or 0 0", 1)})
+        # A way that only denies what it has of a variable does not bind it.
+        many = " ".join(f"(p{at} ?x ?v)" for at in range(101))
+        self.assertEqual([rule.relation for rule in rules(f"(<= (h ?v) (s ?x) (or {many} (and (p ?v) (not (t ?x)))))")], [("h", 1)] * 102)
+        # A denial binds nothing, and what can hold in one way stays where it is.
+        found = rules(f"(<= (h ?x) (s ?x ?y) (or {part} (and (not (q ?z)) (p ?x) (p ?z))) (or (t ?x ?v) (u ?x ?v)))")
+        self.assertEqual([rule.body[0] for rule in found if rule.relation == ("h", 1)], [Asked(True, ("s", 2), ("?x", "?y"))] * 52)
+        self.assertEqual({rule.relation[0] for rule in found}, {"h", "or 0 2"})
+
+    def test_an_or_stays_where_each_of_its_variables_is_bound_beside_it(self):
+        found, = rules("(<= (h ?x) (p ?x) (or (q ?x) (not (r ?x))))")
+        self.assertEqual(found, Rule(0, ("h", 1), ("?x",), (Asked(True, ("p", 1), ("?x",)), Either(((Asked(True, ("q", 1), ("?x",)),), (Asked(False, ("r", 1), ("?x",)),))))))
+        found = rules("(<= (h ?x) (or (p ?x) (q ?x)))")
+        self.assertEqual([rule.body for rule in found], [(Asked(True, ("p", 1), ("?x",)),), (Asked(True, ("q", 1), ("?x",)),)])
+        found, = rules("(<= (h ?x) (p ?x) (or (q ?x) (r ?x)) (not (s ?x)))")
+        self.assertEqual(found.body[2], Either(((Asked(True, ("q", 1), ("?x",)),), (Asked(True, ("r", 1), ("?x",)),))))
+        # What a denial alone has is not bound: an `or` with it makes a rule of each way.
+        with self.assertRaises(NotFollowed):
+            rules("(<= h (not (p ?x)) (or (not (q ?x)) (not (r ?x))))")
+        found = rules("(<= (h ?x) (not (p ?x)) (or (q ?x) (r ?x)))")
+        self.assertEqual([len(rule.body) for rule in found], [2, 2])
+        # A denial, or that two are the same, binds nothing.
+        found = rules("(<= (h ?x) (p ?x) (or (q ?x ?y) (s ?x ?y)) (not (t ?x)))")
+        self.assertEqual(len(found), 2)
+
+    def test_what_is_no_rule(self):
+        for text, words in (
+            ("(<=)", "sentence 0, line 1: (<=): a rule without a head"), ("(p ?x)", "sentence 0, line 1: (p ?x): nothing binds ?x"),
+            ("a\n(<= p (distinct ?x a))", "sentence 1, line 2: (<= p (distinct ?x a)): nothing binds ?x"), ("(<= (p ?y) (q ?x))", "sentence 0, line 1: (<= (p ?y) (q ?x)): nothing binds ?y"),
+            ("(<= p (not (q ?x)))", "sentence 0, line 1: (<= p (not (q ?x))): nothing binds ?x"), ("(<= p (goal a))", "sentence 0, line 1: (<= p (goal a)): (goal a) is no sentence of GDL"),
+        ):
+            with self.assertRaises(NotFollowed) as why:
+                rules(text)
+            self.assertEqual(str(why.exception), words)
+
+
+class Tied(unittest.TestCase):
+    def test_what_depends_on_the_state_or_on_itself(self):
+        found = Relations(rules("(e a b) (<= (t ?x) (true ?x)) (<= (u ?x) (t ?x) (e ?x ?y)) (<= (w ?x ?y) (e ?x ?y)) (<= (w ?x ?z) (w ?x ?y) (or (e ?y ?z) (w ?y ?z))) (<= n (not n)) (<= m (does r x))"))
+        self.assertEqual(found.timely, {("true", 1), ("does", 2), ("t", 1), ("u", 1), ("m", None)})
+        self.assertEqual((set(found.circles), found.denying), ({("w", 2)}, {("n", None)}))
+        self.assertEqual(found.facts, {("e", 2): {("a", "b"): None}})
+        # No `or` asks for a relation of its own circle any more.
+        self.assertFalse([one for rule in found.rules["w", 2] for one in rule.body if isinstance(one, Either)])
+
+    def test_sets_stand_behind_what_they_depend_on(self):
+        asks = {"a": {"b": None, "x": None}, "b": {"c": None}, "c": {"b": None, "d": None}, "d": {"y": None}, "e": {"a": None, "e": None}}
+        found = grouped(asks)
+        self.assertEqual(sorted(map(sorted, found)), [["a"], ["b", "c"], ["d"], ["e"]])
+        self.assertEqual([sorted(group) for group in found], [["d"], ["b", "c"], ["a"], ["e"]])
+
+    def test_heads_that_may_not_be(self):
+        for text, words in (("(true a)", "sentence 0: true is a head"), ("a (<= (does r m) p)", "sentence 1: does is a head")):
+            with self.assertRaises(NotFollowed) as why:
+                Relations(rules(text))
+            self.assertEqual(str(why.exception), words)
+
+
+class Positions(unittest.TestCase):
+    def test_rows_by_what_they_have_at_some_places(self):
+        rows = [("a", "b", "c"), ("a", "d", "c"), ("e", "b", "c")]
+        self.assertEqual(index_of(rows, (0,)), {"a": rows[:2], "e": rows[2:]})
+        self.assertEqual(index_of(rows, (1, 2)), {("b", "c"): [rows[0], rows[2]], ("d", "c"): [rows[1]]})
+        self.assertEqual((Index(rows, (0,)).get("e"), Index(rows, (0,)).get("x", ())), (rows[2:], ()))
+
+    def test_a_position_has_its_terms_by_their_functors(self):
+        found = Position(frozenset({"s", ("at", "a"), ("at", "b"), ("at", "a", "b")}), [("r", "m")], [])
+        self.assertEqual({key: sorted(rows) for key, rows in found.rows.items()}, {("s", 0): ["s"], ("at", 2): [("at", "a"), ("at", "b")], ("at", 3): [("at", "a", "b")]})
+        self.assertEqual((found.index(0, ("at", 2), (1,))("b"), found.index(0, ("at", 2), (1,))("b"), found.index(1, ("no", 2), (1,))("b", ()), found.does), ([("at", "b")], [("at", "b")], (), {"r": "m"}))
+
+    def test_all_that_is_true_of_a_circle_grows_and_each_row_is_there_once(self):
+        whole = Whole(1)
+        edges = {"a": "b", "b": "c", "c": "a"}
+        whole.add(0, ("a", "b"))
+        index = whole.index(0, (0,))
+        self.assertEqual(index("a"), [("a", "b")])
+        whole.close([[lambda found, row: found.add(0, (row[0], edges[row[1]]))]])
+        self.assertEqual((whole.sets, sorted(whole.lists[0]), whole.queue), ([{("a", "b"), ("a", "c"), ("a", "a")}], [("a", "a"), ("a", "b"), ("a", "c")], []))
+        self.assertEqual(sorted(index("a")), [("a", "a"), ("a", "b"), ("a", "c")])
+
+
+class Reckoned(unittest.TestCase):
+    """How many answers a condition is reckoned to have."""
+
+    def setUp(self):
+        text = "(e a b) (e a c) (e b c) (f a) (<= (d ?x) (e ?x ?y)) (<= (w ?x ?y) (e ?x ?y)) (<= (w ?x ?z) (w ?x ?y) (e ?y ?z)) (<= (big ?x ?y) (f ?x) (f ?y)) (big x y)"
+        self.sizes = Sizes(Relations(rules(text)), ["r", "s", "t"], ["s", ("at", "a", "x"), ("at", "b", "x"), ("at", "b", "y"), ("on", "z")])
+
+    def answers(self, text, *bound):
+        (name, *arguments) = term_of(text)
+        return self.sizes.answers(Asked(True, (name, len(arguments)), tuple(arguments)), set(bound))
+
+    def test_facts_are_counted_and_narrowed_by_what_is_known(self):
+        self.assertEqual([self.answers("(e ?x ?y)"), self.answers("(e ?x ?y)", "?x"), self.answers("(e ?x ?y)", "?y"), self.answers("(e a c)"), self.answers("(none ?x)")], [3, 1.5, 1.5, 0.75, 0])
+
+    def test_terms_are_counted_in_the_first_state(self):
+        self.assertEqual([self.answers("(true (at ?x ?y))"), self.answers("(true (at ?x ?y))", "?x"), self.answers("(true (at b y))"), self.answers("(true ?t)"), self.answers("(true s)")], [3, 1.5, 0.75, 5, 1])
+        self.assertAlmostEqual(self.answers("(true (not-there ?x))"), 8 ** 0.5)
+
+    def test_a_role_makes_one_move(self):
+        self.assertEqual([self.answers("(does r ?m)"), self.answers("(does ?r ?m)"), self.answers("(does ?r ?m)", "?r")], [1, 3, 1])
+
+    def test_rules_have_the_answers_of_their_bodies(self):
+        self.assertEqual((self.answers("(d ?x)"), self.answers("(big ?x ?y)"), self.answers("(d ?x)", "?x")), (3, 2, 1))
+        self.assertAlmostEqual(self.answers("(big ?x ?y)", "?x"), 2 ** 0.5)
+
+    def test_what_is_known_and_what_is_a_test(self):
+        self.assertEqual([is_known(("f", "?x", "a"), {"?x"}), is_known("?y", {"?x"}), is_known("a", set())], [True, False, True])
+        self.assertEqual([is_test(Same(True, ("?x", "?y")), {"?x"}), is_test(Same(True, ("?x", "a")), {"?x"})], [False, True])
+
+
+class Followed(unittest.TestCase):
+    RECORD = {"roles": ["r"], "states": [["s"], ["t"]], "moves": [["m"]], "errors": [[""]], "goalValues": [], "phase": "playing"}
+
+    def test_what_is_no_record(self):
+        must_be_record(self.RECORD)
+        for changes, words in (
+            ({"roles": "r"}, "roles is missing, or of another kind"), ({"phase": 1}, "phase is missing, or of another kind"), ({"goalValues": None}, "goalValues is missing, or of another kind"),
+            ({"states": [["s"]]}, "moves, errors and states do not fit together"), ({"errors": []}, "moves, errors and states do not fit together"),
+            ({"moves": [["m", "n"]]}, "a turn has not one move for each role"), ({"errors": [[]]}, "a turn has not one move for each role"),
+        ):
+            with self.assertRaises(NotFollowed) as why:
+                must_be_record({**self.RECORD, **changes})
+            self.assertEqual(str(why.exception), f"it is no record: {words}")
+        with self.assertRaises(NotFollowed) as why:
+            must_be_record([])
+        self.assertEqual(str(why.exception), "it is no record: one object of JSON is wanted")
+
+    def test_a_pattern_is_a_term_for_some_values(self):
+        for pattern, term, is_so in (
+            ("?x", ("a", "b"), True), (("f", "?x", "?x"), ("f", "a", "a"), True), (("f", "?x", "?x"), ("f", "a", "b"), False), (("f", "?x"), ("f", "a", "b"), False),
+            ("a", "a", True), ("a", "b", False), ("a", ("a",), False), (("a",), "a", False), (("f", ("g", "?x"), "?x"), ("f", ("g", "a"), "a"), True),
+        ):
+            self.assertEqual(fits(pattern, term, {}), is_so, (pattern, term))
+
+    def test_numbers_then_atoms_then_lists(self):
+        order = ["0", "7", "10", "a", "b", ("a", "2"), ("a", "10"), ("b",)]
+        self.assertEqual(sorted(reversed(order), key=place_of), order)
+
+    def test_the_place_of_a_term_is_that_of_its_parts(self):
+        def before(one, other):
+            """Whether a term stands before another: numbers by value, and equal ones by their texts, then other atoms, then lists."""
+            if isinstance(one, tuple) and isinstance(other, tuple):
+                differ = next(((a, b) for a, b in zip(one, other) if a != b), None)
+                return before(*differ) if differ else len(one) < len(other)
+            kinds = [2 if isinstance(term, tuple) else 0 if term.isdigit() else 1 for term in (one, other)]
+            if kinds != [0, 0]:
+                return one < other if kinds == [1, 1] else kinds[0] < kinds[1]
+            return (int(one), one) < (int(other), other)
+
+        def made(dice, depth):
+            if depth and dice.random() < 0.4:
+                return tuple(made(dice, depth - 1) for _ in range(dice.randrange(1, 4)))
+            return dice.choice(("0", "00", "7", "07", "007", "10", "9", "123", "99", "a", "b", "ab", "1a", "-3"))
+
+        dice = random.Random(4)
+        for _ in range(2_000):
+            one, other = made(dice, 2), made(dice, 2)
+            self.assertEqual(place_of(one) < place_of(other), one != other and before(one, other), (one, other))
+
+    def test_of_many_differences_five_of_each_kind_are_told(self):
+        game = Game("(role r) (legal r m) " + " ".join(f"(init (at {at}))" for at in range(7)) + "(<= (next ?t) (true ?t)) (<= terminal (true none)) (goal r 1)")
+        record = {**self.RECORD, "states": [[f"(on {at})" for at in range(8)], []]}
+        with self.assertRaises(Differs) as why:
+            Following(game).follow(record)
+        lines = str(why.exception).splitlines()
+        self.assertEqual([sum(word in line for line in lines) for word in ("the first state lacks (at ", "the first state has (on ")], [5, 5])
+
+    def test_roles_that_a_rule_gives_may_stand_in_any_order(self):
+        text = "(player a) (player b) (<= (role ?x) (player ?x)) (init s) (<= (next s) (true s)) (<= (legal ?r (m ?r)) (role ?r)) (<= terminal (true t)) (<= (goal ?r 1) (role ?r))"
+        for roles in (["a", "b"], ["b", "a"]):
+            record = {"roles": roles, "states": [["s"], ["s"]], "moves": [[f"(m {role})" for role in roles]], "errors": [["", ""]], "goalValues": [], "phase": "playing", "cause": None}
+            self.assertEqual(Following(Game(text)).follow(record), 1)
+        with self.assertRaises(Differs):
+            Following(Game(text)).follow({**record, "moves": [["(m a)", "(m b)"]]})
+
+
+if __name__ == "__main__":
+    unittest.main()

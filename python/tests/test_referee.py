@@ -1,0 +1,273 @@
+"""What is asked of the program and what is made of its answers: a stand-in says what docs/PROFILE.md has the program say, and what it never does."""
+
+import os
+import pathlib
+import subprocess
+import sys
+import tempfile
+import unittest
+from unittest import mock
+
+from ggp_tools.competition.schedule import Match
+from ggp_tools.referee import (
+    BadRules, NoReferee, Referee, Unchecked, find_program, is_no_answer, is_not_lawful, is_not_replayed, last_line, read_records, records_replayed,
+    rules_file,
+)
+
+# It keeps the words and the input of each run, and gives the answer that is laid down for it.
+STAND_IN = """#!/bin/sh
+cd "$(dirname "$0")"
+n=$(cat count)
+echo $((n + 1)) > count
+cat > input.$n
+for word in "$@"; do echo "$word" >> words.$n; done
+cat out.$n
+cat err.$n >&2
+exit $(cat status.$n)
+"""
+
+
+class WithStandIn(unittest.TestCase):
+    def setUp(self) -> None:
+        self.folder = pathlib.Path(self.enterContext(tempfile.TemporaryDirectory()))
+        path = self.folder / "program"
+        path.write_text(STAND_IN)
+        path.chmod(0o755)
+        self.referee, self.laid_down = Referee(str(path)), 0
+        self.begin_anew()
+
+    def begin_anew(self) -> None:
+        (self.folder / "count").write_text("0")
+        for file in self.folder.glob("words.*"):
+            file.unlink()
+        self.laid_down = 0
+
+    def answers(self, out: bytes = b"", err: bytes = b"", status: int = 0) -> None:
+        """Lays down the answer to the next run."""
+        for name, data in (("out", out), ("err", err), ("status", b"%d" % status)):
+            (self.folder / f"{name}.{self.laid_down}").write_bytes(data)
+        self.laid_down += 1
+
+    def asked(self, run: int = 0) -> tuple[list[str], bytes]:
+        """Returns the words and the input of a run."""
+        return (self.folder / f"words.{run}").read_text().splitlines(), (self.folder / f"input.{run}").read_bytes()
+
+    def assert_unchecked(self, words: str, ask, *more) -> None:
+        """Lays down an answer, and looks that nothing was checked by it."""
+        self.begin_anew()
+        self.answers(*more)
+        with self.assertRaises(Unchecked) as why:
+            ask()
+        self.assertEqual(str(why.exception), words)
+
+
+class Verdicts(WithStandIn):
+    def verdicts(self, *records: bytes) -> list[str]:
+        return self.referee.verdicts("game.kif", records or (b'{"a":1}\n', b'{"b":2}\n'))
+
+    def test_each_record_has_its_verdict(self):
+        self.answers(b"lawful\nlawful\n")
+        self.assertEqual(self.verdicts(), ["lawful"] * 2)
+        self.assertEqual(self.asked(), (["verify", "--lines", "--rules-file=game.kif"], b'{"a":1}\n{"b":2}\n'))
+
+    def test_records_that_are_not_lawful_have_status_1_and_their_number(self):
+        self.answers(b"lawful\nnot lawful: goals\n", b"ggp_manager: records not lawful 1\n", 1)
+        self.assertEqual(self.verdicts(), ["lawful", "not lawful: goals"])
+
+    def test_an_answer_that_does_not_fit_is_no_verdict(self):
+        wrong = b"lawful\nnot lawful: goals\n"
+        for said, *answer in (
+            ("it said nothing, status 0", b"lawful\n"), ("it said nothing, status 0", b"lawful\n" * 3), ("it said nothing, status 1", b"lawful\n" * 2, b"", 1),
+            ("records not lawful 1, status 0", wrong, b"ggp_manager: records not lawful 1\n", 0),
+            ("records not lawful 2, status 1", wrong, b"ggp_manager: records not lawful 2\n", 1),
+            ("it said nothing, status 1", wrong, b"", 1), ("want of memory, status 3", b"lawful\n", b"more\nggp_manager: want of memory\n", 3),
+        ):
+            self.assert_unchecked(f"`ggp_manager verify` came to no verdict with game.kif: {said}", self.verdicts, *answer)
+
+
+class Replays(WithStandIn):
+    ACCOUNTS, RECORDS = [b"0\topen a\n", b"0\topen b\n", b"0\topen c\n"], [b'{"a":1}\n', b'{"b":2}\n', b'{"c":3}\n']
+
+    def replays(self) -> list[bool]:
+        return self.referee.replays("game.kif", self.ACCOUNTS, self.RECORDS)
+
+    def test_accounts_that_give_their_records_again(self):
+        self.answers(b'replayed 1 calls\n{"a":1}\nreplayed 1 calls\n{"b":2}\nreplayed 1 calls\n{"c":3}\n')
+        self.assertEqual(self.replays(), [True] * 3)
+        self.assertEqual(self.asked(), (["replay", "--rules-file=game.kif"], b"{\n0\topen a\n{\n0\topen b\n{\n0\topen c\n"))
+
+    def test_an_account_that_gives_another_record_is_none_of_its_record(self):
+        self.answers(b'replayed 1 calls\n{"a":1}\nreplayed 1 calls\n{"b":3}\nreplayed 1 calls\n')
+        self.assertEqual(self.replays(), [True, False, False])
+
+    def test_behind_one_that_is_not_replayed_the_others_are_looked_at(self):
+        self.answers(b'replayed 1 calls\n{"a":1}\n0\topen b\topened\n', b"ggp_manager: not replayed: line 4 differs\n", 1)
+        self.answers(b'replayed 1 calls\n{"c":3}\n')
+        self.assertEqual(self.replays(), [True, False, True])
+        self.assertEqual(self.asked(1)[1], b"{\n0\topen c\n")
+
+    def test_the_last_one_may_be_the_one_that_is_not_replayed(self):
+        self.answers(b'replayed 1 calls\n{"a":1}\nreplayed 1 calls\n{"b":2}\n', b"ggp_manager: not replayed: line 6 is no entry\n", 1)
+        self.assertEqual(self.replays(), [True, True, False])
+
+    def test_an_answer_that_does_not_fit_is_no_verdict(self):
+        whole = b'replayed 1 calls\n{"a":1}\nreplayed 1 calls\n{"b":2}\nreplayed 1 calls\n{"c":3}\n'
+        for said, *answer in (
+            ("it said nothing, status 0", b'replayed 1 calls\n{"a":1}\n'), ("it said nothing, status 0", whole + b"replayed 1 calls\n"),
+            ("want of memory, status 3", whole, b"ggp_manager: want of memory\n", 3), ("it said nothing, status 1", whole, b"", 1),
+        ):
+            self.assert_unchecked(f"`ggp_manager replay` came to no verdict with game.kif: {said}", self.replays, *answer)
+
+    def test_records_stand_behind_the_line_of_their_account(self):
+        self.assertEqual(records_replayed(b'replayed 1 calls\n{"a":1}\nreplayed 20 calls\nreplayed 3 calls\n{"b":2}\n{"c":3}\n3\tnext m 0\tover\n'),
+                         [b'{"a":1}\n', b"", b'{"b":2}\n{"c":3}\n'])
+        self.assertEqual(records_replayed(b""), [])
+
+
+class Rules(WithStandIn):
+    BAD = b"ggp_manager: line 2, column 1: no such thing: (x)\nggp_manager: bad description\n"
+
+    def test_the_roles_are_those_of_the_one_match_that_opens(self):
+        self.answers(b'opened\n{"roles":["x","o"]}\n')
+        self.assertEqual(self.referee.roles(b"(role x)", "nim"), ("x", "o"))
+        words, tried = self.asked()
+        self.assertEqual((words[0], words[1].partition("=")[0], len(words)), ("desk", "--rules-file", 2))
+        lines = tried.decode().splitlines()
+        self.assertEqual(lines[:3], ["open r1 0 1 1 p0", "open r2 0 1 1 p0 p1", "open r3 0 1 1 p0 p1 p2"])
+        self.assertEqual((len(lines), lines[-1].split()[-1]), (16, "p15"))
+
+    def test_a_bad_description_has_its_place(self):
+        for ask in (lambda: self.referee.roles(b"", "nim"), lambda: self.referee.check_rules("game.kif")):
+            self.begin_anew()
+            self.answers(b"", self.BAD, 1)
+            with self.assertRaises(BadRules) as why:
+                ask()
+            self.assertEqual(str(why.exception), "line 2, column 1: no such thing: (x)")
+
+    def test_roles_that_no_answer_tells(self):
+        one = b'{"roles":["x"]}\n'
+        for said, *answer in (
+            ("it said nothing, status 0", b""), ("it said nothing, status 0", one + one), ("it said nothing, status 0", b"{\n"),
+            ("it said nothing, status 0", b'{"roles":"x"}\n'), ("it said nothing, status 0", b'{"roles":["x",1]}\n'), ("it said nothing, status 0", b"{}\n"),
+            ("want of memory, status 3", one, b"ggp_manager: want of memory\n", 3), ("bad description, status 2", one, self.BAD, 2),
+            ("bad, status 1", one, b"ggp_manager: bad\n", 1),
+        ):
+            self.assert_unchecked(f"`ggp_manager desk` came to no verdict with nim: {said}", lambda: self.referee.roles(b"", "nim"), *answer)
+
+    def test_rules_that_were_not_looked_at(self):
+        for said, *answer in (("bad description, status 2", b"", self.BAD, 2), ("no input, status 1", b"", b"ggp_manager: no input\n", 1)):
+            self.assert_unchecked(f"`ggp_manager verify` came to no verdict with game.kif: {said}", lambda: self.referee.check_rules("game.kif"), *answer)
+        self.begin_anew()
+        self.answers()
+        self.assertIsNone(self.referee.check_rules("game.kif"))
+        self.assertEqual(self.asked()[0], ["verify", "--lines", "--rules-file=game.kif"])
+
+    def test_a_file_of_rules_is_there_as_long_as_it_is_needed(self):
+        with rules_file(b"(role x)") as path:
+            self.assertEqual(pathlib.Path(path).read_bytes(), b"(role x)")
+        self.assertFalse(os.path.exists(path))
+
+    def test_a_file_that_can_not_be_written_is_named(self):
+        with mock.patch("pathlib.Path.write_bytes", side_effect=OSError(28, "No space left on device")), self.assertRaises(OSError) as why, rules_file(b"x"):
+            pass
+        self.assertEqual((why.exception.errno, why.exception.strerror), (28, "No space left on device"))
+        self.assertTrue(os.path.isabs(why.exception.filename))
+
+
+class Lines(unittest.TestCase):
+    def test_the_last_line_tells_what_ended_a_run_with_status_1(self):
+        for asked, line in ((is_no_answer, "ggp_manager: no answer"), (is_not_lawful, "ggp_manager: not lawful: goals"), (is_not_replayed, "ggp_manager: not replayed: line 1 differs")):
+            self.assertTrue(asked(1, line))
+            for status, other in ((0, line), (2, line), (1, f"{line[:-1]}\n"), (1, "ggp_manager: want of memory"), (1, f"x{line}"), (1, "")):
+                self.assertFalse(asked(status, other), (status, other))
+
+    def test_a_run_may_say_nothing(self):
+        def said(err: bytes) -> subprocess.CompletedProcess:
+            return subprocess.CompletedProcess(["x"], 0, b"", err)
+
+        self.assertEqual([last_line(said(err)) for err in (b"", b"a", b"a\nb\n", b"a\xff\n")], ["", "a", "b", "a\ufffd"])
+
+    def test_records_among_lines_of_the_desk(self):
+        def said(out: bytes) -> subprocess.CompletedProcess:
+            return subprocess.CompletedProcess(["x"], 0, out, b"")
+
+        self.assertEqual(read_records(said(b'opened\n{"a":1}\nrefused\n{}\n')), [{"a": 1}, {}])
+        self.assertEqual(read_records(said(b"")), [])
+        self.assertIsNone(read_records(said(b'{"a":1}\n{"b"\n')))
+        self.assertIsNone(read_records(said(b'{"a":' + b"[" * 100_000)))
+
+
+class Words(WithStandIn):
+    MATCH = Match("cup-1", "nim", 10, 5, ("ann", "bob"))
+
+    def test_the_words_of_each_command(self):
+        path = self.referee.path
+        self.assertEqual(self.referee.abort_words("cup-1", "ann@h:1"), [path, "abort", "--", "cup-1", "ann@h:1"])
+        self.assertEqual(self.referee.info_words("ann@h:1"), [path, "info", "--", "ann@h:1"])
+        self.assertEqual(self.referee.verify_words("r"), [path, "verify", "--rules-file=r"])
+        self.assertEqual(self.referee.replay_words("r"), [path, "replay", "--rules-file=r"])
+        options = ["--id=cup-1", "--start=10", "--play=5", "--strikes=2", "--history", "--log", "--", "ann@h:1", "bob@h:2"]
+        places = ["ann@h:1", "bob@h:2"]
+        self.assertEqual(self.referee.run_words("r", None, self.MATCH, 2, places), [path, "run", "--rules-file=r", *options])
+        self.assertEqual(self.referee.run_words("r", "t", self.MATCH, 2, places), [path, "run", "--rules-file=r", "--player-rules=t", *options])
+
+    def test_a_large_game_is_said_to_be_one(self):
+        path, large = self.referee.path, self.referee.taking(True)
+        for words in ("desk_words", "verify_words", "replay_words"):
+            self.assertEqual(getattr(large, words)("r"), [path, words.removesuffix("_words"), "--rules-file=r", "--large"])
+            self.assertEqual(getattr(large.taking(False), words)("r"), [path, words.removesuffix("_words"), "--rules-file=r"])
+        self.assertEqual(large.run_words("r", "t", self.MATCH, 2, ["ann@h:1"])[:5], [path, "run", "--rules-file=r", "--large", "--player-rules=t"])
+
+    def test_a_program_is_known_by_its_version(self):
+        self.answers(b"ggp_manager 1.20.3\n")
+        self.assertEqual((self.referee.version(), self.asked()[0]), ("ggp_manager 1.20.3", ["--version"]))
+        for other in (b"", b"ggp_manager 1.2\n", b"a ggp_manager 1.2.3\n", b"ggp_manager 1.2.3\nmore\n", b"ggp_manager 1.2.3"):
+            self.begin_anew()
+            self.answers(other)
+            with self.assertRaises(NoReferee) as why:
+                self.referee.version()
+            self.assertIn("`--version` does not say `ggp_manager N.N.N`", str(why.exception))
+
+
+class Finding(unittest.TestCase):
+    def setUp(self) -> None:
+        self.folder = pathlib.Path(self.enterContext(tempfile.TemporaryDirectory()))
+        self.enterContext(mock.patch.dict(os.environ, {"PATH": str(self.folder / "path")}))
+        self.enterContext(mock.patch.object(sys, "argv", [str(self.folder / "python/ggp_competition"), "play"]))
+        # Where the repository has a program of its own, it is not to be found here.
+        self.is_executable = os.access
+        self.enterContext(mock.patch("os.access", lambda path, mode: str(path).startswith(str(self.folder)) and self.is_executable(path, mode)))
+
+    def program_in(self, name: str, mode: int = 0o755) -> str:
+        path = self.folder / name / "ggp_manager"
+        path.parent.mkdir(exist_ok=True)
+        path.write_text("#!/bin/sh\n")
+        path.chmod(mode)
+        return str(path)
+
+    def test_the_one_that_is_given_is_taken(self):
+        beside, given = self.program_in("python"), self.program_in("other")
+        self.assertEqual((find_program(given), find_program(None)), (given, beside))
+        with mock.patch("os.getcwd", lambda: str(self.folder / "other")), mock.patch("shutil.which", lambda name: name):
+            self.assertEqual(find_program("ggp_manager"), given)
+        with self.assertRaises(NoReferee) as why:
+            find_program(f"{given}s")
+        self.assertEqual(str(why.exception), f"{given}s is no program that can be run")
+
+    def test_else_it_stands_beside_the_command_or_in_bin_or_on_the_path(self):
+        on_path = self.program_in("path")
+        self.assertEqual(find_program(""), on_path)
+        in_bin = self.program_in("bin")
+        self.assertEqual(find_program(""), in_bin)
+        self.program_in("python", 0o644)
+        self.assertEqual(find_program(""), in_bin)
+
+    def test_where_it_is_nowhere_all_places_are_named(self):
+        with self.assertRaises(NoReferee) as why:
+            find_program(None)
+        places = f"{self.folder}/python, {self.folder}/bin, {pathlib.Path(__file__).resolve().parents[2]}/bin"
+        self.assertEqual(str(why.exception), f"ggp_manager is not in {places}, nor on the path of the shell (PATH); `--program FILE` names it")
+
+
+if __name__ == "__main__":
+    unittest.main()

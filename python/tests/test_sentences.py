@@ -1,0 +1,129 @@
+"""Sentences as they are read: in how many ways they may hold, and what is refused, with the sentence and the reason."""
+
+import unittest
+
+from ggp_tools.instantiating.sentences import Literal, Rule, all_rules, as_read, cited, each_of, lines_of, ways_of
+from ggp_tools.kif import Refused, expressions
+
+
+def rules(text):
+    """Returns the rules of a text, each as its head and its body."""
+    return [(rule.head, rule.body) for rule in all_rules(expressions(text))]
+
+
+def true(atom):
+    return Literal(True, atom)
+
+
+class Ways(unittest.TestCase):
+    def test_each_way_of_one_goes_with_each_of_the_others(self):
+        self.assertEqual(each_of([[("a",), ("b",)], [("c", "d")], [("e",), ("f",)]]), [("a", "c", "d", "e"), ("a", "c", "d", "f"), ("b", "c", "d", "e"), ("b", "c", "d", "f")])
+        self.assertEqual((each_of([]), each_of([[("a",)], []])), ([()], []))
+
+    def test_ten_thousand_ways_are_taken_and_no_more(self):
+        # Ten thousand are four times ten.
+        ten = [(str(at),) for at in range(10)]
+        self.assertEqual(len(each_of([ten] * 4)), 10_000)
+        for many in ([ten, ten, ten, [("x",)] * 11], [[("x",)] * 73, [("x",)] * 137]):
+            with self.assertRaises(Refused) as why:
+                each_of(many)
+            self.assertEqual(str(why.exception), "its `or`s can hold in more than 10,000 ways")
+
+    def test_a_denial_turns_and_and_or(self):
+        one, other = ("true", "a"), ("true", "b")
+        both, either = ("and", one, other), ("or", one, other)
+        self.assertEqual(ways_of(both), [(true(one), true(other))])
+        self.assertEqual(ways_of(either), [(true(one),), (true(other),)])
+        self.assertEqual(ways_of(("not", both)), [(Literal(False, one),), (Literal(False, other),)])
+        self.assertEqual(ways_of(("not", either)), [(Literal(False, one), Literal(False, other))])
+        self.assertEqual(ways_of(("not", ("not", one))), [(true(one),)])
+
+    def test_terms_that_are_distinct_are_not_the_same(self):
+        self.assertEqual(ways_of(("distinct", "?x", "a")), [(Literal(False, ("?x", "a"), True),)])
+        self.assertEqual(ways_of(("not", ("distinct", "?x", "a"))), [(Literal(True, ("?x", "a"), True),)])
+
+    def test_up_to_a_hundred_ways_are_rules_and_of_more_each_or_is_a_relation(self):
+        def sentence(*counts):
+            return f"(<= h {' '.join('(or ' + ' '.join(f'(true ({name} {at}))' for at in range(count)) + ')' for name, count in zip('abc', counts))})"
+
+        few = rules(sentence(10, 10))
+        self.assertEqual((len(few), {head for head, _ in few}, {len(body) for _, body in few}), (100, {"h"}, {2}))
+        many = rules(sentence(10, 11))
+        self.assertEqual([sum(head == wanted for head, _ in many) for wanted in ("h", "either1", "either2")], [1, 10, 11])
+        self.assertEqual([body for head, body in many if head == "h"], [(true("either1"), true("either2"))])
+        self.assertEqual([body for head, body in rules(sentence(51, 2)) if head == "h"], [(true("either1"), true("either2"))])
+        # What can hold in one way stays where it is.
+        self.assertEqual([body for head, body in rules(sentence(101, 1)) if head == "h"], [(true("either1"), true(("true", ("b", "0"))))])
+
+    def test_such_a_relation_has_the_variables_that_each_way_binds(self):
+        part = " ".join(f"(p {at} ?x)" for at in range(51))
+        found = rules(f"(<= (h ?x) (or {part}) (or (q ?x) (r a)))")
+        self.assertEqual({head for head, _ in found}, {("either1", "?x"), ("h", "?x")})
+        # One way of the other does not bind it: it stays as it is, and is written out.
+        self.assertEqual([body for head, body in found if head[0] == "h"], [(true(("either1", "?x")), true(("q", "?x"))), (true(("either1", "?x")), true(("r", "a")))])
+
+    def test_their_names_are_none_that_the_description_has(self):
+        many = " ".join(f"(true {at})" for at in range(101))
+        self.assertEqual({head for head, _ in rules(f"(<= h (or {many})) (either7 a)")}, {"either-1", "h", ("either7", "a")})
+
+
+class Reading(unittest.TestCase):
+    def test_terminal_in_a_list_is_the_atom(self):
+        self.assertEqual(as_read(("<=", ("terminal",), ("not", ("terminal",)), ("or", ("and", ("terminal",), "p"), "q"))),
+                         ("<=", "terminal", ("not", "terminal"), ("or", ("and", "terminal", "p"), "q")))
+        self.assertEqual([as_read(one) for one in ("p", ("terminal",), ("next", ("terminal",)), ("distinct", ("terminal",), "a"))],
+                         ["p", "terminal", ("next", ("terminal",)), ("distinct", ("terminal",), "a")])
+
+    def test_each_sentence_has_its_number(self):
+        self.assertEqual(all_rules(expressions("(role r) (<= h (or p q))")), [Rule(0, ("role", "r"), ()), Rule(1, "h", (true("p"),)), Rule(1, "h", (true("q"),))])
+
+    def test_the_line_in_which_each_begins(self):
+        self.assertEqual(lines_of("(a)\n\n(b\n c) (d)\n; x\ne"), [1, 3, 4, 6])
+        self.assertEqual((lines_of("\n(a)\nb"), lines_of("")), ([2, 3], []))
+
+    def test_a_sentence_is_cited_up_to_a_hundred_characters(self):
+        short, long = ("p", "a" * 96), ("p", "a" * 97)
+        self.assertEqual(cited(1, ["x", short]), f"sentence 1, (p {'a' * 96})")
+        self.assertEqual(cited(0, [long], [7]), f"sentence 0, line 7: (p {'a' * 97}..")
+
+
+class Refusals(unittest.TestCase):
+    def assert_refused(self, text, words):
+        with self.assertRaises(Refused) as why:
+            all_rules(expressions(f"(role r) {text}"), [1, 5])
+        self.assertEqual(str(why.exception), f"sentence 1, line 5: {text}: {words}")
+
+    def test_what_is_no_sentence(self):
+        for text, words in (
+            ("?x", "?x is no sentence"), ("()", "() is no term"), ("((p) a)", "((p) a) is no term"), ("(?p a)", "(?p a) is no term"), ("(p ())", "() is no term"),
+            ("(p (f (?g)))", "(?g) is no term"), ("(or p q)", "(or p q) is no sentence"), ("(role a b)", "(role a b) is no sentence"), ("role", "role is no sentence"),
+            ("(terminal a)", "(terminal a) is no sentence"), ("(legal r)", "(legal r) is no sentence"), ("(goal r)", "(goal r) is no sentence"),
+            ("(<=)", "a rule without a head"), ("(true p)", "(true p) is a head"), ("(does r m)", "(does r m) is a head"),
+            ("(<= p (distinct a))", "(distinct a) is no sentence"), ("(<= p (not))", "(not) is no sentence"), ("(<= p (or))", "(or) is no sentence"),
+            ("(<= p (distinct () b))", "() is no term"), ("(<= p (distinct a ()))", "() is no term"), ("(<= p (or q (not ())))", "() is no term"),
+            ("(<= p (or (next a) q))", "(next a) is in a body"), ("(<= p (and () q))", "() is no term"),
+            ("(<= p (init a))", "(init a) is in a body"), ("(<= p (not (next a)))", "(next a) is in a body"), ("(<= p ?x)", "?x is no sentence"),
+        ):
+            self.assert_refused(text, words)
+
+    def test_what_may_stand_where_it_does(self):
+        rules("(<= (next p) (true q) (does r m) (legal r m) (role r) (goal r 1) terminal (sees r a)) (init (p a)) (sees a) (sees a b c d) (<= p (role random))")
+        self.assertEqual(rules("(<= p)"), [("p", ())])
+
+    def test_a_game_of_chance_or_of_what_some_can_not_see(self):
+        secret = "is of GDL-II, games with chance or with what some can't see; here each role sees every move"
+        self.assert_refused("(role random)", f"the role `random` {secret}")
+        for text in ("(sees r a)", "(sees r a b)", "(<= (sees r a) p)"):
+            self.assert_refused(text, f"`sees` {secret}")
+
+    def test_a_variable_that_nothing_binds(self):
+        unsafe = "is unsafe: no sentence of the body that is not negated has it"
+        self.assert_refused("(p ?x)", f"?x {unsafe}")
+        self.assert_refused("(<= p (not (q ?x)))", f"?x {unsafe}")
+        self.assert_refused("(<= p (not (distinct ?x a)))", f"?x {unsafe}")
+        self.assert_refused("(<= (p ?y) (or (q ?y) (r ?x)))", f"?y {unsafe}")
+        rules("(<= (p ?x) (q ?x) (not (r ?x)) (distinct ?x a))")
+
+
+if __name__ == "__main__":
+    unittest.main()

@@ -1,0 +1,37 @@
+"""The shapes of what a record says, by the words of section 9 of docs/PROFILE.md."""
+
+import unittest
+
+from ggp_tools.records.shapes import is_error, is_expression, is_list, is_text
+
+
+class Shapes(unittest.TestCase):
+    def test_a_folded_canonical_text_of_one_expression(self):
+        for text in ("a", "noop", "(a)", "()", "(take 1)", "(f (g a b) () (h))", "!~", "((a) (b))", "(" * 64 + ")" * 64, "(a:b @x [y] {z})"):
+            self.assertTrue(is_expression(text), text)
+
+    def test_what_is_none(self):
+        for text in (
+            "", " ", "a b", "(a) b", "(a)(b)", "(a", "a)", ")(", "( a)", "(a )", "(a  b)", " (a)", "(a) ", "(a(b))", "((a)b)", "(A)", "(a;b)", "(a\tb)", "(a\nb)",
+            "(\xe4)", "\x7f", "(a Z)", "(" * 65 + ")" * 65, "())", "(()", "()()", "a\n",
+        ):
+            self.assertFalse(is_expression(text), text)
+
+    def test_an_error_is_a_word_or_what_was_answered(self):
+        for error in ("", "TO", "CE", "RT", "IL ?", "IL a", "IL (take 1)", "IL ()"):
+            self.assertTrue(is_error(error), error)
+        for error in ("IL", "IL ", "to", "TO ", "IL (a", "IL a b", "IL A", "XL a", "il a", "a", None, 1, ["TO"], ("TO",)):
+            self.assertFalse(is_error(error), error)
+
+    def test_the_text_of_an_answer_has_at_most_8192_characters(self):
+        self.assertTrue(is_error("IL " + "a" * 8_192))
+        self.assertFalse(is_error("IL " + "a" * 8_193))
+
+    def test_lists_of_members_and_of_lengths(self):
+        self.assertTrue(is_list([], is_text) and is_list(["a"], is_text) and is_list(["a", "b"], is_text, [0, 2]) and is_list([], is_text, [0, 2]))
+        for value, lengths in ((("a",), None), ("a", None), ([1], None), (["a", None], None), (["a"], [0, 2]), (["a"], []), (None, None)):
+            self.assertFalse(is_list(value, is_text, lengths), value)
+
+
+if __name__ == "__main__":
+    unittest.main()

@@ -1,0 +1,96 @@
+"""What a player did in a match: its goal, its times and its errors, as a record and a log say them."""
+
+import unittest
+from dataclasses import replace
+
+from ggp_tools.competition.plots import BARS, bar_of
+from ggp_tools.competition.results import result_of
+from ggp_tools.competition.schedule import Match
+from ggp_tools.competition.sittings import MOST_ERRORS, Fault, sitting_of_values, sittings_of, values_of
+
+MATCH = Match("cup-001", "nim", 10, 5, ("ann", "bob"))
+
+
+def record(*errors: list[str]) -> dict:
+    """Returns the record of a match with these errors, in which each turn has moves of its own."""
+    moves = [[f"a{turn}", f"b{turn}"] for turn in range(1, len(errors) + 1)]
+    return {"roles": ["x", "o"], "goalValues": [100, 0], "moves": moves, "errors": list(errors), "strikes": 2, "phase": "finished", "cause": None}
+
+
+def line(role: int, number: int, message: str, answer: str, milliseconds: int) -> str:
+    return f"cup-001 role {role} {MATCH.players[role]} message {number} {message}: {answer}, {milliseconds} ms\n"
+
+
+LOG = (
+    "began 2026-01-01T00:00:00.000Z\n" + line(0, 1, "(START cup-001 x () 10 5)", "ready", 40) + line(1, 1, "(START cup-001 o () 10 5)", "ready", 50)
+    + line(0, 2, "(PLAY cup-001 NIL)", "a1", 7) + line(1, 2, "(PLAY cup-001 NIL)", "TO (no answer in time)", 5_001)
+    + line(0, 3, "(PLAY cup-001 (a1 b1))", "wrong", 300) + line(1, 3, "(PLAY cup-001 (a1 b1))", "CE (no connection)", 2)
+    + line(0, 4, "(PLAY cup-001 (a2 b2))", "a3", 9) + line(0, 5, "(STOP cup-001 (a3 b3))", "done", 9_999) + "ended 2026-01-01T00:00:09.000Z\n"
+)
+RECORD = record(["", "TO"], ["IL wrong", "CE"], ["", "RT"])
+
+
+class Sittings(unittest.TestCase):
+    def sittings(self, said=RECORD, log=LOG, ended="2026-01-01T00:00:09.000Z"):
+        return sittings_of(result_of(said, MATCH), said, log.encode(), ended)
+
+    def test_each_role_has_its_own(self):
+        ann, bob = self.sittings()
+        self.assertEqual([(sitting.role, sitting.role_name, sitting.ended, sitting.goal()) for sitting in (ann, bob)],
+                         [(0, "x", "2026-01-01T00:00:09.000Z", 100), (1, "o", "2026-01-01T00:00:09.000Z", 0)])
+
+    def test_times_are_those_of_play_and_of_start_alone(self):
+        ann, bob = self.sittings()
+        self.assertEqual([(sitting.start, sitting.longest, sum(sitting.times)) for sitting in (ann, bob)], [(40, 300, 3), (50, 5_001, 2)])
+        wanted = [0] * BARS
+        for milliseconds in (7, 300, 9):
+            wanted[bar_of(milliseconds)] += 1
+        self.assertEqual(ann.times, tuple(wanted))
+
+    def test_an_error_has_its_message_and_the_answer_where_the_player_was_asked(self):
+        ann, bob = self.sittings()
+        self.assertEqual(ann.faults, (Fault(2, "IL wrong", "a2", "(PLAY cup-001 (a1 b1))", "wrong"),))
+        self.assertEqual(bob.faults, (
+            Fault(1, "TO", "b1", "(PLAY cup-001 NIL)", "TO (no answer in time)"), Fault(2, "CE", "b2", "(PLAY cup-001 (a1 b1))", "CE (no connection)"), Fault(3, "RT", "b3"),
+        ))
+
+    def test_a_retired_role_was_asked_for_nothing_whatever_a_log_says(self):
+        log = LOG + line(1, 4, "(PLAY cup-001 (a2 b2))", "b3", 1)
+        self.assertEqual(self.sittings(log=log)[1].faults[-1], Fault(3, "RT", "b3"))
+
+    def test_without_lines_there_are_no_times(self):
+        ann, bob = self.sittings(log="", ended=None)
+        self.assertEqual((ann.start, ann.longest, ann.times, ann.ended), (None, None, (0,) * BARS, ""))
+        self.assertEqual(bob.faults[0], Fault(1, "TO", "b1"))
+
+    def test_a_match_that_began_again_has_the_lines_of_its_last_time_alone(self):
+        before = "began 2025-01-01T00:00:00.000Z\n" + line(0, 1, "(START cup-001 x () 10 5)", "ready", 1) + line(0, 2, "(PLAY cup-001 NIL)", "a1", 8_000)
+        self.assertEqual(self.sittings(log=before + LOG), self.sittings())
+
+    def test_a_competition_may_be_named_like_the_word_for_that(self):
+        match = replace(MATCH, id="began-001")
+        found = sittings_of(result_of(RECORD, match), RECORD, LOG.replace("cup-001", "began-001").encode(), None)
+        self.assertEqual([sitting.times for sitting in found], [sitting.times for sitting in self.sittings()])
+
+    def test_lines_of_no_role_are_left_out(self):
+        self.assertEqual(self.sittings(log=LOG + "cup-001 role 2 eve message 2 (PLAY cup-001 NIL): x, 1 ms\nno line\n"), self.sittings())
+
+    def test_of_many_errors_the_last_ten_are_shown(self):
+        self.assertEqual(MOST_ERRORS, 10)
+        for count, before in ((10, 0), (12, 2)):
+            said = record(["", ""], *[["TO", ""]] * count)
+            ann, bob = self.sittings({**said, "strikes": 0}, "")
+            self.assertEqual(([fault.turn for fault in ann.faults], bob.faults), (list(range(2 + before, 2 + count)), ()))
+
+    def test_a_match_in_whose_place_another_was_ordered_has_no_goal(self):
+        ann, _ = self.sittings()
+        again = replace(ann.result, match=replace(MATCH, again="cup-002"))
+        self.assertIsNone(replace(ann, result=again).goal())
+
+    def test_values_of_json_say_all_of_it(self):
+        for sitting in self.sittings():
+            self.assertEqual(sitting_of_values(values_of(sitting), sitting.result), sitting)
+
+
+if __name__ == "__main__":
+    unittest.main()
