@@ -12,7 +12,7 @@ from ggp_tools.descriptions import random_matches
 from ggp_tools.referee import Referee
 from ggp_tools.descriptions.suspicious import suspicions
 from ggp_tools.reporting import Reporter
-from tests.support import COMMAND, GAMES, InFolder, program, program_but, run, run_into_full, slowness
+from tests.support import COMMAND, GAMES, InFolder, program, program_but, run, run_into_full
 
 # A game of two turns, in which nothing is suspicious.
 SOUND = """(role ann) (role bob)
@@ -148,9 +148,9 @@ class Suspicious(unittest.TestCase):
             "`z99` has no rule and no fact": ["(<= terminal (or", *(f"z{number}" for number in numbers), "))"],
         }
         for words, text in cases.items():
-            began = time.monotonic()
+            began = time.process_time()
             found = lines_of(" ".join(text).encode())
-            self.assertLess(time.monotonic() - began, 5 * slowness())
+            self.assertLess(time.process_time() - began, 15)
             self.assertTrue(any(words in line for line in found), found)
 
     def test_where_a_condition_stands(self):
