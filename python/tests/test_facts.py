@@ -15,7 +15,8 @@ from ggp_tools.competition.log_faults import shown
 from ggp_tools.records.collection import Judged, KnownGame, Line
 from ggp_tools.records.facts import TWO_LOGS, TWO_RECORDS, Exchanges, Facts, description_sums
 from ggp_tools.records.match_logs import LONGEST_LINE, MatchLogs, Part, beginnings, lines_of
-from tests.support import GAMES, TOP, program
+from tests.players import TestPlayer
+from tests.support import GAMES, TOP, InFolder, program, run
 
 RECORD = json.loads((TOP / "examples/records/countdown-3-second_version.record").read_bytes())
 FAULTY = (TOP / "examples/records/countdown-3-another_state.record").read_bytes()
@@ -305,3 +306,26 @@ class Files(unittest.TestCase):
         sums.write_text("no sum\n", encoding="ascii")
         with self.assertRaisesRegex(OSError, "no sum"):
             description_sums(rules, None)
+
+
+class Competitions(InFolder):
+    def test_what_matches_jsonl_has_too_is_the_same(self):
+        players = [TestPlayer(f"p{at}", kind, at) for at, kind in enumerate(("good", "closing"))]
+        head = "start = 20\nplay = 20\nstrikes = 1\nwait = 1\n"
+        self.plan([(player.name, player.place()) for player in players], [("countdown", GAMES / "countdown.kif")], head=head)
+        status, _, told = run(self.folder, "play")
+        self.assertEqual((status, told), (0, ""))
+        records, out = sorted((self.folder / "records").iterdir()), self.folder / "facts.jsonl"
+        words = ["--program", program(), "--rules", self.folder / "rules", "facts", "--log", self.folder / "logs", out, *records]
+        done = subprocess.run([sys.executable, TOP / "python/ggp-records", *words], capture_output=True, text=True)
+        self.assertEqual((done.returncode, done.stderr), (0, "ggp-records: 2 lawful\n"))
+        facts = [json.loads(line) for line in out.read_text(encoding="ascii").splitlines()]
+        matches = [json.loads(line) for line in (self.folder / "matches.jsonl").read_text(encoding="ascii").splitlines()]
+        shared = {"id", "game", "rules", "players", "begin", "end", "host", "messages"}
+        self.assertEqual(facts[0].keys() & matches[0].keys(), shared)
+        self.assertEqual(*([{key: one[key] for key in shared} for one in found] for found in (facts, matches)))
+        self.assertEqual([fact["record"] for fact in facts], [hashlib.sha256(record.read_bytes()).hexdigest() for record in records])
+        self.assertEqual(facts[0]["description"], hashlib.sha256((GAMES / "countdown.kif").read_bytes()).hexdigest())
+        for fact in facts:
+            self.assertEqual({(fact["players"][one["role"]], one["message"]) for one in fact["broken"]}, {("p1", 2)})
+            self.assertTrue(all(one["why"] for one in fact["broken"]), fact)
