@@ -180,6 +180,13 @@ class Lines(unittest.TestCase):
             self.assertEqual(found["messages"], wanted)
             self.assertEqual(found["broken"][0]["why"], None if at == 2 else "no connection")
 
+    def test_a_time_that_follows_from_a_line_that_may_be_missing_is_null(self):
+        timed = LOG.splitlines(keepends=True)[1:-2]
+        begin, end = "2026-11-28T06:00:01.000Z", "2026-11-28T06:00:05.001Z"
+        for known, wanted in ((timed, (begin, end)), (timed[1:], (None, end)), (timed[:-1], (begin, None))):
+            found = self.of(BROKEN, "".join(known))
+            self.assertEqual((found["begin"], found["end"]), wanted)
+
     def test_a_log_of_another_match_is_not_taken(self):
         others = (
             LOG.replace("bob", "cid"), LOG.replace("role 1 bob", "role 2 bob"), LOG.replace("(take 1) noop", "(take 2) noop"),

@@ -96,18 +96,18 @@ class Facts:
         self.sums: dict[str, str] = {}
         self.faults: dict[str, str] = {}
 
-    def of_log(self, judged: Judged, exchanges: Exchanges) -> tuple[Beginning | None, list | None]:
-        """Returns the match of the logs that is that of a record, and its messages."""
+    def of_log(self, judged: Judged, exchanges: Exchanges) -> tuple[Beginning, list[list[list | None]]] | None:
+        """Returns the match of the logs that is that of a record, and its messages, if there is one."""
         match_id = judged.line.match_id
         found = self.logs.of(match_id)
         if len(found) > 1:
             self.faults[match_id] = TWO_LOGS
         if len(found) != 1:
-            return None, None
+            return None
         messages = messages_of(exchanges, found[0])
         if isinstance(messages, str):
             self.faults.setdefault(match_id, messages)
-            return None, None
+            return None
         return found[0], messages
 
     def of(self, judged: Judged) -> dict[str, object]:
@@ -116,9 +116,12 @@ class Facts:
         found = hashlib.sha256(line.data + b"\n").hexdigest()
         if self.sums.setdefault(line.match_id, found) != found:
             self.faults[line.match_id] = TWO_RECORDS
-        logged, messages = self.of_log(judged, exchanges)
-        begin, end, host = logged.times() if logged else (None, None, None)
-        whys = logged.broken if logged else {}
+        begin = end = host = messages = None
+        whys: dict[tuple[int, int], str] = {}
+        if taken := self.of_log(judged, exchanges):
+            logged, messages = taken
+            begin, end, host = logged.times(all(row[0] for row in messages), all(row[-1] for row in messages))
+            whys = logged.broken
         return {
             "id": line.match_id,
             "record": found,

@@ -105,10 +105,10 @@ class Beginning:
         values = iter(self.numbers)
         return zip(values, values, values, values, values)
 
-    def times(self) -> tuple[str | None, str | None, str | None]:
-        """Returns when it began and ended, and on which host."""
+    def times(self, has_starts: bool = True, has_ends: bool = True) -> tuple[str | None, str | None, str | None]:
+        """Returns when it began and ended, and on which host. By the lines of messages that is known if no START, or no end, is missing."""
         part = self.part.of_match()
-        return part.begin or self.sent, part.end or self.came, part.host
+        return part.begin or (self.sent if has_starts else None), part.end or (self.came if has_ends else None), part.host
 
 
 def lines_of(log: BinaryIO) -> Iterator[str]:
