@@ -14,7 +14,7 @@ import unittest
 from ggp_tools.competition.log_faults import shown
 from ggp_tools.records.collection import Judged, KnownGame, Line
 from ggp_tools.records.facts import TWO_LOGS, TWO_RECORDS, Exchanges, Facts, description_sums
-from ggp_tools.records.match_logs import LONGEST_LINE, MatchLogs, Part, beginnings, lines_of
+from ggp_tools.records.match_logs import LONGEST_LINE, MatchLogs, Part, beginnings, files_of, lines_of
 from tests.players import TestPlayer
 from tests.support import GAMES, TOP, InFolder, program, run
 
@@ -111,6 +111,15 @@ class Logs(unittest.TestCase):
             self.assertEqual(len(self.logs(*logs).of("m1")), 2)
         self.assertEqual(len(self.logs(UNTIMED, UNTIMED).of("m1")), 1)
         self.assertEqual(self.logs(UNTIMED).of("m2"), [])
+
+    def test_of_a_folder_no_log_is_read_that_was_set_aside(self):
+        with tempfile.TemporaryDirectory() as folder:
+            names = ("cup-001.txt", "cup-001.txt.2", "refused", "x.differs.txt")
+            for name in (*names, "cup-001.txt.refused", "cup-001.txt.refused.12", "cup-002.txt.unchecked", "cup-003.txt.differs.2"):
+                pathlib.Path(folder, name).touch()
+            pathlib.Path(folder, "link").symlink_to("nowhere")
+            self.assertEqual([file.name for file in files_of(folder)], list(names))
+            self.assertEqual([file.name for file in files_of(f"{folder}/cup-001.txt.refused")], ["cup-001.txt.refused"])
 
     def test_lines_have_ends_and_one_that_is_too_long_is_left_out(self):
         data = b"a\r\nb\xff\x1b\x0bc\n" + b"x" * (LONGEST_LINE - 1) + b"\n" + b"x" * 3 * LONGEST_LINE + b"\nlast"

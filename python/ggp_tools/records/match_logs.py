@@ -12,6 +12,8 @@ from ggp_tools.competition.log_lines import NO_ANSWER, LogLine, log_line, moment
 from ggp_tools.competition.results import HOST_LINE, TIME_LINE
 from ggp_tools.moments import moment_at
 
+# The names of logs that a competition keeps of matches that do not count.
+SET_ASIDE = re.compile(r".*\.(refused|unchecked|differs)(\.\d+)?")
 KINDS = ("START", "PLAY", "STOP", "ABORT")
 ENDS = ("STOP", "ABORT")
 BROKEN = "CE"
@@ -24,9 +26,11 @@ JOINED = re.compile(r" role \d{1,9} \S+ message \d{1,9} \(")
 
 
 def files_of(path: str) -> list[pathlib.Path]:
-    """Returns a file, or all files of a folder."""
+    """Returns a file, or all files of a folder but those that were set aside."""
     there = pathlib.Path(path)
-    return sorted(file for file in there.iterdir() if file.is_file()) if there.is_dir() else [there]
+    if not there.is_dir():
+        return [there]
+    return sorted(file for file in there.iterdir() if file.is_file() and not SET_ASIDE.fullmatch(file.name))
 
 
 def message_sum(player: str, kind: str, message: str) -> int:
