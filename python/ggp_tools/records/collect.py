@@ -1,17 +1,20 @@
-"""Sorts a mixed pile of records by game, has the program check each, and makes tables, pages or matches of ggp-base of them.
+"""Sorts a mixed pile of records by game, has the program check each, and makes tables, pages, facts or matches of ggp-base of them.
 
     ggp-records --rules FOLDER check PILE ..
     ggp-records --rules FOLDER sqlite FILE PILE ..
     ggp-records --rules FOLDER csv DIR PILE ..
     ggp-records --rules FOLDER pages DIR PILE ..
     ggp-records --rules FOLDER ggp-base [--log LOG ..] [--games URL] DIR PILE ..
+    ggp-records --rules FOLDER facts [--log LOG ..] [--descriptions FOLDER] FILE PILE ..
 
 A PILE is a file with a record on each line, as `season` and `run` write them; lines of accounts are skipped. FOLDER has the ground rules of
 the games, a file NAME.kif each: a record is of the game with its roles and its first state. With --large the limits of the rules are those for large games. `check` writes a line for each record: the
 file, the line's number, the match, the game and the verdict, with a tab between each two. With --explain lines below one that is not lawful say what
 was expected and what was found. `ggp-base` writes a file for each record that is lawful, as ggp-base has a match, and names the others.
-LOG, a file or a folder of files, has the times of messages, as the folder `logs` of a competition. URL/NAME/ is then the address of the game
-NAME. FILE and DIR must not be there. docs/PROFILE.md has the verdicts in section 9, examples/records/README.md the keys for ggp-base.
+URL/NAME/ is then the address of the game NAME. `facts` writes a line of JSON for each record that is lawful, with what it does not say
+itself, and names the others. LOG, a file or a folder of files, has the times of messages, as the folder `logs` of a competition. The FOLDER
+of --descriptions has what the rules were made from, by the same names. FILE and DIR must not be there. docs/PROFILE.md has the verdicts in
+section 9, examples/records/README.md the keys for ggp-base and of facts.
 
 The status is 0 if all records are lawful, 1 if not, 2 for wrong use, 3 if the program came to no verdict."""
 
@@ -25,8 +28,10 @@ from collections.abc import Iterable, Iterator
 
 from ggp_tools.records.collection import Judged, Pile, judged_lines, known_games
 from ggp_tools.records.explain import explanation, json_lines
+from ggp_tools.records.facts import Facts, description_sums, write_facts
 from ggp_tools.records.ggp_base import times_of_logs, write_matches
 from ggp_tools.records.index import write_pages
+from ggp_tools.records.match_logs import MatchLogs
 from ggp_tools.records.tables import write_csv, write_sqlite
 from ggp_tools.referee import NoReferee, Referee, Unchecked, find_program
 
@@ -82,6 +87,17 @@ def print_check(lines: Iterable[Judged], explains: bool) -> None:
     sys.stdout.flush()
 
 
+def name_others(others: Iterable[Judged]) -> None:
+    """Names each line of which nothing is written."""
+    for judged in others:
+        print(f"ggp-records: not written: {visible(judged.line.file)}, line {judged.line.number}: {visible(judged.verdict)}", file=sys.stderr)
+
+
+def facts_for(given: argparse.Namespace, referee: Referee) -> Facts:
+    """Returns what makes the facts of records, with all that is read before any of these."""
+    return Facts(referee.version(), description_sums(given.rules, given.descriptions), MatchLogs(given.log))
+
+
 def arguments(words: list[str]) -> argparse.Namespace:
     reader = argparse.ArgumentParser("ggp-records", description=__doc__, formatter_class=argparse.RawDescriptionHelpFormatter)
     reader.add_argument("--program", metavar="FILE", help="ggp_manager, if it is not beside this program or on the path")
@@ -90,11 +106,14 @@ def arguments(words: list[str]) -> argparse.Namespace:
     reader.add_argument("--jobs", type=int, default=len(os.sched_getaffinity(0)), metavar="N", help="at most N processes at a time")
     reader.add_argument("--explain", action="store_true", help="`check`: say why a record is not lawful")
     actions = reader.add_subparsers(dest="action", required=True)
-    for action, output in (("check", None), ("sqlite", "FILE"), ("csv", "DIR"), ("pages", "DIR"), ("ggp-base", "DIR")):
+    for action, output in (("check", None), ("sqlite", "FILE"), ("csv", "DIR"), ("pages", "DIR"), ("ggp-base", "DIR"), ("facts", "FILE")):
         one = actions.add_parser(action)
+        if action in ("ggp-base", "facts"):
+            one.add_argument("--log", action="append", default=[], metavar="LOG", help="a log of matches, or a folder of logs; may be given again")
         if action == "ggp-base":
-            one.add_argument("--log", action="append", default=[], metavar="LOG", help="a log with times, or a folder of them; may be given again")
             one.add_argument("--games", metavar="URL", help="where the games are published: the game NAME at URL/NAME/")
+        if action == "facts":
+            one.add_argument("--descriptions", metavar="FOLDER", help="what the rules were made from, by the same names")
         if output:
             one.add_argument("output", metavar=output, type=pathlib.Path)
         one.add_argument("piles", metavar="PILE", nargs="+")
@@ -110,6 +129,7 @@ def perform(given: argparse.Namespace) -> int:
     """Does what the words ask for. Returns the status."""
     referee, pile, count = Referee(find_program(given.program), given.large), Pile(given.piles), Count()
     times = times_of_logs(given.log) if given.action == "ggp-base" else {}
+    facts = facts_for(given, referee) if given.action == "facts" else None
     games, refused = known_games(given.rules, referee)
     for said in refused:
         print(f"ggp-records: skipped: {visible(said)}", file=sys.stderr)
@@ -127,8 +147,11 @@ def perform(given: argparse.Namespace) -> int:
         case "pages":
             write_pages(given.output, lines)
         case "ggp-base":
-            for judged in write_matches(given.output, lines, times, given.games):
-                print(f"ggp-records: not written: {visible(judged.line.file)}, line {judged.line.number}: {visible(judged.verdict)}", file=sys.stderr)
+            name_others(write_matches(given.output, lines, times, given.games))
+        case "facts":
+            name_others(write_facts(given.output, lines, facts))
+            for match_id, why in facts.faults.items():
+                print(f"ggp-records: nothing of a log is written of {visible(match_id)}: {why}", file=sys.stderr)
     print(f"ggp-records: {count.words(pile.skipped)}", file=sys.stderr)
     return 0 if count.are_all_lawful() else 1
 

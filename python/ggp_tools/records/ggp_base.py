@@ -12,6 +12,7 @@ from dataclasses import dataclass, field
 from ggp_tools.moments import MOMENT
 from ggp_tools.records.collection import Judged
 from ggp_tools.records.index import file_name
+from ggp_tools.records.match_logs import files_of
 
 MESSAGE = re.compile(rf"({MOMENT}) (\S+) role (\d{{1,9}}) \S+ message (\d{{1,9}}) \((START|PLAY) .*, (\d{{1,18}}) ms")
 # What ggp-base has where a match had no preview, and here where the time of its beginning is unknown: its reader needs a number.
@@ -49,12 +50,6 @@ def milliseconds(moment: str) -> int:
         return round(datetime.datetime.fromisoformat(moment.replace("Z", "+00:00")).timestamp() * 1_000)
     except ValueError:
         return UNKNOWN
-
-
-def files_of(path: str) -> list[pathlib.Path]:
-    """Returns a file, or all files of a folder."""
-    there = pathlib.Path(path)
-    return sorted(file for file in there.iterdir() if file.is_file()) if there.is_dir() else [there]
 
 
 def times_of(lines: Iterable[str], found: dict[str, Times]) -> None:

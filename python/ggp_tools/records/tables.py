@@ -80,15 +80,21 @@ def rows_of(number: int, judged: Judged) -> Iterator[tuple[str, Row]]:
     yield from (("moves", stored_row(row)) for row in move_rows(number, record))
 
 
-def write_sqlite(path: pathlib.Path, lines: Iterable[Judged]) -> None:
-    """Writes the tables as a database. It is there once it is whole."""
+@contextlib.contextmanager
+def made_whole(path: pathlib.Path) -> Iterator[pathlib.Path]:
+    """Gives the place at which a file is made, in a folder of its own. It is at its path once it is whole, if no other is there."""
     with tempfile.TemporaryDirectory(prefix=".ggp-records-", dir=path.parent) as folder:
         made = pathlib.Path(folder, "made")
-        with contextlib.closing(sqlite3.connect(made)) as database:
-            fill_database(database, lines)
+        yield made
         if os.path.lexists(path):
             raise FileExistsError(errno.EEXIST, os.strerror(errno.EEXIST), str(path))
         made.rename(path)
+
+
+def write_sqlite(path: pathlib.Path, lines: Iterable[Judged]) -> None:
+    """Writes the tables as a database."""
+    with made_whole(path) as made, contextlib.closing(sqlite3.connect(made)) as database:
+        fill_database(database, lines)
 
 
 def fill_database(database: sqlite3.Connection, lines: Iterable[Judged]) -> None:

@@ -1,0 +1,167 @@
+"""What a record does not say of its match, as one line of JSON beside it: the sums of the record and of the rules, and what a log has:
+when it was played, how long each message took, and why an answer was broken. examples/records/README.md has the keys; those that
+`matches.jsonl` of a competition has too mean the same."""
+
+import errno
+import hashlib
+import json
+import pathlib
+from collections.abc import Iterable, Iterator
+
+from ggp_tools.competition.known import sum_of_file
+from ggp_tools.competition.log_faults import shown
+from ggp_tools.competition.plan import read_sums
+from ggp_tools.records.collection import Judged
+from ggp_tools.records.ggp_base import ABORTED, COMPLETED
+from ggp_tools.records.match_logs import BROKEN, KINDS, Beginning, MatchLogs, message_sum
+from ggp_tools.records.tables import made_whole
+
+DESCRIPTIONS = "DESCRIPTIONS.sha256"
+TWO_RECORDS, TWO_LOGS = "several matches have this id", "several matches of the logs have this id"
+
+
+def description_sums(rules: str, descriptions: str | None) -> dict[str, str]:
+    """Returns the sums of the descriptions that rules were made from, by the names of the games: of the files of a folder, else those that
+    stand beside the rules, as in a competition."""
+    if descriptions is not None:
+        return {file.stem: sum_of_file(file) for file in sorted(pathlib.Path(descriptions).iterdir()) if file.suffix == ".kif" and file.is_file()}
+    path = pathlib.Path(rules, DESCRIPTIONS)
+    sums = read_sums(path.read_bytes()) if path.is_file() else {}
+    if sums is None:
+        raise OSError(errno.EINVAL, "it has a file twice, or a line that is no sum", str(path))
+    return {name.removesuffix(".kif"): digest for name, digest in sums.items()}
+
+
+class Exchanges:
+    """What a record says of the messages of its match: their texts, and where an answer was broken."""
+
+    def __init__(self, record: dict) -> None:
+        self.record, self.players = record, record["players"]
+        joints = ["NIL", *(f"({' '.join(moves)})" for moves in record["moves"])]
+        self.plays = [self.text("PLAY", joint) for joint in joints]
+        completed, aborted = {"STOP": self.text("STOP", joints[-1])}, {"ABORT": self.text("ABORT")}
+        # What ends the match, by its kind; nothing where it is not over.
+        self.ends = completed if record["phase"] in COMPLETED else aborted if record["phase"] in ABORTED else {}
+        errors = [[turn[role] for turn in record["errors"]] for role in range(len(self.players))]
+        # In so many turns a role was asked for a move. Who is retired stays so.
+        self.asked = [turns.index("RT") if "RT" in turns else len(turns) for turns in errors]
+
+    def text(self, kind: str, joint: str = "") -> str:
+        """Returns a message as a log shows it."""
+        return shown(f"({kind} {self.record['matchId']}{' ' * bool(joint)}{joint})")
+
+    def last(self, role: int) -> int:
+        """Returns the number of the last message to a role: after START, each PLAY and what ends the match."""
+        return 1 + self.asked[role] + len(self.ends)
+
+    def has(self, role: int, number: int, kind: str, known: int) -> bool:
+        """Returns whether a message is one of the match, by its sum."""
+        if role >= len(self.players) or not 1 <= number <= self.last(role):
+            return False
+        if (kind == "START") != (number == 1) or (kind in self.ends) != (number == self.asked[role] + 2):
+            return False
+        wanted = self.ends[kind] if kind in self.ends else self.plays[number - 2]
+        return known == message_sum(self.players[role], kind, wanted)
+
+    def broken(self) -> Iterator[tuple[int, int | None]]:
+        """Gives the role and the number of each message whose answer was broken. Before an asked ABORT a PLAY of the open turn may have been
+        sent, so its number is not known."""
+        for role in range(len(self.players)):
+            marks = [self.record["startMarks"][role], *(turn[role] for turn in self.record["errors"][: self.asked[role]])]
+            yield from ((role, number) for number, mark in enumerate(marks, 1) if mark == BROKEN)
+            if self.record["endMarks"][role] == BROKEN:
+                yield role, None if self.record["cause"] == "asked" else self.last(role)
+
+
+def messages_of(exchanges: Exchanges, logged: Beginning) -> list[list[list | None]] | str:
+    """Returns for each role its messages, each as its kind and its milliseconds; none where the log lacks a line. Or why the log is not
+    that of the record."""
+    found: list[list[list | None]] = [[None] * exchanges.last(role) for role in range(len(exchanges.players))]
+    for role, number, kind, milliseconds, known in logged.messages():
+        if not exchanges.has(role, number, KINDS[kind], known):
+            return f"its log is that of another match: role {role}, message {number}"
+        found[role][number - 1] = [KINDS[kind].lower(), milliseconds]
+    for role, number in exchanges.broken():
+        if number and found[role][number - 1] and (role, number) not in logged.broken:
+            return f"its log has an answer where the record has {BROKEN}: role {role}, message {number}"
+    return found
+
+
+class Facts:
+    """Makes the lines, and keeps what there is to say of matches whose logs are not taken."""
+
+    def __init__(self, program: str, descriptions: dict[str, str], logs: MatchLogs) -> None:
+        self.program, self.descriptions, self.logs = program, descriptions, logs
+        # The sum of the first record of each id.
+        self.sums: dict[str, str] = {}
+        self.faults: dict[str, str] = {}
+
+    def of_log(self, judged: Judged, exchanges: Exchanges) -> tuple[Beginning, list[list[list | None]]] | None:
+        """Returns the match of the logs that is that of a record, and its messages, if there is one."""
+        match_id = judged.line.match_id
+        found = self.logs.of(match_id)
+        if len(found) > 1:
+            self.faults[match_id] = TWO_LOGS
+        if len(found) != 1:
+            return None
+        messages = messages_of(exchanges, found[0])
+        if isinstance(messages, str):
+            self.faults.setdefault(match_id, messages)
+            return None
+        return found[0], messages
+
+    def of(self, judged: Judged) -> dict[str, object]:
+        """Returns the line of a lawful record."""
+        line, game, exchanges = judged.line, judged.game, Exchanges(judged.line.record)
+        found = hashlib.sha256(line.data + b"\n").hexdigest()
+        if self.sums.setdefault(line.match_id, found) != found:
+            self.faults[line.match_id] = TWO_RECORDS
+        begin = end = host = messages = None
+        whys: dict[tuple[int, int], str] = {}
+        if taken := self.of_log(judged, exchanges):
+            logged, messages = taken
+            begin, end, host = logged.times(all(row[0] for row in messages), all(row[-1] for row in messages))
+            whys = logged.broken
+        return {
+            "id": line.match_id,
+            "record": found,
+            "game": game.name,
+            "rules": game.rules_sum,
+            "description": self.descriptions.get(game.name),
+            "checkedBy": self.program,
+            "players": exchanges.players,
+            "begin": begin,
+            "end": end,
+            "host": host,
+            "messages": messages,
+            "broken": [{"role": role, "message": number, "why": whys.get((role, number)) or None} for role, number in exchanges.broken()],
+        }
+
+    def without_log(self, data: bytes) -> bytes:
+        """Returns a line without what a log has said, if there are several matches of its id."""
+        found = json.loads(data)
+        if self.faults.get(found["id"]) != TWO_RECORDS:
+            return data
+        broken = [{**one, "why": None} for one in found["broken"]]
+        return line_of(found | {"begin": None, "end": None, "host": None, "messages": None, "broken": broken})
+
+
+def line_of(found: dict[str, object]) -> bytes:
+    return (json.dumps(found, separators=(",", ":")) + "\n").encode("ascii")
+
+
+def write_facts(path: pathlib.Path, lines: Iterable[Judged], facts: Facts) -> Iterator[Judged]:
+    """Writes a line for each lawful record, and gives the other lines. Which ids there are twice is known at the end."""
+    with made_whole(path) as made:
+        first = made.with_name("first")
+        with open(first, "wb") as file:
+            for judged in lines:
+                if judged.is_lawful:
+                    file.write(line_of(facts.of(judged)))
+                else:
+                    yield judged
+        if TWO_RECORDS not in facts.faults.values():
+            first.rename(made)
+            return
+        with open(first, "rb") as given, open(made, "wb") as file:
+            file.writelines(map(facts.without_log, given))
