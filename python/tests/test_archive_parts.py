@@ -12,7 +12,7 @@ import types
 import unittest
 from unittest import mock
 
-from ggp_tools.competition import archive
+from ggp_tools.competition import archive, command
 from ggp_tools.competition.archive import SUMS, Spoilt, TooLarge, check_archive, files_below, publish, unpacked
 from ggp_tools.competition.files import Refused
 from ggp_tools.competition.kept import look_at_records
@@ -218,6 +218,14 @@ class Checked(Made):
         with mock.patch.object(archive, "unpacked", side_effect=MemoryError), self.assertRaises(Unchecked) as why:
             self.check()
         self.assertEqual(str(why.exception), "the archive can't be checked: want of memory")
+
+    def test_an_archive_that_can_not_be_read_is_no_verdict(self):
+        for name, status in (("check", 3), ("table", 1)):
+            for fault, words in ((OSError(errno.EACCES, "no", "x"), "x: no"), (KeyboardInterrupt(), "interrupted")):
+                fails, said = mock.Mock(side_effect=fault), io.StringIO()
+                names = [mock.patch.object(command, word) for word in ("find_program", "Referee")]
+                with names[0], names[1], mock.patch.dict(command.RUNS, {name: fails}), mock.patch("sys.argv", ["ggp_competition", name, "x"]), mock.patch("sys.stderr", said):
+                    self.assertEqual((command.main(), said.getvalue()), (status, f"ggp_competition: {words}\n"), name)
 
     def test_what_is_said_reaches_no_terminal_as_it_is(self):
         with mock.patch.object(archive, "unpacked", side_effect=Spoilt("a\x1b[1m\u00e9\nb ~")):

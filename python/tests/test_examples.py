@@ -52,25 +52,25 @@ class Examples(unittest.TestCase):
         with open("/dev/full", "w") as full:
             status, _, said = run(INSTANTIATE, GROUND, stdout=full)
             self.assertEqual((status, said.splitlines()[-1], "Traceback" in said), (1, f"ggp-instantiate: {FULL}", False), said)
-            self.assertEqual(run(SHOW_RECORD, RECORD, stdout=full), (1, None, f"ggp-show-record: {FULL}\n"))
+            self.assertEqual(run(SHOW_RECORD, RECORD, stdout=full), (2, None, f"ggp-show-record: {FULL}\n"))
 
     def test_a_reader_that_is_gone(self):
-        for words in ((INSTANTIATE, GROUND), (SHOW_RECORD, RECORD)):
+        for wanted, words in ((1, (INSTANTIATE, GROUND)), (2, (SHOW_RECORD, RECORD))):
             reader, writer = os.pipe()
             os.close(reader)
             status, _, said = run(*words, stdout=writer)
             os.close(writer)
-            self.assertEqual((status, said.splitlines()[-1]), (1, f"{words[0].name}: {FULL.partition(':')[0]}: Broken pipe"), said)
+            self.assertEqual((status, said.splitlines()[-1]), (wanted, f"{words[0].name}: {FULL.partition(':')[0]}: Broken pipe"), said)
 
     def test_streams_that_are_closed(self):
         status, out, said = run(SHOW_RECORD, preexec_fn=lambda: os.close(0))
-        self.assertEqual((status, out, said.startswith("ggp-show-record: the record can't be read: [Errno 9] Bad file descriptor"), said.count("\n")), (1, "", True, 1))
+        self.assertEqual((status, out, said.startswith("ggp-show-record: the record can't be read: [Errno 9] Bad file descriptor"), said.count("\n")), (2, "", True, 1))
         self.assertEqual(run(SHOW_RECORD, preexec_fn=lambda: os.close(2)), (1, "", ""))
         for number in (0, 2):
             self.assertEqual(run(SHOW_RECORD, RECORD, preexec_fn=lambda: os.close(number)), run(SHOW_RECORD, RECORD))
         said = f"ggp-show-record: {FULL.partition(':')[0]}: Bad file descriptor\n"
         for closed in ((1, 2), (0, 2)):
-            self.assertEqual(run(SHOW_RECORD, RECORD, preexec_fn=lambda: os.closerange(*closed)), (1, "", said))
+            self.assertEqual(run(SHOW_RECORD, RECORD, preexec_fn=lambda: os.closerange(*closed)), (2, "", said))
 
     def test_streams_that_are_closed_to_instantiate(self):
         whole = run(INSTANTIATE, GROUND)[1]
@@ -126,7 +126,7 @@ class Examples(unittest.TestCase):
             file = pathlib.Path(room) / "record"
             file.write_text(text)
             done = run(SHOW_RECORD, file, preexec_fn=lambda: resource.setrlimit(resource.RLIMIT_AS, (most, most)))
-        self.assertEqual(done, (1, "", "ggp-show-record: out of memory\n"))
+        self.assertEqual(done, (2, "", "ggp-show-record: out of memory\n"))
 
     def test_a_match_of_no_game(self):
         with tempfile.TemporaryDirectory() as room:

@@ -123,11 +123,23 @@ class Checks(WithProgram):
 
     def test_a_program_that_can_not_be_run(self):
         none = str(self.folder / "none")
-        self.assertEqual(self.checked([b"ok\n"], none), (b"", 0, 0, (f"ggp-verify-records: {none} can't be run: No such file or directory\n".encode(), 1)))
+        self.assertEqual(self.checked([b"ok\n"], none), (b"", 0, 0, (f"ggp-verify-records: {none} can't be run: No such file or directory\n".encode(), 2)))
 
     def test_one_that_reads_no_further(self):
         deaf = self.stand_in("deaf", "#!/bin/sh\necho 'ggp_manager: bad description' >&2\nexit 1\n")
         self.assertEqual(self.checked([b"x" * (1 << 20)], deaf)[3], (b"ggp_manager: bad description\n", 1))
+
+    def test_only_unlawful_records_have_1_with_why(self):
+        for said, status, wanted in (
+            (b"ggp_manager: records not lawful 2\n", 1, 1),
+            (b"ggp_manager: lines of accounts skipped 3\nggp_manager: records not lawful 2\n", 1, 1),
+            (b"ggp_manager: records not lawful \n", 1, 2),
+            (b"ggp_manager: read fault\n", 1, 2),
+            (b"ggp_manager: want of memory\n", 3, 2),
+            (b"ggp_manager: bad description\n", 2, 2),
+            (b"ggp-verify-records: x was ended by signal 9\n", 137, 137),
+        ):
+            self.assertEqual(Fault(said, status).status_with_why(), wanted, said)
 
     def test_a_fault_of_the_input_is_passed_on(self):
         self.assertEqual(self.checked(Fault(b"ggp_manager: read fault\n")), (b"", 0, 0, (b"ggp_manager: read fault\n", 1)))

@@ -68,7 +68,7 @@ impl Argument {
 const COUNTDOWN: Argument = Argument {
     name: "countdown",
     form: Form::Value("N"),
-    help: "The game is Countdown with a heap of N, 1 to 100",
+    help: "The game is Countdown with a heap of N, 1 to 100, in place of --rules and --rules-file",
 };
 
 const RULES: Argument = Argument {
@@ -80,7 +80,7 @@ const RULES: Argument = Argument {
 const RULES_FILE: Argument = Argument {
     name: "rules-file",
     form: Form::Value("FILE"),
-    help: "The game is the ground description in this file",
+    help: "The game is the ground description in this file, in place of --rules",
 };
 
 const PLAYER_RULES: Argument = Argument {
@@ -119,17 +119,24 @@ const LOG: Argument = Argument {
     help: "Each message and its answer is logged on standard error",
 };
 
+const WHY: Argument = Argument {
+    name: "why",
+    form: Form::Flag,
+    help: "Standard error says why, as on a terminal; status 1 is no, and 2 is could not tell",
+};
+
 const PLAYER: Argument = Argument {
     name: "player",
     form: Form::Player,
     help: "The player",
 };
 
-const DESK: [Argument; 5] = [
+const DESK: [Argument; 6] = [
     COUNTDOWN,
     RULES,
     RULES_FILE,
     LARGE,
+    WHY,
     Argument {
         name: "file",
         form: Form::File,
@@ -137,7 +144,7 @@ const DESK: [Argument; 5] = [
     },
 ];
 
-const RUN: [Argument; 11] = [
+const RUN: [Argument; 12] = [
     RULES,
     RULES_FILE,
     LARGE,
@@ -151,6 +158,7 @@ const RUN: [Argument; 11] = [
     PLAY,
     STRIKES,
     LOG,
+    WHY,
     Argument {
         name: "history",
         form: Form::Flag,
@@ -163,7 +171,7 @@ const RUN: [Argument; 11] = [
     },
 ];
 
-const SEASON: [Argument; 14] = [
+const SEASON: [Argument; 15] = [
     COUNTDOWN,
     RULES,
     RULES_FILE,
@@ -196,6 +204,7 @@ const SEASON: [Argument; 14] = [
         help: "The records are added to this file, and matches of which it has one are not played: the same command goes on with a season that was stopped",
     },
     LOG,
+    WHY,
     Argument {
         name: "history",
         form: Form::Flag,
@@ -208,11 +217,12 @@ const SEASON: [Argument; 14] = [
     },
 ];
 
-const VERIFY: [Argument; 6] = [
+const VERIFY: [Argument; 7] = [
     COUNTDOWN,
     RULES,
     RULES_FILE,
     LARGE,
+    WHY,
     Argument {
         name: "lines",
         form: Form::Flag,
@@ -225,11 +235,12 @@ const VERIFY: [Argument; 6] = [
     },
 ];
 
-const REPLAY: [Argument; 5] = [
+const REPLAY: [Argument; 6] = [
     COUNTDOWN,
     RULES,
     RULES_FILE,
     LARGE,
+    WHY,
     Argument {
         name: "file",
         form: Form::File,
@@ -237,9 +248,10 @@ const REPLAY: [Argument; 5] = [
     },
 ];
 
-const INFO: [Argument; 1] = [PLAYER];
+const INFO: [Argument; 2] = [WHY, PLAYER];
 
-const ABORT: [Argument; 2] = [
+const ABORT: [Argument; 3] = [
+    WHY,
     Argument {
         name: "id",
         form: Form::Word("ID"),
@@ -252,7 +264,7 @@ const ABORT: [Argument; 2] = [
     },
 ];
 
-const CHECK: [Argument; 10] = [
+const CHECK: [Argument; 11] = [
     COUNTDOWN,
     RULES,
     RULES_FILE,
@@ -262,6 +274,7 @@ const CHECK: [Argument; 10] = [
     PLAY,
     STRIKES,
     LOG,
+    WHY,
     PLAYER,
 ];
 
@@ -271,12 +284,16 @@ pub struct CommandForm {
     name: &'static str,
     about: &'static str,
     arguments: &'static [Argument],
+    /// What the help says at its end: how the words go together, an example, and the statuses.
+    notes: &'static str,
 }
 
 impl CommandForm {
     /// The command in the form of `clap`.
     pub fn command<'a>(self, alloc: Global) -> Result<Command<'a>, AllocError> {
-        let mut command = Command::new(alloc, self.name).about(self.about);
+        let mut command = Command::new(alloc, self.name)
+            .about(self.about)
+            .after_help(self.notes);
         for argument in self.arguments {
             command = command.arg(argument.arg(alloc))?;
         }
@@ -290,41 +307,82 @@ const COMMANDS: [CommandForm; 8] = [
         name: "desk",
         about: "Answers a script, line by line",
         arguments: &DESK,
+        notes: concat!(
+            "Example: ggp_manager desk --countdown 3 match.script\n\n",
+            "status 0: each line was a call. 1: some lines were none, or another fault. ",
+            "2: wrong use. 3: out of memory. With --why 1: some lines were none. 2: any other fault.",
+        ),
     },
     CommandForm {
         name: "run",
         about: "Referees a match between players over HTTP, and prints its record",
         arguments: &RUN,
+        notes: concat!(
+            "Example: ggp_manager run --rules-file game.kif --id m1 ann@127.0.0.1:9147 bob@127.0.0.1:9148 > m1.record\n\n",
+            "status 0: the match has finished or was aborted. 1: a fault. ",
+            "2: wrong use. 3: out of memory. With --why 2: any fault.",
+        ),
     },
     CommandForm {
         name: "season",
         about: "Referees the matches of a schedule, and prints their records",
         arguments: &SEASON,
+        notes: concat!(
+            "A line of the schedule: ID START PLAY NAME@HOST:PORT .. - the match's id, its clocks in seconds, and a player for each role. Lines without words, and those that begin with #, are skipped. With --records no record is printed.\n\n",
+            "Example: ggp_manager season --rules-file game.kif --records season.records schedule\n\n",
+            "status 0: each match has its record. 1: some have none, or another fault. ",
+            "2: wrong use. 3: out of memory. With --why 2: any fault.",
+        ),
     },
     CommandForm {
         name: "verify",
         about: "Says whether a record is lawful",
         arguments: &VERIFY,
+        notes: concat!(
+            "Example: ggp_manager verify --rules-file game.kif --lines season.records\n\n",
+            "status 0: each record is lawful. 1: one is not, or another fault. ",
+            "2: wrong use. 3: out of memory. With --why 1: one is not lawful. 2: any other fault.",
+        ),
     },
     CommandForm {
         name: "replay",
         about: "Makes the calls of an account again, and compares each reply",
         arguments: &REPLAY,
+        notes: concat!(
+            "Example: ggp_manager replay --rules-file game.kif match.account\n\n",
+            "status 0: each call gets its reply. 1: one does not, or another fault. ",
+            "2: wrong use. 3: out of memory. With --why 1: one does not. 2: any other fault.",
+        ),
     },
     CommandForm {
         name: "info",
         about: "Asks a player whether it is free",
         arguments: &INFO,
+        notes: concat!(
+            "Example: ggp_manager info ann@127.0.0.1:9147\n\n",
+            "status 0: the player answered. 1: it did not, or another fault. ",
+            "2: wrong use. 3: out of memory. With --why 1: it did not. 2: any other fault.",
+        ),
     },
     CommandForm {
         name: "check",
         about: "Plays a match with a player for each role, and prints what it answered and what that counted as",
         arguments: &CHECK,
+        notes: concat!(
+            "Example: ggp_manager check --rules-file game.kif --play 5 ann@127.0.0.1:9147\n\n",
+            "status 0: no answer was bad. 1: some were, or another fault. ",
+            "2: wrong use. 3: out of memory. With --why 1: some were bad. 2: any other fault.",
+        ),
     },
     CommandForm {
         name: "abort",
         about: "Sends players ABORT, for a match whose referee is gone",
         arguments: &ABORT,
+        notes: concat!(
+            "Example: ggp_manager abort m1 ann@127.0.0.1:9147 bob@127.0.0.1:9148\n\n",
+            "status 0: each player answered. 1: one did not, or another fault. ",
+            "2: wrong use. 3: out of memory. With --why 1: one did not. 2: any other fault.",
+        ),
     },
 ];
 

@@ -42,6 +42,19 @@ pub fn has_own_word(words: &[String]) -> bool {
     }
 }
 
+/// Whether a command line asks by `--why` for what a terminal is told, and for a status that says whether the answer is no. Words behind `--`
+/// are no options.
+pub fn asks_why(words: &[String]) -> bool {
+    for word in words {
+        match word.as_str() {
+            "--why" => return true,
+            "--" => return false,
+            _ => {}
+        }
+    }
+    false
+}
+
 /// The words about a wrong value of this command.
 fn words_of(alloc: Global, command: &str, wrong: WrongValue<'_>) -> Result<String, AllocError> {
     match wrong {

@@ -1,5 +1,5 @@
 -- The program's fault where a part of its work fails.
-use Rattle.std.specs.Prelude.{ℕ, Result, Ok, Err}
+use Rattle.std.specs.Prelude.{ℕ, Bool, true, false, if◌then◌else◌, Result, Ok, Err}
 use Rattle.match_plans.specs.declared.shortages.Shortage.TheVariants.{Memory as MemoryShortage}
 use Rattle.match_play.specs.declared.playing.MatchFault.{MatchFault}
 use Rattle.match_play.specs.declared.playing.MatchFault.TheVariants.{Refused as MatchRefused, NotEnded, Shortage as MatchShortage, Memory as MatchMemory}
@@ -14,7 +14,24 @@ use Rattle.command_line.specs.declared.tasks.MatchTask.TheVariants.{Check}
 use Rattle.command_line.specs.declared.arguments.ArgumentFault.{ArgumentFault}
 use Rattle.command_line.specs.declared.arguments.ArgumentFault.TheVariants.{Memory as ArgumentMemory}
 use Rattle.game_commands.specs.declared.fault.Fault.{Fault}
-use Rattle.game_commands.specs.declared.fault.Fault.TheVariants.{WrongUse, Memory, WriteFault, NoAnswer, NotSent, Refused, MatchNotEnded, Shortage, NoRecords, BadAnswers}
+use Rattle.game_commands.specs.declared.fault.Fault.TheVariants.{WrongUse, Memory, WriteFault, NoAnswer, NotSent, Refused, MatchNotEnded, Shortage, NoRecords, NotLawful, UnlawfulRecords, NoEntry, Differs, BadLines, BadAnswers}
+use Rattle.game_commands.specs.Faults.{status_of as plain_status}
+
+-- The fault is an answer: no. The command did all that it had to do, and what it judged or asked is not as it should be.
+abbrev pub is_no : Fault → Bool
+is_no NoAnswer = true
+is_no (NotLawful fault) = true
+is_no (UnlawfulRecords count) = true
+is_no (NoEntry number) = true
+is_no (Differs number) = true
+is_no (BadLines count) = true
+is_no (BadAnswers count) = true
+is_no fault = false
+
+-- The program's status for a fault. The Bool says whether the command line has `--why`.
+abbrev pub status_of : Bool → Fault → ℕ
+status_of false fault = plain_status fault
+status_of true fault = if is_no fault then 1 else 2
 
 -- a refused command line is a wrong use
 abbrev pub argument_fault : ArgumentFault → Fault

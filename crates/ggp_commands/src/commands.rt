@@ -3,13 +3,13 @@ ghost use Rattle.std.specs.Prelude.{◌≡◌, IfErr, IfOk, OnOk};
 ghost use Rattle.std.specs.Io.KnownBytes.{Appends};
 ghost use Rattle.match_log.specs.LoggedPlayers.{is_logged_reached, logged_handed};
 ghost use Rattle.match_season.specs.Seasons.{AppendsPart};
-ghost use Rattle.game_commands.specs.Faults.{status_of};
 ghost use Rattle.game_commands.specs.declared.fault.Fault.TheVariants.{WriteFault};
+ghost use Rattle.ggp_commands.specs.Faults.{status_of};
 ghost use Rattle.ggp_commands.specs.LoadedGame.{IsLoadedGame};
 ghost use Rattle.ggp_commands.specs.Tasks.{Fails, FailsToPlay, IsNotBegun, Performs, Plays, ReadsInput};
 
 use crate::explaining::explain;
-use crate::faults::{argument_fault, task_end};
+use crate::faults::{argument_fault, status_of, task_end};
 use crate::loaded_game::{LoadedGame, host};
 use crate::matches::{input_of, play_with_reports};
 use crate::player_commands::{abort, info};
@@ -34,7 +34,8 @@ use std::time::Clock;
 use whole_streams::{Pieces, write_all};
 
 /// Performs the command of the words after the program's name, and returns the program's status. A fault is one line on `errors`, after
-/// the lines that explain it. A failed write to `errors` is skipped. On a terminal `errors` also shows the progress of matches.
+/// the lines that explain it. A failed write to `errors` is skipped. On a terminal `errors` also shows the progress of matches. `--why`
+/// counts only if `terminals` says that it is there.
 pub fn command<H, P, S, R: Read, W: Write, E: Write + Send>(
     rt: &H,
     alloc: Global,
@@ -65,10 +66,10 @@ where
         ),
         Err(AllocError) => Err(Fault::Memory),
     };
-    if terminals.errors || has_own_word(words) {
+    if terminals.explain() || has_own_word(words) {
         explain(alloc, &evidence, errors);
     }
-    end(performed, errors)
+    end(performed, terminals.why, errors)
 }
 
 /// The words as texts.
@@ -77,23 +78,23 @@ fn texts<'a>(alloc: Global, words: &'a [String]) -> Result<Vec<&'a str>, AllocEr
 }
 
 /// Reports the fault of a command, if it has one. Returns the program's status.
-fn end<E: Write>(performed: Result<(), Fault>, errors: &mut E) -> u8
+fn end<E: Write>(performed: Result<(), Fault>, why: bool, errors: &mut E) -> u8
     ensures none { OnOk performed (result ≡ 0) }
-    ensures some { IfErr performed (λ fault. result ≡ status_of fault) }
+    ensures some { IfErr performed (λ fault. result ≡ status_of why fault) }
 {
     match performed {
         Ok(()) => 0,
-        Err(fault) => {
-            report(errors, fault);
-            fault.status()
-        }
+        Err(fault) => report(errors, fault, why),
     }
 }
 
-/// Writes the fault's line, as far as the stream takes it.
-pub fn report<E: Write>(errors: &mut E, fault: Fault) {
+/// Writes the fault's line, as far as the stream takes it. Returns the program's status. `why` says whether the command line has `--why`.
+pub fn report<E: Write>(errors: &mut E, fault: Fault, why: bool) -> u8
+    ensures { result ≡ status_of why fault }
+{
     let mut pieces = Pieces { stream: errors };
     let _ = writeln!(pieces, "ggp_manager: {fault}");
+    status_of(fault, why)
 }
 
 /// The task in the words. The words about a refusal are kept as evidence.

@@ -1,8 +1,10 @@
 //! The lines that explain a command's fault, or say what it skipped.
 
+use crate::terminals::Terminals;
 use described_games::DescriptionFault;
 use explanations::{
-    push_bad_entry, push_description, push_first_bad_line, push_several_lines, push_skipped_lines,
+    push_bad_entry, push_description, push_first_bad_line, push_refused_matches,
+    push_several_lines, push_skipped_lines,
 };
 use game_commands::Evidence;
 use std::alloc::Global;
@@ -36,6 +38,20 @@ fn push_lines(
 pub fn explain<E: Write>(alloc: Global, evidence: &Evidence, errors: &mut E) {
     let mut lines = String::new(alloc);
     if push_lines(alloc, evidence, &mut lines).is_ok() {
+        let mut pieces = Pieces { stream: errors };
+        let _ = pieces.write_str(lines.as_str());
+    }
+}
+
+/// Writes which matches of a schedule break a rule of openings, where faults are explained, as far as the stream takes it.
+pub fn explain_refused<E: Write>(
+    alloc: Global,
+    terminals: Terminals,
+    schedule: &[u8],
+    errors: &mut E,
+) {
+    let mut lines = String::new(alloc);
+    if terminals.explain() && push_refused_matches(schedule, &mut lines).is_ok() {
         let mut pieces = Pieces { stream: errors };
         let _ = pieces.write_str(lines.as_str());
     }

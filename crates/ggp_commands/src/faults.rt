@@ -2,7 +2,7 @@
 ghost use Rattle.std.specs.Prelude.{◌≡◌, ◌≢◌, IfErr, Ok, OnErr, OnOk};
 ghost use Rattle.game_commands.specs.Faults.{IsFileFault};
 ghost use Rattle.game_commands.specs.declared.files.NamedFile.TheVariants.{Records};
-ghost use Rattle.ggp_commands.specs.Faults.{argument_fault, check_fault, contact_fault, match_fault, season_fault, task_fault};
+ghost use Rattle.ggp_commands.specs.Faults.{argument_fault, check_fault, contact_fault, match_fault, season_fault, status_of, task_fault};
 
 use command_line::{ArgumentFault, MatchTask};
 use game_commands::{Fault, FileFault, NamedFile};
@@ -12,6 +12,23 @@ use match_season::SeasonFault;
 use network_players::ContactFault;
 use player_check::CheckFault;
 use process_streams::RecordsFault;
+
+/// The program's status for a fault. With `--why` it is 1 if the answer is no, and 2 if it could not be told.
+pub fn status_of(fault: Fault, why: bool) -> u8
+    ensures { result ≡ status_of why fault }
+{
+    match fault {
+        _ if !why => fault.status(),
+        Fault::NoAnswer
+        | Fault::NotLawful(_)
+        | Fault::UnlawfulRecords(_)
+        | Fault::NoEntry(_)
+        | Fault::Differs(_)
+        | Fault::BadLines(_)
+        | Fault::BadAnswers(_) => 1,
+        _ => 2,
+    }
+}
 
 /// The program's fault where a command line is refused.
 pub fn argument_fault(fault: ArgumentFault<'_>) -> Fault

@@ -19,7 +19,7 @@ mod records_file;
 mod schedules;
 mod terminals;
 
-pub use command_line::AbortPlan;
+pub use command_line::{AbortPlan, asks_why};
 pub use commands::{command, report};
 pub use faults::contact_fault;
 pub use game_commands::{Fault, FileFault, NamedFile, ScriptFault};

@@ -14,6 +14,7 @@ ghost use Rattle.ggp_commands.specs.Schedules.{AreLeft, WritesPlans, WritesPlans
 ghost use Rattle.ggp_commands.specs.Tasks.{EndsTask, HasNoInput, ReadsInput, WritesTask, WritesTaskUpTo};
 
 use crate::descriptors::allowed_form;
+use crate::explaining::explain_refused;
 use crate::faults::{check_fault, match_fault, season_fault};
 use crate::records_file::{records_file, tell_of_file};
 use crate::schedules::{plans_of, undone};
@@ -49,8 +50,8 @@ struct Console {
     progress: Progress,
     /// Whether each message is logged.
     is_logged: bool,
-    /// Whether the reports go to a terminal.
-    is_terminal: bool,
+    /// Where the reports go.
+    terminals: Terminals,
 }
 
 impl Console {
@@ -58,7 +59,7 @@ impl Console {
     fn reporting(&self) -> Reporting<'_> {
         if self.is_logged {
             Reporting::Messages
-        } else if self.is_terminal {
+        } else if self.terminals.errors {
             Reporting::Progress(&self.progress)
         } else {
             Reporting::Nothing
@@ -218,6 +219,7 @@ where
 {
     let mut errors = ReportStream::new(rt, &console.notices);
     let plans = plans_of(rt, alloc, game.game, season, schedule, &mut errors)?;
+    explain_refused(alloc, console.terminals, schedule, &mut errors);
     match season.records {
         None => play_plans::<H, P, S, W>(
             rt,
@@ -379,7 +381,7 @@ where
         notices: Notices::new(alloc),
         progress: Progress::new(),
         is_logged,
-        is_terminal: terminals.errors,
+        terminals,
     };
     let stream = Mutex::new(StatusStream::new(errors));
     let mut output = Counted::new(ClearedOutput::<'_, 'w, N, H, W, &mut E> {

@@ -25,14 +25,15 @@ use whole_streams::{Pieces, write_all};
 /// A player's seconds for an answer.
 const SECONDS: u32 = 10;
 
-/// Reports on a terminal why a player gave no answer: elsewhere the fault's own line is all. A failed write is skipped.
+/// Reports why a player gave no answer, on a terminal or if `--why` is asked: otherwise the fault's own line is all. A failed write is
+/// skipped.
 fn tell_contact<E: Write>(
     errors: &mut E,
     terminals: Terminals,
     player: &PlayerAddress<'_>,
     fault: ContactFault,
 ) {
-    if !terminals.errors {
+    if !terminals.explain() {
         return;
     }
     let mut pieces = Pieces { stream: errors };

@@ -4,7 +4,7 @@
 ghost use Rattle.std.specs.Prelude.{◌<◌};
 
 use game_core::Counted;
-use ggp_commands::{Fault, Terminals, command, report};
+use ggp_commands::{Fault, Terminals, asks_why, command, report};
 use match_plans::MAX_SCHEDULED;
 use network_players::{RoundSignal, SocketPlayer, Sockets};
 use process_streams::{ERRORS, FILE_SIZE, INPUT, OUTPUT, Standard, hold_closed, limit_of};
@@ -29,32 +29,37 @@ fn places(words: &[String]) -> usize
 }
 
 /// Reports a fault before any command. Returns the program's status.
-fn ended<E: Write>(errors: &mut E, fault: Fault) -> ExitCode {
-    report(errors, fault);
-    ExitCode::from(fault.status())
+fn ended<E: Write>(errors: &mut E, fault: Fault, why: bool) -> ExitCode {
+    ExitCode::from(report(errors, fault, why))
 }
 
 fn main(rt: HostRuntime) -> ExitCode {
     let (input, output, errors) = (rt.stdin(), rt.stdout(), rt.stderr());
+    let words = command_line(&rt);
+    let why = match &words {
+        Ok(words) => asks_why(words),
+        Err(_) => false,
+    };
     if hold_closed(&rt, input.as_fd(), output.as_fd(), errors.as_fd()).is_err() {
-        return ended(&mut rt.stderr(), Fault::ClosedStream);
+        return ended(&mut rt.stderr(), Fault::ClosedStream, why);
     }
     let terminals = Terminals {
         errors: errors.is_terminal(),
         output: output.is_terminal(),
+        why,
     };
-    let words = match command_line(&rt) {
+    let words = match words {
         Ok(words) => words,
         Err(error) => {
             let fault = match error.kind() {
                 ErrorKind::OutOfMemory => Fault::Memory,
                 _ => Fault::WrongUse,
             };
-            return ended(&mut rt.stderr(), fault);
+            return ended(&mut rt.stderr(), fault, why);
         }
     };
     let Ok(signals) = RoundSignal::many(rt.alloc(), places(&words)) else {
-        return ended(&mut rt.stderr(), Fault::Memory);
+        return ended(&mut rt.stderr(), Fault::Memory, why);
     };
     let limit = limit_of(&rt, rt.alloc(), FILE_SIZE);
     let host = &rt;

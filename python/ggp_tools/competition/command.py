@@ -300,6 +300,8 @@ RUNS: dict[str, Callable[[argparse.Namespace, Referee], int]] = {
 def main() -> int:
     ready_streams()
     asked = arguments(sys.argv[1:])
+    # An archive that can't be read, or is not looked at to its end, is none that fails the check.
+    broken_off = 3 if asked.command == "check" else 1
     try:
         referee = Referee(find_program(asked.program))
         return int(RUNS[asked.command](asked, referee))
@@ -311,10 +313,10 @@ def main() -> int:
         return 3
     except KeyboardInterrupt:
         print("ggp_competition: interrupted", file=sys.stderr)
-        return 1
+        return broken_off
     except OSError as why:
         print(f"ggp_competition: {why.filename or 'a file'}: {why.strerror}", file=sys.stderr)
-        return 1
+        return broken_off
     except UnicodeEncodeError as why:
         print(f"ggp_competition: {why.object!r} can't be the name of a file in this locale, whose encoding is {why.encoding}", file=sys.stderr)
         return 2

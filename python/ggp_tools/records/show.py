@@ -21,7 +21,7 @@ ABOUT = (
     "at most 32,768 boards. It needs nothing beside itself, loads nothing, and runs no script but its own. What is no record is refused "
     "with what is wrong with it. `ggp_manager verify` says whether a record is that of a lawful match; this command does not look at that."
 )
-STATUS = "status 0: the page is written. 1: there is no record, or it can't be read, or the page can't be written. 2: wrong use."
+STATUS = "status 0: the page is written. 1: the text is no record. 2: wrong use, or it can't be read, or the page can't be written."
 LONGEST_RECORD = 16 << 20
 RECORD_BEGINS = b'{"cause":'
 ONE_RECORD = "A page is of one record: `ggp-records pages` makes a page of each"
@@ -552,13 +552,13 @@ def main() -> int:
             page = page_of(read_record(record_of(file)))
     except OSError as why:
         say(f"ggp-show-record: the record can't be read: {why}")
-        return 1
+        return 2
     except NoRecord as why:
         say(f"ggp-show-record: no record: {why}")
         return 1
     except MemoryError:
         say("ggp-show-record: out of memory")
-        return 1
+        return 2
     return put(page + b"\n")
 
 
@@ -569,6 +569,6 @@ def put(page):
             output.write(page)
     except OSError as why:
         say(f"ggp-show-record: standard output can't be written: {why.strerror}")
-        return 1
+        return 2
     return 0
 

@@ -9,7 +9,8 @@ and the status are those of one process over all lines, and docs/PROFILE.md says
 piece, reads are not counted, and each process reads the file of the rules, so that file can't be a pipe.
 
 N is at most 1,024, and at most N + 2 pieces with their verdicts are in memory. Faults of its own begin with `ggp-verify-records: `. Wrong
-words have status 2, a PROGRAM that can't be run has 1, and a process that a signal ends has 128 plus the signal's number.
+words and a PROGRAM that can't be run have status 2, and a process that a signal ends has 128 plus the signal's number. With `--why` among
+OPTIONS status 1 says that a record is not lawful, and every other fault has 2.
 
 It needs only Python 3.11 or later.
 """
@@ -35,6 +36,7 @@ CHUNK = 1 << 20
 WAITING = 2
 # What the program says of a piece that it has read to its end.
 COUNTS = re.compile(rb"(?:ggp_manager: lines of accounts skipped ([0-9]+)\n)?(?:ggp_manager: records not lawful ([0-9]+)\n)?")
+UNLAWFUL = re.compile(rb"^ggp_manager: records not lawful [0-9]+\n\Z", re.M)
 
 
 class Fault(Exception):
@@ -43,6 +45,10 @@ class Fault(Exception):
     def __init__(self, said, status=1):
         super().__init__(said)
         self.said, self.status = said, status
+
+    def status_with_why(self):
+        """Returns the status with `--why`: only that records are not lawful is an answer."""
+        return 2 if self.status in (1, 3) and not UNLAWFUL.search(self.said) else self.status
 
 
 class Checked(NamedTuple):
@@ -121,7 +127,7 @@ def check(words, piece):
             errors.seek(0)
             said, status = errors.read(), child.returncode
     except OSError as error:
-        return Checked(None, fault=Fault(own_words(f"{words[0]} can't be run: {error.strerror}")))
+        return Checked(None, fault=Fault(own_words(f"{words[0]} can't be run: {error.strerror}"), 2))
     counts = COUNTS.fullmatch(said)
     if status < 0:
         said += own_words(f"{words[0]} was ended by signal {-status}")
@@ -244,15 +250,15 @@ def main():
     if signal.getsignal(signal.SIGINT) is signal.default_int_handler:
         # Ctrl-C ends this program as it ends the processes that it has started. What remains of these ends with its input.
         signal.signal(signal.SIGINT, signal.SIG_DFL)
-    status = 0
+    status, has_why = 0, "--why" in options
     try:
         check_all([given.program, "verify", "--lines", *options], given.jobs, given.piece)
     except Fault as fault:
         say(fault.said)
-        status = fault.status
+        status = fault.status_with_why() if has_why else fault.status
     except MemoryError:
         say(b"ggp_manager: want of memory\n")
-        status = 3
+        status = 2 if has_why else 3
     # A thread may still wait for input, and all is written.
     os._exit(status)
 
