@@ -19,16 +19,16 @@ from collections.abc import Callable
 from concurrent.futures import Future
 from http.server import BaseHTTPRequestHandler, ThreadingHTTPServer
 
-# No message of the referee is longer, or has more lists in one another: START is the longest, with rules of at most 1,048,576 bytes before
-# they are printed.
-MOST_BYTES, MOST_LISTS = 4_194_304, 66
+# No message of the referee is longer, or has more lists in one another: START is the longest, with rules of at most 4,194,304 bytes (those
+# of a large game) before they are printed, which may add a space for each atom and each list.
+MOST_BYTES, MOST_LISTS = 16_777_216, 66
 # No longer answer counts.
 MOST_ANSWER = 4_096
 # A pipe that has room at all takes so many bytes at once.
 MOST_SAID = 4_000
-# Rules are looked up by recursion. Each of 8,192 sentences may ask for the next one, from within 60 lists: that is deeper than Python goes
+# Rules are looked up by recursion. Each of 65,536 sentences may ask for the next one, from within some lists: that is deeper than Python goes
 # by itself. Older Pythons need a larger stack for it too.
-DEEPEST, STACK = 250_000, 1 << 29
+DEEPEST, STACK = 1_000_000, 1 << 29
 
 
 def tokens(text):
@@ -177,7 +177,7 @@ class Handler(BaseHTTPRequestHandler):
 
     def do_POST(self):
         size = self.headers["Content-Length"] or ""
-        if not re.fullmatch("[0-9]{1,7}", size) or int(size) > MOST_BYTES:
+        if not re.fullmatch("[0-9]{1,8}", size) or int(size) > MOST_BYTES:
             self.send_error(400)
             return
         body = self.rfile.read(int(size)).decode("ascii")

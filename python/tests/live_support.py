@@ -25,7 +25,7 @@ RULES = b"""
 (<= (goal red 100) (true (turn blue))) (<= (goal red 0) (true (turn red))) (<= (goal blue 100) (true (turn red))) (<= (goal blue 0) (true (turn blue)))
 """
 # What the log has of a player that did not answer.
-SILENT = "TO (no answer in time)"
+SILENT = "TO (no answer in time: nothing received)"
 BEGAN, ENDED = b"began 2026-01-02T03:04:05.000Z\n", b"ended 2026-01-02T03:04:07.500Z\n"
 
 

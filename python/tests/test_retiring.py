@@ -5,7 +5,7 @@ import unittest
 from ggp_tools.competition.log_lines import log_line
 from ggp_tools.competition.retiring import Retiring
 
-SILENT, BROKEN = "TO (no answer in time)", "CE (no connection)"
+SILENT, BROKEN = "TO (no answer in time: 5 of the body's 9 bytes received)", "CE (no connection)"
 
 
 class SomeRoles(unittest.TestCase):

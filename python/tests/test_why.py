@@ -39,8 +39,9 @@ class Why(InFolder):
         self.assertRegex(said, rf"(?m)^{MOMENT} info cup-001 p1: available, \d\.\d s$")
         self.assertRegex(said, rf"(?m)^{MOMENT} begin cup-001 countdown p0 p1$")
         self.assertRegex(said, rf"(?m)^{MOMENT} START was answered `ready` after \d+ ms\. Message 1 to it: \(START cup-001 blue ")
-        wrong = r"IL \(no such move\): no legal move of its role in that state; its first legal move was played: "
+        wrong = r"IL \(no such move\): no legal move of its role in that state, which has \d: [^;]+; its first legal move was played: "
         first, second = (re.escape(turn[1]) for turn in record["moves"][:2])
+        self.assertIn(f"in that state, which has 1: {record['moves'][0][1]}; its first", said)
         self.assertRegex(said, rf"(?m)^{MOMENT} turn 1: PLAY was answered `\(no such move\)` after \d+ ms; {wrong}{first}\. Message 2 to it: \(PLAY cup-001 NIL\)$")
         self.assertRegex(said, rf"(?m)^{MOMENT} turn 2: PLAY .*; {wrong}{second}, turn 2 in a row without a move of its own, so it is retired\. ")
         self.assertNotIn("p0: available", said)
@@ -135,7 +136,22 @@ class Why(InFolder):
         for words in (f"turn 3: PLAY brought {SILENT} after 5 ms; TO: no whole answer within", "turn 3: PLAY brought CE (no connection) after"):
             self.assertIn(words, said)
         # Who answers with these very words has answered.
-        self.assertIn(f"turn 4: PLAY was answered `{SILENT}` after 5 ms; IL ?: the answer is not one expression", said)
+        text = "IL ?: the answer is not one expression, or too long: a second expression begins at column 4; its first legal move was played"
+        self.assertIn(f"turn 4: PLAY was answered `{SILENT}` after 5 ms; {text}", said)
+
+    def test_where_a_move_would_be_legal(self):
+        plan = plan_in(str(self.folder), ["ann", "bob"])
+        match = plan.matches[0]
+        told = Told(plan, match)
+        told.record = {"states": [["(heap 2)", "(turn red)"], ["(heap 1)", "(turn blue)"]]}
+        self.assertEqual([told.roles, told.legal(0, 0), told.legal(1, 0)], [("red", "blue"), ["(take 1)", "(take 2)"], ["noop"]])
+        self.assertEqual(told.illegal_words(0, 0, "IL noop", "noop"), ", which has 2: (take 1), (take 2); it is legal for blue")
+        self.assertEqual(told.illegal_words(0, 1, "IL (take 2)", "(take 2)"), ", which has 1: noop; it was legal in the turn before")
+        self.assertEqual(told.illegal_words(0, 0, "IL (take 3)", "(take 3)"), ", which has 2: (take 1), (take 2)")
+        self.assertEqual([told.illegal_words(0, 0, error, "") for error in ("TO", "CE", "RT")], ["", "", ""])
+        for states in ([], [["(heap 2"]], [[]]):
+            told.record = {"states": states}
+            self.assertEqual(told.illegal_words(0, 0, "IL noop", "noop"), "")
 
     def test_a_player_with_the_name_of_a_match(self):
         plan = plan_in(str(self.folder), ["cup-001", "bob"])

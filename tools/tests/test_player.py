@@ -119,6 +119,15 @@ class Serving(unittest.TestCase):
                 self.assertEqual(asked(port, "(INFO)", size)[0], 400, size)
             self.assertEqual(asked(port, "(INFO)"), (200, "available"))
 
+    def test_a_large_game(self):
+        """More bytes than the usual limits allow, and rules that ask for one another more deeply."""
+        count, lists = 4_500, 60
+        steps = (f"(<= (c {number}) {'(or ' * lists}(c {number + 1}){')' * lists})" for number in range(count))
+        rules = f"((role red) (legal red go) (<= (legal red deep) (c 0)) {' '.join(steps)} (c {count}) (f {'x' * 4_194_304}))"
+        with server() as (port, _):
+            self.assertEqual(asked(port, f"(START m red {rules} 1 1)"), (200, "ready"))
+            self.assertEqual(asked(port, "(PLAY m NIL)"), (200, "go"))
+
     def test_a_connection_that_sends_nothing_is_closed(self):
         with unittest.mock.patch.object(player.Handler, "timeout", 0.5), server() as (port, _):
             with socket.create_connection(("127.0.0.1", port), SECONDS) as silent:

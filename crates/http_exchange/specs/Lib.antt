@@ -6,4 +6,5 @@ pub mod Carried
 pub mod WireFaults
 pub mod Exchange
 pub mod WireLaws
+pub mod Receipts
 pub mod Internal

@@ -6,9 +6,10 @@ ghost use Rattle.httparse.specs.Spans.{IsHeaderWithin, header_bytes};
 ghost use Rattle.game_core.specs.Numerals.{are_digits};
 ghost use Rattle.http_exchange.specs.BodyLength.{body_length, has_name, wrong};
 ghost use Rattle.http_exchange.specs.Internal.Heads.{agrees, length_of};
+ghost use Rattle.http_exchange.specs.Receipts.{length_refusal};
 
 use crate::numeral::is_same_number;
-use crate::wire_fault::FrameFault;
+use crate::received::Received;
 use game_core::numeral::are_digits;
 use httparse::spans::HeaderSpan;
 
@@ -35,29 +36,40 @@ fn agrees(before: Option<&[u8]>, value: &[u8]) -> bool
     }
 }
 
-/// The digits of the length that the fields agree on. `None` if no field gives one.
+/// What is wrong with a value that does not agree with the one before it.
+fn length_refusal(value: &[u8]) -> Received
+    ensures { result ≡ length_refusal value.now }
+{
+    if are_digits(value) {
+        Received::TwoLengths
+    } else {
+        Received::NoNumber
+    }
+}
+
+/// The digits of the length that the fields agree on. `None` if no field gives one. The error says why they give none rightly.
 pub(crate) fn said_length<'b>(
     buf: &'b [u8],
     headers: &[HeaderSpan],
-) -> Result<Option<&'b [u8]>, FrameFault>
+) -> Result<Option<&'b [u8]>, Received>
     requires { All (IsHeaderWithin (length buf.now)) headers.now }
     ensures value { MatchResult result
         (λ said. body_length (map (header_bytes buf.now) headers.now) ≡ length_of (option_copied said))
-        (λ refusal. (refusal ≡ FrameFault.BadLength) × (body_length (map (header_bytes buf.now) headers.now) ≡ wrong)) }
+        (λ _. body_length (map (header_bytes buf.now) headers.now) ≡ wrong) }
     ensures numeral { IfOk result (λ said. IfSome (option_copied said) (λ digits. IsTrue (are_digits digits))) }
 {
     let mut said = None;
     for header in headers {
         let name = header.name.of(buf);
         if has_name(name, TRANSFER_ENCODING) {
-            return Err(FrameFault::BadLength);
+            return Err(Received::TransferEncoding);
         }
         if !has_name(name, CONTENT_LENGTH) {
             continue;
         }
         let value = header.value.of(buf);
         if !agrees(said, value) {
-            return Err(FrameFault::BadLength);
+            return Err(length_refusal(value));
         }
         said = Some(value);
     }

@@ -5,6 +5,7 @@ ghost use Rattle.http_exchange.specs.HttpText.{reply_text, request_text};
 
 use crate::head::HttpKind;
 use crate::http_text::{reply_text, request_text};
+use crate::received::Received;
 use crate::receiving::receive;
 use crate::sending::send;
 use crate::wire_fault::WireFault;
@@ -17,19 +18,21 @@ use std::io::{Read, Write};
 ///
 /// The player's name goes into the head as it is, so it may hold no line end. The bytes after the body of
 /// the reply are ignored, but may have been read. The stream is not flushed. A long part that the body shares with others is written
-/// from where it lies.
+/// from where it lies. Without a body `received` says how far the exchange came.
 pub fn exchange_shared<S: Read + Write>(
     alloc: Global,
     stream: &mut Counted<S>,
     player: &[u8],
     body: &SharedText<'_>,
+    received: &mut Received,
 ) -> Result<Text, WireFault>
     ensures carries { IfOk result (BringsReply S.contents S.remaining stream.old stream.new (request_text player.now body.now)) }
     ensures fails { IfErr result (BringsNone S.contents S.remaining stream.old stream.new (request_text player.now body.now)) }
 {
+    *received = Received::Unsent;
     let text = request_text(alloc, player, body)?;
     send(stream, &text)?;
-    receive(alloc, stream, HttpKind::Reply)
+    receive(alloc, stream, HttpKind::Reply, received)
 }
 
 /// Sends a player a request with that body, as `exchange_shared` does, and returns the body of the reply.
@@ -42,7 +45,14 @@ pub fn exchange<S: Read + Write>(
     ensures carries { IfOk result (BringsReply S.contents S.remaining stream.old stream.new (request_text player.now body.now)) }
     ensures fails { IfErr result (BringsNone S.contents S.remaining stream.old stream.new (request_text player.now body.now)) }
 {
-    exchange_shared(alloc, stream, player, &SharedText::lent(alloc, body))
+    let mut received = Received::Unsent;
+    exchange_shared(
+        alloc,
+        stream,
+        player,
+        &SharedText::lent(alloc, body),
+        &mut received,
+    )
 }
 
 /// Reads a request, and returns its body. The bytes after the body are ignored, but may have been read. It
@@ -51,7 +61,8 @@ pub fn take_request<S: Read>(alloc: Global, stream: &mut Counted<S>) -> Result<T
     ensures carries { IfOk result (λ body. TakesBody HttpKind.Request S.remaining stream.old stream.new body) }
     ensures fails { IfErr result (λ fault. TakesNone HttpKind.Request S.remaining stream.old stream.new fault) }
 {
-    receive(alloc, stream, HttpKind::Request)
+    let mut received = Received::Nothing;
+    receive(alloc, stream, HttpKind::Request, &mut received)
 }
 
 /// Writes the reply with that body. The stream is not flushed.

@@ -6,6 +6,7 @@ ghost use Rattle.http_exchange.specs.HttpHead.{HeadIs, framed_by, front, max_bod
 ghost use Rattle.http_exchange.specs.Internal.Heads.{IsKnown, StartsWithin};
 
 use crate::body_length::said_length;
+use crate::received::Received;
 use crate::wire_fault::FrameFault;
 use game_core::numeral::number_up_to;
 use httparse::Status;
@@ -69,7 +70,7 @@ fn framed(kind: HttpKind, size: usize, buf: &[u8], headers: &[HeaderSpan]) -> He
     ensures { result ≡ framed_by kind size (body_length (map (header_bytes buf.now) headers.now)) }
 {
     match said_length(buf, headers) {
-        Err(refusal) => Head::Refused(refusal),
+        Err(_) => Head::Refused(FrameFault::BadLength),
         Ok(None) => match kind {
             HttpKind::Reply => Head::Whole(Frame {
                 start: size,
@@ -125,6 +126,16 @@ fn request_head(bytes: &[u8]) -> Head
         }
         Ok(Status::Partial) => Head::Unfinished,
         Err(_) => Head::Refused(FrameFault::BadHead),
+    }
+}
+
+/// Why the fields of a reply's head give no length rightly. `None` if the bytes have no whole head, or the length is given rightly.
+pub(crate) fn length_fault(bytes: &[u8]) -> Option<Received> {
+    let text = front_of(bytes);
+    let mut headers = [EMPTY_HEADER_SPAN; MAX_FIELDS];
+    match parse_response(text, &mut headers) {
+        Ok(Status::Complete(head)) => said_length(text, &headers[..head.headers]).err(),
+        _ => None,
     }
 }
 

@@ -14,9 +14,11 @@ mod http_text;
 pub mod laws;
 mod look;
 mod numeral;
+mod received;
 mod receiving;
 mod sending;
 mod wire_fault;
 
 pub use exchanging::{exchange, exchange_shared, give_reply, take_request};
+pub use received::Received;
 pub use wire_fault::WireFault;

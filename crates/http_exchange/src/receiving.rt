@@ -6,6 +6,7 @@ ghost use Rattle.http_exchange.specs.WireFaults.{HasFailed};
 
 use crate::head::{Head, HttpKind, head_after};
 use crate::look::{Look, look_past};
+use crate::received::{Received, received_of};
 use crate::wire_fault::WireFault;
 use game_core::{Counted, MAX_STREAM_CALLS, Text};
 use std::alloc::{AllocError, Global};
@@ -50,11 +51,12 @@ fn body_of(alloc: Global, bytes: &[u8], start: usize, end: usize) -> Result<Text
     Text::from_slice(alloc, &bytes[start..end])
 }
 
-/// Reads a message, and returns its body. Bytes after the body may have been read too.
+/// Reads a message, and returns its body. Bytes after the body may have been read too. Without a body `received` says how far it came.
 pub(crate) fn receive<S: Read>(
     alloc: Global,
     stream: &mut Counted<S>,
     kind: HttpKind,
+    received: &mut Received,
 ) -> Result<Text, WireFault>
     ensures body { IfOk result (λ body. TakesBody kind S.remaining stream.old stream.new body) }
     ensures fails { IfErr result (λ fault. TakesNone kind S.remaining stream.old stream.new fault) }
@@ -62,9 +64,11 @@ pub(crate) fn receive<S: Read>(
     let mut bytes = Vec::new(alloc);
     let mut chunk = [0; READ_SIZE];
     let mut head = Head::Unfinished;
+    *received = Received::Nothing;
     for call in 0..MAX_STREAM_CALLS {
         let ended = read_once(stream, &mut bytes, &mut chunk)?;
         head = head_after(kind, head, &bytes);
+        *received = received_of(head, &bytes);
         match look_past(head, bytes.len(), ended) {
             Look::More => {}
             Look::Body(start, end) => return Ok(body_of(alloc, &bytes, start, end)?),

@@ -4,6 +4,8 @@ use Rattle.std.specs.declared.io.ErrorKind.{ErrorKind}
 use Rattle.std.specs.declared.io.ErrorKind.TheVariants.{WouldBlock, TimedOut}
 use Rattle.desk_calls.specs.declared.answer.Answer.{Answer}
 use Rattle.desk_calls.specs.declared.answer.Answer.TheVariants.{Text, Silent, Broken}
+use Rattle.http_exchange.specs.declared.received.Received.{Received}
+use Rattle.http_exchange.specs.declared.received.Received.TheVariants.{Unconnected}
 use Rattle.http_exchange.specs.declared.wire_fault.WireFault.{WireFault}
 use Rattle.http_exchange.specs.declared.wire_fault.WireFault.TheVariants as exchange_faults
 use Rattle.match_plans.specs.declared.shortages.Shortage.{Shortage}
@@ -27,14 +29,14 @@ answer_of (Err fault) = Broken
 -- referee counts as broken too, and its match has no record.
 abbrev pub contact_answer : Result (List ℕ) ContactFault → Answer
 contact_answer (Ok text) = answer_of (Ok text)
-contact_answer (Err (faults.Exchange fault)) = answer_of (Err fault)
-contact_answer (Err faults.Late) = Silent
+contact_answer (Err (faults.Exchange fault received)) = answer_of (Err fault)
+contact_answer (Err (faults.Late received)) = Silent
 contact_answer (Err fault) = Broken
 
 -- a step without time is late, and a step for which the referee is short of something has that shortage
-abbrev pub halt_fault : Halt → ContactFault
-halt_fault halts.Late = faults.Late
-halt_fault (halts.Short shortage) = faults.Shortage shortage
+abbrev pub halt_fault : Halt → Received → ContactFault
+halt_fault halts.Late received = faults.Late received
+halt_fault (halts.Short shortage) received = faults.Shortage shortage
 
 -- The fault of a message whose seconds are over after a try with this fault. It stays, unless it is the player's and the referee is short of
 -- something.
@@ -45,8 +47,8 @@ fault_at_end fault (halts.Short shortage) = faults.Shortage shortage
 
 -- The program waited while the host was looked up. So that it did not run is no reason there, and the message is late.
 abbrev pub lookup_fault : Halt → ContactFault
-lookup_fault (halts.Short NotRunning) = faults.Late
-lookup_fault halt = halt_fault halt
+lookup_fault (halts.Short NotRunning) = faults.Late Unconnected
+lookup_fault halt = halt_fault halt Unconnected
 
 abbrev pub short_fault : Option Shortage → ContactFault
 short_fault (Some shortage) = faults.Shortage shortage
@@ -55,7 +57,7 @@ short_fault None = faults.NoConnection
 -- The fault of an address to which no connection was made, by the kind of the error and its number. It is late if the time left was over:
 -- this error has no number, as the system's own has, by which it gives a connection up.
 abbrev pub address_fault : ErrorKind → Option ℤ → ContactFault
-address_fault TimedOut None = faults.Late
+address_fault TimedOut None = faults.Late Unconnected
 address_fault kind number = short_fault (system_shortage kind number)
 
 -- The fault of all addresses so far, by the fault of those before and of the last one. A lack of ports or of a network counts only if no
@@ -74,22 +76,22 @@ fault_so_far before last = last
 abbrev pub after_try : ContactFault → Bool → ContactFault → AfterTry
 after_try before is_patient (faults.Shortage shortage) = Waits shortage
 after_try before is_patient faults.NoConnection = if is_patient then Tries else Ends faults.NoConnection
-after_try before is_patient faults.Late = Ends before
+after_try before is_patient (faults.Late received) = Ends before
 after_try before is_patient fault = Ends fault
 
 -- a message that had to wait for a shortage and then had no time has the shortage for its fault
 abbrev pub fault_after : Option Shortage → ContactFault → ContactFault
-fault_after (Some shortage) faults.Late = faults.Shortage shortage
+fault_after (Some shortage) (faults.Late received) = faults.Shortage shortage
 fault_after waited fault = fault
 
-abbrev pub exchange_fault : Option ℕ → WireFault → ContactFault
-exchange_fault status exchange_faults.Memory = faults.Shortage Memory
-exchange_fault (Some status) exchange_faults.BadStatus = faults.Status status
-exchange_fault status fault = faults.Exchange fault
+abbrev pub exchange_fault : Option ℕ → Received → WireFault → ContactFault
+exchange_fault status received exchange_faults.Memory = faults.Shortage Memory
+exchange_fault (Some status) received exchange_faults.BadStatus = faults.Status status
+exchange_fault status received fault = faults.Exchange fault received
 
 -- The outcome of an exchange: the halt of the last read or write, if it does not count; otherwise the body, or the exchange's own fault
--- with the status that the reply has.
-abbrev pub outcome_of : Option Halt → Option ℕ → Result (List ℕ) WireFault → Result (List ℕ) ContactFault
-outcome_of (Some halt) status exchanged = Err (halt_fault halt)
-outcome_of None status (Ok text) = Ok text
-outcome_of None status (Err fault) = Err (exchange_fault status fault)
+-- with the status that the reply has. Without a body the fault says how far the exchange came.
+abbrev pub outcome_of : Option Halt → Option ℕ → Received → Result (List ℕ) WireFault → Result (List ℕ) ContactFault
+outcome_of (Some halt) status received exchanged = Err (halt_fault halt received)
+outcome_of None status received (Ok text) = Ok text
+outcome_of None status received (Err fault) = Err (exchange_fault status received fault)

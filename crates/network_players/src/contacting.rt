@@ -10,7 +10,7 @@ use crate::lookup::Lookup;
 use crate::shortage::shortage_of;
 use desk_calls::MAX_CLOCK;
 use game_core::{Counted, Text};
-use http_exchange::{WireFault, exchange_shared};
+use http_exchange::{Received, WireFault, exchange_shared};
 use match_plans::{PlayerAddress, Shortage};
 use shared_text::SharedText;
 use std::alloc::Global;
@@ -30,8 +30,8 @@ pub enum ContactFault {
     #[error("no connection")]
     NoConnection,
     /// The seconds were over before the connection was made, the request written or the reply read.
-    #[error("no answer in time")]
-    Late,
+    #[error("no answer in time: {0}")]
+    Late(Received),
     /// The referee was short of this. The message was not sent, or it was sent too late for an answer in time, or its answer was lost.
     #[error("{0}")]
     Shortage(Shortage),
@@ -42,8 +42,8 @@ pub enum ContactFault {
     #[error("the status is {0}{note}", note = status_note(*.0))]
     Status(u16),
     /// The exchange on the connection failed with this fault.
-    #[error("{0}")]
-    Exchange(WireFault),
+    #[error("{0}: {1}")]
+    Exchange(WireFault, Received),
 }
 
 /// The words about a status other than 200.
@@ -74,12 +74,12 @@ const MAX_CONNECTS: u32 = 2_000_000;
 
 const _: () = prove!(MAX_CONNECTS as u64 * PAUSE_MILLIS > MAX_CLOCK as u64 * 1_000);
 
-/// The fault of a step that has no time left, or for which the referee is short of something.
-fn halt_fault(halt: Halt) -> ContactFault
-    ensures { result ≡ halt_fault halt }
+/// The fault of a message for whose next step no time is left, or for which the referee is short of something.
+fn halt_fault(halt: Halt, received: Received) -> ContactFault
+    ensures { result ≡ halt_fault halt received }
 {
     match halt {
-        Halt::Late => ContactFault::Late,
+        Halt::Late => ContactFault::Late(received),
         Halt::Short(shortage) => ContactFault::Shortage(shortage),
     }
 }
@@ -100,7 +100,7 @@ fn lookup_fault(halt: Halt) -> ContactFault
     ensures { result ≡ lookup_fault halt }
 {
     match halt {
-        Halt::Late | Halt::Short(Shortage::NotRunning) => ContactFault::Late,
+        Halt::Late | Halt::Short(Shortage::NotRunning) => ContactFault::Late(Received::Unconnected),
         Halt::Short(shortage) => ContactFault::Shortage(shortage),
     }
 }
@@ -111,7 +111,7 @@ fn address_fault(error: &io::Error) -> ContactFault
     ensures { result ≡ address_fault (error_kind error.now) (raw_os_error error.now) }
 {
     match (error.kind(), error.raw_os_error()) {
-        (ErrorKind::TimedOut, None) => ContactFault::Late,
+        (ErrorKind::TimedOut, None) => ContactFault::Late(Received::Unconnected),
         _ => match shortage_of(error) {
             Some(shortage) => ContactFault::Shortage(shortage),
             None => ContactFault::NoConnection,
@@ -165,27 +165,28 @@ fn fault_after(waited: Option<Shortage>, fault: ContactFault) -> ContactFault
     ensures { result ≡ fault_after waited fault }
 {
     match (waited, fault) {
-        (Some(shortage), ContactFault::Late) => ContactFault::Shortage(shortage),
+        (Some(shortage), ContactFault::Late(_)) => ContactFault::Shortage(shortage),
         (_, fault) => fault,
     }
 }
 
-/// The outcome of an exchange, by the halt of the last read or write, if there was one, and the reply's status, if there is one.
+/// The outcome of an exchange, by the halt of the last read or write, if there was one, the reply's status, if there is one, and how far it came.
 fn outcome_of(
     halt: Option<Halt>,
     status: Option<u16>,
+    received: Received,
     exchanged: Result<Text, WireFault>,
 ) -> Result<Text, ContactFault>
-    ensures { result ≡ outcome_of halt status exchanged }
+    ensures { result ≡ outcome_of halt status received exchanged }
 {
     if let Some(halt) = halt {
-        return Err(halt_fault(halt));
+        return Err(halt_fault(halt, received));
     }
     match (exchanged, status) {
         (Ok(text), _) => Ok(text),
         (Err(WireFault::Memory), _) => Err(ContactFault::Shortage(Shortage::Memory)),
         (Err(WireFault::BadStatus), Some(status)) => Err(ContactFault::Status(status)),
-        (Err(fault), _) => Err(ContactFault::Exchange(fault)),
+        (Err(fault), _) => Err(ContactFault::Exchange(fault, received)),
     }
 }
 
@@ -199,7 +200,7 @@ fn connect_once<N: Net + Clock>(
     for address in addresses {
         let left = match deadline.left(net) {
             Ok(left) => left,
-            Err(halt) => return Err(halt_fault(halt)),
+            Err(halt) => return Err(halt_fault(halt, Received::Unconnected)),
         };
         match TcpStream::connect_timeout(net, address, left) {
             Ok(stream) => return Ok(stream),
@@ -269,7 +270,7 @@ fn after_try(fault: ContactFault, before: ContactFault, is_patient: bool) -> Aft
     match fault {
         ContactFault::Shortage(shortage) => AfterTry::Waits(shortage),
         ContactFault::NoConnection if is_patient => AfterTry::Tries,
-        ContactFault::Late => AfterTry::Ends(before),
+        ContactFault::Late(_) => AfterTry::Ends(before),
         _ => AfterTry::Ends(fault),
     }
 }
@@ -284,7 +285,7 @@ fn connect<N: Net + Clock>(
     waited: &mut Option<Shortage>,
 ) -> Result<N::Stream, ContactFault> {
     let mut patience = Deadline::within(net, RETRY_SECONDS).map_err(ContactFault::Shortage)?;
-    let mut before = ContactFault::Late;
+    let mut before = ContactFault::Late(Received::Unconnected);
     for _ in 0..MAX_CONNECTS {
         let connected = match find_host(net, alloc, addressed, lookup) {
             Ok(()) => connect_once(net, lookup.addresses(), addressed.deadline),
@@ -318,14 +319,16 @@ fn exchange_over<N: Net + Clock>(
     message: &SharedText<'_>,
 ) -> Result<Text, ContactFault> {
     let mut stream = Counted::new(TimedStream::new(net, addressed.deadline, stream));
+    let mut received = Received::Unsent;
     let exchanged = exchange_shared(
         alloc,
         &mut stream,
         addressed.player.name.as_bytes(),
         message,
+        &mut received,
     );
     let stream = stream.end();
-    outcome_of(stream.halt(), stream.status(), exchanged)
+    outcome_of(stream.halt(), stream.status(), received, exchanged)
 }
 
 /// Hands a player a message and returns the body of its answer. Looking up the host, connecting, writing and reading have `seconds`

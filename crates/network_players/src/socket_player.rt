@@ -111,8 +111,8 @@ fn contact_answer(reached: Result<Text, ContactFault>) -> Answer
 {
     match reached {
         Ok(text) => answer_of(Ok(text)),
-        Err(ContactFault::Exchange(fault)) => answer_of(Err(fault)),
-        Err(ContactFault::Late) => Answer::Silent,
+        Err(ContactFault::Exchange(fault, _)) => answer_of(Err(fault)),
+        Err(ContactFault::Late(_)) => Answer::Silent,
         Err(
             ContactFault::NoAddress
             | ContactFault::NoConnection

@@ -1,14 +1,19 @@
 """Tells what happened to the players of a match, turn by turn: by its record, by its log, and by what `play` has noted."""
 
+import functools
 import re
+import sys
 from collections.abc import Iterator
 from dataclasses import dataclass
 
+from ggp_tools.answers import listed, no_expression
 from ggp_tools.competition.files import Refused
 from ggp_tools.competition.log_lines import MORE, NO_ANSWER, SHOWN
 from ggp_tools.competition.plan import Plan
 from ggp_tools.competition.results import read_record
 from ggp_tools.competition.schedule import Match
+from ggp_tools.ground_games import MOST_CALLS, Game
+from ggp_tools.kif import KifFault, expressions, spelled
 from ggp_tools.moments import MOMENT
 
 TIMED = re.compile(rf"({MOMENT}) (.*)")
@@ -151,7 +156,7 @@ class Told:
         is_missed = NO_ANSWER.fullmatch(answer) and mark in (None, "TO", "CE")
         words = f"{head} brought {answer} after {ms} ms" if is_missed else f"{head} was answered `{answer}` after {ms} ms"
         if self.record and kind == "PLAY":
-            words += f"; {self.turn_words(role, number - 2)}"
+            words += f"; {self.turn_words(role, number - 2, answer)}"
         elif mark:
             words += f"; {self.mark_words(mark, kind)}"
         return f"{words}. Message {number} to it: {message}"
@@ -171,7 +176,33 @@ class Told:
             return f"{mark}: {MARKS[mark].format(seconds=seconds)}"
         return f"{mark}: no legal move of its role in that state"
 
-    def turn_words(self, role: int, turn: int) -> str:
+    @functools.cached_property
+    def game(self) -> Game:
+        sys.setrecursionlimit(MOST_CALLS)
+        return Game(expressions(self.plan.rules[self.match.game].text.decode("latin-1")))
+
+    def legal(self, role: int, turn: int) -> list[str]:
+        """Returns the legal moves of a role in a turn, by an interpreter that shares nothing with the program: none where it can't tell."""
+        try:
+            state = frozenset(expressions("\n".join(self.record["states"][turn])))
+            return [spelled(move) for move in self.game.legal(state, expressions(self.roles[role])[0])]
+        except (KifFault, LookupError, RecursionError, TypeError, ValueError):
+            return []
+
+    def illegal_words(self, role: int, turn: int, error: str, answer: str) -> str:
+        """Returns what else is known of an answer that is no legal move: where it would be one, and what is legal in its place."""
+        if error == "IL ?":
+            why = no_expression(answer)
+            return f": {why}" if why else ""
+        legal = self.legal(role, turn) if error.startswith("IL ") else []
+        if not legal:
+            return ""
+        move, words = error[3:], f", which has {listed(legal)}"
+        if others := [name for other, name in enumerate(self.roles) if other != role and move in self.legal(other, turn)]:
+            return f"{words}; it is legal for {', '.join(others)}"
+        return f"{words}; it was legal in the turn before" if turn and move in self.legal(role, turn - 1) else words
+
+    def turn_words(self, role: int, turn: int, answer: str) -> str:
         """Returns what was played for a role in a turn, and why."""
         if turn >= len(self.record["moves"]):
             return "the match was given up before that turn was played"
@@ -181,7 +212,8 @@ class Told:
         row = next(count for count in range(1, turn + 2) if count > turn or not self.record["errors"][turn - count][role])
         again = f", turn {row} in a row without a move of its own" if row > 1 else ""
         retired = ", so it is retired" if self.record["strikes"] and row == self.record["strikes"] else ""
-        return f"{self.mark_words(error, 'PLAY')}; its first legal move was played: {move}{again}{retired}"
+        why = f"{self.mark_words(error, 'PLAY')}{self.illegal_words(role, turn, error, answer)}"
+        return f"{why}; its first legal move was played: {move}{again}{retired}"
 
     def outcome(self, role: int) -> list[str]:
         """Returns how the match ended for a role."""
